@@ -1,1 +1,2 @@
 pub mod CachePut
+pub mod Decisions

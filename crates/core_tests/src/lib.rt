@@ -8,6 +8,8 @@ mod adapters;
 #[cfg(test)]
 mod cache_put;
 #[cfg(test)]
+mod changes;
+#[cfg(test)]
 mod heap;
 #[cfg(test)]
 mod jobs;

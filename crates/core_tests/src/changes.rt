@@ -1,0 +1,387 @@
+//! Changes of a value under one hold, by two fronts that own one partition in turn.
+ghost use Rattle.std.specs.Prelude.{◌≡◌, ◌+◌, ◌*◌, ◌<◌, ◌≤◌, length, map, true, option_copied};
+ghost use Rattle.mica_words.specs.Item.{ValueFits};
+ghost use Rattle.partition_model.specs.Options.{IsPossible};
+ghost use Rattle.partition_table.specs.Seats.{note_state, note_home};
+ghost use Rattle.locked_fronts.specs.Owned.{NotesAre};
+ghost use Rattle.locked_fronts.specs.Parts.{turns_left, most_turns};
+ghost use Rattle.locked_serve.specs.Opening.{ArePlanned, AreNewParts, filled_view};
+ghost use Rattle.core_tests.specs.Decisions.{count_in as count_of, two_bytes as bytes_of};
+
+use cache_partition::CachePartition;
+use epoch_core::LendPartition;
+use locked_fronts::{LockedFront, LockedPart, OwnedPartition, ServerPlan};
+use locked_serve::{FilledPart, lend_hand, lock_parts, open_parts};
+use mica_fronts::{Change, Changes, Decide, Front, When};
+use mica_words::{key_fits, value_fits};
+use partition_model::{Answer, ItemBuf, Mode, Op, Options, Outcome};
+use partition_table::{Note, OwnerSeat, ReaderSeat};
+use seated_partition::OnTable;
+use std::alloc::Global;
+use std::marker::Brand;
+use std::process::Abort;
+use std::sync::{Mutex, Wait};
+use std::test::Fail;
+use std::thread::{Threads, join};
+use store_partition::StorePartition;
+
+const KEY: &[u8] = b"k";
+
+/// How often each of two threads counts.
+const TIMES: u32 = 10_000;
+
+/// What becomes of any value.
+#[derive(Drop)]
+struct Fixed<'a> {
+    change: Change,
+    value: &'a [u8],
+    ghost fits: { ValueFits value.now },
+}
+
+impl<'a> Decide for Fixed<'a> {
+    ghost use Rattle.std.specs.Prelude.{false};
+    ghost use Rattle.core_tests.specs.Decisions.{fixed};
+
+    ghost becoming = { λ d _ _. fixed d.change d.value.now };
+
+    ghost needs = { λ _. false };
+
+    fn looks(&self) -> bool {
+        false
+    }
+
+    fn decide(&self, _when: When, _found: Option<&[u8]>, next: &mut ItemBuf) -> Change {
+        match self.change {
+            Change::Stay => Change::Stay,
+            Change::Become => {
+                next.set(self.value);
+                Change::Become
+            }
+            Change::Go => Change::Go,
+        }
+    }
+}
+
+/// A count of one more.
+#[derive(Clone, Copy)]
+struct CountUp;
+
+impl Decide for CountUp {
+    ghost use Rattle.std.specs.Prelude.{true};
+    ghost use Rattle.core_tests.specs.Decisions.{counted};
+
+    ghost becoming = { λ _ _ found. counted found };
+
+    ghost needs = { λ _. true };
+
+    fn looks(&self) -> bool {
+        true
+    }
+
+    fn decide(&self, _when: When, found: Option<&[u8]>, next: &mut ItemBuf) -> Change {
+        next.set(&two_bytes(count_in(found) + 1));
+        Change::Become
+    }
+}
+
+// The count in a value.
+fn count_in(value: Option<&[u8]>) -> u32
+    ensures count { result ≡ count_of (option_copied value.entry) }
+    ensures small { result ≤ 65535 }
+{
+    match value {
+        Some(bytes) => {
+            if bytes.len() == 2 {
+                u32::from(bytes[0]) + 256 * u32::from(bytes[1])
+            } else {
+                0
+            }
+        }
+        None => 0,
+    }
+}
+
+fn two_bytes(count: u32) -> [u8; 2]
+    ensures { result ≡ bytes_of count }
+{
+    [(count % 256) as u8, (count / 256 % 256) as u8]
+}
+
+/// What the key has before, what is decided of it, what comes of the write, if there is one, and what the key has then.
+#[derive(Drop)]
+struct Row<'a> {
+    before: Option<&'a [u8]>,
+    change: Change,
+    value: &'a [u8],
+    outcome: Option<Outcome>,
+    after: Option<&'a [u8]>,
+}
+
+// Absent, present, shorter, as long and longer values.
+static ROWS: [Row<'static>; 8] = [
+    Row {
+        before: None,
+        change: Change::Stay,
+        value: b"",
+        outcome: None,
+        after: None,
+    },
+    Row {
+        before: None,
+        change: Change::Become,
+        value: b"one",
+        outcome: Some(Outcome::Stored),
+        after: Some(b"one"),
+    },
+    // What is not there does not go.
+    Row {
+        before: None,
+        change: Change::Go,
+        value: b"",
+        outcome: None,
+        after: None,
+    },
+    Row {
+        before: Some(b"one"),
+        change: Change::Stay,
+        value: b"",
+        outcome: None,
+        after: Some(b"one"),
+    },
+    Row {
+        before: Some(b"one"),
+        change: Change::Become,
+        value: b"2",
+        outcome: Some(Outcome::Stored),
+        after: Some(b"2"),
+    },
+    Row {
+        before: Some(b"one"),
+        change: Change::Become,
+        value: b"two and more",
+        outcome: Some(Outcome::Stored),
+        after: Some(b"two and more"),
+    },
+    Row {
+        before: Some(b"one"),
+        change: Change::Become,
+        value: b"",
+        outcome: Some(Outcome::Stored),
+        after: Some(b""),
+    },
+    Row {
+        before: Some(b"one"),
+        change: Change::Go,
+        value: b"",
+        outcome: Some(Outcome::Deleted),
+        after: None,
+    },
+];
+
+// What the key has.
+fn expect_value<R: Abort + Threads + Wait + Sync, F: Front>(
+    rt: &R,
+    front: &mut F,
+    out: &mut ItemBuf,
+    wanted: Option<&[u8]>,
+)
+    ensures { F.left front.new ≡ F.left front.old }
+{
+    assert!(rt; key_fits(KEY));
+    let (answer, _) = front.read(rt, KEY, out);
+    match wanted {
+        Some(value) => assert!(rt; answer == Answer::Hit && out.value() == value),
+        None => assert!(rt; answer == Answer::Miss),
+    }
+}
+
+// One row, by a front.
+fn expect_row<R: Abort + AllocGlobal + Threads + Wait + Sync, F: Changes>(
+    rt: &R,
+    front: &mut F,
+    row: &Row<'_>,
+) -> Result<(), Fail>
+    requires { 2 ≤ F.left front.old }
+    ensures { F.left front.old ≤ F.left front.new + 2 }
+{
+    assert!(rt; key_fits(KEY) && value_fits(row.value));
+    let alloc = rt.alloc();
+    let mut found = ItemBuf::new(alloc)?;
+    let mut next = ItemBuf::new(alloc)?;
+    match row.before {
+        Some(value) => {
+            assert!(rt; value_fits(value));
+            front.write(rt, alloc, Op::Put, KEY, value)?;
+        }
+        None => {
+            front.write(rt, alloc, Op::Del, KEY, b"")?;
+        }
+    }
+    let decide = Fixed {
+        change: row.change,
+        value: row.value,
+    };
+    let changed = front.change(rt, 7, KEY, &decide, &mut found, &mut next);
+    assert!(rt; changed.outcome == row.outcome && changed.when.second == 7);
+    expect_value(rt, front, &mut found, row.after);
+    Ok(())
+}
+
+// All rows, by a front.
+fn expect_rows<R: Abort + AllocGlobal + Threads + Wait + Sync, F: Changes>(
+    rt: &R,
+    front: &mut F,
+    rows: &[Row<'_>],
+) -> Result<(), Fail>
+    requires { 2 * length rows.now ≤ F.left front.old }
+    ensures { F.left front.old ≤ F.left front.new + 2 * length rows.now }
+{
+    for i in 0..rows.len() {
+        expect_row(rt, front, &rows[i])?;
+    }
+    Ok(())
+}
+
+/// The room of a thread that counts.
+#[derive(Drop)]
+struct Room {
+    found: ItemBuf,
+    next: ItemBuf,
+}
+
+impl Room {
+    fn new(alloc: Global) -> Result<Room, Fail> {
+        Ok(Room {
+            found: ItemBuf::new(alloc)?,
+            next: ItemBuf::new(alloc)?,
+        })
+    }
+}
+
+/// Counts the key up, and gives the front back.
+fn count_up<R: Threads + Wait + Sync, F: Changes + Drop>(rt: &R, front: F, room: Room) -> F
+    requires { TIMES ≤ F.left front }
+{
+    let mut front = front;
+    let mut room = room;
+    if !key_fits(KEY) {
+        return front;
+    }
+    for _ in 0..TIMES {
+        front.change(rt, 0, KEY, &CountUp, &mut room.found, &mut room.next);
+    }
+    front
+}
+
+// A front that has taken no turn.
+fn front_of<'a, J: ServerPlan, P: LendPartition<Reader = ReaderSeat, Note = Note> + Drop>(
+    options: &Options,
+    locks: &'a [Mutex<OwnedPartition<J, P>>],
+    number: u32,
+    hand: Vec<LockedPart>,
+) -> LockedFront<'a, J, P>
+    requires valid { IsPossible options.now }
+    requires named { options.now ≡ J.plan.options }
+    requires low { number < J.plan.fronts }
+    requires locks { length locks.now ≡ options.now.partitions }
+    requires hand { AreNewParts J.plan number hand.items }
+    ensures { turns_left result.parts ≡ most_turns }
+{
+    LockedFront::new(options, locks, number, hand)
+}
+
+// Two fronts before one partition: the rows by the first, and then both count.
+fn change_by_two<
+    J: ServerPlan + Send + Sync,
+    W: Abort + AllocGlobal + Threads + Wait + Sync,
+    P: OnTable + LendPartition<Reader = ReaderSeat, Note = Note> + Drop + Send,
+>(rt: &W, options: &Options, rows: &[Row<'_>], parts: Vec<FilledPart<P>>) -> Result<(), Fail>
+    requires notes { NotesAre P.noted P.note_home note_state note_home }
+    requires valid { IsPossible options.now }
+    requires named { options.now ≡ J.plan.options }
+    requires takers { J.plan.fronts ≡ 2 }
+    requires of { ArePlanned J.plan 0 (map (λ f. filled_view P.owner P.home f) parts.items) }
+    requires rows { length rows.now ≤ 100 }
+{
+    let alloc = rt.alloc();
+    let mut parts = parts;
+    let first = lend_hand::<J, P>(alloc, &mut parts, 0)?;
+    let second = lend_hand::<J, P>(alloc, &mut parts, 1)?;
+    let locks = lock_parts::<J, P>(alloc, parts)?;
+    let mut first = front_of(options, locks.as_slice(), 0, first);
+    let second = front_of(options, locks.as_slice(), 1, second);
+    expect_rows(rt, &mut first, rows)?;
+    let (one, two) = (Room::new(alloc)?, Room::new(alloc)?);
+    let (mut first, _) = join(
+        rt,
+        move ||
+            requires { TIMES ≤ turns_left first.parts }
+        { count_up(rt, first, one) },
+        move ||
+            requires { TIMES ≤ turns_left second.parts }
+        { count_up(rt, second, two) },
+    );
+    // 20,000 is 78 times 256, and 32.
+    expect_value(rt, &mut first, &mut ItemBuf::new(alloc)?, Some(&[32, 78]));
+    Ok(())
+}
+
+// Opens one empty partition of the options.
+fn open_and_change<P: OnTable + LendPartition<Reader = ReaderSeat, Note = Note> + Drop + Send>(
+    rt: &(impl Abort + AllocGlobal + Threads + Wait + Sync),
+    options: &Options,
+    rows: &[Row<'_>],
+) -> Result<(), Fail>
+    requires notes { NotesAre P.noted P.note_home note_state note_home }
+    requires same { (p : P) → P.state p ≡ P.owner p }
+    requires mode { options.now.mode ≡ P.mode }
+    requires rows { length rows.now ≤ 100 }
+{
+    assert!(rt; options.is_possible());
+    let opened = open_parts::<P>(rt.alloc(), options, &[]);
+    assert!(rt; opened.is_ok());
+    if let Ok(parts) = opened {
+        change_by_two::<Brand, _, P>(rt, options, rows, parts)?;
+    }
+    Ok(())
+}
+
+const SMALL: Options = Options {
+    mode: Mode::Store,
+    partitions: 1,
+    buckets: 1,
+    spares: 1,
+    words: 1_024,
+    readers: 2,
+    tries: 100,
+    wear: 1_000_000,
+};
+
+#[test]
+fn changes_in_store_mode(rt: HostRuntime) -> Result<(), Fail> {
+    open_and_change::<StorePartition<OwnerSeat>>(&rt, &SMALL, &ROWS)
+}
+
+#[test]
+fn changes_in_cache_mode(rt: HostRuntime) -> Result<(), Fail> {
+    let options = Options {
+        mode: Mode::Cache,
+        words: 4_096,
+        ..SMALL
+    };
+    open_and_change::<CachePartition<OwnerSeat>>(&rt, &options, &ROWS)
+}
+
+// 8,192 bytes and a key of one take 1,027 words, more than there are, so what the key had stays.
+#[test]
+fn a_change_without_room_leaves_the_value(rt: HostRuntime) -> Result<(), Fail> {
+    let long = [b'x'; 8_192];
+    let rows = [Row {
+        before: Some(b"one"),
+        change: Change::Become,
+        value: &long,
+        outcome: Some(Outcome::FullBlock),
+        after: Some(b"one"),
+    }];
+    open_and_change::<StorePartition<OwnerSeat>>(&rt, &SMALL, &rows)
+}
