@@ -18,6 +18,7 @@ mod clients;
 mod desk;
 mod look;
 mod next;
+mod serve;
 mod unsent;
 mod visit;
 
@@ -27,5 +28,6 @@ pub use client::Client;
 pub use clients::Clients;
 pub use desk::{Desk, LONGEST_REPLY};
 pub use look::look_at;
+pub use serve::serve_connections;
 pub use unsent::Unsent;
-pub use visit::{After, visit_once};
+pub use visit::{After, visit_on, visit_once};
