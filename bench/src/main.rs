@@ -1,9 +1,12 @@
 //! Plain Rust of the same rules as `mica`, to measure beside it: `replay` answers each line at its place on one
 //! thread, `rounds` and `queues` run owners and readers in threads over tables of atomic words, `kept` starts these threads
 //! once, `values` does as `queues` over lines that own their bytes, `gen` prints a trace, `image` and `unpack` write and read an
-//! image, `serve` answers datagrams on one thread, `fronts` at many ports with owners in threads, and `load` sends them.
+//! image, `serve` answers datagrams on one thread, `fronts` at many ports with owners in threads, `load` sends them, and
+//! `connect` loads a server over connections.
 
 mod cache;
+mod connections;
+mod epoll;
 mod fronts;
 mod generate;
 mod hash;
@@ -160,7 +163,7 @@ fn report(command: &str, options: &Options) -> Result<Vec<u8>, Box<dyn Error>> {
 }
 
 fn run(words: &[String]) -> Result<(), Box<dyn Error>> {
-    const COMMANDS: &str = "replay, rounds, queues, kept, values, gen, image, unpack, serve, fronts or load";
+    const COMMANDS: &str = "replay, rounds, queues, kept, values, gen, image, unpack, serve, fronts, load or connect";
     let (command, rest) = words.split_first().ok_or(COMMANDS)?;
     let words = read_options(rest)?;
     let out = match command.as_str() {
@@ -172,6 +175,7 @@ fn run(words: &[String]) -> Result<(), Box<dyn Error>> {
         }
         "unpack" => image::unpacked(&input()?).ok_or("no image")?,
         "load" => load::load(&words)?,
+        "connect" => connections::load(&words)?,
         "replay" | "rounds" | "queues" | "kept" | "values" => report(command, &options_of(&words)?)?,
         "fronts" => fronts::serve(&words, &options_of(&words)?)?,
         "serve" => {
