@@ -8,6 +8,7 @@ import time
 
 from formats import HOST, TOP
 
+PLAIN = TOP / "bench/target/release/mica_bench"
 MICAD = pathlib.Path(os.environ.get("MICAD", TOP / "crates/micad/out/micad"))
 
 
@@ -71,6 +72,16 @@ def redis(*words):
     port = free_port()
     with started(["redis-server", "--bind", HOST, "--port", port, "--save", "", "--appendonly", "no", *words], [port]) as running:
         yield running, range(port, port + 1)
+
+
+@contextlib.contextmanager
+def plain_rust(fronts=1, mode="store"):
+    """Plain Rust of the same form: partitions under locks, and fronts over epoll. It knows get and set alone."""
+    port = free_port(fronts)
+    ports = range(port, port + fronts)
+    shape = ["--words", 262_144, "--buckets", 1_024]
+    with started([PLAIN, "streams", "--mode", mode, *shape, "--port", port, "--fronts", fronts], ports) as running:
+        yield running, ports
 
 
 def resident(process):
