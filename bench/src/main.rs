@@ -1,20 +1,25 @@
 //! Plain Rust of the same rules as `mica`, to measure beside it: `replay` answers each line at its place on one
 //! thread, `rounds` and `queues` run owners and readers in threads over tables of atomic words, `kept` starts these threads
 //! once, `values` does as `queues` over lines that own their bytes, `gen` prints a trace, `image` and `unpack` write and read an
-//! image, `serve` answers datagrams on one thread, `fronts` at many ports with owners in threads, and `load` sends them.
+//! image, `serve` answers datagrams on one thread, `fronts` at many ports with owners in threads, `locked` at many ports whose fronts own
+//! partitions in turn by a lock, `load` sends them, `streams` serves memcached's protocol over connections, and `connect` loads such a server.
 
 mod cache;
+mod connections;
+mod epoll;
 mod fronts;
 mod generate;
 mod hash;
 mod image;
 mod kept;
 mod load;
+mod locked;
 mod machine;
 mod packets;
 mod queue;
 mod rounds;
 mod server;
+mod streams;
 mod store;
 mod table;
 mod trace;
@@ -32,7 +37,7 @@ use std::process::ExitCode;
 use store::Store;
 use trace::{Line, read_trace};
 
-fn put_number(number: u64, out: &mut Vec<u8>) {
+pub fn put_number(number: u64, out: &mut Vec<u8>) {
     let mut digits = [0; 20];
     let mut at = digits.len();
     let mut rest = number;
@@ -160,7 +165,7 @@ fn report(command: &str, options: &Options) -> Result<Vec<u8>, Box<dyn Error>> {
 }
 
 fn run(words: &[String]) -> Result<(), Box<dyn Error>> {
-    const COMMANDS: &str = "replay, rounds, queues, kept, values, gen, image, unpack, serve, fronts or load";
+    const COMMANDS: &str = "replay, rounds, queues, kept, values, gen, image, unpack, serve, fronts, locked, streams, load or connect";
     let (command, rest) = words.split_first().ok_or(COMMANDS)?;
     let words = read_options(rest)?;
     let out = match command.as_str() {
@@ -172,8 +177,11 @@ fn run(words: &[String]) -> Result<(), Box<dyn Error>> {
         }
         "unpack" => image::unpacked(&input()?).ok_or("no image")?,
         "load" => load::load(&words)?,
+        "connect" => connections::load(&words)?,
         "replay" | "rounds" | "queues" | "kept" | "values" => report(command, &options_of(&words)?)?,
         "fronts" => fronts::serve(&words, &options_of(&words)?)?,
+        "streams" => streams::serve(&words, &options_of(&words)?)?,
+        "locked" => locked::serve(&words, &options_of(&words)?)?,
         "serve" => {
             let options = options_of(&words)?;
             match options.mode {

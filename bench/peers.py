@@ -1,0 +1,153 @@
+"""Servers of memcached's protocol, each started for a script and killed at its end: micad, memcached, and redis for its own protocol."""
+import contextlib
+import os
+import pathlib
+import socket
+import subprocess
+import time
+
+from formats import HOST, TOP
+
+PLAIN = TOP / "bench/target/release/mica_bench"
+MICAD = pathlib.Path(os.environ.get("MICAD", TOP / "crates/micad/out/micad"))
+
+
+def free_port(ports=1):
+    """The first of so many ports that nobody listens at."""
+    while True:
+        with socket.socket() as first:
+            first.bind((HOST, 0))
+            port = first.getsockname()[1]
+        with contextlib.ExitStack() as taken:
+            try:
+                for more in range(ports):
+                    taken.enter_context(socket.socket()).bind((HOST, port + more))
+                if port + ports <= 65_000:
+                    return port
+            except OSError:
+                pass
+
+
+def await_port(running, port, seconds=60):
+    end = time.monotonic() + seconds
+    while time.monotonic() < end and running.poll() is None:
+        with contextlib.suppress(OSError):
+            socket.create_connection((HOST, port)).close()
+            return
+        time.sleep(0.02)
+    raise OSError(f"nobody listens at {port}")
+
+
+@contextlib.contextmanager
+def started(command, ports):
+    with subprocess.Popen([str(word) for word in command], stdout=subprocess.DEVNULL, stderr=subprocess.DEVNULL) as running:
+        try:
+            for port in ports:
+                await_port(running, port)
+            yield running
+        finally:
+            running.kill()
+
+
+@contextlib.contextmanager
+def micad(*words, fronts=1, mode="store", memory="64M"):
+    """The process, and the ports of its fronts."""
+    port = free_port(fronts)
+    ports = range(port, port + fronts)
+    command = [MICAD, "--mode", mode, "--memory", memory, "--memcached", port, "--memcached-fronts", fronts, *words]
+    with started(command, ports) as running:
+        yield running, ports
+
+
+@contextlib.contextmanager
+def memcached(*words, threads=1, megabytes=64):
+    port = free_port()
+    command = ["memcached", "-l", HOST, "-p", port, "-U", 0, "-m", megabytes, "-t", threads, "-c", 4096, "-u", "root", *words]
+    with started(command, [port]) as running:
+        yield running, range(port, port + 1)
+
+
+@contextlib.contextmanager
+def redis(*words):
+    port = free_port()
+    with started(["redis-server", "--bind", HOST, "--port", port, "--save", "", "--appendonly", "no", *words], [port]) as running:
+        yield running, range(port, port + 1)
+
+
+@contextlib.contextmanager
+def plain_rust(fronts=1, mode="store"):
+    """Plain Rust of the same form: partitions under locks, and fronts over epoll. It knows get and set alone."""
+    port = free_port(fronts)
+    ports = range(port, port + fronts)
+    shape = ["--words", 262_144, "--buckets", 1_024]
+    with started([PLAIN, "streams", "--mode", mode, *shape, "--port", port, "--fronts", fronts], ports) as running:
+        yield running, ports
+
+
+def resident(process):
+    """Its resident memory in bytes."""
+    for line in pathlib.Path(f"/proc/{process.pid}/status").read_text().splitlines():
+        if line.startswith("VmRSS"):
+            return int(line.split()[1]) * 1024
+    raise OSError("no resident memory")
+
+
+def processor_seconds(process):
+    """How long it has run on processors."""
+    fields = pathlib.Path(f"/proc/{process.pid}/stat").read_text().rsplit(")", 1)[1].split()
+    return (int(fields[11]) + int(fields[12])) / os.sysconf("SC_CLK_TCK")
+
+
+class Line:
+    """A connection that is written to and read from by whole lines and blocks."""
+
+    def __init__(self, port, seconds=30):
+        self.socket = socket.create_connection((HOST, port), timeout=seconds)
+        self.socket.setsockopt(socket.IPPROTO_TCP, socket.TCP_NODELAY, 1)
+        self.kept = b""
+
+    def send(self, text):
+        self.socket.sendall(text)
+
+    def line(self):
+        while b"\n" not in self.kept:
+            more = self.socket.recv(65_536)
+            if not more:
+                raise EOFError("the connection ended")
+            self.kept += more
+        line, self.kept = self.kept.split(b"\n", 1)
+        return line.removesuffix(b"\r")
+
+    def block(self, length):
+        while len(self.kept) < length + 2:
+            more = self.socket.recv(65_536)
+            if not more:
+                raise EOFError("the connection ended")
+            self.kept += more
+        block, self.kept = self.kept[:length], self.kept[length + 2 :]
+        return block
+
+    def ask(self, text):
+        self.send(text)
+        return self.line()
+
+    def get(self, key, word=b"get"):
+        """The value (with its unique number, where `gets` asks for it), or None."""
+        head = self.ask(word + b" " + key + b"\r\n")
+        if head == b"END":
+            return None
+        parts = head.split()
+        value = self.block(int(parts[3]))
+        if self.line() != b"END":
+            raise ValueError(f"no END behind {key}")
+        return (value, int(parts[4])) if len(parts) > 4 else value
+
+    def end(self):
+        """All that comes until the other side closes."""
+        rest = self.kept
+        while more := self.socket.recv(65_536):
+            rest += more
+        return rest
+
+    def close(self):
+        self.socket.close()
