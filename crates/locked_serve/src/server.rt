@@ -211,6 +211,7 @@ fn run_all<
     let mut tasks = fronts.tasks;
     pair_streams(stream_hands, connections, clocks, &mut stream_tasks);
     pair_up(hands, ends_before, &mut tasks);
+    let first = stream_tasks.len() as u32;
     run_workers(
         rt,
         alloc,
@@ -219,6 +220,7 @@ fn run_all<
         base,
         locks.as_slice(),
         gate,
+        first,
         &mut stream_tasks,
         &mut tasks,
     );

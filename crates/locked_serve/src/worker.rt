@@ -106,7 +106,7 @@ fn run_fronts<
     );
 }
 
-/// Runs all fronts side by side, those of connections first in number.
+/// Runs all fronts side by side. Those of datagrams have the numbers from the first one on.
 pub(crate) fn run_workers<
     W: Threads + Wait + Sync,
     J: ServerPlan + Send + Sync,
@@ -123,6 +123,7 @@ pub(crate) fn run_workers<
     base: u64,
     locks: &[Mutex<OwnedPartition<J, P>>],
     gate: &G,
+    first: u32,
     streams: &mut Vec<StreamTask<C, K>>,
     fronts: &mut Vec<FrontTask<D>>,
 )
@@ -130,13 +131,13 @@ pub(crate) fn run_workers<
     requires options { options.now ≡ J.plan.options }
     requires locks { length locks.now ≡ options.now.partitions }
     requires few { J.plan.fronts ≤ 64 }
-    requires many { length streams.old.items + length fronts.old.items ≡ J.plan.fronts }
+    requires first { length streams.old.items ≤ first }
+    requires many { first + length fronts.old.items ≡ J.plan.fronts }
     requires ready_streams { AreReadyStreams J.plan (stream_facts C.port C.faults C.has_ended C.log) K.last streams.old.items }
-    requires ready { AreReadyTasks J.plan batches (end_facts D.port D.traffic D.faults D.has_ended D.script) (length streams.old.items) fronts.old.items }
+    requires ready { AreReadyTasks J.plan batches (end_facts D.port D.traffic D.faults D.has_ended D.script) first fronts.old.items }
     ensures streams { StreamsRan J.plan (stream_facts C.port C.faults C.has_ended C.log) K.last streams.old.items streams.new.items }
-    ensures fronts { TasksRan J.plan batches (end_facts D.port D.traffic D.faults D.has_ended D.script) (length streams.old.items) fronts.old.items fronts.new.items }
+    ensures fronts { TasksRan J.plan batches (end_facts D.port D.traffic D.faults D.has_ended D.script) first fronts.old.items fronts.new.items }
 {
-    let first = streams.len() as u32;
     join_mut(
         rt,
         &mut ||

@@ -127,6 +127,7 @@ returns-in-Ok-answer_asks-clause-answered g c =
       asks_go options F.is_alone base next done c.requires.open old new told tells keyed r.0 first,
       subst (λ (w : Bool). Replies options base next done c.args.limits r.0 before after (progress_of (done + count) w)) (sym c.is_empty-in-Ok-answer_asks.ensures)
           (asks_reply options F.is_alone base next done c.requires.open old new told tells keyed r.0 c.args.limits before after count left some first.to_asks replies),
+      r.3,
     )
 
 pub returns-in-Err-clause-answered : goal.returns-in-Err-clause-answered
