@@ -1,5 +1,5 @@
 -- What the fronts of a server came to, each beside the others, and what their owners took in of them.
-use Rattle.std.specs.Prelude.{false, ◌≡◌, ◌≢◌, ◌+◌, ◌<◌, ◌≤◌, ℕ, true, List, ◌++◌, map, length, slice_get, Some, sum_by, Result, Ok, Err}
+use Rattle.std.specs.Prelude.{false, ◌≡◌, ◌≢◌, ◌+◌, ◌<◌, ◌≤◌, ◌⊎◌, ⊤, ℕ, true, List, ◌++◌, map, length, slice_get, Some, sum_by, Result, Ok, Err}
 use Rattle.mica_io.specs.Faults.{Rose}
 use Rattle.partition_model.specs.declared.options.Options.{Options}
 use Rattle.partition_model.specs.History.{History, IsPrefix}
@@ -84,3 +84,10 @@ abbrev pub SumsUp : List (Result Totals ServeFault) → Result Totals ServeFault
 SumsUp answers (Ok totals) = (all : List Totals) × (answers ≡ map Ok all) × (totals ≡ sum_of_totals all)
 SumsUp answers (Err Net) = (f : ℕ) × (slice_get answers f ≡ Some (Err Net)) × ((i : ℕ) → slice_get answers i ≢ Some (Err NoMemory))
 SumsUp answers (Err NoMemory) = (f : ℕ) × (slice_get answers f ≡ Some (Err NoMemory))
+
+-- The same beside others: want of memory of any; else a fault of any, or that one of the others stopped; else the totals are the sum.
+abbrev pub ComesTo : Others → List (Result Totals ServeFault) → Result Totals ServeFault → Type 0
+ComesTo others answers (Ok totals) = SumsUp answers (Ok totals)
+ComesTo others answers (Err Net) =
+    (((f : ℕ) × (slice_get answers f ≡ Some (Err Net))) ⊎ others.stopped) × ((i : ℕ) → slice_get answers i ≢ Some (Err NoMemory))
+ComesTo others answers (Err NoMemory) = ⊤
