@@ -3,9 +3,11 @@ pub mod Named
 pub mod Lending
 mod Joined
 pub mod Taken
-mod Listening
+mod Heard
 pub mod Ran
 mod RanBeside
 mod Faults
+mod Came
 mod Unheard
+mod Bound
 mod Stopped

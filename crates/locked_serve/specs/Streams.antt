@@ -1,5 +1,5 @@
 -- The ports of connections, as contracts see them, and what their fronts make of them.
-use Rattle.std.specs.Prelude.{◌≡◌, ◌≢◌, ◌+◌, ◌<◌, ◌≤◌, ⊤, ⊥, ℕ, Bool, false, List, [], length, slice_get, Option, None, Some, IfSome, Result}
+use Rattle.std.specs.Prelude.{◌≡◌, ◌≢◌, ◌+◌, ◌<◌, ◌≤◌, ⊤, ℕ, Bool, false, List, [], length, slice_get, Option, None, Some, IfSome, Result}
 use Rattle.mica_io.specs.Faults.{Rose}
 use Rattle.stream_io.specs.Log.{Log}
 use Rattle.stream_io.specs.Ports.{Ports}

@@ -1,4 +1,4 @@
-use Rattle.std.proofs.Common.{rules, ◌≡◌, ◌<◌, ◌≤◌, ◌+◌, ◌++◌, ℕ, List, length, map, vec_len, vec_capacity, sym, ap, ◌∙◌, subst, arith}
+use Rattle.std.proofs.Common.{rules, ◌≡◌, ◌<◌, ◌≤◌, ◌+◌, ◌++◌, ℕ, List, length, map, vec_len, vec_capacity, sym, ap, ◌∙◌, subst, arith, length-append}
 use Rattle.std.specs.Prelude.{Result, ⊤}
 use Rattle.std.proofs.lemmas.List.{length-map}
 use Rattle.std.proofs.lemmas.Simd.{map-map}
@@ -166,3 +166,84 @@ take_hands-requires g c =
 module _ (g : given.Over) (z : After-pair_up g) (b : After-take_all_back g) (c : After-take_hands g) where
   took_streams : TakesHands (map (view g) c.take_all_back.new.parts.items) (map (view g) c.take_hands.new.parts.items) (map stream_hand c.run_workers.new.streams.items)
   took_streams = subst (TakesHands (map (view g) c.take_all_back.new.parts.items) (map (view g) c.take_hands.new.parts.items)) (stream_news g z b) c.take_hands.ensures
+
+pub take_hands-requires-2 : goal.take_hands-requires-2
+take_hands-requires-2 g c =
+    let at = goal.at.take_hands-requires-2 g c in
+    let z = at.After-take_all_back in
+    let lefts = map (view g) c.take_all_back.new.parts.items in
+    let mids = map (view g) c.take_hands.new.parts.items in
+    subst (MayTakeHands mids) (sym (front_news g at.After-pair_up z))
+    (may_behind lefts mids (map stream_hand c.run_workers.new.streams.items) (map hand_of c.run_workers.new.fronts.items) (took_streams g at.After-pair_up z at.After-take_hands)
+    (may_right lefts (map stream_hand c.run_workers.new.streams.items) (map hand_of c.run_workers.new.fronts.items) (may g at.After-pair_up z)))
+
+module _ (g : given.Over) (z : After-pair_up g) (b : After-take_all_back g) (t : After-take_hands g) (c : After-take_hands-2 g) where
+  lefts : List Owned
+  lefts = map (view g) c.take_all_back.new.parts.items
+
+  afters : List Owned
+  afters = map (view g) c.take_hands-2.new.parts.items
+
+  olds : List (List LockedPart)
+  olds = map stream_hand c.pair_streams.new.tasks.items ++ map hand_of c.pair_up.new.tasks.items
+
+  olds_long : length olds ≡ (plan_of g).fronts
+  olds_long =
+      omega (arith, length-append (map stream_hand c.pair_streams.new.tasks.items) (map hand_of c.pair_up.new.tasks.items), length-map c.pair_streams.new.tasks.items stream_hand,
+        length-map c.pair_up.new.tasks.items hand_of, streams_many g z, tasks_many g z, c.requires.takers)
+
+  news_long : length (news g z b) ≡ length olds
+  news_long =
+      omega (
+        arith,
+        length-append (map stream_hand c.run_workers.new.streams.items) (map hand_of c.run_workers.new.fronts.items),
+        length-map c.run_workers.new.streams.items stream_hand,
+        length-map c.run_workers.new.fronts.items hand_of,
+        length-append (map stream_hand c.pair_streams.new.tasks.items) (map hand_of c.pair_up.new.tasks.items),
+        length-map c.pair_streams.new.tasks.items stream_hand,
+        length-map c.pair_up.new.tasks.items hand_of,
+        c.run_workers.ensures.streams.0,
+        c.run_workers.ensures.fronts.0,
+      )
+
+  all : HaveRan (plan_of g) olds (news g z b) lefts afters
+  all = record {
+    some = omega (arith, news_long, olds_long, c.requires.some);
+    filled = subst (λ (o : Options). (p : ℕ) → p < o.partitions → IsHistory o ((plan_of g).begun p)) c.requires.named c.requires.filled;
+    opened = subst (λ (n : ℕ). AreNewHands (plan_of g) 0 n olds) (sym c.requires.takers)
+        (hands_both (plan_of g) (length c.args.connections.items) (length c.args.ends.now.items) (map stream_hand c.pair_streams.new.tasks.items) (map hand_of c.pair_up.new.tasks.items)
+        (opened_streams g z) (opened g z));
+    same = news_long;
+    are = are g z b;
+    many = lefts_many g z b;
+    back = c.take_all_back.ensures.each;
+    took = took_both lefts (map (view g) c.take_hands.new.parts.items) afters (map stream_hand c.run_workers.new.streams.items) (map hand_of c.run_workers.new.fronts.items)
+        (took_streams g z b t) (subst (TakesHands (map (view g) c.take_hands.new.parts.items) afters) (front_news g z b) c.take_hands-2.ensures);
+  }
+
+pub returns-clause-ran : goal.returns-clause-ran
+returns-clause-ran g c =
+    let at = goal.at.returns-clause-ran g c in
+    let plan = plan_of g in
+    let streams = c.run_workers.new.streams.items in
+    let stream_olds = c.pair_streams.new.tasks.items in
+    let some = subst (λ (o : Options). 1 ≤ o.partitions) c.requires.named c.requires.options.partitions.0 in
+    let it = ran_beside plan some (of_stream g) g.K.Clock.last stream_olds streams c.args.batches (facts g) c.pair_up.new.tasks.items c.run_workers.new.fronts.items c.run_workers.ensures.streams
+    (ran_fronts g at.After-pair_up at.After-take_all_back) (all g at.After-pair_up at.After-take_all_back at.After-take_hands at.After-take_hands-2) in
+    let kept = map (λ (left : Owned). kept_seat_in left.owner) (map (view g) c.take_hands-2.new.parts.items) in
+    let clocks : map (λ (t : StreamTask g.row.C.Denot g.row.K.Denot). g.K.Clock.last t.clock) stream_olds ≡ map g.K.Clock.last c.args.clocks.items =
+    sym (map-map g.K.Clock.last (λ (t : StreamTask g.row.C.Denot g.row.K.Denot). t.clock) stream_olds) ∙ ap (map g.K.Clock.last) c.pair_streams.ensures.clocks in
+    let before : map (λ (t : FrontTask g.row.D.Denot). facts g t.end) c.pair_up.new.tasks.items ≡ map (facts g) c.args.ends.now.items =
+    sym (map-map (facts g) (λ (t : FrontTask g.row.D.Denot). t.end) c.pair_up.new.tasks.items) ∙ ap (map (facts g)) (own g at.After-pair_up) in
+    let after : map (λ (t : FrontTask g.row.D.Denot). facts g t.end) c.run_workers.new.fronts.items ≡ map (facts g) c.part_fronts.new.ends.items =
+    sym (map-map (facts g) (λ (t : FrontTask g.row.D.Denot). t.end) c.run_workers.new.fronts.items) ∙ ap (map (facts g)) (sym c.part_fronts.ensures.ends) in
+    let ports : map (λ (t : StreamTask g.row.C.Denot g.row.K.Denot). of_stream g t.port) stream_olds ≡ map (of_stream g) c.args.connections.items =
+    sym (map-map (of_stream g) (λ (t : StreamTask g.row.C.Denot g.row.K.Denot). t.port) stream_olds) ∙ ap (map (of_stream g)) c.pair_streams.ensures.ports in
+    subst (λ (y : Options × List ℕ × List (Result ⊤ ServeFault) × List (Result Totals ServeFault) × List EndFacts × List EndFacts × List StreamFacts).
+    RanBeside y.0 plan.begun c.args.batches y.1 kept y.2 y.3 y.4 y.5 y.6)
+    (λ i. (sym c.requires.named i, clocks i, sym c.part_streams.ensures.answers i, sym c.part_fronts.ensures.answers i, before i, after i, ports i)) it
+
+pub returns-clause-idle : goal.returns-clause-idle
+returns-clause-idle g c =
+    let at = goal.at.returns-clause-idle g c in
+    idle (all g at.After-pair_up at.After-take_all_back at.After-take_hands at.After-take_hands-2)

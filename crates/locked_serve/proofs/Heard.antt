@@ -5,7 +5,8 @@ use Rattle.std.proofs.lemmas.Bool.{ne_eqb}
 use Rattle.stream_io.specs.Log.{Log}
 use Rattle.stream_io.specs.Ports.{Ports, without_port}
 use Rattle.mica_serve.proofs.Binding.{at_snoc}
-use Rattle.locked_serve.specs.Streams.{StreamFacts, IsNewStream, AreNewStreams, LeavesOthers}
+use Rattle.stream_fronts.specs.declared.ports.StreamPorts.{StreamPorts}
+use Rattle.locked_serve.specs.Streams.{StreamFacts, ListenFacts, IsNewStream, AreNewStreams, LeavesOthers, KeepsListeners}
 
 -- what waited at the next port waits there still
 pub waits_still : (first k : ℕ) (before now : Option Ports) (log : Option Log) → LeavesOthers first k before now → IfSome now (λ all. all (first + k) ≡ log)
@@ -40,3 +41,12 @@ streams_more waited first all one are new k stream at =
       | inl h ↦ are k stream h.0
       | inr h ↦ subst (λ (y : ℕ × StreamFacts). IsNewStream waited (first + y.0) y.1) (λ i. (sym h.0 i, h.1 i)) new
     ]
+
+-- nothing was listened at
+pub kept_unheard : (streams : StreamPorts) (all : ListenFacts) → KeepsListeners streams all all
+kept_unheard streams all = record { never_fall = omega arith; others = leaves_few streams.port 0 streams.fronts all.ports all.ports (omega arith) (leaves_none streams.port all.ports) }
+
+-- the ports are new, whatever waited at them
+pub new_untold : (waited : Option Ports) (first : ℕ) (all : List StreamFacts) → AreNewStreams waited first all → AreNewStreams None first all
+new_untold waited first all new k stream at =
+    let one = new k stream at in record { port_is = one.port_is; no_faults = one.no_faults; unended = one.unended; fresh = one.fresh; waited_is = tt }
