@@ -1,11 +1,11 @@
 -- What is held under a number.
 use Rattle.std.proofs.Common.{◌≡◌, ◌≢◌, ◌⊎◌, inl, inr, ℕ, zero, suc, ◌<◌, ◌-◌, List, [], ◌∷◌, ◌++◌, length, refl, sym, ap, ◌∙◌, subst, arith}
-use Rattle.std.specs.Prelude.{slice_get, slice_set, Option, None, Some, is_some, IfSome}
+use Rattle.std.specs.Prelude.{slice_set, Option, None, Some, is_some, IfSome}
 use Rattle.std.proofs.lemmas.Option.{none-some, same_Some}
 use Rattle.std.proofs.lemmas.Bool.{cases_eq, true≢false}
 use Rattle.stream_io.specs.Log.{Log}
 use Rattle.stream_fronts.specs.declared.client.Client.{Client}
-use Rattle.stream_fronts.specs.Clients.{flat, at, IsClient, AreOpen}
+use Rattle.stream_fronts.specs.Clients.{at, IsClient, AreOpen}
 use Rattle.stream_fronts.specs.Open.{IsOpen, Keeps, KeepsOthers, AsksOnce, OnLogs}
 use Rattle.stream_fronts.proofs.Opening.{still_open, others_open}
 
@@ -32,6 +32,11 @@ at_others (x ∷ all) (suc m) o (suc n) other = at_others all m o n (λ e. other
 -- what is known of a client that is held under a number
 abbrev pub IsHeldSo : ℕ → Client → Option Log → Type 0
 IsHeldSo n client log = IsClient client × IfSome log (IsOpen n client.asks)
+
+-- so of one that was found
+pub found_held : (one : ℕ) (all : List (Option Client)) (got : Option Client) (client : Client) (log : Option Log) → AreOpen all log → got ≡ at all one → got ≡ Some client
+    → IsHeldSo one client log
+found_held one all got client log are taken is = are one client (sym taken ∙ is)
 
 -- each other number stays open
 abbrev pub MovesOthers : ℕ → Option Log → Option Log → Type 0

@@ -1,10 +1,9 @@
 -- What each call of connections keeps open.
-use Rattle.std.proofs.Common.{◌≡◌, ◌≢◌, ℕ, ◌+◌, ◌-◌, ◌*◌, ◌<◌, ◌≤◌, Bool, true, false, List, [], ◌∷◌, ◌++◌, length, refl, sym, ap, ◌∙◌, subst, arith}
+use Rattle.std.proofs.Common.{◌≡◌, ◌≢◌, ℕ, ◌+◌, ◌*◌, ◌<◌, ◌≤◌, List, [], ◌∷◌, length, refl, sym, ap, ◌∙◌, subst, arith}
 use Rattle.std.specs.Prelude.{slice_get, take, min, is_some, Option, Some, None, Result, Ok, Err, IfSome, option_map}
 use Rattle.std.proofs.lemmas.Option.{same_Some}
 use Rattle.std.proofs.lemmas.Bool.{true≢false}
 use Rattle.std.proofs.lemmas.List.{length-take-le}
-use Rattle.std.proofs.lemmas.Grind.{common_steps}
 use Rattle.stream_io.specs.declared.schedule.Change.{Change}
 use Rattle.stream_io.specs.declared.schedule.Step.{Step}
 use Rattle.stream_io.specs.declared.schedule.Step.TheVariants.{Opens, Reports, Happens}
@@ -16,7 +15,7 @@ use Rattle.stream_io.specs.declared.connections.Broken.{Broken}
 use Rattle.stream_io.specs.Connection.{Connection, after_change, after_read, after_write}
 use Rattle.stream_io.specs.State.{State, Entry, held, state_after, after_report, after_meeting}
 use Rattle.stream_io.specs.Log.{Log, IsHeld, connections_of, state_of, with_entries, called, after_met, after_meeting_one}
-use Rattle.stream_io.specs.Calls.{IsGiven, IsTaken, ReadGives, WriteTakes, MayAsk, Asks, Closes, ReportsNext, IsNext, IsOver, gave, took, after_sending}
+use Rattle.stream_io.specs.Calls.{IsGiven, ReadGives, WriteTakes, MayAsk, Asks, Closes, ReportsNext, IsNext, gave, took, after_sending}
 use Rattle.stream_fronts.specs.Open.{asks_in, IsAt, IsOpen, IsOpenIn, Keeps, KeepsOthers, AsksOnce, OnLogs, IsOpened, gained}
 use Rattle.stream_fronts.proofs.Places.{KeepsOpen, changed_keeps, changed_here, there, asked_here, asked_others, closed_others, pushed, pushed_here}
 

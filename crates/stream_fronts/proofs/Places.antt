@@ -1,6 +1,6 @@
 -- A change of one connection, and the places of the others.
-use Rattle.std.proofs.Common.{◌≡◌, ◌≢◌, ℕ, zero, suc, ◌+◌, ◌-◌, ◌*◌, ◌<◌, ◌≤◌, Bool, true, false, cond, ltb, List, [], ◌∷◌, ◌++◌, length, refl, sym, ap, ◌∙◌, subst, arith}
-use Rattle.std.specs.Prelude.{◌==◌, ◌&&◌, not, slice_get, get_or, Option, None, Some}
+use Rattle.std.proofs.Common.{◌≡◌, ◌≢◌, ℕ, zero, suc, ◌-◌, ◌≤◌, Bool, true, false, cond, ltb, List, [], ◌∷◌, ◌++◌, length, refl, sym, ap, ◌∙◌, subst, arith}
+use Rattle.std.specs.Prelude.{◌==◌, ◌&&◌, not, slice_get, get_or, None, Some}
 use Rattle.std.specs.List.{position_or_len}
 use Rattle.std.proofs.lemmas.Option.{none-some, same_Some, slice_get-get_or}
 use Rattle.std.proofs.lemmas.List.{get_or_append_left}
@@ -11,7 +11,7 @@ use Rattle.std.proofs.lemmas.Grind.{common_steps}
 use Rattle.stream_io.specs.Connection.{Connection, new_connection, after_ask, after_close}
 use Rattle.stream_io.specs.State.{changed, is_under, held}
 use Rattle.stream_io.proofs.Places.{length_changed, held_there}
-use Rattle.stream_fronts.specs.Open.{asks_in, IsAt, IsOpenIn}
+use Rattle.stream_fronts.specs.Open.{asks_in, IsAt}
 
 -- it leaves the number, and whether it was closed here, and lets it be asked for as often
 pub record KeepsOpen (f : Connection → Connection) : Type 0 where

@@ -1,5 +1,5 @@
 use Rattle.std.proofs.Common.{◌≡◌, ◌≤◌}
-use Rattle.std.specs.Prelude.{false, vec_len}
+use Rattle.std.specs.Prelude.{false, is_some, vec_len}
 use Rattle.memcached_text.specs.declared.limits.TheConstants.{MAX_WAITING_LEN}
 use Rattle.stream_fronts.specs.Clients.{AreOpen}
 use Rattle.stream_fronts.specs.Going.{GoesBy}
@@ -17,3 +17,4 @@ invariant-loop g l =
     × (g.F.Front.options l.front ≡ g.F.Front.options l.initial.front)
     × (g.F.Front.number l.front ≡ g.F.Front.number l.initial.front)
     × (g.F.Front.stands l.front ≡ g.F.Front.stands l.initial.front)
+    × (is_some (g.C.Connections.log l.connections) ≡ is_some (g.C.Connections.log l.initial.connections))
