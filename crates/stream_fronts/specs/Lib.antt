@@ -7,3 +7,4 @@ pub mod Open
 pub mod Going
 pub mod Parts
 pub mod Clients
+pub mod StreamPorts

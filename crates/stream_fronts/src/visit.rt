@@ -136,7 +136,7 @@ fn look_at_room<R: Threads + Wait + Sync, F: Changes, K: Clock>(
     requires left { left.old ≤ F.left front.old }
     ensures client { IfOk result (λ _. IsClient client.new) }
     ensures asks { client.new.asks ≡ client.old.asks }
-    ensures goes { GoesBy (F.options front.old) F.is_alone (F.sessions front.old) (K.last clock.old) (F.sessions front.new) (K.last clock.new) }
+    ensures goes { GoesBy (F.options front.old) F.is_alone (F.sessions front.old) (F.left front.old) (K.last clock.old) (F.sessions front.new) (F.left front.new) (K.last clock.new) }
     ensures left { left.new ≤ F.left front.new }
     ensures options { F.options front.new ≡ F.options front.old }
     ensures number { F.number front.new ≡ F.number front.old }
@@ -180,7 +180,7 @@ fn answer_more<R: Threads + Wait + Sync, F: Changes, K: Clock, C: Connections>(
     ensures ended { C.has_ended connections.new ≡ C.has_ended connections.old }
     ensures faults { C.faults connections.new ≡ C.faults connections.old }
     ensures port { C.port connections.new ≡ C.port connections.old }
-    ensures goes { GoesBy (F.options front.old) F.is_alone (F.sessions front.old) (K.last clock.old) (F.sessions front.new) (K.last clock.new) }
+    ensures goes { GoesBy (F.options front.old) F.is_alone (F.sessions front.old) (F.left front.old) (K.last clock.old) (F.sessions front.new) (F.left front.new) (K.last clock.new) }
     ensures left { left.new ≤ F.left front.new }
     ensures options { F.options front.new ≡ F.options front.old }
     ensures number { F.number front.new ≡ F.number front.old }
@@ -238,7 +238,7 @@ pub fn visit_once<R: Threads + Wait + Sync, F: Changes, K: Clock, C: Connections
     ensures ended { C.has_ended connections.new ≡ C.has_ended connections.old }
     ensures faults { C.faults connections.new ≡ C.faults connections.old }
     ensures port { C.port connections.new ≡ C.port connections.old }
-    ensures goes { GoesBy (F.options front.old) F.is_alone (F.sessions front.old) (K.last clock.old) (F.sessions front.new) (K.last clock.new) }
+    ensures goes { GoesBy (F.options front.old) F.is_alone (F.sessions front.old) (F.left front.old) (K.last clock.old) (F.sessions front.new) (F.left front.new) (K.last clock.new) }
     ensures left { left.new ≤ F.left front.new }
     ensures options { F.options front.new ≡ F.options front.old }
     ensures number { F.number front.new ≡ F.number front.old }
@@ -307,7 +307,7 @@ pub fn visit_on<R: Threads + Wait + Sync, F: Changes, K: Clock, C: Connections>(
     ensures ended { C.has_ended connections.new ≡ C.has_ended connections.old }
     ensures faults { C.faults connections.new ≡ C.faults connections.old }
     ensures port { C.port connections.new ≡ C.port connections.old }
-    ensures goes { GoesBy (F.options front.old) F.is_alone (F.sessions front.old) (K.last clock.old) (F.sessions front.new) (K.last clock.new) }
+    ensures goes { GoesBy (F.options front.old) F.is_alone (F.sessions front.old) (F.left front.old) (K.last clock.old) (F.sessions front.new) (F.left front.new) (K.last clock.new) }
     ensures left { left.new ≤ F.left front.new }
     ensures options { F.options front.new ≡ F.options front.old }
     ensures number { F.number front.new ≡ F.number front.old }
