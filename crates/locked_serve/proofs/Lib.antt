@@ -1,6 +1,13 @@
 mod Fills
 pub mod Named
 pub mod Lending
+mod Joined
 pub mod Taken
+mod Heard
 pub mod Ran
+mod RanBeside
+mod Faults
+mod Came
+mod Unheard
+mod Bound
 mod Stopped

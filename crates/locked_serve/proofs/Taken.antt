@@ -1,5 +1,5 @@
 -- What the partitions took in of all fronts.
-use Rattle.std.proofs.Common.{◌≡◌, ℕ, zero, suc, ◌+◌, ◌<◌, ◌≤◌, List, [], ◌∷◌, length, map, Option, Some, None, slice_get, slice_set, refl, sym, ap, ◌∙◌, subst, arith}
+use Rattle.std.proofs.Common.{◌≡◌, ℕ, zero, suc, ◌+◌, ◌<◌, ◌≤◌, List, [], ◌∷◌, ◌++◌, length, map, Option, Some, None, slice_get, slice_set, refl, sym, ap, ◌∙◌, subst, arith}
 use Rattle.std.specs.Prelude.{sum_by}
 use Rattle.std.proofs.lemmas.List.Sums.{sum_by-cons}
 use Rattle.std.proofs.lemmas.Option.{slice_get_within, same_Some}
@@ -12,6 +12,7 @@ use Rattle.locked_fronts.specs.declared.part.LockedPart.{LockedPart}
 use Rattle.locked_fronts.specs.Owned.{Owned}
 use Rattle.locked_fronts.specs.Returned.{TookIn}
 use Rattle.locked_serve.specs.Taking.{MayTakeIn, MayTakeHand, TakesHand, MayTakeHands, TakesHands}
+use Rattle.locked_serve.proofs.Joined.{at_left, at_right}
 
 abbrev pub closed_by : Option LockedPart → ℕ
 closed_by None = 0
@@ -150,3 +151,20 @@ took_all may up whole = record {
   each = λ p old new part old_at new_at at.
       up.done p old new (omega (arith, whole, slice_get_within _ p part at)) old_at new_at part (ap (slice_get _) (may.numbered p old old_at) ∙ at);
 }
+
+-- what may be taken in may be still, once other fronts were
+pub may_behind : (olds mids : List Owned) (hands others : List (List LockedPart)) → TakesHands olds mids hands → MayTakeHands olds others → MayTakeHands mids others
+may_behind olds mids [] others took may = subst (λ l. MayTakeHands l others) (sym took) may
+may_behind olds mids (hand ∷ hands) others took may = may_behind took.0 mids hands others took.2 (λ f parts at. may_still olds took.0 hand parts took.1 (may f parts at))
+
+-- and both are taken in then
+pub took_both : (olds mids news : List Owned) (hands others : List (List LockedPart)) → TakesHands olds mids hands → TakesHands mids news others → TakesHands olds news (hands ++ others)
+took_both olds mids news [] others took later = subst (λ l. TakesHands l news others) took later
+took_both olds mids news (hand ∷ hands) others took later = (took.0, took.1, took_both took.0 mids news hands others took.2 later)
+
+-- of two lists of hands, either
+pub may_left : (all : List Owned) (hands others : List (List LockedPart)) → MayTakeHands all (hands ++ others) → MayTakeHands all hands
+may_left all hands others may = λ f parts at. may f parts (at_left hands others f parts at)
+
+pub may_right : (all : List Owned) (hands others : List (List LockedPart)) → MayTakeHands all (hands ++ others) → MayTakeHands all others
+may_right all hands others may = λ f parts at. may (length hands + f) parts (at_right hands others f parts at)

@@ -1,43 +1,81 @@
--- What each answer of a server says that was filled, and that tells once its ports are bound.
-use Rattle.std.specs.Prelude.{◌≡◌, ◌⊎◌, ◌<◌, ℕ, List, [], Option, Some, None, Result, Ok, Err}
+-- What each answer of a server says that was filled, and that tells once it listens at its ports.
+use Rattle.std.specs.Prelude.{◌≡◌, ◌⊎◌, ◌<◌, ℕ, List, [], length, Option, Some, None, Result, Ok, Err, OnOk}
+use Rattle.mica_io.specs.Faults.{Rose}
 use Rattle.partition_model.specs.declared.options.Options.{Options}
 use Rattle.partition_model.specs.declared.write.Write.{Write}
+use Rattle.partition_model.specs.History.{History}
 use Rattle.partition_table.specs.declared.tables.KeptSeat.{KeptSeat}
+use Rattle.mica_fronts.specs.Answered.{Answered}
 use Rattle.mica_fronts.specs.declared.ports.Ports.{Ports as PortOptions}
 use Rattle.mica_fronts.specs.declared.totals.Totals.{Totals}
 use Rattle.mica_fronts.specs.declared.totals.ServeFault.{ServeFault}
 use Rattle.mica_fronts.specs.declared.totals.ServeFault.TheVariants.{Net, NoMemory}
+use Rattle.stream_fronts.specs.declared.ports.StreamPorts.{StreamPorts}
+use Rattle.mica_serve.specs.Others.{Others}
 use Rattle.mica_serve.specs.NetRun.{NetFacts, IsCauseOnceBound}
 use Rattle.locked_serve.specs.declared.filling.OpenFault.{OpenFault}
 use Rattle.locked_serve.specs.declared.filling.OpenFault.TheVariants as open_fault
 use Rattle.locked_serve.specs.declared.stop.Stop.{Stop}
 use Rattle.locked_serve.specs.declared.stop.Stop.TheVariants.{Refused, Unannounced, Fault}
 use Rattle.locked_serve.specs.Filled.{begun_by, RefusesFilling}
+use Rattle.locked_serve.specs.Streams.{StreamFacts, ListenFacts, AreStreams, others_of}
 
--- what the fronts came to, where they were served or a fault came before
-abbrev pub came_to : Result Totals Stop → Option (Result Totals ServeFault)
-came_to (Ok totals) = Some (Ok totals)
-came_to (Err (Fault fault)) = Some (Err fault)
-came_to (Err Unannounced) = None
-came_to (Err Refused) = None
+-- what contracts see of all ports at one moment: those of datagrams, and what listens at those of connections
+pub record PortFacts : Type 0 where
+  pub net : NetFacts
+  pub listens : ListenFacts
 
--- What each answer says of a server that these writes fill. Where one of them was refused, nothing was bound. One that could not tell that its ports were
--- bound has received nothing.
-abbrev pub IsCauseOfStop : Result Totals Stop → Options → List Write → PortOptions → List KeptSeat → NetFacts → NetFacts → Type 0
-IsCauseOfStop (Ok totals) options writes ports kept before after = IsCauseOnceBound (Some (Ok totals)) options (begun_by options writes) ports kept before after
-IsCauseOfStop (Err (Fault fault)) options writes ports kept before after = IsCauseOnceBound (Some (Err fault)) options (begun_by options writes) ports kept before after
-IsCauseOfStop (Err Unannounced) options writes ports kept before after = IsCauseOnceBound None options (begun_by options writes) ports kept before after
-IsCauseOfStop (Err Refused) options writes ports kept before after = (kept ≡ []) × (after ≡ before) × RefusesFilling options writes
+abbrev pub port_facts : NetFacts → ListenFacts → PortFacts
+port_facts net listens = record { net = net; listens = listens }
+
+-- What the fronts came to where a server came to this: nothing where they were not served, as where a port could not be listened at.
+abbrev pub CameTo : Result Totals Stop → ListenFacts → ListenFacts → Option (Result Totals ServeFault) → Type 0
+CameTo (Ok totals) before after came = came ≡ Some (Ok totals)
+CameTo (Err (Fault Net)) before after came = (came ≡ Some (Err Net)) ⊎ ((came ≡ None) × Rose before.faults after.faults)
+CameTo (Err (Fault NoMemory)) before after came = came ≡ Some (Err NoMemory)
+CameTo (Err Unannounced) before after came = came ≡ None
+CameTo (Err Refused) before after came = ⊥
+
+-- The fronts of connections answered this, and those of datagrams came to what is said of them, beside each other. Where they came to totals, each of them all had
+-- its port.
+pub record ComesBeside (says : Others → Option (Result Totals ServeFault) → Type 0) (answer : Result Totals Stop) (streams : StreamPorts) (clocks : List ℕ)
+    (before after : ListenFacts) : Type 0 where
+  pub answers : List (List Answered)
+  pub olds : List StreamFacts
+  pub news : List StreamFacts
+  pub are : AreStreams streams before.ports clocks answers olds news
+  pub all : OnOk answer (length olds ≡ streams.fronts)
+  pub came : Option (Result Totals ServeFault)
+  pub came_is : CameTo answer before after came
+  pub said : says (others_of answers olds news) came
+
+abbrev pub HasCause : Result Totals Stop → Options → (ℕ → History) → PortOptions → StreamPorts → List ℕ → List KeptSeat → PortFacts → PortFacts → Type 0
+HasCause answer options begun ports streams clocks kept before after =
+    ComesBeside (λ others came. IsCauseOnceBound others came options begun ports kept before.net after.net) answer streams clocks before.listens after.listens
+
+-- What each answer says of a server that these writes fill. Where one of them was refused, there is no port. One that could not tell that it listens has
+-- received nothing.
+abbrev pub IsCauseOfStop : Result Totals Stop → Options → List Write → PortOptions → StreamPorts → List ℕ → List KeptSeat → PortFacts → PortFacts → Type 0
+IsCauseOfStop (Err Refused) options writes ports streams clocks kept before after = (kept ≡ []) × (after ≡ before) × RefusesFilling options writes
+IsCauseOfStop answer options writes ports streams clocks kept before after = HasCause answer options (begun_by options writes) ports streams clocks kept before after
 
 -- the answer where the partitions could not be made and filled
 abbrev pub stop_of : OpenFault → Stop
 stop_of open_fault.Refused = Refused
 stop_of open_fault.NoMemory = Fault NoMemory
 
--- What became of the announcement. It was made once all ports were bound, and before any datagram was received.
-abbrev pub HasAnnounced : {A : Type 0} → (A → A → Type 0) → (A → A → Type 0) → Result Totals Stop → NetFacts → NetFacts → A → A → Type 0
+-- a port could not be bound, or not be listened at
+abbrev pub LacksPort : PortFacts → PortFacts → Type 0
+LacksPort before after = (before.net.refused < after.net.refused) ⊎ Rose before.listens.faults after.listens.faults
+
+-- all could
+abbrev pub HasPorts : PortFacts → PortFacts → Type 0
+HasPorts before after = (after.net.refused ≡ before.net.refused) × (after.listens.faults ≡ before.listens.faults)
+
+-- What became of the announcement. It was made once there were all ports, and before anything was received.
+abbrev pub HasAnnounced : {A : Type 0} → (A → A → Type 0) → (A → A → Type 0) → Result Totals Stop → PortFacts → PortFacts → A → A → Type 0
 HasAnnounced says fails (Ok totals) before after old new = says old new
 HasAnnounced says fails (Err Refused) before after old new = new ≡ old
 HasAnnounced says fails (Err Unannounced) before after old new = fails old new
-HasAnnounced says fails (Err (Fault Net)) before after old new = ((before.refused < after.refused) × (new ≡ old)) ⊎ ((after.refused ≡ before.refused) × says old new)
+HasAnnounced says fails (Err (Fault Net)) before after old new = (LacksPort before after × (new ≡ old)) ⊎ (HasPorts before after × says old new)
 HasAnnounced says fails (Err (Fault NoMemory)) before after old new = (new ≡ old) ⊎ says old new

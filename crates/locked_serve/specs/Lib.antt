@@ -1,4 +1,5 @@
 pub mod Filled
+pub mod Streams
 pub mod Causes
 pub mod Opening
 pub mod Running

@@ -102,7 +102,7 @@ pub record AreNewParts (plan : Plan) (f : ℕ) (parts : List LockedPart) : Type 
   pub many : length parts ≡ plan.options.partitions
   pub each : (p : ℕ) (part : LockedPart) → slice_get parts p ≡ Some part → IsNewPart plan f p part
 
--- and for each front
-pub record AreNewHands (plan : Plan) (fronts : ℕ) (hands : List (List LockedPart)) : Type 0 where
+-- and for each front, with numbers from the first on
+pub record AreNewHands (plan : Plan) (first fronts : ℕ) (hands : List (List LockedPart)) : Type 0 where
   pub many : length hands ≡ fronts
-  pub each : (f : ℕ) (parts : List LockedPart) → slice_get hands f ≡ Some parts → AreNewParts plan f parts
+  pub each : (f : ℕ) (parts : List LockedPart) → slice_get hands f ≡ Some parts → AreNewParts plan (first + f) parts

@@ -1,17 +1,27 @@
--- What each front makes of the end of its place, and what is left of the partitions then.
-use Rattle.std.specs.Prelude.{◌≡◌, ◌<◌, ◌≤◌, ℕ, false, List, [], map, length, slice_get, slice_index_or, Some, IfSome, Result}
+-- What each front makes of the port of its place, and what is left of the partitions then.
+use Rattle.std.specs.Prelude.{◌≡◌, ◌≢◌, ◌+◌, ◌<◌, ◌≤◌, ◌⊎◌, ⊤, ℕ, false, List, length, slice_get, slice_index_or, Some, IfSome, Result, Ok, Err, IsErrOf}
+use Rattle.mica_io.specs.Faults.{Rose}
 use Rattle.mica_io.specs.Traffic.{new_traffic}
-use Rattle.partition_table.specs.Seats.{reader_state}
+use Rattle.partition_model.specs.declared.options.Options.{Options}
+use Rattle.partition_model.specs.History.{History}
+use Rattle.partition_table.specs.declared.tables.KeptSeat.{KeptSeat}
 use Rattle.mica_fronts.specs.declared.totals.TheConstants.{MAX_BATCHES}
 use Rattle.mica_fronts.specs.declared.totals.Totals.{Totals}
 use Rattle.mica_fronts.specs.declared.totals.ServeFault.{ServeFault}
+use Rattle.mica_fronts.specs.declared.totals.ServeFault.TheVariants.{Net, NoMemory}
+use Rattle.mica_fronts.specs.Answered.{Answered, count_of_writes}
+use Rattle.mica_fronts.specs.Session.{Sessions, AnswersInOrder}
 use Rattle.locked_fronts.specs.declared.part.LockedPart.{LockedPart}
 use Rattle.locked_fronts.specs.Plan.{Plan}
 use Rattle.locked_fronts.specs.Parts.{IsLockedFront, locked_view, sessions_of, turns_left}
 use Rattle.mica_serve.specs.Ends.{EndFacts}
-use Rattle.mica_serve.specs.FrontRuns.{FrontRun, RunsFront}
+use Rattle.mica_serve.specs.FrontRuns.{FrontRun, RunsFront, RanAll, SumsUp}
 use Rattle.locked_serve.specs.declared.worker.FrontTask.{FrontTask}
+use Rattle.locked_serve.specs.declared.streams.StreamTask.{StreamTask}
 use Rattle.locked_serve.specs.Opening.{AreNewParts}
+use Rattle.locked_serve.specs.Streams.{StreamFacts, ServesStream, AreServed, StopsStream, others_of}
+
+-- Fronts of datagrams
 
 -- a front with these parts was served, and has those then
 abbrev pub run_of : List LockedPart → Result Totals ServeFault → List LockedPart → FrontRun
@@ -30,8 +40,83 @@ module _ {D : Type 0} (plan : Plan) (batches : ℕ) (facts : D → EndFacts) whe
     pub is : IsLockedFront plan (locked_view plan.options f new.parts.items)
     pub run : RunsFront plan.options batches (run_of old.parts.items new.answer new.parts.items) (facts old.end) (facts new.end)
 
-  abbrev pub AreReadyTasks : List (FrontTask D) → Type 0
-  AreReadyTasks tasks = (f : ℕ) (d : FrontTask D) → f < length tasks → IsReadyTask f (slice_index_or tasks f d)
+  -- of fronts with numbers from the first on
+  abbrev pub AreReadyTasks : ℕ → List (FrontTask D) → Type 0
+  AreReadyTasks first tasks = (f : ℕ) (d : FrontTask D) → f < length tasks → IsReadyTask (first + f) (slice_index_or tasks f d)
 
-  abbrev pub TasksRan : List (FrontTask D) → List (FrontTask D) → Type 0
-  TasksRan olds news = (length news ≡ length olds) × ((f : ℕ) (d : FrontTask D) → f < length olds → TaskRan f (slice_index_or olds f d) (slice_index_or news f d))
+  abbrev pub TasksRan : ℕ → List (FrontTask D) → List (FrontTask D) → Type 0
+  TasksRan first olds news =
+      (length news ≡ length olds) × ((f : ℕ) (d : FrontTask D) → f < length olds → TaskRan (first + f) (slice_index_or olds f d) (slice_index_or news f d))
+
+-- Fronts of connections
+
+-- A front before and after it was served: its sessions, how many writes it could still be given, and the second that its clock told last.
+pub record StreamRun : Type 0 where
+  pub old : Sessions
+  pub new : Sessions
+  pub left : ℕ
+  pub left_after : ℕ
+  pub told : ℕ
+  pub tells : ℕ
+
+-- It was served behind its port. Its sessions and its clock went on by these answers, and it was given no writes but those among them.
+pub record RunsStream (options : Options) (run : StreamRun) (answered : List Answered) (answer : Result ⊤ ServeFault) (before after : StreamFacts) : Type 0 where
+  pub serves : ServesStream run.told answered before after
+  pub in_order : AnswersInOrder options false run.old answered run.new
+  pub few : run.left ≤ run.left_after + count_of_writes answered
+  pub cause : IsErrOf answer Net → Rose before.faults after.faults
+
+module _ {C K : Type 0} (plan : Plan) (facts : C → StreamFacts) (last : K → ℕ) where
+  abbrev pub stream_run : StreamTask C K → StreamTask C K → StreamRun
+  stream_run old new = record {
+    old = sessions_of old.parts.items;
+    new = sessions_of new.parts.items;
+    left = turns_left old.parts.items;
+    left_after = turns_left new.parts.items;
+    told = last old.clock;
+    tells = last new.clock;
+  }
+
+  -- new parts, and a new port
+  pub record IsReadyStream (k : ℕ) (task : StreamTask C K) : Type 0 where
+    pub parts : AreNewParts plan k task.parts.items
+    pub unended : (facts task.port).has_ended ≡ false
+
+  -- the front was served behind its port, and has its parts still
+  pub record StreamRan (k : ℕ) (old new : StreamTask C K) : Type 0 where
+    pub is : IsLockedFront plan (locked_view plan.options k new.parts.items)
+    pub answered : List Answered
+    pub run : RunsStream plan.options (stream_run old new) answered new.answer (facts old.port) (facts new.port)
+
+  abbrev pub AreReadyStreams : List (StreamTask C K) → Type 0
+  AreReadyStreams tasks = (k : ℕ) (d : StreamTask C K) → k < length tasks → IsReadyStream k (slice_index_or tasks k d)
+
+  abbrev pub StreamsRan : List (StreamTask C K) → List (StreamTask C K) → Type 0
+  StreamsRan olds news =
+      (length news ≡ length olds) × ((k : ℕ) (d : StreamTask C K) → k < length olds → StreamRan k (slice_index_or olds k d) (slice_index_or news k d))
+
+-- All fronts
+
+-- All ran beside each other and came to these answers, and these are the seats that the partitions may leave.
+pub record RanBeside (options : Options) (begun : ℕ → History) (batches : ℕ) (clocks : List ℕ) (kept : List KeptSeat) (streams : List (Result ⊤ ServeFault))
+    (fronts : List (Result Totals ServeFault)) (before after : List EndFacts) (olds : List StreamFacts) : Type 0 where
+  pub answers : List (List Answered)
+  pub news : List StreamFacts
+  pub many : length answers ≡ length olds
+  pub served : AreServed clocks answers olds news
+  pub stopped : (k : ℕ) → slice_get streams k ≡ Some (Err Net) → StopsStream olds news
+  pub ran : RanAll (others_of answers olds news) options begun batches kept fronts before after
+
+-- a front of connections has this fault, where there is one
+abbrev pub IsFaultOf : List (Result ⊤ ServeFault) → Result ⊤ ServeFault → Type 0
+IsFaultOf streams (Ok none) = (k : ℕ) (fault : ServeFault) → slice_get streams k ≢ Some (Err fault)
+IsFaultOf streams (Err fault) = (k : ℕ) × (slice_get streams k ≡ Some (Err fault))
+
+-- Want of memory of any front is that of all; else a fault of any; else the totals are those of the fronts of datagrams.
+abbrev pub SumsUpBeside : List (Result ⊤ ServeFault) → List (Result Totals ServeFault) → Result Totals ServeFault → Type 0
+SumsUpBeside streams fronts (Ok totals) = ((k : ℕ) (fault : ServeFault) → slice_get streams k ≢ Some (Err fault)) × SumsUp fronts (Ok totals)
+SumsUpBeside streams fronts (Err Net) =
+    ((f : ℕ) → slice_get fronts f ≢ Some (Err NoMemory))
+    × (((k : ℕ) × (slice_get streams k ≡ Some (Err Net))) ⊎ ((f : ℕ) × (slice_get fronts f ≡ Some (Err Net))))
+SumsUpBeside streams fronts (Err NoMemory) =
+    ((k : ℕ) × (slice_get streams k ≡ Some (Err NoMemory))) ⊎ ((f : ℕ) × (slice_get fronts f ≡ Some (Err NoMemory)))

@@ -1,21 +1,28 @@
 -- A server as opened, with its partitions under their locks.
 use Rattle.std.specs.Prelude.{◌≡◌, ◌≤◌, ℕ, List, [], vec_capacity}
 use Rattle.locked_fronts.specs.Plan.{Plan}
-use Rattle.locked_serve.specs.declared.server.Room.{Room}
 use Rattle.locked_fronts.specs.declared.part.LockedPart.{LockedPart}
+use Rattle.locked_serve.specs.declared.server.Row.{Row}
+use Rattle.locked_serve.specs.declared.server.Room.{Room}
 use Rattle.locked_serve.specs.Opening.{AreNewHands}
 
-module _ {P D : Type 0} where
-  -- empty rows with room for so many fronts, for what they come to, and for so many partitions
-  pub record IsRoom (fronts partitions : ℕ) (room : Room P D) : Type 0 where
-    pub tasks : (room.tasks.items ≡ []) × (fronts ≤ vec_capacity room.tasks)
+-- an empty row with room for so many fronts and for what they come to
+pub record IsRow {T A : Type 0} (fronts : ℕ) (row : Row T A) : Type 0 where
+  pub tasks : (row.tasks.items ≡ []) × (fronts ≤ vec_capacity row.tasks)
+  pub hands : (row.hands.items ≡ []) × (fronts ≤ vec_capacity row.hands)
+  pub answers : (row.answers.items ≡ []) × (fronts ≤ vec_capacity row.answers)
+
+module _ {P D C K : Type 0} where
+  -- and for all ends and partitions
+  pub record IsRoom (streams fronts partitions : ℕ) (room : Room P D C K) : Type 0 where
+    pub streams_row : IsRow streams room.streams
+    pub fronts_row : IsRow fronts room.fronts
     pub ends : (room.ends.items ≡ []) × (fronts ≤ vec_capacity room.ends)
-    pub hands : (room.hands.items ≡ []) × (fronts ≤ vec_capacity room.hands)
-    pub answers : (room.answers.items ≡ []) × (fronts ≤ vec_capacity room.answers)
     pub parts : (room.parts.items ≡ []) × (partitions ≤ vec_capacity room.parts)
 
-  -- so many partitions under locks, what each of so many fronts has of them, and room for all
-  pub record IsLockedServer (plan : Plan) (fronts locks : ℕ) (hands : List (List LockedPart)) (room : Room P D) : Type 0 where
+  -- So many partitions under locks, what each front has of them, and room for all. The fronts of connections come first.
+  pub record IsLockedServer (plan : Plan) (streams fronts locks : ℕ) (stream_hands hands : List (List LockedPart)) (room : Room P D C K) : Type 0 where
     pub locked : locks ≡ plan.options.partitions
-    pub lent : AreNewHands plan fronts hands
-    pub has_room : IsRoom fronts plan.options.partitions room
+    pub lent_streams : AreNewHands plan 0 streams stream_hands
+    pub lent : AreNewHands plan streams fronts hands
+    pub has_room : IsRoom streams fronts plan.options.partitions room

@@ -1,24 +1,36 @@
-//! What a server tells once its ports are bound.
-ghost use Rattle.std.specs.Prelude.{◌≡◌, map, length, OnOk, OnErr};
+//! What a server tells once it listens at its ports.
+ghost use Rattle.std.specs.Prelude.{◌≡◌, None, map, length, OnOk, OnErr};
 ghost use Rattle.mica_fronts.specs.declared.ports.Ports.{Ports as PortOptions};
+ghost use Rattle.stream_fronts.specs.declared.ports.StreamPorts.{StreamPorts};
 ghost use Rattle.mica_serve.specs.Ends.{AreNewEnds, end_facts};
+ghost use Rattle.locked_serve.specs.Streams.{AreNewStreams, stream_facts};
 
 use crate::stop::Untold;
 use mica_fronts::Ports;
 use mica_io::Datagrams;
+use stream_fronts::StreamPorts;
+use stream_io::Connections;
 
-/// What a server tells once all its ports are bound, and before it receives anything.
+/// What a server tells once it has all its ports, and before it receives anything.
 pub trait Announce {
     /// What telling it makes of this.
-    ghost says: { PortOptions → Self → Self → Type 0 };
+    ghost says: { PortOptions → StreamPorts → Self → Self → Type 0 };
 
     /// What it leaves where it could not be told.
-    ghost fails: { PortOptions → Self → Self → Type 0 };
+    ghost fails: { PortOptions → StreamPorts → Self → Self → Type 0 };
 
-    /// The ends are bound, one at each port, and have received nothing.
-    fn ready<D: Datagrams>(&mut self, ports: &Ports, ends: &[D]) -> Result<(), Untold>
+    /// There is an end bound at each port of datagrams, and each port of connections is listened at. Nothing was received.
+    fn ready<D: Datagrams, C: Connections>(
+        &mut self,
+        ports: &Ports,
+        streams: &StreamPorts,
+        ends: &[D],
+        connections: &[C],
+    ) -> Result<(), Untold>
         requires bound { length ends.now ≡ ports.now.fronts }
         requires new { AreNewEnds ports.now.port (map (end_facts D.port D.traffic D.faults D.has_ended D.script) ends.now) }
-        ensures said { OnOk result (says ports.now self.old self.new) }
-        ensures failed { OnErr result (fails ports.now self.old self.new) };
+        requires listens { length connections.now ≡ streams.now.fronts }
+        requires fresh { AreNewStreams None streams.now.port (map (stream_facts C.port C.faults C.has_ended C.log) connections.now) }
+        ensures said { OnOk result (says ports.now streams.now self.old self.new) }
+        ensures failed { OnErr result (fails ports.now streams.now self.old self.new) };
 }

@@ -1,20 +1,23 @@
-//! The server whose partitions lie under locks: its ports, and the fronts behind them, each in a thread of its own.
+//! The server whose partitions lie under locks: its ports of datagrams and of connections, and the fronts behind them, each in a thread of its own.
 //!
 //! What all fronts of `serve_locked` received and replied is `Served` of `mica_serve`, as where the owners are in threads of their own: the writes of
-//! all fronts are one run of each partition's machine, and each get is its answer at the replied stamp.
+//! all fronts, of both kinds, are one run of each partition's machine, and each get is its answer at the replied stamp.
 #![tactic(auto)]
 
 mod announce;
+mod answers;
 mod filling;
+mod listening;
 mod opening;
 mod serve;
 mod server;
 mod stop;
+mod streams;
 mod taking;
 mod worker;
 
 pub use announce::Announce;
 pub use filling::OpenFault;
 pub use opening::{FilledPart, lend_hand, lock_parts, open_parts};
-pub use serve::serve_locked;
+pub use serve::{MOST_FRONTS, serve_locked};
 pub use stop::{Stop, Untold};

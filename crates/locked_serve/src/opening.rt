@@ -110,19 +110,21 @@ pub fn lend_hand<J: ServerPlan, P: LendPartition<Reader = ReaderSeat, Note = Not
     Ok(hand)
 }
 
-/// So many fronts, each with a part of each partition.
+/// So many fronts with numbers from the first one on, each with a part of each partition.
 pub(crate) fn lend_hands<J: ServerPlan, P: LendPartition<Reader = ReaderSeat, Note = Note>>(
     alloc: Global,
     parts: &mut Vec<FilledPart<P>>,
+    first: u32,
     fronts: u32,
 ) -> Result<Vec<Vec<LockedPart>>, NoMemory>
-    requires of { ArePlanned J.plan 0 (map (λ f. filled_view P.owner P.home f) parts.old.items) }
-    ensures lent { IfOk result (λ hands. AreNewHands J.plan fronts (map (λ hand. hand.items) hands.items)) }
-    ensures of { OnOk result (ArePlanned J.plan fronts (map (λ f. filled_view P.owner P.home f) parts.new.items)) }
+    requires few { first + fronts ≤ 64 }
+    requires of { ArePlanned J.plan first (map (λ f. filled_view P.owner P.home f) parts.old.items) }
+    ensures lent { IfOk result (λ hands. AreNewHands J.plan first fronts (map (λ hand. hand.items) hands.items)) }
+    ensures of { OnOk result (ArePlanned J.plan (first + fronts) (map (λ f. filled_view P.owner P.home f) parts.new.items)) }
 {
     let mut hands = Vec::with_capacity(alloc, fronts as usize)?;
     for f in 0..fronts {
-        hands.push(lend_hand::<J, P>(alloc, parts, f)?)?;
+        hands.push(lend_hand::<J, P>(alloc, parts, first + f)?)?;
     }
     Ok(hands)
 }

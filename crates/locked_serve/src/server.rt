@@ -1,26 +1,29 @@
 //! The partitions under their locks and the fronts before them, opened and run.
-ghost use Rattle.std.specs.Prelude.{◌≡◌, ◌<◌, ◌≤◌, ℕ, [], IfOk, Some, length, map, slice_get, vec_len};
+ghost use Rattle.std.specs.Prelude.{◌≡◌, ◌+◌, ◌<◌, ◌≤◌, ℕ, [], IfOk, Some, length, map, slice_get, vec_len};
 ghost use Rattle.partition_model.specs.Options.{IsPossible};
 ghost use Rattle.partition_model.specs.History.{IsHistory};
 ghost use Rattle.epoch_core.specs.declared.state.Phase.TheVariants.{Idle};
 ghost use Rattle.partition_table.specs.Tabled.{kept_seat_in};
 ghost use Rattle.partition_table.specs.Seats.{note_state, note_home};
-ghost use Rattle.mica_fronts.specs.PortOptions.{IsValidPorts};
 ghost use Rattle.locked_fronts.specs.Owned.{Owned, NotesAre};
-ghost use Rattle.mica_serve.specs.Ends.{AreOpen, ServesFronts, end_facts};
-ghost use Rattle.mica_serve.specs.FrontRuns.{RanAll};
+ghost use Rattle.mica_fronts.specs.declared.totals.TheConstants.{MAX_BATCHES};
+ghost use Rattle.mica_serve.specs.Ends.{AreOpen, end_facts};
 ghost use Rattle.locked_serve.specs.Opening.{ArePlanned, filled_view};
+ghost use Rattle.locked_serve.specs.Streams.{AreUnserved, ServesBeside, stream_facts};
+ghost use Rattle.locked_serve.specs.Running.{RanBeside};
 ghost use Rattle.locked_serve.specs.Taking.{left_view};
-ghost use Rattle.locked_serve.specs.Server.{IsRoom, IsLockedServer};
+ghost use Rattle.locked_serve.specs.Server.{IsRow, IsRoom, IsLockedServer};
 
+use crate::answers::sum_up_beside;
 use crate::opening::{FilledPart, lend_hands, lock_parts};
+use crate::streams::{StreamTask, pair_streams, part_streams};
 use crate::taking::{keep_all, take_all_back, take_hands};
-use crate::worker::{FrontTask, pair_up, part_fronts, run_fronts};
+use crate::worker::{FrontTask, pair_up, part_fronts, run_workers};
 use epoch_core::LendPartition;
 use locked_fronts::{LockedPart, OwnedPartition, Returned, ServerPlan};
+use mica_clock::Clock;
 use mica_fronts::{Ports, ServeFault, Totals};
 use mica_io::{Datagrams, Gate, NoMemory};
-use mica_serve::sum_up;
 use partition_model::Options;
 use partition_table::{Note, ReaderSeat, Tables};
 use seated_partition::OnTable;
@@ -28,28 +31,60 @@ use std::alloc::Global;
 use std::mem;
 use std::sync::{Mutex, Wait};
 use std::thread::Threads;
+use stream_fronts::StreamPorts;
+use stream_io::Connections;
+
+/// The room for the fronts of one kind, and for what they come to.
+#[derive(Drop)]
+pub struct Row<T, A> {
+    pub tasks: Vec<T>,
+    pub hands: Vec<Vec<LockedPart>>,
+    pub answers: Vec<Result<A, ServeFault>>,
+}
+
+impl<T: Drop, A: Drop> Row<T, A> {
+    fn new(alloc: Global, fronts: usize) -> Result<Row<T, A>, NoMemory>
+        requires fronts { fronts ≤ 64 }
+        ensures { IfOk result (IsRow fronts) }
+    {
+        Ok(Row {
+            tasks: Vec::with_capacity(alloc, fronts)?,
+            hands: Vec::with_capacity(alloc, fronts)?,
+            answers: Vec::with_capacity(alloc, fronts)?,
+        })
+    }
+}
 
 /// The room for all fronts, for what they come to, and for the partitions that are taken back.
 #[derive(Drop)]
-pub struct Room<P: LendPartition<Reader = ReaderSeat, Note = Note> + Drop, D> {
-    pub tasks: Vec<FrontTask<D>>,
+pub struct Room<P: LendPartition<Reader = ReaderSeat, Note = Note> + Drop, D, C, K> {
+    pub streams: Row<StreamTask<C, K>, ()>,
+    pub fronts: Row<FrontTask<D>, Totals>,
     pub ends: Vec<D>,
-    pub hands: Vec<Vec<LockedPart>>,
-    pub answers: Vec<Result<Totals, ServeFault>>,
     pub parts: Vec<Returned<P>>,
 }
 
-impl<P: LendPartition<Reader = ReaderSeat, Note = Note> + Drop, D: Drop> Room<P, D> {
-    fn new(alloc: Global, fronts: usize, partitions: usize) -> Result<Room<P, D>, NoMemory>
+impl<P: LendPartition<Reader = ReaderSeat, Note = Note> + Drop, D: Drop, C: Drop, K: Drop> Room<
+    P,
+    D,
+    C,
+    K,
+> {
+    fn new(
+        alloc: Global,
+        streams: usize,
+        fronts: usize,
+        partitions: usize,
+    ) -> Result<Room<P, D, C, K>, NoMemory>
+        requires streams { streams ≤ 64 }
         requires fronts { fronts ≤ 64 }
         requires partitions { partitions ≤ 64 }
-        ensures { IfOk result (IsRoom fronts partitions) }
+        ensures { IfOk result (IsRoom streams fronts partitions) }
     {
         Ok(Room {
-            tasks: Vec::with_capacity(alloc, fronts)?,
+            streams: Row::new(alloc, streams)?,
+            fronts: Row::new(alloc, fronts)?,
             ends: Vec::with_capacity(alloc, fronts)?,
-            hands: Vec::with_capacity(alloc, fronts)?,
-            answers: Vec::with_capacity(alloc, fronts)?,
             parts: Vec::with_capacity(alloc, partitions)?,
         })
     }
@@ -61,128 +96,208 @@ pub struct LockedServer<
     J: ServerPlan,
     P: LendPartition<Reader = ReaderSeat, Note = Note> + Drop,
     D,
+    C,
+    K,
 > {
     pub locks: Vec<Mutex<OwnedPartition<J, P>>>,
+    /// Those of the fronts of connections.
+    pub stream_hands: Vec<Vec<LockedPart>>,
+    /// Those of the fronts of datagrams.
     pub hands: Vec<Vec<LockedPart>>,
-    pub room: Room<P, D>,
+    pub room: Room<P, D, C, K>,
 }
 
 impl<
     J: ServerPlan,
     P: LendPartition<Reader = ReaderSeat, Note = Note> + Drop,
     D: Drop,
-> LockedServer<J, P, D> {
+    C: Drop,
+    K: Drop,
+> LockedServer<J, P, D, C, K> {
     pub(crate) fn new(
         alloc: Global,
         ports: &Ports,
+        streams: &StreamPorts,
         parts: Vec<FilledPart<P>>,
-    ) -> Result<LockedServer<J, P, D>, NoMemory>
+    ) -> Result<LockedServer<J, P, D, C, K>, NoMemory>
         requires notes { NotesAre P.noted P.note_home note_state note_home }
-        requires ports { IsValidPorts ports.now }
-        requires takers { J.plan.fronts ≡ ports.now.fronts }
+        requires few { streams.now.fronts + ports.now.fronts ≤ 64 }
+        requires takers { J.plan.fronts ≡ streams.now.fronts + ports.now.fronts }
         requires partitions { J.plan.options.partitions ≤ 64 }
         requires of { ArePlanned J.plan 0 (map (λ f. filled_view P.owner P.home f) parts.items) }
-        ensures { IfOk result (λ server. IsLockedServer J.plan ports.now.fronts (length server.locks.items) (map (λ hand. hand.items) server.hands.items) server.room) }
+        ensures { IfOk result (λ server. IsLockedServer J.plan streams.now.fronts ports.now.fronts (length server.locks.items)
+            (map (λ hand. hand.items) server.stream_hands.items) (map (λ hand. hand.items) server.hands.items) server.room) }
     {
         let mut parts = parts;
-        let room = Room::new(alloc, ports.fronts as usize, parts.len())?;
-        let hands = lend_hands::<J, P>(alloc, &mut parts, ports.fronts)?;
+        let room = Room::new(
+            alloc,
+            streams.fronts as usize,
+            ports.fronts as usize,
+            parts.len(),
+        )?;
+        let stream_hands = lend_hands::<J, P>(alloc, &mut parts, 0, streams.fronts)?;
+        let hands = lend_hands::<J, P>(alloc, &mut parts, streams.fronts, ports.fronts)?;
         let locks = lock_parts(alloc, parts)?;
-        Ok(LockedServer { locks, hands, room })
+        Ok(LockedServer {
+            locks,
+            stream_hands,
+            hands,
+            room,
+        })
     }
 }
 
-// Runs all fronts side by side, each in a thread of its own, and then the partitions take in what the fronts have in hand.
-// Gives the partitions and the fronts' answers. It takes no memory.
+/// The partitions, and what the fronts of each kind came to.
+#[derive(Drop)]
+pub struct Came<P: LendPartition<Reader = ReaderSeat, Note = Note> + Drop> {
+    pub parts: Vec<Returned<P>>,
+    pub streams: Vec<Result<(), ServeFault>>,
+    pub fronts: Vec<Result<Totals, ServeFault>>,
+}
+
+// Runs all fronts side by side, each in a thread of its own, and then the partitions take in what the fronts have in hand. It takes no memory.
 fn run_all<
     W: Threads + Wait + Sync,
     J: ServerPlan + Send + Sync,
     P: LendPartition<Reader = ReaderSeat, Note = Note> + Drop + Send,
     D: Datagrams + Drop + Send,
+    C: Connections + Send,
+    K: Clock + Drop + Send,
     G: Gate,
 >(
     rt: &W,
     alloc: Global,
     options: &Options,
-    ports: &Ports,
-    server: LockedServer<J, P, D>,
+    batches: u64,
+    base: u64,
+    server: LockedServer<J, P, D, C, K>,
     ends: &mut Vec<D>,
+    connections: Vec<C>,
+    clocks: Vec<K>,
     gate: &G,
-) -> (Vec<Returned<P>>, Vec<Result<Totals, ServeFault>>)
+) -> Came<P>
     requires options { IsPossible options.now }
     requires named { options.now ≡ J.plan.options }
-    requires takers { J.plan.fronts ≡ ports.now.fronts }
-    requires ports { IsValidPorts ports.now }
+    requires some { 1 ≤ J.plan.fronts }
+    requires few { J.plan.fronts ≤ 64 }
+    requires takers { J.plan.fronts ≡ length connections.items + length ends.old.items }
+    requires clocks { length clocks.items ≡ length connections.items }
+    requires batches { batches ≤ MAX_BATCHES }
     requires filled { (p : ℕ) → p < options.now.partitions → IsHistory options.now (J.plan.begun p) }
-    requires server { IsLockedServer J.plan ports.now.fronts (length server.locks.items) (map (λ hand. hand.items) server.hands.items) server.room }
+    requires server { IsLockedServer J.plan (length connections.items) (length ends.old.items) (length server.locks.items)
+        (map (λ hand. hand.items) server.stream_hands.items) (map (λ hand. hand.items) server.hands.items) server.room }
     requires unserved { AreOpen (map (end_facts D.port D.traffic D.faults D.has_ended D.script) ends.old.items) }
-    requires many { vec_len ends.old ≡ ports.now.fronts }
-    ensures ran { RanAll options.now J.plan.begun ports.now.batches (map (λ left. kept_seat_in left.owner) (map (λ part. left_view P.owner P.home part) result.0.items)) result.1.items
-        (map (end_facts D.port D.traffic D.faults D.has_ended D.script) ends.old.items) (map (end_facts D.port D.traffic D.faults D.has_ended D.script) ends.new.items) }
-    ensures idle { (p : ℕ) (left : Owned) → slice_get (map (λ part. left_view P.owner P.home part) result.0.items) p ≡ Some left → left.owner.phase ≡ Idle }
+    requires fresh { AreUnserved (map (stream_facts C.port C.faults C.has_ended C.log) connections.items) }
+    ensures ran { RanBeside options.now J.plan.begun batches (map K.last clocks.items)
+        (map (λ left. kept_seat_in left.owner) (map (λ part. left_view P.owner P.home part) result.parts.items)) result.streams.items result.fronts.items
+        (map (end_facts D.port D.traffic D.faults D.has_ended D.script) ends.old.items) (map (end_facts D.port D.traffic D.faults D.has_ended D.script) ends.new.items)
+        (map (stream_facts C.port C.faults C.has_ended C.log) connections.items) }
+    ensures idle { (p : ℕ) (left : Owned) → slice_get (map (λ part. left_view P.owner P.home part) result.parts.items) p ≡ Some left → left.owner.phase ≡ Idle }
 {
-    let LockedServer { locks, hands, room } = server;
+    let LockedServer {
+        locks,
+        stream_hands,
+        hands,
+        room,
+    } = server;
     let Room {
-        tasks,
+        streams,
+        fronts,
         ends: room_of_ends,
-        hands: room_of_hands,
-        answers,
         parts,
     } = room;
-    let mut tasks = tasks;
-    let mut hands_after = room_of_hands;
-    let mut answers = answers;
-    let mut parts = parts;
     let ends_before = mem::replace(ends, room_of_ends);
+    let mut stream_tasks = streams.tasks;
+    let mut tasks = fronts.tasks;
+    pair_streams(stream_hands, connections, clocks, &mut stream_tasks);
     pair_up(hands, ends_before, &mut tasks);
-    run_fronts(
+    let first = stream_tasks.len() as u32;
+    run_workers(
         rt,
         alloc,
         options,
-        ports.batches,
+        batches,
+        base,
         locks.as_slice(),
         gate,
+        first,
+        &mut stream_tasks,
         &mut tasks,
     );
-    part_fronts(tasks, ends, &mut hands_after, &mut answers);
+    let mut stream_hands = streams.hands;
+    let mut stream_answers = streams.answers;
+    part_streams(stream_tasks, &mut stream_hands, &mut stream_answers);
+    let mut hands = fronts.hands;
+    let mut answers = fronts.answers;
+    part_fronts(tasks, ends, &mut hands, &mut answers);
+    let mut parts = parts;
     take_all_back(rt, locks, &mut parts);
-    take_hands(&mut parts, hands_after);
-    (parts, answers)
+    take_hands(&mut parts, stream_hands);
+    take_hands(&mut parts, hands);
+    Came {
+        parts,
+        streams: stream_answers,
+        fronts: answers,
+    }
 }
 
-/// Serves the ends side by side, and keeps the owners' seats where no front failed.
+/// Serves all ports side by side, and keeps the owners' seats where no front failed.
 pub(crate) fn serve_all<
     W: Threads + Wait + Sync,
     J: ServerPlan + Send + Sync,
     P: OnTable + LendPartition<Reader = ReaderSeat, Note = Note> + Drop + Send,
     D: Datagrams + Drop + Send,
+    C: Connections + Send,
+    K: Clock + Drop + Send,
     G: Gate,
 >(
     rt: &W,
     alloc: Global,
     options: &Options,
-    ports: &Ports,
-    server: LockedServer<J, P, D>,
+    batches: u64,
+    base: u64,
+    server: LockedServer<J, P, D, C, K>,
     ends: &mut Vec<D>,
+    connections: Vec<C>,
+    clocks: Vec<K>,
     gate: &G,
     tables: &mut Tables,
 ) -> Result<Totals, ServeFault>
     requires same { (p : P) → P.state p ≡ P.owner p }
     requires options { IsPossible options.now }
     requires named { options.now ≡ J.plan.options }
-    requires takers { J.plan.fronts ≡ ports.now.fronts }
-    requires ports { IsValidPorts ports.now }
+    requires some { 1 ≤ J.plan.fronts }
+    requires few { J.plan.fronts ≤ 64 }
+    requires takers { J.plan.fronts ≡ length connections.items + length ends.old.items }
+    requires clocks { length clocks.items ≡ length connections.items }
+    requires batches { batches ≤ MAX_BATCHES }
     requires filled { (p : ℕ) → p < options.now.partitions → IsHistory options.now (J.plan.begun p) }
-    requires server { IsLockedServer J.plan ports.now.fronts (length server.locks.items) (map (λ hand. hand.items) server.hands.items) server.room }
+    requires server { IsLockedServer J.plan (length connections.items) (length ends.old.items) (length server.locks.items)
+        (map (λ hand. hand.items) server.stream_hands.items) (map (λ hand. hand.items) server.hands.items) server.room }
     requires tables { tables.old ≡ [] }
     requires unserved { AreOpen (map (end_facts D.port D.traffic D.faults D.has_ended D.script) ends.old.items) }
-    requires many { vec_len ends.old ≡ ports.now.fronts }
-    ensures { ServesFronts options.now J.plan.begun ports.now.batches result tables.new
-        (map (end_facts D.port D.traffic D.faults D.has_ended D.script) ends.old.items)
-        (map (end_facts D.port D.traffic D.faults D.has_ended D.script) ends.new.items) }
+    requires fresh { AreUnserved (map (stream_facts C.port C.faults C.has_ended C.log) connections.items) }
+    ensures { ServesBeside options.now J.plan.begun batches (map K.last clocks.items) result tables.new
+        (map (end_facts D.port D.traffic D.faults D.has_ended D.script) ends.old.items) (map (end_facts D.port D.traffic D.faults D.has_ended D.script) ends.new.items)
+        (map (stream_facts C.port C.faults C.has_ended C.log) connections.items) }
 {
-    let (parts, answers) = run_all(rt, alloc, options, ports, server, ends, gate);
-    let totals = sum_up(answers.as_slice())?;
+    let Came {
+        parts,
+        streams,
+        fronts,
+    } = run_all(
+        rt,
+        alloc,
+        options,
+        batches,
+        base,
+        server,
+        ends,
+        connections,
+        clocks,
+        gate,
+    );
+    let totals = sum_up_beside(streams.as_slice(), fronts.as_slice())?;
     keep_all(parts, tables);
     Ok(totals)
 }

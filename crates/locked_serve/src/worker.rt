@@ -1,11 +1,15 @@
-//! The fronts side by side, each in a thread of its own.
-ghost use Rattle.std.specs.Prelude.{◌≡◌, ◌<◌, ◌≤◌, [], length, map, vec_len, vec_capacity};
+//! The fronts of datagrams side by side, each in a thread of its own, and those of connections beside them.
+ghost use Rattle.std.specs.Prelude.{◌≡◌, ◌+◌, ◌<◌, ◌≤◌, [], length, map, vec_len, vec_capacity};
+ghost use Rattle.std.specs.Thread.{IsSync};
 ghost use Rattle.partition_model.specs.Options.{IsPossible};
 ghost use Rattle.mica_serve.specs.Ends.{end_facts};
-ghost use Rattle.locked_serve.specs.Running.{IsReadyTask, TaskRan, AreReadyTasks, TasksRan};
+ghost use Rattle.locked_serve.specs.Streams.{stream_facts};
+ghost use Rattle.locked_serve.specs.Running.{IsReadyTask, TaskRan, AreReadyTasks, TasksRan, AreReadyStreams, StreamsRan};
 
+use crate::streams::{StreamTask, run_streams};
 use epoch_core::LendPartition;
 use locked_fronts::{LockedFront, LockedPart, OwnedPartition, ServerPlan};
+use mica_clock::Clock;
 use mica_fronts::{ServeFault, Totals, serve_end};
 use mica_io::{Datagrams, Gate};
 use partition_model::Options;
@@ -13,9 +17,10 @@ use partition_table::{Note, ReaderSeat};
 use std::alloc::Global;
 use std::mem;
 use std::sync::{Mutex, Wait};
-use std::thread::{Threads, for_each_mut};
+use std::thread::{Threads, for_each_mut, join_mut};
+use stream_io::Connections;
 
-/// What a front has in hand, and the end of its port.
+/// What a front has in hand, and the end of its port of datagrams.
 #[derive(Drop)]
 pub struct FrontTask<D> {
     pub parts: Vec<LockedPart>,
@@ -63,8 +68,8 @@ impl<D: Datagrams> FrontTask<D> {
     }
 }
 
-/// Runs the fronts side by side, each in a thread of its own.
-pub(crate) fn run_fronts<
+/// Runs the fronts of datagrams side by side, each in a thread of its own. They have the numbers from the first one on.
+fn run_fronts<
     W: Threads + Wait + Sync,
     J: ServerPlan + Send + Sync,
     P: LendPartition<Reader = ReaderSeat, Note = Note> + Drop + Send,
@@ -77,30 +82,77 @@ pub(crate) fn run_fronts<
     batches: u64,
     locks: &[Mutex<OwnedPartition<J, P>>],
     gate: &G,
+    first: u32,
     fronts: &mut Vec<FrontTask<D>>,
 )
     requires valid { IsPossible options.now }
     requires options { options.now ≡ J.plan.options }
     requires locks { length locks.now ≡ options.now.partitions }
     requires few { J.plan.fronts ≤ 64 }
-    requires many { length fronts.old.items ≡ J.plan.fronts }
-    requires ready { AreReadyTasks J.plan batches (end_facts D.port D.traffic D.faults D.has_ended D.script) fronts.old.items }
-    ensures { TasksRan J.plan batches (end_facts D.port D.traffic D.faults D.has_ended D.script) fronts.old.items fronts.new.items }
+    requires many { first + length fronts.old.items ≡ J.plan.fronts }
+    requires ready { AreReadyTasks J.plan batches (end_facts D.port D.traffic D.faults D.has_ended D.script) first fronts.old.items }
+    ensures { TasksRan J.plan batches (end_facts D.port D.traffic D.faults D.has_ended D.script) first fronts.old.items fronts.new.items }
 {
     let threads = fronts.len().max(1);
     for_each_mut(
         rt,
         fronts.as_mut_slice(),
         threads,
-        &|number, front|
-            requires { (number < J.plan.fronts) × (J.plan.fronts ≤ 64) × IsPossible options.now × (options.now ≡ J.plan.options) × (length locks.now ≡ options.now.partitions)
-                × IsReadyTask J.plan batches (end_facts D.port D.traffic D.faults D.has_ended D.script) number front.now }
-            ensures { TaskRan J.plan batches (end_facts D.port D.traffic D.faults D.has_ended D.script) number front.entry.now front.exit.now }
-        { front.run(rt, alloc, options, batches, locks, gate, number as u32) },
+        &|at, front|
+            requires { (first + at < J.plan.fronts) × (J.plan.fronts ≤ 64) × IsPossible options.now × (options.now ≡ J.plan.options) × (length locks.now ≡ options.now.partitions)
+                × IsReadyTask J.plan batches (end_facts D.port D.traffic D.faults D.has_ended D.script) (first + at) front.now }
+            ensures { TaskRan J.plan batches (end_facts D.port D.traffic D.faults D.has_ended D.script) (first + at) front.entry.now front.exit.now }
+        { front.run(rt, alloc, options, batches, locks, gate, first + at as u32) },
     );
 }
 
-/// The fronts with the ends of their places.
+/// Runs all fronts side by side. Those of datagrams have the numbers from the first one on.
+pub(crate) fn run_workers<
+    W: Threads + Wait + Sync,
+    J: ServerPlan + Send + Sync,
+    P: LendPartition<Reader = ReaderSeat, Note = Note> + Drop + Send,
+    D: Datagrams + Drop + Send,
+    C: Connections + Send,
+    K: Clock + Drop + Send,
+    G: Gate,
+>(
+    rt: &W,
+    alloc: Global,
+    options: &Options,
+    batches: u64,
+    base: u64,
+    locks: &[Mutex<OwnedPartition<J, P>>],
+    gate: &G,
+    first: u32,
+    streams: &mut Vec<StreamTask<C, K>>,
+    fronts: &mut Vec<FrontTask<D>>,
+)
+    requires valid { IsPossible options.now }
+    requires options { options.now ≡ J.plan.options }
+    requires locks { length locks.now ≡ options.now.partitions }
+    requires few { J.plan.fronts ≤ 64 }
+    requires first { length streams.old.items ≤ first }
+    requires many { first + length fronts.old.items ≡ J.plan.fronts }
+    requires ready_streams { AreReadyStreams J.plan (stream_facts C.port C.faults C.has_ended C.log) K.last streams.old.items }
+    requires ready { AreReadyTasks J.plan batches (end_facts D.port D.traffic D.faults D.has_ended D.script) first fronts.old.items }
+    ensures streams { StreamsRan J.plan (stream_facts C.port C.faults C.has_ended C.log) K.last streams.old.items streams.new.items }
+    ensures fronts { TasksRan J.plan batches (end_facts D.port D.traffic D.faults D.has_ended D.script) first fronts.old.items fronts.new.items }
+{
+    join_mut(
+        rt,
+        &mut ||
+            requires { IsSync W.row × IsSync J.row × IsPossible options.now × (options.now ≡ J.plan.options) × (length locks.now ≡ options.now.partitions) × (J.plan.fronts ≤ 64)
+                × (length streams.now.items ≤ J.plan.fronts) × AreReadyStreams J.plan (stream_facts C.port C.faults C.has_ended C.log) K.last streams.now.items }
+        { run_streams(rt, alloc, options, base, locks, streams) },
+        &mut ||
+            requires { IsSync W.row × IsSync J.row × IsSync G.row × IsPossible options.now × (options.now ≡ J.plan.options) × (length locks.now ≡ options.now.partitions)
+                × (J.plan.fronts ≤ 64) × (first + length fronts.now.items ≡ J.plan.fronts)
+                × AreReadyTasks J.plan batches (end_facts D.port D.traffic D.faults D.has_ended D.script) first fronts.now.items }
+        { run_fronts(rt, alloc, options, batches, locks, gate, first, fronts) },
+    );
+}
+
+/// The fronts of datagrams with the ends of their places.
 pub(crate) fn pair_up<D: Drop>(
     hands: Vec<Vec<LockedPart>>,
     ends: Vec<D>,

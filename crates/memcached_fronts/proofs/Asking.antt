@@ -1,9 +1,10 @@
 -- Asks that are answered one after another.
-use Rattle.std.proofs.Common.{◌≡◌, ◌≤◌, ◌==◌, ℕ, Bool, List, [], ◌∷◌, ◌++◌, length, drop, refl, sym, ap, ◌∙◌, subst, append_assoc}
+use Rattle.std.proofs.Common.{◌≡◌, ◌≤◌, ◌==◌, ◌+◌, ℕ, Bool, List, [], ◌∷◌, ◌++◌, length, drop, refl, sym, ap, ◌∙◌, subst, append_assoc, length-append}
+use Rattle.std.proofs.lemmas.List.Elements.{filter_map-append}
 use Rattle.partition_model.specs.declared.options.Options.{Options}
 use Rattle.memcached_commands.specs.declared.asks.Asked.{Asked}
 use Rattle.memcached_commands.specs.Answers.{unless_quiet}
-use Rattle.mica_fronts.specs.Answered.{Answered}
+use Rattle.mica_fronts.specs.Answered.{Answered, step_in, steps_of, count_of_writes}
 use Rattle.mica_fronts.specs.Session.{Sessions}
 use Rattle.mica_fronts.proofs.InOrder.{answers_append}
 use Rattle.memcached_fronts.specs.AskAnswers.{AnswersAsks, said_of, asks_text}
@@ -33,3 +34,7 @@ text_more base quiet unique asks left answers asked a before here after left_is 
     ∙ append_assoc before so_far (ask_text quiet unique (length left == 0) asked.key (said_of base asked a)) ∙ ap (λ text. before ++ text)
     (ap (λ text. so_far ++ text) (one_text base quiet unique asked left a ∙ ap (λ l. unless_quiet quiet (asks_text base unique l (a ∷ []))) (sym left_is))
     ∙ sym (quiet_both quiet (asks_text base unique asks answers) (asks_text base unique (drop (length answers) asks) (a ∷ []))) ∙ ap (unless_quiet quiet) (sym (more_text base unique asks answers (a ∷ []))))
+
+-- how many writes are among one answer more
+pub writes_more : (answers : List Answered) (a : Answered) → count_of_writes (answers ++ a ∷ []) ≡ count_of_writes answers + count_of_writes (a ∷ [])
+writes_more answers a = ap length (filter_map-append step_in answers (a ∷ [])) ∙ length-append (steps_of answers) (steps_of (a ∷ []))

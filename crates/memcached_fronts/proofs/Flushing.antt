@@ -1,5 +1,5 @@
 -- Partitions that are flushed one after another.
-use Rattle.std.proofs.Common.{◌≡◌, ◌+◌, ◌&&◌, ℕ, suc, Bool, true, false, List, [], ◌∷◌, ◌++◌, length, refl, sym, ap, ◌∙◌, subst, arith, length-append}
+use Rattle.std.proofs.Common.{◌≡◌, ◌≤◌, ◌+◌, ◌&&◌, ℕ, suc, Bool, true, false, List, [], ◌∷◌, ◌++◌, length, refl, sym, ap, ◌∙◌, subst, arith, length-append}
 use Rattle.std.specs.List.{list_all}
 use Rattle.std.proofs.lemmas.List.Folds.{list_all-append}
 use Rattle.mica_words.specs.Hash.{partition_of}
@@ -8,7 +8,7 @@ use Rattle.partition_model.specs.declared.write.Outcome.{Outcome}
 use Rattle.partition_model.specs.declared.write.Op.TheVariants.{Del}
 use Rattle.partition_model.specs.Write.{write_of, is_accepted}
 use Rattle.partition_model.specs.Run.{RunStep}
-use Rattle.mica_fronts.specs.Answered.{Answered, wrote, got, changed, kept, accepts}
+use Rattle.mica_fronts.specs.Answered.{Answered, wrote, got, changed, kept, accepts, count_of_writes}
 use Rattle.mica_fronts.specs.Flushes.{begins_with_feed}
 use Rattle.mica_fronts.specs.Session.{Sessions, Answers, AnswersInOrder, ChangesOnly, Writes}
 use Rattle.mica_fronts.proofs.InOrder.{answers_append}
@@ -59,6 +59,19 @@ no_seconds options partition (wrote step ∷ answers) is = no_seconds options (s
 no_seconds options partition (got key stamp value ∷ answers) is = absurd is.0
 no_seconds options partition (changed step look ∷ answers) is = absurd is.0
 no_seconds options partition (kept key stamp look ∷ answers) is = absurd is.0
+
+-- each flush is a write
+pub all_writes : (options : Options) (partition : ℕ) (answers : List Answered) → FlushesFrom options partition answers → count_of_writes answers ≡ length answers
+all_writes options partition [] is = refl
+all_writes options partition (wrote step ∷ answers) is = ap suc (all_writes options (suc partition) answers is.1)
+all_writes options partition (got key stamp value ∷ answers) is = absurd is.0
+all_writes options partition (changed step look ∷ answers) is = absurd is.0
+all_writes options partition (kept key stamp look ∷ answers) is = absurd is.0
+
+-- so no more was given to the front than the flushes
+pub flushes_few : {options : Options} {is_alone : Bool} {old new : Sessions} {count : ℕ} {took : Bool} (left left_after : ℕ) (f : Flushed options is_alone old new count took)
+    → left ≤ left_after + count → left ≤ left_after + count_of_writes f.answers
+flushes_few {options} left left_after f few = omega (arith, few, f.many, all_writes options 0 f.answers f.flushes)
 
 -- the write of a partition's flush
 pub one_flush : (options : Options) (is_alone : Bool) (old new : Sessions) (partition : ℕ) (key : List ℕ) (outcome : Outcome) (stamp : ℕ) → begins_with_feed key ≡ true

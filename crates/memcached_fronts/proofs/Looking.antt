@@ -1,5 +1,5 @@
 -- What a look under a hold answers.
-use Rattle.std.proofs.Common.{◌≡◌, ℕ, Bool, false, true≢false, List, Option, Some, None, refl, sym, ap, ◌∙◌, subst}
+use Rattle.std.proofs.Common.{◌≡◌, ℕ, Bool, false, true≢false, List, [], ◌∷◌, Option, Some, None, refl, sym, ap, ◌∙◌, subst}
 use Rattle.std.proofs.lemmas.Option.{same_Some}
 use Rattle.mica_words.specs.Hash.{partition_of}
 use Rattle.partition_model.specs.declared.options.Options.{Options}
@@ -20,8 +20,8 @@ use Rattle.memcached_commands.specs.Decide as decided
 use Rattle.memcached_changes.specs.Numbered.{Order, moment_at, value_in, becoming_by, unless_refused, says_by}
 use Rattle.mica_fronts.specs.declared.changing.Changed.{Changed}
 use Rattle.mica_fronts.specs.declared.changing.When.{When}
-use Rattle.mica_fronts.specs.Answered.{Answered, changed, kept}
-use Rattle.mica_fronts.specs.Changing.{Becoming, stays, becomes, goes, write_for, write_by, IsFound, DoesWrite, ComesTo}
+use Rattle.mica_fronts.specs.Answered.{Answered, changed, kept, count_of_writes}
+use Rattle.mica_fronts.specs.Changing.{Becoming, count_of, stays, becomes, goes, write_for, write_by, IsFound, DoesWrite, ComesTo}
 use Rattle.mica_fronts.specs.Looks.{Look}
 use Rattle.mica_fronts.specs.Session.{Sessions, AnswersOne, ChangesOnly}
 use Rattle.memcached_fronts.specs.AskAnswers.{order_of, said_of}
@@ -66,6 +66,7 @@ module _ (options : Options) (is_alone : Bool) (base second : ℕ) (asked : Aske
     pub answered : Answered
     pub at : AnswersAt options is_alone base second old asked new answered
     pub said : says_by (order_of base asked) changed.when (value_found changed.found buffer) changed.outcome ≡ said_of base asked answered
+    pub count : count_of_writes (answered ∷ []) ≡ count_of changed.outcome
 
   pub answered_by : (c : Changed) (buffer : List ℕ)
       → ComesTo options is_alone second asked.key (looks asked.ask) (becoming_by (order_of base asked)) (old (partition_of asked.key options.partitions)) c buffer
@@ -86,6 +87,7 @@ module _ (options : Options) (is_alone : Bool) (base second : ℕ) (asked : Aske
         answered = kept asked.key c.stamp look;
         at = record { one = record { one = does; others = others }; to_ask = (refl, writes); at = ap Some comes.at };
         said = says_stored order c.when c.found buffer comes.value c.outcome comes.found ∙ ap (says_by order c.when comes.value) is;
+        count = sym (ap count_of is);
       }
       go None (Some outcome) writes is does = absurd does
       go (Some write) None writes is does = absurd does
@@ -103,4 +105,5 @@ module _ (options : Options) (is_alone : Bool) (base second : ℕ) (asked : Aske
               at = ap Some comes.at;
             };
             said = says_stored order c.when c.found buffer comes.value c.outcome comes.found ∙ ap (says_by order c.when comes.value) is;
+            count = sym (ap count_of is);
           }

@@ -5,7 +5,7 @@ ghost use Rattle.memcached_text.specs.Fit.{IsFitNext};
 ghost use Rattle.memcached_commands.specs.Answers.{unless_quiet};
 ghost use Rattle.memcached_commands.specs.Asks.{asks_in};
 ghost use Rattle.memcached_commands.specs.Fit.{IsFitAsked};
-ghost use Rattle.mica_fronts.specs.Answered.{Answered, accepts};
+ghost use Rattle.mica_fronts.specs.Answered.{Answered, accepts, count_of_writes};
 ghost use Rattle.mica_fronts.specs.Session.{AnswersInOrder};
 ghost use Rattle.memcached_fronts.specs.Exchange.{IsOpenAt, flush_text, flushes_now};
 ghost use Rattle.memcached_fronts.specs.FlushAnswers.{FlushesFrom};
@@ -84,7 +84,8 @@ fn answer_flush<R: Threads + Wait + Sync, F: Front>(
     ensures flushed { (answers : List Answered) × AnswersInOrder (F.options front.old) F.is_alone (F.sessions front.old) answers (F.sessions front.new)
         × FlushesFrom (F.options front.old) 0 answers
         × IfOk result (λ progress. (length answers ≡ partitions) × (progress ≡ record { done = partitions; is_whole = true })
-        × (out.new.items ≡ out.old.items ++ unless_quiet quiet (flush_text true answers))) }
+        × (out.new.items ≡ out.old.items ++ unless_quiet quiet (flush_text true answers)))
+        × (F.left front.old ≤ F.left front.new + count_of_writes answers) }
     ensures err { OnErr result (out.new.items ≡ out.old.items) }
     ensures left { F.left front.old ≤ F.left front.new + partitions }
     ensures options { F.options front.new ≡ F.options front.old }
@@ -129,7 +130,8 @@ fn answer_asks<'a, R: Threads + Wait + Sync, F: Changes, C: Clock>(
     requires left { limits.asks ≤ F.left front.old }
     ensures answered { (answers : List Answered)
         × AnswersFirst (F.options front.old) F.is_alone base asks.old (F.sessions front.old) (C.last clock.old) (F.sessions front.new) (C.last clock.new) answers
-        × IfOk result (λ count. RepliesFirst base style.quiet style.unique asks.old limits answers out.old.items out.new.items count asks.new) }
+        × IfOk result (λ count. RepliesFirst base style.quiet style.unique asks.old limits answers out.old.items out.new.items count asks.new)
+        × (F.left front.old ≤ F.left front.new + count_of_writes answers) }
     ensures part { (text : List ℕ) × (out.new.items ≡ out.old.items ++ text) }
     ensures left { F.left front.old ≤ F.left front.new + limits.asks }
     ensures options { F.options front.new ≡ F.options front.old }
@@ -171,7 +173,8 @@ pub fn answer_next<'a, R: Threads + Wait + Sync, F: Changes, C: Clock>(
     requires left { limits.asks + numbering.partitions ≤ F.left front.old }
     ensures answered { (answers : List Answered)
         × GoesOn (F.options front.old) F.is_alone numbering.base next.entry done (F.sessions front.old) (C.last clock.old) (F.sessions front.new) (C.last clock.new) answers
-        × IfOk result (Replies (F.options front.old) numbering.base next.entry done limits answers out.old.items out.new.items) }
+        × IfOk result (Replies (F.options front.old) numbering.base next.entry done limits answers out.old.items out.new.items)
+        × (F.left front.old ≤ F.left front.new + count_of_writes answers) }
     ensures err { OnErr result (out.new.items ≡ out.old.items) }
     ensures left { F.left front.old ≤ F.left front.new + limits.asks + numbering.partitions }
     ensures options { F.options front.new ≡ F.options front.old }

@@ -1,7 +1,7 @@
 //! One ask of a command.
-ghost use Rattle.std.specs.Prelude.{◌≡◌, ◌<◌, ◌≤◌, ◌+◌, ◌++◌, option_copied, OnOk, OnErr};
+ghost use Rattle.std.specs.Prelude.{◌≡◌, ◌<◌, ◌≤◌, ◌+◌, ◌++◌, ◌∷◌, [], option_copied, OnOk, OnErr};
 ghost use Rattle.memcached_commands.specs.Fit.{IsFitAsked};
-ghost use Rattle.mica_fronts.specs.Answered.{Answered};
+ghost use Rattle.mica_fronts.specs.Answered.{Answered, count_of_writes};
 ghost use Rattle.memcached_fronts.specs.AskAnswers.{said_of};
 ghost use Rattle.memcached_fronts.specs.Going.{AnswersAt, ask_text, value_found};
 
@@ -66,7 +66,8 @@ pub fn answer_ask<R: Threads + Wait + Sync, F: Changes, C: Clock>(
     requires left { 0 < F.left front.old }
     ensures answered { (answered : Answered)
         × AnswersAt (F.options front.old) F.is_alone base (C.last clock.new) (F.sessions front.old) asked.now (F.sessions front.new) answered
-        × OnOk result (out.new.items ≡ out.old.items ++ ask_text style.quiet style.unique is_last asked.now.key (said_of base asked.now answered)) }
+        × OnOk result (out.new.items ≡ out.old.items ++ ask_text style.quiet style.unique is_last asked.now.key (said_of base asked.now answered))
+        × (F.left front.old ≤ F.left front.new + count_of_writes (answered ∷ [])) }
     ensures err { OnErr result (out.new.items ≡ out.old.items) }
     ensures never_falls { C.last clock.old ≤ C.last clock.new }
     ensures left { F.left front.old ≤ F.left front.new + 1 }

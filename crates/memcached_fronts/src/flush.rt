@@ -3,7 +3,7 @@ ghost use Rattle.std.specs.Prelude.{◌≡◌, ◌<◌, ◌≤◌, ◌+◌, true
 ghost use Rattle.std.specs.List.{list_all};
 ghost use Rattle.mica_words.specs.Hash.{partition_of};
 ghost use Rattle.mica_words.specs.Item.{KeyFits};
-ghost use Rattle.mica_fronts.specs.Answered.{Answered, accepts};
+ghost use Rattle.mica_fronts.specs.Answered.{Answered, accepts, count_of_writes};
 ghost use Rattle.mica_fronts.specs.Flushes.{begins_with_feed};
 ghost use Rattle.mica_fronts.specs.Session.{Answers, AnswersInOrder};
 ghost use Rattle.memcached_fronts.specs.FlushAnswers.{FlushesOne, FlushesFrom};
@@ -70,7 +70,8 @@ pub fn flush_all<R: Threads + Wait + Sync, F: Front>(
     requires partitions { partitions ≡ (F.options front.old).partitions }
     requires left { partitions ≤ F.left front.old }
     ensures flushed { (answers : List Answered) × AnswersInOrder (F.options front.old) F.is_alone (F.sessions front.old) answers (F.sessions front.new)
-        × FlushesFrom (F.options front.old) 0 answers × IfOk result (λ took. (length answers ≡ partitions) × (took ≡ list_all accepts answers)) }
+        × FlushesFrom (F.options front.old) 0 answers × IfOk result (λ took. (length answers ≡ partitions) × (took ≡ list_all accepts answers))
+        × (F.left front.old ≤ F.left front.new + count_of_writes answers) }
     ensures left { F.left front.old ≤ F.left front.new + partitions }
     ensures options { F.options front.new ≡ F.options front.old }
     ensures number { F.number front.new ≡ F.number front.old }

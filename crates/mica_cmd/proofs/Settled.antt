@@ -48,7 +48,7 @@ settles_replay options = settles_trace (IsDueOfReplay options) IsAlwaysDone (λ 
 serve_once : (options : Options) (ports : Ports) (old new : Outside) (status : Status) (text : List ℕ) → ¬ (Rose old.net.faults new.net.faults)
     → IsDueOfServe options ports old new status text → status ≡ Done
 serve_once options ports old new Done text quiet is = refl
-serve_once options ports old new NetFault text quiet is = absurd (quiet is.0.rose)
+serve_once options ports old new NetFault text quiet is = absurd (elim is.0.rose as (λ _. ⊥) [ inl rose ↦ quiet rose | inr other ↦ other ])
 serve_once options ports old new _ text quiet is = absurd is
 
 pub settles_serve : (options : Options) (ports : Ports) → Settles (serve_promise options ports)

@@ -4,10 +4,10 @@ use Rattle.std.specs.Prelude.{◌≢◌, is_some, sum_by, option_map, Result, Ok
 use Rattle.std.specs.List.{filter, All}
 use Rattle.std.proofs.lemmas.List.{append-nil, length-map, length-take, length-take-le, take-append-drop}
 use Rattle.std.proofs.Math.Nat.{min-le_left}
-use Rattle.std.proofs.lemmas.List.Sums.{sum_by-cons}
+use Rattle.std.proofs.lemmas.List.Sums.{sum_by-cons, sum_by-append}
 use Rattle.std.proofs.lemmas.Bool.{true≢false, cases_lt, lt-ltb}
 use Rattle.std.proofs.lemmas.Option.{slice_get_within, slice_get-map, same_Some}
-use Rattle.list_laws.proofs.Places.{element_at}
+use Rattle.list_laws.proofs.Places.{element_at, from_map}
 use Rattle.mica_io.specs.Traffic.{Datagram, Traffic}
 use Rattle.partition_model.specs.declared.options.Options.{Options}
 use Rattle.partition_model.specs.History.{History}
@@ -16,16 +16,18 @@ use Rattle.mica_fronts.specs.declared.totals.TheConstants.{MAX_BATCHES}
 use Rattle.mica_fronts.specs.declared.totals.Totals.{Totals}
 use Rattle.mica_fronts.specs.declared.totals.ServeFault.{ServeFault}
 use Rattle.mica_fronts.specs.declared.totals.ServeFault.TheVariants.{Net, NoMemory}
-use Rattle.mica_fronts.specs.Answered.{gets_of, count_of_writes}
+use Rattle.mica_fronts.specs.Answered.{Answered, gets_of, count_of_writes}
 use Rattle.mica_fronts.specs.Dealing.{Dealing, turns_in, answered_in}
 use Rattle.mica_fronts.specs.Session.{Sessions, AnswersInOrder}
 use Rattle.mica_serve.specs.Served.{IsThrough}
 use Rattle.mica_fronts.specs.Totals.{Counts, has_no_turns}
-use Rattle.mica_serve.specs.Beside.{AnsweredBeside}
+use Rattle.mica_serve.specs.Others.{Others, all_answers}
+use Rattle.mica_serve.specs.Beside.{AnsweredBeside, RunsPartitions, gets_answered}
 use Rattle.mica_fronts.specs.OneEnd.{OnTraffic, ServesEnd, BeginsEnd}
-use Rattle.mica_serve.specs.Ends.{EndFacts, KeepsEnd, TellAll, DealsWithEnd, DealsInPartWithEnd, MayStopAtEnd, StopsBeside, MeansForEnds, ServesAll, ServesFronts}
+use Rattle.mica_serve.specs.Ends.{EndFacts, KeepsEnd, TellAll, DealsWithEnd, DealsInPartWithEnd, MayStopAtEnd, StopsSome, StopsBeside, MeansForEnds, ServesAll, ServesFronts}
 use Rattle.mica_fronts.specs.Totals.{IsUpTo}
-use Rattle.mica_serve.specs.FrontRuns.{FrontRun, MeansForFront, RunsFront, RunFronts, AreTakenIn, closed_in, RanAll, sum_of_totals, SumsUp}
+use Rattle.mica_serve.specs.FrontRuns.{FrontRun, MeansForFront, RunsFront, RunFronts, AreTakenIn, closed_in, RanAll, sum_of_totals, ComesTo}
+use Rattle.mica_serve.proofs.AllFronts.{all_long, beside_all}
 use Rattle.mica_serve.proofs.ServedBeside.{closed_gets}
 
 pub same_kept : (b a : EndFacts) → b ≡ a → KeepsEnd b a
@@ -95,7 +97,7 @@ module _ {Y : Type 0} where
       let rest = chosen (λ i. Q (suc i)) n (λ i lt. has (suc i) (omega arith)) in
       (one.0 ∷ rest.0, ap suc rest.1, consed Q one.0 one.1 rest.0 rest.2)
 
-module _ (options : Options) (begun : ℕ → History) (batches : ℕ) where
+module _ (others : Others) (options : Options) (begun : ℕ → History) (batches : ℕ) where
   -- what the fronts made of ends that tell, where all were served
   record Built (rs : List FrontRun) (totals : Totals) (bs es : List EndFacts) : Type 0 where
     pub fronts : List (List Dealing)
@@ -182,38 +184,49 @@ module _ (options : Options) (begun : ℕ → History) (batches : ℕ) where
   same_sums g h (x ∷ xs) (y ∷ ys) many same =
       omega (arith, sum_by-cons g x xs, sum_by-cons h y ys, same 0 x y refl refl, same_sums g h xs ys (omega arith) (λ i. same (suc i)))
 
+  -- a front over datagrams was answered beside all others
+  beside_one : {rs : List FrontRun} {left : List KeptSeat} (taken : AreTakenIn others options begun rs left) (f : ℕ) (r : FrontRun) (d : List Dealing) → slice_get rs f ≡ Some r
+      → AnswersInOrder options false r.old (answered_in d) r.new → r.left ≤ r.left_after + count_of_writes (answered_in d)
+      → AnsweredBeside options begun taken.runs (length others.answers + f) (answered_in d) r.old r.new
+  beside_one taken f r d at answers few =
+      let t = taken.each f r at in
+      record { answers = answers; starts = t.starts; began = t.began; seen = t.seen; took = t.took; few = omega (arith, t.sent, few) }
+
+  -- the partitions ran the writes of all fronts
+  all_run : {rs : List FrontRun} {left : List KeptSeat} (taken : AreTakenIn others options begun rs left) (fronts : List (List Dealing)) → length fronts ≡ length rs
+      → RunsPartitions options begun (length (all_answers others fronts)) taken.runs
+  all_run taken fronts many =
+      subst (λ (n : ℕ). RunsPartitions options begun n taken.runs) (sym (all_long others fronts ∙ ap (λ (n : ℕ). length others.answers + n) many)) taken.ran
+
   all_served : (some : 1 ≤ options.partitions) (rs : List FrontRun) (totals : Totals) (kept : List KeptSeat) (olds news : List EndFacts) → length olds ≡ length rs
-      → AreTakenIn options begun rs kept → Built rs totals olds news → ServesAll options begun batches totals kept olds news
+      → AreTakenIn others options begun rs kept → Built rs totals olds news → ServesAll others options begun batches totals kept olds news
   all_served some rs totals kept olds news many taken b =
       record {
         fronts = b.fronts;
         runs = taken.runs;
         many = b.many ∙ sym many;
         each = b.each;
-        ran = record { filled = taken.ran.filled; run = taken.ran.run; no_others = λ p lt. subst (λ (n : ℕ). All (λ q. q.front < n) (taken.runs p)) (sym b.many) (taken.ran.no_others p lt) };
-        answered = answered taken b;
+        ran = all_run taken b.fronts b.many;
+        answered = beside_all others options begun taken.runs b.fronts taken.before (λ f d is.
+            let r = element_at rs f (omega (arith, slice_get_within b.fronts f d is, b.many)) in
+            (r.0.old, r.0.new, one taken b f r.0 d r.1 is));
         counted = b.counted;
-        tables = record {
-          each = λ p entry is. record {
-            history = taken.history p entry is;
-            closed = taken.closed p entry is ∙ same_sums (closed_in p) (λ (d : List Dealing). length (gets_of options p (answered_in d))) rs b.fronts b.many
-                (λ f r d at at'. closed_gets options some begun taken.runs f (answered_in d) r.old r.new (one taken b f r d at at') p (omega (arith, slice_get_within kept p entry is, taken.shapes.many)));
-          };
-        };
+        tables = record { each = λ p entry is. record { history = taken.history p entry is; closed = closed taken b p entry is } };
       }
     where
-      one : (taken : AreTakenIn options begun rs kept) (b : Built rs totals olds news) (f : ℕ) (r : FrontRun) (d : List Dealing) → slice_get rs f ≡ Some r → slice_get b.fronts f ≡ Some d
-          → AnsweredBeside options begun taken.runs f (answered_in d) r.old r.new
-      one taken b f r d at at' =
-          let t = taken.each f r at in
-          let a = b.answers f r d at at' in
-          record { answers = a.0; starts = t.starts; began = t.began; seen = t.seen; took = t.took; few = omega (arith, t.sent, a.1) }
+      one : (taken : AreTakenIn others options begun rs kept) (b : Built rs totals olds news) (f : ℕ) (r : FrontRun) (d : List Dealing) → slice_get rs f ≡ Some r → slice_get b.fronts f ≡ Some d
+          → AnsweredBeside options begun taken.runs (length others.answers + f) (answered_in d) r.old r.new
+      one taken b f r d at at' = let a = b.answers f r d at at' in beside_one taken f r d at a.0 a.1
 
-      answered : (taken : AreTakenIn options begun rs kept) (b : Built rs totals olds news) (f : ℕ) (d : List Dealing) → slice_get b.fronts f ≡ Some d
-          → (old : Sessions) × (new : Sessions) × AnsweredBeside options begun taken.runs f (answered_in d) old new
-      answered taken b f d is =
-          let r = element_at rs f (omega (arith, slice_get_within b.fronts f d is, b.many)) in
-          (r.0.old, r.0.new, one taken b f r.0 d r.1 is)
+      closed : (taken : AreTakenIn others options begun rs kept) (b : Built rs totals olds news) (p : ℕ) (entry : KeptSeat) → slice_get kept p ≡ Some entry
+          → entry.closed ≡ gets_answered options p (all_answers others b.fronts)
+      closed taken b p entry is =
+          let gets = λ (answers : List Answered). length (gets_of options p answers) in
+          let own = same_sums (closed_in p) gets rs (map answered_in b.fronts) (length-map b.fronts answered_in ∙ b.many) (λ f r answers at at'.
+          let d = from_map answered_in b.fronts f answers at' in
+          closed_gets options some begun taken.runs (length others.answers + f) (answered_in d.0) r.old r.new (one taken b f r d.0 at d.1) p
+          (omega (arith, slice_get_within kept p entry is, taken.shapes.many)) ∙ ap gets d.2) in
+          omega (arith, taken.closed p entry is, own, sum_by-append gets others.answers (map answered_in b.fronts))
 
   answer_at : (rs : List FrontRun) (f : ℕ) (answer : Result Totals ServeFault) → slice_get (map (λ (r : FrontRun). r.answer) rs) f ≡ Some answer
       → (r : FrontRun) × (slice_get rs f ≡ Some r) × (r.answer ≡ answer)
@@ -265,8 +278,8 @@ module _ (options : Options) (begun : ℕ → History) (batches : ℕ) where
 
   -- what is kept: the seats where all were served, and else nothing
   abbrev pub KeepsWhere : Result Totals ServeFault → List FrontRun → List KeptSeat → Type 0
-  KeepsWhere (Ok totals) rs kept = AreTakenIn options begun rs kept
-  KeepsWhere (Err fault) rs kept = (kept ≡ []) × (left : List KeptSeat) × AreTakenIn options begun rs left
+  KeepsWhere (Ok totals) rs kept = AreTakenIn others options begun rs kept
+  KeepsWhere (Err fault) rs kept = (kept ≡ []) × (left : List KeptSeat) × AreTakenIn others options begun rs left
 
   -- what one of these fronts dealt with
   record StoppedAt (rs : List FrontRun) (olds news : List EndFacts) (f : ℕ) (dealings : List Dealing) : Type 0 where
@@ -279,8 +292,8 @@ module _ (options : Options) (begun : ℕ → History) (batches : ℕ) where
     pub stopped : Stopped run before after dealings
 
   -- what all fronts dealt with beside each other, where there was memory for all
-  all_stopped : (rs : List FrontRun) (left : List KeptSeat) (olds news : List EndFacts) → RunFronts options batches rs olds news → AreTakenIn options begun rs left
-      → ((f : ℕ) (r : FrontRun) → slice_get rs f ≡ Some r → r.answer ≢ Err NoMemory) → TellAll olds → StopsBeside options begun batches olds news
+  all_stopped : (rs : List FrontRun) (left : List KeptSeat) (olds news : List EndFacts) → RunFronts options batches rs olds news → AreTakenIn others options begun rs left
+      → ((f : ℕ) (r : FrontRun) → slice_get rs f ≡ Some r → r.answer ≢ Err NoMemory) → TellAll olds → StopsBeside others options begun batches olds news
   all_stopped rs left olds news run taken other tell = record {
     fronts = all.0;
     runs = taken.runs;
@@ -290,11 +303,10 @@ module _ (options : Options) (begun : ℕ → History) (batches : ℕ) where
         let old : q.before ≡ b = same_Some q.before b (sym q.was ∙ is') in
         let new : q.after ≡ a = same_Some q.after a (sym q.is ∙ is'') in
         subst (λ (x : EndFacts). MayStopAtEnd batches d x a) old (subst (λ (x : EndFacts). MayStopAtEnd batches d q.before x) new q.stopped.may);
-    ran = record { filled = taken.ran.filled; run = taken.ran.run; no_others = λ p lt. subst (λ (n : ℕ). All (λ q. q.front < n) (taken.runs p)) (sym (all.1 ∙ run.many_before)) (taken.ran.no_others p lt) };
-    answered = λ f d is.
+    ran = all_run taken all.0 (all.1 ∙ run.many_before);
+    answered = beside_all others options begun taken.runs all.0 taken.before (λ f d is.
         let q = all.2 f d is in
-        let t = taken.each f q.run q.ran in
-        (q.run.old, q.run.new, record { answers = q.stopped.answers; starts = t.starts; began = t.began; seen = t.seen; took = t.took; few = omega (arith, t.sent, q.stopped.few) });
+        (q.run.old, q.run.new, beside_one taken f q.run d q.ran q.stopped.answers q.stopped.few));
   }
     where
       all : (ds : List (List Dealing)) × (length ds ≡ length olds) × ((f : ℕ) (d : List Dealing) → slice_get ds f ≡ Some d → StoppedAt rs olds news f d)
@@ -306,7 +318,7 @@ module _ (options : Options) (begun : ℕ → History) (batches : ℕ) where
           (s.0, record { run = r.0; before = b.0; after = a.0; ran = r.1; was = b.1; is = a.1; stopped = s.1 }))
 
   pub gathered : (some : 1 ≤ options.partitions) (rs : List FrontRun) (kept : List KeptSeat) (olds news : List EndFacts) (run : RunFronts options batches rs olds news)
-      (answer : Result Totals ServeFault) → SumsUp (map (λ (r : FrontRun). r.answer) rs) answer → KeepsWhere answer rs kept → ServesFronts options begun batches answer kept olds news
+      (answer : Result Totals ServeFault) → ComesTo others (map (λ (r : FrontRun). r.answer) rs) answer → KeepsWhere answer rs kept → ServesFronts others options begun batches answer kept olds news
   gathered some rs kept olds news run answer sums keeps = record {
     many = run.many_after ∙ sym run.many_before;
     keeps = λ i b a is is'.
@@ -318,7 +330,25 @@ module _ (options : Options) (begun : ℕ → History) (batches : ℕ) where
     means = means answer sums keeps;
   }
     where
-      means : (answer : Result Totals ServeFault) → SumsUp (map (λ (r : FrontRun). r.answer) rs) answer → KeepsWhere answer rs kept → MeansForEnds answer options begun batches kept olds news
+      some_stopped : (f : ℕ) → slice_get (map (λ (r : FrontRun). r.answer) rs) f ≡ Some (Err Net) → StopsSome batches olds news
+      some_stopped f failed =
+          let r = answer_at rs f (Err Net) failed in
+          let b = element_at olds f (omega (arith, slice_get_within rs f r.0 r.1, run.many_before)) in
+          let a = element_at news f (omega (arith, slice_get_within rs f r.0 r.1, run.many_after)) in
+          let m = subst (λ x. MeansForFront x options batches r.0 b.0 a.0) r.2 (run.each f r.0 b.0 a.0 r.1 b.1 a.1).means in
+          record {
+            front = f;
+            old = b.0;
+            new = a.0;
+            was = b.1;
+            is = a.1;
+            rose = m.0;
+            stops = λ tell.
+                let t = told_of _ b.0.traffic a.0.traffic (tell f b.0 b.1) m.1 in
+                record { dealings = t.4.dealings; part = record { had = t.0; has = t.1; had_is = t.2; has_is = t.3; begins = t.4.begins }; short = t.4.short };
+          }
+
+      means : (answer : Result Totals ServeFault) → ComesTo others (map (λ (r : FrontRun). r.answer) rs) answer → KeepsWhere answer rs kept → MeansForEnds others answer options begun batches kept olds news
       means (Ok totals) sums taken = (
         taken.shapes,
         λ i b a is is' scripted.
@@ -332,26 +362,12 @@ module _ (options : Options) (begun : ℕ → History) (batches : ℕ) where
         λ tell. all_served some rs totals kept olds news run.many_before taken
             (subst (λ (t : Totals). Built rs t olds news) (sym sums.2) (built rs sums.0 olds news sums.1 run.many_before run.many_after run.each tell)),
       )
-      means (Err Net) sums none =
-          let r = answer_at rs sums.0 (Err Net) sums.1 in
-          let b = element_at olds sums.0 (omega (arith, slice_get_within rs sums.0 r.0 r.1, run.many_before)) in
-          let a = element_at news sums.0 (omega (arith, slice_get_within rs sums.0 r.0 r.1, run.many_after)) in
-          let m = subst (λ x. MeansForFront x options batches r.0 b.0 a.0) r.2 (run.each sums.0 r.0 b.0 a.0 r.1 b.1 a.1).means in (
-            none.0,
-            record {
-              front = sums.0;
-              old = b.0;
-              new = a.0;
-              was = b.1;
-              is = a.1;
-              rose = m.0;
-              stops = λ tell.
-                  let t = told_of _ b.0.traffic a.0.traffic (tell sums.0 b.0 b.1) m.1 in
-                  record { dealings = t.4.dealings; part = record { had = t.0; has = t.1; had_is = t.2; has_is = t.3; begins = t.4.begins }; short = t.4.short };
-            },
-            all_stopped rs none.1 olds news run none.2
-                (λ f q is e. sums.2 f (slice_get-map (λ (r : FrontRun). r.answer) rs f ∙ ap (option_map (λ (r : FrontRun). r.answer)) is ∙ ap Some e)),
-          )
+      means (Err Net) sums none = (
+        none.0,
+        elim sums.0 as (λ _. StopsSome batches olds news ⊎ others.stopped) [ inl h ↦ inl (some_stopped h.0 h.1) | inr stopped ↦ inr stopped ],
+        all_stopped rs none.1 olds news run none.2
+            (λ f q is e. sums.1 f (slice_get-map (λ (r : FrontRun). r.answer) rs f ∙ ap (option_map (λ (r : FrontRun). r.answer)) is ∙ ap Some e)),
+      )
       means (Err NoMemory) sums none = none.0
 
   -- what is kept of the seats that the owners may leave
@@ -359,20 +375,20 @@ module _ (options : Options) (begun : ℕ → History) (batches : ℕ) where
   KeepsOf (Ok totals) left kept = kept ≡ left
   KeepsOf (Err fault) left kept = kept ≡ []
 
-  pub all_ran : (some : 1 ≤ options.partitions) (left kept : List KeptSeat) (answers : List (Result Totals ServeFault)) (olds news : List EndFacts) (ran : RanAll options begun batches left answers olds news)
-      (answer : Result Totals ServeFault) → SumsUp answers answer → KeepsOf answer left kept → ServesFronts options begun batches answer kept olds news
+  pub all_ran : (some : 1 ≤ options.partitions) (left kept : List KeptSeat) (answers : List (Result Totals ServeFault)) (olds news : List EndFacts) (ran : RanAll others options begun batches left answers olds news)
+      (answer : Result Totals ServeFault) → ComesTo others answers answer → KeepsOf answer left kept → ServesFronts others options begun batches answer kept olds news
   all_ran some left kept answers olds news ran answer sums keeps =
-      gathered some ran.fronts kept olds news ran.run answer (subst (λ (l : List (Result Totals ServeFault)). SumsUp l answer) ran.answers_are sums) (by answer keeps)
+      gathered some ran.fronts kept olds news ran.run answer (subst (λ (l : List (Result Totals ServeFault)). ComesTo others l answer) ran.answers_are sums) (by answer keeps)
     where
       by : (answer : Result Totals ServeFault) → KeepsOf answer left kept → KeepsWhere answer ran.fronts kept
-      by (Ok totals) same = subst (AreTakenIn options begun ran.fronts) (sym same) ran.taken
+      by (Ok totals) same = subst (AreTakenIn others options begun ran.fronts) (sym same) ran.taken
       by (Err fault) none = (none, left, ran.taken)
 
   -- as many answers as ends, and each that counts counts no more than its front was given
-  pub few_answers : (left : List KeptSeat) (answers : List (Result Totals ServeFault)) (olds news : List EndFacts) → RanAll options begun batches left answers olds news → length answers ≡ length olds
+  pub few_answers : (left : List KeptSeat) (answers : List (Result Totals ServeFault)) (olds news : List EndFacts) → RanAll others options begun batches left answers olds news → length answers ≡ length olds
   few_answers left answers olds news ran = ap length ran.answers_are ∙ length-map ran.fronts (λ (r : FrontRun). r.answer) ∙ sym ran.run.many_before
 
-  pub small_answers : (left : List KeptSeat) (answers : List (Result Totals ServeFault)) (olds news : List EndFacts) → RanAll options begun batches left answers olds news → batches ≤ MAX_BATCHES
+  pub small_answers : (left : List KeptSeat) (answers : List (Result Totals ServeFault)) (olds news : List EndFacts) → RanAll others options begun batches left answers olds news → batches ≤ MAX_BATCHES
       → (f : ℕ) (totals : Totals) → slice_get answers f ≡ Some (Ok totals) → IsUpTo MAX_BATCHES totals
   small_answers left answers olds news ran few f totals is =
       let r = answer_at ran.fronts f (Ok totals) (ap (λ l. slice_get l f) (sym ran.answers_are) ∙ is) in

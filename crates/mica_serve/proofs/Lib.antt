@@ -2,12 +2,14 @@ pub mod Order
 pub mod CutShort
 pub mod Opened
 pub mod Binding
+mod ValidPorts
 pub mod Among
 pub mod OnePartition
 pub mod Beside
 mod Looked
 pub mod PartitionTotals
 pub mod ServedBeside
+pub mod AllFronts
 pub mod Gathered
 pub mod SumsUp
 pub mod PortRuns

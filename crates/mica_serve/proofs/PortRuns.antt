@@ -17,12 +17,14 @@ use Rattle.mica_fronts.specs.Answered.{Answered, answers_of, writes_of, gets_of}
 use Rattle.mica_fronts.specs.Dealing.{Dealing, IsDealing, answered_in, due_to}
 use Rattle.partition_model.specs.History.{History, IsHistory}
 use Rattle.partition_table.specs.declared.tables.KeptSeat.{KeptSeat}
+use Rattle.mica_serve.specs.Others.{Others, all_answers, HaveAnsweredNothing}
 use Rattle.mica_serve.specs.Beside.{ServesOnTables}
 use Rattle.mica_serve.specs.Served.{ServesPort, ServesGet, ServesLook, NoFall, LeavesPort, BeginsPorts, IsThrough, IsCutShort, IsStopped, StopsShort}
 use Rattle.mica_io.specs.Faults.{Rose}
 use Rattle.mica_serve.specs.NetRun.{ReleasesAll}
 use Rattle.mica_serve.specs.Ends.{EndFacts, TellAll, AreNewEnds, AreAtPorts, BindsEnds, ReleasesEnds, DealsWithEnd, DealsInPartWithEnd, BeginsEnds, MayStopAtEnd, StopsSome, StopsBeside, ServesAll, KeepsEnd}
 use Rattle.mica_serve.proofs.Gathered.{chosen}
+use Rattle.mica_serve.proofs.AllFronts.{front_at}
 use Rattle.mica_serve.proofs.ServedBeside.{lawful_beside}
 use Rattle.mica_serve.proofs.CutShort.{cut_short}
 
@@ -142,11 +144,11 @@ module _ (ports : PortOptions) (olds news : List EndFacts) (before mid after : P
     pub none : dealings ≡ []
     pub left : LeavesPort ports.batches (before (ports.port + f)) (after (ports.port + f)) dealings []
 
-  module _ (options : Options) (begun : ℕ → History) (bind_failed : Type 0) (counts : ℕ → Type 0) where
+  module _ (others : Others) (options : Options) (begun : ℕ → History) (bind_failed : Type 0) (counts : ℕ → Type 0) where
     -- a bind failed, so no front dealt with anything
-    pub none_stopped : ((p : ℕ) → p < options.partitions → IsHistory options (begun p)) → bind_failed → ((i : ℕ) (b a : EndFacts) → slice_get olds i ≡ Some b → slice_get news i ≡ Some a → DealsInPartWithEnd ports.batches [] [] b a)
-        → StopsShort options begun ports bind_failed counts before after
-    none_stopped filled failed part = record {
+    pub none_stopped : HaveAnsweredNothing others → ((p : ℕ) → p < options.partitions → IsHistory options (begun p)) → bind_failed → ((i : ℕ) (b a : EndFacts) → slice_get olds i ≡ Some b → slice_get news i ≡ Some a → DealsInPartWithEnd ports.batches [] [] b a)
+        → StopsShort others options begun ports bind_failed counts before after
+    none_stopped silent filled failed part = record {
       fronts = nothing.0;
       runs = λ p. [];
       many = nothing.1;
@@ -156,7 +158,7 @@ module _ (ports : PortOptions) (olds news : List EndFacts) (before mid after : P
           filled = filled p lt;
           run = tt;
           each = λ f answers is. ap (writes_of options p) (none_asked f answers is);
-          no_others = All-from_recursion (λ q. q.front < length (map answered_in nothing.0)) [] tt;
+          no_others = All-from_recursion (λ q. q.front < length (all_answers others nothing.0)) [] tt;
         };
         gets = λ p f answers lt is. subst (λ (l : List Answered). All (ServesGet options (begun p) (begun p ++ [])) (gets_of options p l)) (sym (none_asked f answers is)) (All-nil (ServesGet options (begun p) (begun p ++ [])));
         looks = λ p f answers lt is. subst (λ (l : List Answered). All (ServesLook options (begun p) []) (answers_of options p l)) (sym (none_asked f answers is)) (All-nil (ServesLook options (begun p) []));
@@ -176,21 +178,25 @@ module _ (ports : PortOptions) (olds news : List EndFacts) (before mid after : P
         nothing : (ds : List (List Dealing)) × (length ds ≡ ports.fronts) × ((f : ℕ) (d : List Dealing) → slice_get ds f ≡ Some d → DealtNothing f d)
         nothing = chosen DealtNothing ports.fronts (λ f lt. began f lt (cases_lt f (length olds)))
 
-        none_asked : (f : ℕ) (answers : List Answered) → slice_get (map answered_in nothing.0) f ≡ Some answers → answers ≡ []
-        none_asked f answers is =
-            let d = from_map answered_in nothing.0 f answers is in
-            sym d.2 ∙ ap answered_in (nothing.2 f d.0 d.1).none
+        none_asked : (f : ℕ) (answers : List Answered) → slice_get (all_answers others nothing.0) f ≡ Some answers → answers ≡ []
+        none_asked f answers is = elim (front_at others nothing.0 f answers is) as (λ _. answers ≡ []) [
+          | inl h ↦ silent f answers h
+          | inr h ↦ sym h.4 ∙ ap answered_in (nothing.2 h.0 h.1 h.3).none
+        ]
 
     -- a front stopped, and what all dealt with beside each other is lawful
-    pub all_stopped : 1 ≤ options.partitions → length olds ≡ ports.fronts → StopsSome ports.batches olds news
-        → counts (sum_by (λ e. e.faults) news) → StopsBeside options begun ports.batches olds news → StopsShort options begun ports bind_failed counts before after
+    pub all_stopped : 1 ≤ options.partitions → length olds ≡ ports.fronts → StopsSome ports.batches olds news ⊎ others.stopped
+        → counts (sum_by (λ e. e.faults) news) → StopsBeside others options begun ports.batches olds news → StopsShort others options begun ports bind_failed counts before after
     all_stopped some full stops counted all = record {
       fronts = all.fronts;
       runs = all.runs;
       many = all.many ∙ full;
       each = λ f d is. let e = ends_at f d is in port_left ports.batches f d [] e.0 e.1 e.2 e.3 e.4.part;
-      answered = lawful_beside answered_in options some begun all.runs all.fronts all.ran all.answered;
-      some = inr (stopped_some ports.batches stops);
+      answered = lawful_beside options some begun all.runs (all_answers others all.fronts) all.ran all.answered;
+      some = inr (elim stops as (λ _. ((f : ℕ) × (f < ports.fronts) × IsStopped ports.batches (before (ports.port + f)) (after (ports.port + f))) ⊎ others.stopped) [
+        | inl one ↦ inl (stopped_some ports.batches one)
+        | inr other ↦ inr other
+      ]);
       blamed = inr (record {
         faults = map (λ (e : EndFacts). e.faults) news;
         many = length-map news (λ (e : EndFacts). e.faults) ∙ many ∙ full;
@@ -224,9 +230,9 @@ module _ (ports : PortOptions) (olds news : List EndFacts) (before mid after : P
             let a = element_at news f (omega (arith, lt, all.many, many)) in
             (b.0, a.0, b.1, a.1, all.each f d b.0 a.0 is b.1 a.1)
 
-  pub all_served : (options : Options) (begun : ℕ → History) (totals : Totals) (kept : List KeptSeat) → 1 ≤ options.partitions → length olds ≡ ports.fronts
-      → ServesAll options begun ports.batches totals kept olds news → ServesOnTables options begun ports totals kept before after
-  all_served options begun totals kept some full all = record {
+  pub all_served : (others : Others) (options : Options) (begun : ℕ → History) (totals : Totals) (kept : List KeptSeat) → 1 ≤ options.partitions → length olds ≡ ports.fronts
+      → ServesAll others options begun ports.batches totals kept olds news → ServesOnTables others options begun ports totals kept before after
+  all_served others options begun totals kept some full all = record {
     fronts = all.fronts;
     runs = all.runs;
     served = record {
@@ -236,7 +242,7 @@ module _ (ports : PortOptions) (olds news : List EndFacts) (before mid after : P
           let b = element_at olds f (omega (arith, lt, all.many)) in
           let a = element_at news f (omega (arith, lt, all.many, many)) in
           port_served ports.batches f dealings b.0 a.0 b.1 a.1 (all.each f dealings b.0 a.0 is b.1 a.1);
-      answered = lawful_beside answered_in options some begun all.runs all.fronts all.ran all.answered;
+      answered = lawful_beside options some begun all.runs (all_answers others all.fronts) all.ran all.answered;
     };
     counted = all.counted;
     tables = all.tables;

@@ -1,8 +1,7 @@
 -- Fronts that were served beside each other, served.
-use Rattle.std.proofs.Common.{◌≡◌, ℕ, ◌<◌, ◌≤◌, List, [], ◌++◌, length, map, Some, refl, sym, ap, ◌∙◌, subst, slice_get, arith}
+use Rattle.std.proofs.Common.{◌≡◌, ℕ, ◌<◌, ◌≤◌, List, [], ◌++◌, length, Some, sym, ap, ◌∙◌, subst, slice_get, arith}
 use Rattle.std.specs.List.{All, AllPairs}
-use Rattle.std.proofs.lemmas.List.{append-nil, length-map}
-use Rattle.list_laws.proofs.Places.{from_map}
+use Rattle.std.proofs.lemmas.List.{append-nil}
 use Rattle.partition_model.specs.declared.options.Options.{Options}
 use Rattle.partition_model.specs.History.{History}
 use Rattle.partition_model.specs.Run.{RunStep, IsRunFrom}
@@ -10,7 +9,7 @@ use Rattle.mica_fronts.specs.Answered.{Answered, answers_of, writes_of, gets_of}
 use Rattle.mica_fronts.specs.Session.{Told, Sessions}
 use Rattle.mica_fronts.specs.Placed.{Placed, steps_by, steps_in, history_in}
 use Rattle.mica_serve.specs.Served.{ServesGet, ServesLook, NoFall, AnswersLawfully}
-use Rattle.mica_serve.specs.Beside.{closed_of, AnsweredBeside, RunsPartitions}
+use Rattle.mica_serve.specs.Beside.{closed_of, AnsweredBeside, AreAnsweredBeside, RunsPartitions}
 use Rattle.mica_serve.proofs.Order.{order_of}
 use Rattle.mica_serve.proofs.Among.{StandAmong, stand_before, stand_few, stand_all}
 use Rattle.mica_serve.proofs.OnePartition.{in_partition}
@@ -67,24 +66,16 @@ module _ (options : Options) (some : 1 ≤ options.partitions) (begun : ℕ → 
       omega (arith, ap closed_of tells.is, tells.closed, t.2)
 
 -- what is known of each front makes all that was answered lawful
-pub lawful_beside : {F : Type 0} (answered : F → List Answered) (options : Options) → 1 ≤ options.partitions → (begun : ℕ → History) (runs : ℕ → List Placed) (fronts : List F)
-    → RunsPartitions options begun (length fronts) runs
-    → ((f : ℕ) (front : F) → slice_get fronts f ≡ Some front → (old : Sessions) × (new : Sessions) × AnsweredBeside options begun runs f (answered front) old new)
-    → AnswersLawfully options begun (map answered fronts) runs
-lawful_beside answered options some begun runs fronts ran each =
-    record {
-      writes = λ p lt. record {
-        filled = ran.filled p lt;
-        run = ran.run p lt;
-        each = λ f answers is. let k = known f answers is in all_written options some begun runs f answers k.0 k.1 k.2 p lt;
-        no_others = subst (λ (n : ℕ). All (λ q. q.front < n) (runs p)) (sym (length-map fronts answered)) (ran.no_others p lt);
-      };
-      gets = λ p f answers lt is. let k = known f answers is in gets_of_run options some begun runs f answers k.0 k.1 k.2 p lt;
-      looks = λ p f answers lt is. let k = known f answers is in looks_of_run options some begun runs f answers k.0 k.1 k.2 p lt (ran.run p lt);
-      order = λ p f answers lt is. let k = known f answers is in order_in options some begun runs f answers k.0 k.1 k.2 p;
-    }
-  where
-    known : (f : ℕ) (answers : List Answered) → slice_get (map answered fronts) f ≡ Some answers → (old : Sessions) × (new : Sessions) × AnsweredBeside options begun runs f answers old new
-    known f answers is =
-        let own = from_map answered fronts f answers is in
-        subst (λ (l : List Answered). (old : Sessions) × (new : Sessions) × AnsweredBeside options begun runs f l old new) own.2 (each f own.0 own.1)
+pub lawful_beside : (options : Options) → 1 ≤ options.partitions → (begun : ℕ → History) (runs : ℕ → List Placed) (fronts : List (List Answered))
+    → RunsPartitions options begun (length fronts) runs → AreAnsweredBeside options begun runs fronts → AnswersLawfully options begun fronts runs
+lawful_beside options some begun runs fronts ran known = record {
+  writes = λ p lt. record {
+    filled = ran.filled p lt;
+    run = ran.run p lt;
+    each = λ f answers is. let k = known f answers is in all_written options some begun runs f answers k.0 k.1 k.2 p lt;
+    no_others = ran.no_others p lt;
+  };
+  gets = λ p f answers lt is. let k = known f answers is in gets_of_run options some begun runs f answers k.0 k.1 k.2 p lt;
+  looks = λ p f answers lt is. let k = known f answers is in looks_of_run options some begun runs f answers k.0 k.1 k.2 p lt (ran.run p lt);
+  order = λ p f answers lt is. let k = known f answers is in order_in options some begun runs f answers k.0 k.1 k.2 p;
+}

@@ -10,7 +10,8 @@ use Rattle.mica_fronts.specs.declared.totals.Totals.{Totals}
 use Rattle.mica_fronts.specs.declared.totals.ServeFault.{ServeFault}
 use Rattle.mica_fronts.specs.declared.totals.ServeFault.TheVariants.{Net, NoMemory}
 use Rattle.mica_fronts.specs.Totals.{IsUpTo, added, none_counted}
-use Rattle.mica_serve.specs.FrontRuns.{sum_of_totals, SumsUp}
+use Rattle.mica_serve.specs.Others.{Others}
+use Rattle.mica_serve.specs.FrontRuns.{sum_of_totals, SumsUp, ComesTo}
 
 abbrev Answer : Type 0
 Answer = Result Totals ServeFault
@@ -98,3 +99,9 @@ sums_fault answers totals s = let f = s.fault refl in (f.0, f.2, no_want)
   where
     no_want : (i : ℕ) → slice_get answers i ≢ Some (Err NoMemory)
     no_want i = λ e. s.no_want i (slice_get_within answers i (Err NoMemory) e) e
+
+-- what they sum up to is what all come to, where none of the others stopped
+pub sums_beside : (others : Others) (answers : List Answer) (answer : Answer) → SumsUp answers answer → ComesTo others answers answer
+sums_beside others answers (Ok totals) s = s
+sums_beside others answers (Err Net) s = (inl (s.0, s.1), s.2)
+sums_beside others answers (Err NoMemory) s = tt

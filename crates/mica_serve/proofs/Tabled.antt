@@ -6,6 +6,7 @@ use Rattle.partition_model.specs.History.{History}
 use Rattle.partition_table.specs.declared.tables.KeptSeat.{KeptSeat}
 use Rattle.mica_fronts.specs.declared.ports.Ports.{Ports as PortOptions}
 use Rattle.mica_fronts.specs.declared.totals.Totals.{Totals}
+use Rattle.mica_serve.specs.Others.{Others}
 use Rattle.mica_serve.specs.Served.{Serves}
 use Rattle.mica_serve.specs.Beside.{ServesOnTables}
 use Rattle.mica_serve.specs.NetRun.{NetFacts, OnPorts, HasServed, HasServedOnTables}
@@ -15,10 +16,10 @@ on_ports_as P Q f None b p = p
 on_ports_as P Q f (Some a) None p = absurd p
 on_ports_as P Q f (Some a) (Some b) p = f a b p
 
-pub has_served : (options : Options) (begun : ℕ → History) (ports : PortOptions) (totals : Totals) (kept : List KeptSeat) (before after : NetFacts)
-    → HasServedOnTables options begun ports totals kept before after → HasServed options begun ports totals before after
-has_served options begun ports totals kept before after h = record {
-  served = on_ports_as (ServesOnTables options begun ports totals kept) (Serves options begun ports totals)
+pub has_served : (others : Others) (options : Options) (begun : ℕ → History) (ports : PortOptions) (totals : Totals) (kept : List KeptSeat) (before after : NetFacts)
+    → HasServedOnTables others options begun ports totals kept before after → HasServed others options begun ports totals before after
+has_served others options begun ports totals kept before after h = record {
+  served = on_ports_as (ServesOnTables others options begun ports totals kept) (Serves others options begun ports totals)
       (λ a b s. record { fronts = s.fronts; runs = s.runs; served = s.served; counted = s.counted }) before.ports after.ports h.served;
   no_fault = h.no_fault;
 }

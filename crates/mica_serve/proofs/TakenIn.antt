@@ -32,6 +32,7 @@ use Rattle.mica_serve.specs.declared.worker.FrontTask.{FrontTask}
 use Rattle.mica_fronts.specs.Stand.{Stand}
 use Rattle.mica_fronts.specs.Session.{Told, Session}
 use Rattle.mica_fronts.specs.Placed.{Placed, steps_in, steps_by, history_in}
+use Rattle.mica_serve.specs.Others.{alone}
 use Rattle.mica_serve.specs.Served.{nothing_begun}
 use Rattle.mica_serve.specs.Beside.{closed_of, total_below}
 use Rattle.mica_fronts.specs.QueueFront.{QueueView, IsFrontPart, queue_view, stand_of, told_by, session_or_none, sessions_of, ended_part, step_by, acknowledged_by}
@@ -309,7 +310,7 @@ module _ {D : Type 0} {batches : ℕ} {facts : D → EndFacts} {options : Option
         let owner = element_at owners p (omega (arith, slice_get_within after p new.0 new.1, met.many)) in
         (owner.0, new.0, owner_at p owner.0 owner.1, sym new.2 ∙ ap (λ (o : OwnerEnd). kept_seat_in o.state) (met.same p owner.0 new.0 owner.1 new.1))
 
-    taken : AreTakenIn options nothing_begun runs kept
+    taken : AreTakenIn alone options nothing_begun runs kept
     taken = record {
       runs = placed;
       ran = record {
@@ -329,6 +330,7 @@ module _ {D : Type 0} {batches : ℕ} {facts : D → EndFacts} {options : Option
             (subst (λ (m : ℕ). AllByRecursion (λ s. sender_of s < m) o.0.jobs.taken) senders
             (recursion_from_All (λ s. sender_of s < o.1.old.jobs.senders) o.0.jobs.taken o.1.ran.served.worked.low))));
       };
+      before = λ f answers is. absurd (cc);
       each = λ f run is. let n = front_of f run is in subst (IsTakenIn options nothing_begun placed f) n.2 (taken_front n.1);
       shapes = record {
         many = length-map after (λ (o : OwnerEnd). kept_seat_in o.state) ∙ met.many ∙ owners_long;
@@ -370,7 +372,7 @@ module _ {D : Type 0} {batches : ℕ} {facts : D → EndFacts} {options : Option
             ∙ sum-map (closed_in p) runs
 
     -- the workers of a server ran, and their owners took in all fronts
-    pub ran_all : RanAll options nothing_begun batches kept (map (λ (t : FrontTask D). t.answer) news) (map end_of olds) (map end_of news)
+    pub ran_all : RanAll alone options nothing_begun batches kept (map (λ (t : FrontTask D). t.answer) news) (map end_of olds) (map end_of news)
     ran_all = record {
       fronts = runs;
       answers_are = made_map run_of (λ (t : FrontTask D). t.answer) (λ (r : FrontRun). r.answer) (λ o n r. refl) olds news all.fronts_ran;

@@ -9,9 +9,10 @@ use Rattle.mica_fronts.specs.declared.ports.Ports.{Ports as PortOptions}
 use Rattle.mica_fronts.specs.declared.totals.Totals.{Totals}
 use Rattle.mica_io.specs.Ports.{Ports}
 use Rattle.mica_fronts.specs.Answered.{Answered, gets_of, count_of_writes}
-use Rattle.mica_fronts.specs.Dealing.{Dealing, answered_in}
+use Rattle.mica_fronts.specs.Dealing.{Dealing}
 use Rattle.mica_fronts.specs.Session.{Told, Sessions, AnswersInOrder}
 use Rattle.mica_fronts.specs.Placed.{Placed, steps_in, steps_by, history_in}
+use Rattle.mica_serve.specs.Others.{Others, all_answers}
 use Rattle.mica_serve.specs.Served.{Served}
 use Rattle.mica_fronts.specs.Totals.{Counts}
 
@@ -40,6 +41,11 @@ pub record AnsweredBeside (options : Options) (begun : ℕ → History) (runs : 
       → (later : List RunStep) × (steps_by f (runs p) ≡ told.steps ++ later)
   pub few : total_below options.partitions (λ p. length (steps_by f (runs p))) ≤ count_of_writes answered
 
+-- each front was answered beside all of these
+abbrev pub AreAnsweredBeside : Options → (ℕ → History) → (ℕ → List Placed) → List (List Answered) → Type 0
+AreAnsweredBeside options begun runs fronts =
+    (f : ℕ) (answers : List Answered) → slice_get fronts f ≡ Some answers → (old : Sessions) × (new : Sessions) × AnsweredBeside options begun runs f answers old new
+
 -- each partition's machine accepted what it began with, and ran from there on the writes of these fronts alone
 pub record RunsPartitions (options : Options) (begun : ℕ → History) (fronts : ℕ) (runs : ℕ → List Placed) : Type 0 where
   pub filled : (p : ℕ) → p < options.partitions → IsHistory options (begun p)
@@ -47,25 +53,25 @@ pub record RunsPartitions (options : Options) (begun : ℕ → History) (fronts 
   pub no_others : (p : ℕ) → p < options.partitions → All (λ q. q.front < fronts) (runs p)
 
 -- how many gets the fronts answered in a partition
-abbrev pub gets_answered : Options → ℕ → List (List Dealing) → ℕ
-gets_answered options p fronts = sum_by (λ dealings. length (gets_of options p (answered_in dealings))) fronts
+abbrev pub gets_answered : Options → ℕ → List (List Answered) → ℕ
+gets_answered options p fronts = sum_by (λ answers. length (gets_of options p answers)) fronts
 
 -- the seat of partition p has what that began with and then the fronts' accepted writes, and their seats closed one try for each get
-pub record IsServedSeat (options : Options) (begun : ℕ → History) (fronts : List (List Dealing)) (runs : ℕ → List Placed) (p : ℕ) (entry : KeptSeat) : Type 0 where
+pub record IsServedSeat (options : Options) (begun : ℕ → History) (fronts : List (List Answered)) (runs : ℕ → List Placed) (p : ℕ) (entry : KeptSeat) : Type 0 where
   pub history : entry.history ≡ begun p ++ history_in (runs p)
   pub closed : entry.closed ≡ gets_answered options p fronts
 
 -- one seat for each partition, in order
-pub record AreServedTables (options : Options) (begun : ℕ → History) (fronts : List (List Dealing)) (runs : ℕ → List Placed) (kept : List KeptSeat) : Type 0 where
+pub record AreServedTables (options : Options) (begun : ℕ → History) (fronts : List (List Answered)) (runs : ℕ → List Placed) (kept : List KeptSeat) : Type 0 where
   pub each : (p : ℕ) (entry : KeptSeat) → slice_get kept p ≡ Some entry → IsServedSeat options begun fronts runs p entry
 
--- the fronts served, the totals count what they did, and these are their tables
-pub record ServesOnTables (options : Options) (begun : ℕ → History) (ports : PortOptions) (totals : Totals) (kept : List KeptSeat) (before after : Ports) : Type 0 where
+-- the fronts served beside the others, the totals count what they did, and these are their tables
+pub record ServesOnTables (others : Others) (options : Options) (begun : ℕ → History) (ports : PortOptions) (totals : Totals) (kept : List KeptSeat) (before after : Ports) : Type 0 where
   pub fronts : List (List Dealing)
   pub runs : ℕ → List Placed
-  pub served : Served options begun ports before after fronts runs
+  pub served : Served others options begun ports before after fronts runs
   pub counted : Counts fronts totals
-  pub tables : AreServedTables options begun fronts runs kept
+  pub tables : AreServedTables options begun (all_answers others fronts) runs kept
 
 -- one seat of the options' shape for each partition
 pub record HaveShapes (options : Options) (kept : List KeptSeat) : Type 0 where

@@ -9,13 +9,13 @@ use Rattle.mica_fronts.specs.declared.totals.Totals.{Totals}
 use Rattle.mica_fronts.specs.declared.totals.ServeFault.{ServeFault}
 use Rattle.mica_fronts.specs.declared.totals.ServeFault.TheVariants.{Net, NoMemory}
 use Rattle.partition_table.specs.declared.tables.KeptSeat.{KeptSeat}
-use Rattle.mica_fronts.specs.Dealing.{Dealing, IsDealing, answered_in, due_to}
-use Rattle.mica_fronts.specs.Session.{Sessions}
+use Rattle.mica_fronts.specs.Dealing.{Dealing, IsDealing, due_to}
 use Rattle.mica_fronts.specs.Placed.{Placed}
 use Rattle.mica_fronts.specs.Totals.{Counts}
 use Rattle.mica_fronts.specs.OneEnd.{BeginsEnd, IsShort}
+use Rattle.mica_serve.specs.Others.{Others, all_answers}
 use Rattle.mica_serve.specs.Served.{IsThrough}
-use Rattle.mica_serve.specs.Beside.{AnsweredBeside, RunsPartitions, AreServedTables, HaveShapes}
+use Rattle.mica_serve.specs.Beside.{AreAnsweredBeside, RunsPartitions, AreServedTables, HaveShapes}
 
 -- what contracts see of an end at one moment
 pub record EndFacts : Type 0 where
@@ -118,18 +118,17 @@ pub record KeepsEnd (before after : EndFacts) : Type 0 where
 abbrev pub TellAll : List EndFacts → Type 0
 TellAll ends = (i : ℕ) (end : EndFacts) → slice_get ends i ≡ Some end → is_some end.traffic ≡ true
 
--- each front dealt with its end, beside the others, and these are the tables of their partitions
-pub record ServesAll (options : Options) (begun : ℕ → History) (batches : ℕ) (totals : Totals) (kept : List KeptSeat) (before after : List EndFacts) : Type 0 where
+-- each front dealt with its end, beside each other and the others, and these are the tables of their partitions
+pub record ServesAll (others : Others) (options : Options) (begun : ℕ → History) (batches : ℕ) (totals : Totals) (kept : List KeptSeat) (before after : List EndFacts) : Type 0 where
   pub fronts : List (List Dealing)
   pub runs : ℕ → List Placed
   pub many : length fronts ≡ length before
   pub each : (f : ℕ) (dealings : List Dealing) (b a : EndFacts) → slice_get fronts f ≡ Some dealings → slice_get before f ≡ Some b → slice_get after f ≡ Some a
       → DealsWithEnd batches dealings b a
-  pub ran : RunsPartitions options begun (length fronts) runs
-  pub answered : (f : ℕ) (dealings : List Dealing) → slice_get fronts f ≡ Some dealings
-      → (old : Sessions) × (new : Sessions) × AnsweredBeside options begun runs f (answered_in dealings) old new
+  pub ran : RunsPartitions options begun (length (all_answers others fronts)) runs
+  pub answered : AreAnsweredBeside options begun runs (all_answers others fronts)
   pub counted : Counts fronts totals
-  pub tables : AreServedTables options begun fronts runs kept
+  pub tables : AreServedTables options begun (all_answers others fronts) runs kept
 
 -- one of the fronts stopped at a fault
 pub record StopsSome (batches : ℕ) (before after : List EndFacts) : Type 0 where
@@ -146,29 +145,28 @@ abbrev pub HasNoEndFault : List EndFacts → List EndFacts → Type 0
 HasNoEndFault before after = (i : ℕ) (old new : EndFacts) → slice_get before i ≡ Some old → slice_get after i ≡ Some new → old.has_script ≡ true
     → new.faults ≡ old.faults
 
--- each front dealt with its end in part, beside the others
-pub record StopsBeside (options : Options) (begun : ℕ → History) (batches : ℕ) (before after : List EndFacts) : Type 0 where
+-- each front dealt with its end in part, beside each other and the others
+pub record StopsBeside (others : Others) (options : Options) (begun : ℕ → History) (batches : ℕ) (before after : List EndFacts) : Type 0 where
   pub fronts : List (List Dealing)
   pub runs : ℕ → List Placed
   pub many : length fronts ≡ length before
   pub each : (f : ℕ) (dealings : List Dealing) (b a : EndFacts) → slice_get fronts f ≡ Some dealings → slice_get before f ≡ Some b → slice_get after f ≡ Some a
       → MayStopAtEnd batches dealings b a
-  pub ran : RunsPartitions options begun (length fronts) runs
-  pub answered : (f : ℕ) (dealings : List Dealing) → slice_get fronts f ≡ Some dealings
-      → (old : Sessions) × (new : Sessions) × AnsweredBeside options begun runs f (answered_in dealings) old new
+  pub ran : RunsPartitions options begun (length (all_answers others fronts)) runs
+  pub answered : AreAnsweredBeside options begun runs (all_answers others fronts)
 
 -- what each answer says of the ends and of the tables that are kept
-abbrev pub MeansForEnds : Result Totals ServeFault → Options → (ℕ → History) → ℕ → List KeptSeat → List EndFacts → List EndFacts → Type 0
-MeansForEnds (Ok totals) options begun batches kept before after =
-    HaveShapes options kept × HasNoEndFault before after × (TellAll before → ServesAll options begun batches totals kept before after)
-MeansForEnds (Err Net) options begun batches kept before after =
-    (kept ≡ []) × StopsSome batches before after × (TellAll before → StopsBeside options begun batches before after)
-MeansForEnds (Err NoMemory) options begun batches kept before after = kept ≡ []
+abbrev pub MeansForEnds : Others → Result Totals ServeFault → Options → (ℕ → History) → ℕ → List KeptSeat → List EndFacts → List EndFacts → Type 0
+MeansForEnds others (Ok totals) options begun batches kept before after =
+    HaveShapes options kept × HasNoEndFault before after × (TellAll before → ServesAll others options begun batches totals kept before after)
+MeansForEnds others (Err Net) options begun batches kept before after =
+    (kept ≡ []) × (StopsSome batches before after ⊎ others.stopped) × (TellAll before → StopsBeside others options begun batches before after)
+MeansForEnds others (Err NoMemory) options begun batches kept before after = kept ≡ []
 
--- the fronts were served, beside each other
-pub record ServesFronts (options : Options) (origin : ℕ → History) (batches : ℕ) (answer : Result Totals ServeFault) (kept : List KeptSeat) (before after : List EndFacts)
-    : Type 0 where
+-- the fronts were served, beside each other and the others
+pub record ServesFronts (others : Others) (options : Options) (origin : ℕ → History) (batches : ℕ) (answer : Result Totals ServeFault) (kept : List KeptSeat)
+    (before after : List EndFacts) : Type 0 where
   pub many : length after ≡ length before
   pub keeps : (i : ℕ) (b a : EndFacts) → slice_get before i ≡ Some b → slice_get after i ≡ Some a → KeepsEnd b a
   pub begun : TellAll before → BeginsEnds batches before after
-  pub means : MeansForEnds answer options origin batches kept before after
+  pub means : MeansForEnds others answer options origin batches kept before after

@@ -1,5 +1,5 @@
 -- What the fronts of a server came to, each beside the others, and what their owners took in of them.
-use Rattle.std.specs.Prelude.{false, ◌≡◌, ◌≢◌, ◌+◌, ◌<◌, ◌≤◌, ℕ, true, List, ◌++◌, map, length, slice_get, Some, sum_by, Result, Ok, Err}
+use Rattle.std.specs.Prelude.{false, ◌≡◌, ◌≢◌, ◌+◌, ◌<◌, ◌≤◌, ◌⊎◌, ⊤, ℕ, true, List, ◌++◌, map, length, slice_get, Some, sum_by, Result, Ok, Err}
 use Rattle.mica_io.specs.Faults.{Rose}
 use Rattle.partition_model.specs.declared.options.Options.{Options}
 use Rattle.partition_model.specs.History.{History, IsPrefix}
@@ -10,7 +10,8 @@ use Rattle.mica_fronts.specs.declared.totals.ServeFault.{ServeFault}
 use Rattle.mica_fronts.specs.declared.totals.ServeFault.TheVariants.{Net, NoMemory}
 use Rattle.mica_fronts.specs.Session.{Told, Sessions}
 use Rattle.mica_fronts.specs.Placed.{Placed, steps_by, history_in}
-use Rattle.mica_serve.specs.Beside.{closed_of, total_below, IsUntold, RunsPartitions, HaveShapes}
+use Rattle.mica_serve.specs.Others.{Others}
+use Rattle.mica_serve.specs.Beside.{closed_of, total_below, IsUntold, AreAnsweredBeside, RunsPartitions, HaveShapes, gets_answered}
 use Rattle.mica_serve.specs.Ends.{EndFacts, KeepsEnd}
 use Rattle.mica_fronts.specs.OneEnd.{OnTraffic, ServesEnd, LeavesEnd, WantsAtEnd}
 use Rattle.mica_fronts.specs.Totals.{IsUpTo}
@@ -57,21 +58,22 @@ pub record IsTakenIn (options : Options) (begun : ℕ → History) (runs : ℕ �
       → (later : List RunStep) × (steps_by f (runs p) ≡ told.steps ++ later)
   pub sent : total_below options.partitions (λ p. length (steps_by f (runs p))) + run.left_after ≤ run.left
 
--- the owners took in all fronts, and these are the seats that they may leave
-pub record AreTakenIn (options : Options) (begun : ℕ → History) (fronts : List FrontRun) (kept : List KeptSeat) : Type 0 where
+-- the owners took in all fronts, and the others before them, and these are the seats that they may leave
+pub record AreTakenIn (others : Others) (options : Options) (begun : ℕ → History) (fronts : List FrontRun) (kept : List KeptSeat) : Type 0 where
   pub runs : ℕ → List Placed
-  pub ran : RunsPartitions options begun (length fronts) runs
-  pub each : (f : ℕ) (run : FrontRun) → slice_get fronts f ≡ Some run → IsTakenIn options begun runs f run
+  pub ran : RunsPartitions options begun (length others.answers + length fronts) runs
+  pub before : AreAnsweredBeside options begun runs others.answers
+  pub each : (f : ℕ) (run : FrontRun) → slice_get fronts f ≡ Some run → IsTakenIn options begun runs (length others.answers + f) run
   pub shapes : HaveShapes options kept
   pub history : (p : ℕ) (entry : KeptSeat) → slice_get kept p ≡ Some entry → entry.history ≡ begun p ++ history_in (runs p)
-  pub closed : (p : ℕ) (entry : KeptSeat) → slice_get kept p ≡ Some entry → entry.closed ≡ sum_by (closed_in p) fronts
+  pub closed : (p : ℕ) (entry : KeptSeat) → slice_get kept p ≡ Some entry → entry.closed ≡ gets_answered options p others.answers + sum_by (closed_in p) fronts
 
--- the workers of a server ran, and their owners took in all fronts
-pub record RanAll (options : Options) (begun : ℕ → History) (batches : ℕ) (kept : List KeptSeat) (answers : List (Result Totals ServeFault)) (before after : List EndFacts) : Type 0 where
+-- the workers of a server ran beside the others, and their owners took in all fronts
+pub record RanAll (others : Others) (options : Options) (begun : ℕ → History) (batches : ℕ) (kept : List KeptSeat) (answers : List (Result Totals ServeFault)) (before after : List EndFacts) : Type 0 where
   pub fronts : List FrontRun
   pub answers_are : answers ≡ map (λ r. r.answer) fronts
   pub run : RunFronts options batches fronts before after
-  pub taken : AreTakenIn options begun fronts kept
+  pub taken : AreTakenIn others options begun fronts kept
 
 -- the totals of all
 abbrev pub sum_of_totals : List Totals → Totals
@@ -82,3 +84,10 @@ abbrev pub SumsUp : List (Result Totals ServeFault) → Result Totals ServeFault
 SumsUp answers (Ok totals) = (all : List Totals) × (answers ≡ map Ok all) × (totals ≡ sum_of_totals all)
 SumsUp answers (Err Net) = (f : ℕ) × (slice_get answers f ≡ Some (Err Net)) × ((i : ℕ) → slice_get answers i ≢ Some (Err NoMemory))
 SumsUp answers (Err NoMemory) = (f : ℕ) × (slice_get answers f ≡ Some (Err NoMemory))
+
+-- The same beside others: want of memory of any; else a fault of any, or that one of the others stopped; else the totals are the sum.
+abbrev pub ComesTo : Others → List (Result Totals ServeFault) → Result Totals ServeFault → Type 0
+ComesTo others answers (Ok totals) = SumsUp answers (Ok totals)
+ComesTo others answers (Err Net) =
+    (((f : ℕ) × (slice_get answers f ≡ Some (Err Net))) ⊎ others.stopped) × ((i : ℕ) → slice_get answers i ≢ Some (Err NoMemory))
+ComesTo others answers (Err NoMemory) = ⊤

@@ -1,3 +1,5 @@
+pub mod Others
+pub mod PossiblePorts
 pub mod Served
 pub mod Beside
 pub mod Ends

@@ -9,10 +9,11 @@ use Rattle.mica_fronts.specs.declared.ports.Ports.{Ports as PortOptions}
 use Rattle.mica_fronts.specs.declared.totals.Totals.{Totals}
 use Rattle.mica_fronts.specs.Looks.{Look, IsLookAt}
 use Rattle.mica_fronts.specs.Answered.{Answered, wrote, got, changed, kept, key_of, stamp_given, accepts, answers_of, writes_of, gets_of}
-use Rattle.mica_fronts.specs.Dealing.{Dealing, IsDealing, answered_in, due_to}
+use Rattle.mica_fronts.specs.Dealing.{Dealing, IsDealing, due_to}
 use Rattle.mica_fronts.specs.Placed.{Placed, steps_by, steps_in, history_in}
 use Rattle.mica_fronts.specs.OneEnd.{BeginsAs}
 use Rattle.mica_fronts.specs.Totals.{Counts}
+use Rattle.mica_serve.specs.Others.{Others, all_answers}
 
 -- One front and its port
 
@@ -89,19 +90,20 @@ pub record AnswersLawfully (options : Options) (begun : ℕ → History) (fronts
   pub order : (p f : ℕ) (answers : List Answered) → p < options.partitions → slice_get fronts f ≡ Some answers
       → AllPairs NoFall (answers_of options p answers)
 
--- What the ports of a net tell before and after, what each front made of its datagrams, and a run of each partition's machine.
-pub record Served (options : Options) (begun : ℕ → History) (ports : PortOptions) (before after : Ports) (fronts : List (List Dealing)) (runs : ℕ → List Placed)
-    : Type 0 where
+-- What the ports of a net tell before and after, what each front made of its datagrams, and a run of each partition's machine, in which what the
+-- others beside these fronts answered stands too.
+pub record Served (others : Others) (options : Options) (begun : ℕ → History) (ports : PortOptions) (before after : Ports) (fronts : List (List Dealing))
+    (runs : ℕ → List Placed) : Type 0 where
   pub many : length fronts ≡ ports.fronts
   pub datagrams : (f : ℕ) (dealings : List Dealing) → slice_get fronts f ≡ Some dealings
       → ServesPort ports.batches (before (ports.port + f)) (after (ports.port + f)) dealings
-  pub answered : AnswersLawfully options begun (map answered_in fronts) runs
+  pub answered : AnswersLawfully options begun (all_answers others fronts) runs
 
 -- the fronts served, and the totals count what they did
-pub record Serves (options : Options) (begun : ℕ → History) (ports : PortOptions) (totals : Totals) (before after : Ports) : Type 0 where
+pub record Serves (others : Others) (options : Options) (begun : ℕ → History) (ports : PortOptions) (totals : Totals) (before after : Ports) : Type 0 where
   pub fronts : List (List Dealing)
   pub runs : ℕ → List Placed
-  pub served : Served options begun ports before after fronts runs
+  pub served : Served others options begun ports before after fronts runs
   pub counted : Counts fronts totals
 
 -- Where a fault came
@@ -163,14 +165,15 @@ pub record BlamesFronts (ports : PortOptions) (counts : ℕ → Type 0) (fronts 
   pub through : (f : ℕ) (dealings : List Dealing) → slice_get fronts f ≡ Some dealings → slice_get faults f ≡ Some 0
       → CameThrough ports.batches (after (ports.port + f)) dealings
 
--- Each front began its port with these dealings, and all that was answered is lawful. A bind failed, or some front is not through, and each that
--- is not had a fault of its own.
-pub record StopsShort (options : Options) (begun : ℕ → History) (ports : PortOptions) (bind_failed : Type 0) (counts : ℕ → Type 0) (before after : Ports) : Type 0 where
+-- Each front began its port with these dealings, and all that was answered is lawful. A bind failed, or some front is not through, or a fault came
+-- to one of the others; and each front that is not through had a fault of its own.
+pub record StopsShort (others : Others) (options : Options) (begun : ℕ → History) (ports : PortOptions) (bind_failed : Type 0) (counts : ℕ → Type 0) (before after : Ports)
+    : Type 0 where
   pub fronts : List (List Dealing)
   pub runs : ℕ → List Placed
   pub many : length fronts ≡ ports.fronts
   pub each : (f : ℕ) (dealings : List Dealing) → slice_get fronts f ≡ Some dealings
       → LeavesPort ports.batches (before (ports.port + f)) (after (ports.port + f)) dealings []
-  pub answered : AnswersLawfully options begun (map answered_in fronts) runs
-  pub some : bind_failed ⊎ ((f : ℕ) × (f < ports.fronts) × IsStopped ports.batches (before (ports.port + f)) (after (ports.port + f)))
+  pub answered : AnswersLawfully options begun (all_answers others fronts) runs
+  pub some : bind_failed ⊎ ((f : ℕ) × (f < ports.fronts) × IsStopped ports.batches (before (ports.port + f)) (after (ports.port + f))) ⊎ others.stopped
   pub blamed : bind_failed ⊎ BlamesFronts ports counts fronts after

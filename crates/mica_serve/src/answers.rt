@@ -8,7 +8,7 @@ use mica_fronts::{ServeFault, Totals};
 
 /// The sum of the totals, or the fault of a front: want of memory of any is that of all.
 pub fn sum_up(answers: &[Result<Totals, ServeFault>]) -> Result<Totals, ServeFault>
-    requires few { length answers.now ≤ 16 }
+    requires few { length answers.now ≤ 64 }
     requires small { (f : ℕ) (totals : Totals) → slice_get answers.now f ≡ Some (Ok totals) → IsUpTo MAX_BATCHES totals }
     ensures { SumsUp answers.now result }
 {

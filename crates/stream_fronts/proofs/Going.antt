@@ -1,8 +1,8 @@
 -- Answers that were given one after another.
-use Rattle.std.proofs.Common.{◌≡◌, ℕ, Bool, List, [], ◌∷◌, ◌++◌, refl, sym, subst}
+use Rattle.std.proofs.Common.{◌≡◌, ◌+◌, ◌≤◌, ℕ, Bool, List, [], ◌∷◌, ◌++◌, length, refl, sym, ap, ◌∙◌, subst, arith, length-append}
 use Rattle.std.proofs.lemmas.List.Elements.{filter_map-append}
 use Rattle.partition_model.specs.declared.options.Options.{Options}
-use Rattle.mica_fronts.specs.Answered.{Answered}
+use Rattle.mica_fronts.specs.Answered.{Answered, step_in, steps_of, count_of_writes}
 use Rattle.mica_fronts.specs.Session.{Sessions}
 use Rattle.mica_fronts.proofs.InOrder.{answers_append}
 use Rattle.memcached_text.specs.declared.next.Next.{Next}
@@ -13,6 +13,9 @@ use Rattle.stream_fronts.specs.Going.{GoesBy}
 seconds_append : (one two : List Answered) → seconds_of (one ++ two) ≡ seconds_of one ++ seconds_of two
 seconds_append one two = filter_map-append second_in one two
 
+writes_append : (one two : List Answered) → count_of_writes (one ++ two) ≡ count_of_writes one + count_of_writes two
+writes_append one two = ap length (filter_map-append step_in one two) ∙ length-append (steps_of one) (steps_of two)
+
 told_moved : (before between : ℕ) (seconds : List ℕ) (after : ℕ) → between ≡ before → ToldFrom between seconds after → ToldFrom before seconds after
 told_moved before between seconds after same told = subst (λ b. ToldFrom b seconds after) same told
 
@@ -21,18 +24,20 @@ told_append before [] between two after first second = told_moved before between
 told_append before (s ∷ one) between two after first second = (first.0, told_append s one between two after first.1 second)
 
 module _ (options : Options) (is_alone : Bool) where
-  pub by_none : (old : Sessions) (told : ℕ) → GoesBy options is_alone old told old told
-  by_none old told = record { answers = []; in_order = λ q. refl; seconds = refl }
+  pub by_none : (old : Sessions) (left told : ℕ) → GoesBy options is_alone old left told old left told
+  by_none old left told = record { answers = []; in_order = λ q. refl; seconds = refl; few = omega arith }
 
-  pub by_both : (old between new : Sessions) (told then_told tells : ℕ) → GoesBy options is_alone old told between then_told → GoesBy options is_alone between then_told new tells
-      → GoesBy options is_alone old told new tells
-  by_both old between new told then_told tells first second = record {
+  pub by_both : (old between new : Sessions) (left then_left left_after told then_told tells : ℕ) → GoesBy options is_alone old left told between then_left then_told
+      → GoesBy options is_alone between then_left then_told new left_after tells → GoesBy options is_alone old left told new left_after tells
+  by_both old between new left then_left left_after told then_told tells first second = record {
     answers = first.answers ++ second.answers;
     in_order = answers_append options is_alone first.answers second.answers old between new first.in_order second.in_order;
     seconds = subst (λ s. ToldFrom told s tells) (sym (seconds_append first.answers second.answers))
         (told_append told (seconds_of first.answers) then_told (seconds_of second.answers) tells first.seconds second.seconds);
+    few = omega (arith, first.few, second.few, writes_append first.answers second.answers);
   }
 
-  pub by_answers : (old : Sessions) (told : ℕ) (new : Sessions) (tells : ℕ) (base : ℕ) (next : Next) (done : ℕ) (answers : List Answered)
-      → GoesOn options is_alone base next done old told new tells answers → GoesBy options is_alone old told new tells
-  by_answers old told new tells base next done answers goes = record { answers = answers; in_order = goes.in_order; seconds = goes.seconds }
+  pub by_answers : (old : Sessions) (left told : ℕ) (new : Sessions) (left_after tells : ℕ) (base : ℕ) (next : Next) (done : ℕ) (answers : List Answered)
+      → GoesOn options is_alone base next done old told new tells answers → left ≤ left_after + count_of_writes answers
+      → GoesBy options is_alone old left told new left_after tells
+  by_answers old left told new left_after tells base next done answers goes few = record { answers = answers; in_order = goes.in_order; seconds = goes.seconds; few = few }

@@ -1,21 +1,23 @@
 -- What each call of connections keeps open.
-use Rattle.std.proofs.Common.{◌≡◌, ℕ, ◌+◌, ◌*◌, ◌<◌, ◌≤◌, List, [], ◌∷◌, length, refl, sym, ap, ◌∙◌, subst, arith}
-use Rattle.std.specs.Prelude.{slice_get, take, min, is_some, Option, Some, None, Result, Ok, Err, IfSome}
+use Rattle.std.proofs.Common.{◌≡◌, ◌≢◌, ℕ, ◌+◌, ◌*◌, ◌<◌, ◌≤◌, List, [], ◌∷◌, length, refl, sym, ap, ◌∙◌, subst, arith}
+use Rattle.std.specs.Prelude.{slice_get, take, min, is_some, Option, Some, None, Result, Ok, Err, IfSome, option_map}
 use Rattle.std.proofs.lemmas.Option.{same_Some}
 use Rattle.std.proofs.lemmas.Bool.{true≢false}
 use Rattle.std.proofs.lemmas.List.{length-take-le}
 use Rattle.stream_io.specs.declared.schedule.Change.{Change}
 use Rattle.stream_io.specs.declared.schedule.Step.{Step}
 use Rattle.stream_io.specs.declared.schedule.Step.TheVariants.{Opens, Reports, Happens}
+use Rattle.stream_io.specs.declared.connections.Event.{Event}
+use Rattle.stream_io.specs.declared.connections.Event.TheVariants.{Opened, Ready}
 use Rattle.stream_io.specs.declared.connections.Input.{Input}
 use Rattle.stream_io.specs.declared.connections.Input.TheVariants.{Bytes, Later, Ended}
 use Rattle.stream_io.specs.declared.connections.Broken.{Broken}
 use Rattle.stream_io.specs.Connection.{Connection, after_change, after_read, after_write}
-use Rattle.stream_io.specs.State.{Entry, held, state_after, after_meeting}
-use Rattle.stream_io.specs.Log.{Log, IsHeld, connections_of, state_of, with_entries, after_met, after_meeting_one}
-use Rattle.stream_io.specs.Calls.{IsGiven, ReadGives, WriteTakes, MayAsk, Asks, Closes, gave, took, after_sending}
-use Rattle.stream_fronts.specs.Open.{asks_in, IsAt, IsOpen, Keeps, KeepsOthers, AsksOnce, OnLogs, gained}
-use Rattle.stream_fronts.proofs.Places.{KeepsOpen, changed_keeps, changed_here, there, asked_here, asked_others, closed_others}
+use Rattle.stream_io.specs.State.{State, Entry, held, state_after, after_report, after_meeting}
+use Rattle.stream_io.specs.Log.{Log, IsHeld, connections_of, state_of, with_entries, called, after_met, after_meeting_one}
+use Rattle.stream_io.specs.Calls.{IsGiven, ReadGives, WriteTakes, MayAsk, Asks, Closes, ReportsNext, IsNext, gave, took, after_sending}
+use Rattle.stream_fronts.specs.Open.{asks_in, IsAt, IsOpen, IsOpenIn, Keeps, KeepsOthers, AsksOnce, OnLogs, IsOpened, gained}
+use Rattle.stream_fronts.proofs.Places.{KeepsOpen, changed_keeps, changed_here, there, asked_here, asked_others, closed_others, pushed, pushed_here}
 
 change_keeps : (change : Change) → KeepsOpen (after_change change)
 change_keeps change = record { number = λ x. refl; closed = λ x. refl; asks = λ x. omega arith }
@@ -140,6 +142,42 @@ may_ask number asks (Some old) some stands =
     let more : 0 < x.0.asks = omega (arith, some, stands.1.1, here) in
     subst (λ o. IfSome o (λ connection. 0 < connection.asks)) (sym x.1) more
 
+-- what is reported keeps all stands, and a new connection is open
+abbrev pub Tells : Event → Log → Log → Type 0
+Tells event old new = Keeps old new × IsOpened event new
+
+abbrev number_in : Event → ℕ
+number_in (Opened number) = number
+number_in (Ready number) = number
+
+next_at : (event : Event) (s : State) (later : List Step) → IsNext event s.connections later → (n d a : ℕ) → IsAt n d a s.connections
+    → IsAt n d a (after_report (number_in event) s later).connections
+next_at (Opened number) s [] is n d a at = absurd is
+next_at (Opened number) s (Opens window bytes ∷ later) is n d a at = pushed n d a s.connections _ at
+next_at (Opened number) s (Reports c change ∷ later) is n d a at = absurd is
+next_at (Opened number) s (Happens c change ∷ later) is n d a at = absurd is
+next_at (Ready number) s [] is n d a at = absurd is
+next_at (Ready number) s (Opens window bytes ∷ later) is n d a at = absurd is
+next_at (Ready number) s (Reports c change ∷ later) is n d a at = changed_keeps (after_change change) (change_keeps change) c s.connections n d a at
+next_at (Ready number) s (Happens c change ∷ later) is n d a at = changed_keeps (after_change change) (change_keeps change) c s.connections n d a at
+
+opened_at : (number : ℕ) (s : State) (later : List Step) → IsNext (Opened number) s.connections later → IsOpenIn number 0 (after_report number s later).connections
+opened_at number s [] is = absurd is
+opened_at number s (Opens window bytes ∷ later) is = (length s.connections, pushed_here number window bytes s.connections is)
+opened_at number s (Reports c change ∷ later) is = absurd is
+opened_at number s (Happens c change ∷ later) is = absurd is
+
+next_told : (event : Event) (old : Log) (new : Option Log) → ReportsNext old event new → OnLogs (Tells event) (Some old) new
+next_told (Opened number) old new r =
+    told old new _ (Tells (Opened number)) r.result
+    (λ n a o. (o.0, next_at (Opened number) (state_of old) (state_of old).later r.next n o.0 a o.1), opened_at number (state_of old) (state_of old).later r.next)
+next_told (Ready number) old new r =
+    told old new _ (Tells (Ready number)) r.result (λ n a o. (o.0, next_at (Ready number) (state_of old) (state_of old).later r.next n o.0 a o.1), tt)
+
+pub tells : (event : Event) (old new : Option Log) → IfSome old (λ l. ReportsNext l event new) → OnLogs (Tells event) old new
+tells event None new next = tt
+tells event (Some old) new next = next_told event old new next
+
 -- What goes on from one moment to another
 
 pub still_open : (number asks : ℕ) (old new : Option Log) → is_some new ≡ is_some old → OnLogs Keeps old new → IfSome old (IsOpen number asks) → IfSome new (IsOpen number asks)
@@ -147,6 +185,12 @@ still_open number asks None None same keeps stands = tt
 still_open number asks None (Some new) same keeps stands = absurd (true≢false same)
 still_open number asks (Some old) None same keeps stands = absurd keeps
 still_open number asks (Some old) (Some new) same keeps stands = keeps number asks stands
+
+pub others_open : (number asks one : ℕ) (old new : Option Log) → number ≢ one → is_some new ≡ is_some old → OnLogs (KeepsOthers one) old new → IfSome old (IsOpen number asks) → IfSome new (IsOpen number asks)
+others_open number asks one None None other same keeps stands = tt
+others_open number asks one None (Some new) other same keeps stands = absurd (true≢false same)
+others_open number asks one (Some old) None other same keeps stands = absurd keeps
+others_open number asks one (Some old) (Some new) other same keeps stands = keeps number asks other stands
 
 pub keeps_on : (old between new : Option Log) → is_some between ≡ is_some old → OnLogs Keeps old between → OnLogs Keeps between new → OnLogs Keeps old new
 keeps_on None between new same first second = tt
@@ -175,3 +219,26 @@ received_open number asks (Some old) (Some new) same r = r.1
 pub fewer_asks : (number more asks : ℕ) (log : Option Log) → asks ≤ more → IfSome log (IsOpen number more) → IfSome log (IsOpen number asks)
 fewer_asks number more asks None fewer stands = tt
 fewer_asks number more asks (Some log) fewer stands = (stands.0, (stands.1.0, omega (arith, fewer, stands.1.1)))
+
+-- of a report: all stays open, and what is new is
+pub tells_keeps : (event : Event) (old new : Option Log) → IfSome old (λ l. ReportsNext l event new) → OnLogs Keeps old new
+tells_keeps event None new next = tt
+tells_keeps event (Some old) new next = only new (next_told event old new next)
+  where
+    only : (new : Option Log) → OnLogs (Tells event) (Some old) new → OnLogs Keeps (Some old) new
+    only None t = t
+    only (Some new) t = t.0
+
+pub tells_opened : (event : Event) (old new : Option Log) → is_some new ≡ is_some old → IfSome old (λ l. ReportsNext l event new) → IfSome new (IsOpened event)
+tells_opened event None None told next = tt
+tells_opened event None (Some new) told next = absurd (true≢false told)
+tells_opened event (Some old) new told next = only new (next_told event old new next)
+  where
+    only : (new : Option Log) → OnLogs (Tells event) (Some old) new → IfSome new (IsOpened event)
+    only None t = tt
+    only (Some new) t = t.1
+
+-- of a call that reports nothing
+pub called_keeps : (old new : Option Log) → new ≡ option_map called old → OnLogs Keeps old new
+called_keeps None new is = tt
+called_keeps (Some old) new is = told old new (called old) Keeps is (λ n a o. o)

@@ -1,8 +1,11 @@
 -- A change of one connection, and the places of the others.
-use Rattle.std.proofs.Common.{◌≡◌, ◌≢◌, ℕ, zero, suc, ◌-◌, ◌≤◌, Bool, true, false, cond, ltb, List, [], ◌∷◌, length, refl, sym, ap, ◌∙◌, subst, arith}
+use Rattle.std.proofs.Common.{◌≡◌, ◌≢◌, ℕ, zero, suc, ◌-◌, ◌≤◌, Bool, true, false, cond, ltb, List, [], ◌∷◌, ◌++◌, length, refl, sym, ap, ◌∙◌, subst, arith}
 use Rattle.std.specs.Prelude.{◌==◌, ◌&&◌, not, slice_get, get_or, None, Some}
 use Rattle.std.specs.List.{position_or_len}
 use Rattle.std.proofs.lemmas.Option.{none-some, same_Some, slice_get-get_or}
+use Rattle.std.proofs.lemmas.List.{get_or_append_left}
+use Rattle.std.proofs.lemmas.List.Folds.{position_or_len_push}
+use Rattle.std.proofs.lemmas.List.Sums.{prefix_len-le-length}
 use Rattle.std.proofs.lemmas.List.Quantifiers.{position-Some}
 use Rattle.std.proofs.lemmas.Grind.{common_steps}
 use Rattle.stream_io.specs.Connection.{Connection, new_connection, after_ask, after_close}
@@ -108,3 +111,23 @@ closed_others n c m d a all other here at =
       same_held m c after_close all (λ y is. closed_other n m y other (subst (λ z. is_under n z ≡ true) (same_Some x.0 y (sym x.1 ∙ is)) x.2)) ∙ at.0,
       subst (λ o. a ≤ asks_in o) (sym (elsewhere c d after_close all (two_places n m c d all other here at.0))) at.1,
     )
+
+-- with one more connection, each is where it was
+pub pushed : (n d a : ℕ) (all : List Connection) (y : Connection) → IsAt n d a all → IsAt n d a (all ++ y ∷ [])
+pushed n d a all y at =
+    let nobody = new_connection 0 0 [] in
+    let lt = held_there n all d at.0 in
+    let p = position_or_len_push (is_under n) all y in
+    let same : slice_get (all ++ y ∷ []) d ≡ slice_get all d =
+    slice_get-get_or (all ++ y ∷ []) d nobody (grind (arith, common_steps)) ∙ ap Some (get_or_append_left all (y ∷ []) nobody d lt)
+    ∙ sym (slice_get-get_or all d nobody lt) in
+    let is : held n (all ++ y ∷ []) ≡ Some d = grind (arith, common_steps) in
+    (is, subst (λ o. a ≤ asks_in o) (sym same) at.1)
+
+-- and it is behind them, under a number that was free
+pub pushed_here : (n window : ℕ) (bytes : List ℕ) (all : List Connection) → held n all ≡ None → IsAt n (length all) 0 (all ++ new_connection n window bytes ∷ [])
+pushed_here n window bytes all free =
+    let p = position_or_len_push (is_under n) all (new_connection n window bytes) in
+    let le = prefix_len-le-length (λ x. not (is_under n x)) all in
+    let is : held n (all ++ new_connection n window bytes ∷ []) ≡ Some (length all) = grind (arith, common_steps) in
+    (is, omega arith)

@@ -1,9 +1,11 @@
 -- What a front holds of its connections.
-use Rattle.std.specs.Prelude.{ℕ, ◌≤◌, List, length, slice_get, Option, None, Some}
+use Rattle.std.specs.Prelude.{◌≡◌, ℕ, ◌≤◌, List, length, slice_get, Option, None, Some, IfSome}
 use Rattle.memcached_text.specs.declared.limits.TheConstants.{MAX_WAITING_LEN}
 use Rattle.memcached_text.specs.Next.{next_of}
 use Rattle.memcached_fronts.specs.Exchange.{IsOpenAt}
+use Rattle.stream_io.specs.Log.{Log}
 use Rattle.stream_fronts.specs.declared.client.Client.{Client}
+use Rattle.stream_fronts.specs.Open.{IsOpen}
 
 -- no more is kept than the longest that waits, and the command that it begins with is not answered, or in part
 pub record IsClient (client : Client) : Type 0 where
@@ -17,3 +19,7 @@ flat (Some held) = held
 -- what is held under a number
 abbrev pub at : List (Option Client) → ℕ → Option Client
 at all n = flat (slice_get all n)
+
+-- each that is held is open, and may be asked for again as often as is noted
+abbrev pub AreOpen : List (Option Client) → Option Log → Type 0
+AreOpen all log = (n : ℕ) (client : Client) → at all n ≡ Some client → IsClient client × IfSome log (IsOpen n client.asks)

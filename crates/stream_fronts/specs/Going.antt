@@ -1,12 +1,13 @@
 -- What a front's answers make of its sessions and of its clock.
-use Rattle.std.specs.Prelude.{ℕ, Bool, List}
+use Rattle.std.specs.Prelude.{◌+◌, ◌≤◌, ℕ, Bool, List}
 use Rattle.partition_model.specs.declared.options.Options.{Options}
-use Rattle.mica_fronts.specs.Answered.{Answered}
+use Rattle.mica_fronts.specs.Answered.{Answered, count_of_writes}
 use Rattle.mica_fronts.specs.Session.{Sessions, AnswersInOrder}
 use Rattle.memcached_fronts.specs.Seconds.{seconds_of, ToldFrom}
 
--- They went on by some answers, in this order, and no others.
-pub record GoesBy (options : Options) (is_alone : Bool) (old : Sessions) (told : ℕ) (new : Sessions) (tells : ℕ) : Type 0 where
+-- They went on by some answers, in this order, and no others: of the writes that the front could still be given none is gone but those among them.
+pub record GoesBy (options : Options) (is_alone : Bool) (old : Sessions) (left told : ℕ) (new : Sessions) (left_after tells : ℕ) : Type 0 where
   pub answers : List Answered
   pub in_order : AnswersInOrder options is_alone old answers new
   pub seconds : ToldFrom told (seconds_of answers) tells
+  pub few : left ≤ left_after + count_of_writes answers

@@ -1,5 +1,7 @@
 -- Which numbers connections are open under, and how often each may be asked for again.
 use Rattle.std.specs.Prelude.{◌≡◌, ◌≢◌, ⊤, ℕ, ◌≤◌, ◌-◌, ◌*◌, List, slice_get, Option, Some, None, Result, Ok}
+use Rattle.stream_io.specs.declared.connections.Event.{Event}
+use Rattle.stream_io.specs.declared.connections.Event.TheVariants.{Opened, Ready}
 use Rattle.stream_io.specs.declared.connections.Input.{Input}
 use Rattle.stream_io.specs.declared.connections.Input.TheVariants.{Bytes}
 use Rattle.stream_io.specs.declared.connections.Broken.{Broken}
@@ -44,3 +46,8 @@ abbrev pub OnLogs : (Log → Log → Type 0) → Option Log → Option Log → T
 OnLogs P None new = ⊤
 OnLogs P (Some old) None = ⊥
 OnLogs P (Some old) (Some new) = P old new
+
+-- a connection that is reported as new is open
+abbrev pub IsOpened : Event → Log → Type 0
+IsOpened (Opened number) log = IsOpen number 0 log
+IsOpened (Ready number) log = ⊤

@@ -1,14 +1,19 @@
-//! Parts of a front behind a port of connections: commands that bytes spell are answered in order, what is left of them is kept of each connection, and
-//! bytes are received and sent.
+//! A front behind a port of connections: commands that bytes spell are answered in order, what is left of them is kept of each connection, and bytes are
+//! received and sent.
 //!
-//! The layer above may rely on this. `answer_bytes` answers what bytes spell, one command after another, and says how far it went: the front's sessions and the
-//! clock go on by some answers, in order, and by no others. The calls of a connection keep open what is open, and ask for a connection again no more often
-//! than its bytes allow. `look_at` keeps what is left of a connection's bytes, no more than the longest that waits; and what is held under a number is what was
-//! held there last. `visit_once` is made of these. `StreamPorts` are the numbers of a server's ports. The loop over a port is not here yet.
+//! The layer above may rely on this. `serve_connections` serves a port to its end, or until nearly all writes that it may give are given. The front's
+//! sessions and the clock go on by some answers, in order, and by no others, whatever clients say and whenever they break off; the front keeps its options,
+//! its number and its stand, and the port is the same. It fails only where the count of the port's faults rose, or memory lacks at its begin: a connection
+//! that there is no memory for is closed, and the others go on. It reads, writes and closes under a number only what is open there, and asks for a
+//! connection again no more often than its bytes allow.
 //!
-//! What such a loop is to promise is defined: `Talk` says what a front and one of its clients said to each other, `Closing` why a connection is closed and
-//! what one that is open waits for, `Moments` what is true at each moment of a port's log, and `Serving` what the front made of its port. No contract cites
-//! these yet.
+//! Of its parts: `visit_once` sends what waits, receives once and answers; `visit_on` goes on so until there is no more to do at once, or the connection may
+//! be asked for again. `look_at` keeps what is left of a connection's bytes, no more than the longest that waits. `answer_bytes` answers what bytes spell, one
+//! command after another, and says how far it went. What is held under a number is what was held there last.
+//!
+//! Which bytes a client gets is not yet said by any contract, but defined: `Talk` says what a front and one of its clients said to each other, `Closing` why a
+//! connection is closed and what one that is open waits for, `Moments` what is true at each moment of a port's log, and `Serving` what the front made of its
+//! port.
 #![tactic(auto)]
 
 mod answer;
@@ -19,6 +24,7 @@ mod desk;
 mod look;
 mod next;
 mod ports;
+mod serve;
 mod unsent;
 mod visit;
 
@@ -29,5 +35,6 @@ pub use clients::Clients;
 pub use desk::{Desk, LONGEST_REPLY};
 pub use look::look_at;
 pub use ports::{MOST_STREAM_FRONTS, StreamPorts};
+pub use serve::serve_connections;
 pub use unsent::Unsent;
-pub use visit::{After, visit_once};
+pub use visit::{After, visit_on, visit_once};

@@ -136,7 +136,7 @@ fn look_at_room<R: Threads + Wait + Sync, F: Changes, K: Clock>(
     requires left { left.old ≤ F.left front.old }
     ensures client { IfOk result (λ _. IsClient client.new) }
     ensures asks { client.new.asks ≡ client.old.asks }
-    ensures goes { GoesBy (F.options front.old) F.is_alone (F.sessions front.old) (K.last clock.old) (F.sessions front.new) (K.last clock.new) }
+    ensures goes { GoesBy (F.options front.old) F.is_alone (F.sessions front.old) (F.left front.old) (K.last clock.old) (F.sessions front.new) (F.left front.new) (K.last clock.new) }
     ensures left { left.new ≤ F.left front.new }
     ensures options { F.options front.new ≡ F.options front.old }
     ensures number { F.number front.new ≡ F.number front.old }
@@ -180,7 +180,7 @@ fn answer_more<R: Threads + Wait + Sync, F: Changes, K: Clock, C: Connections>(
     ensures ended { C.has_ended connections.new ≡ C.has_ended connections.old }
     ensures faults { C.faults connections.new ≡ C.faults connections.old }
     ensures port { C.port connections.new ≡ C.port connections.old }
-    ensures goes { GoesBy (F.options front.old) F.is_alone (F.sessions front.old) (K.last clock.old) (F.sessions front.new) (K.last clock.new) }
+    ensures goes { GoesBy (F.options front.old) F.is_alone (F.sessions front.old) (F.left front.old) (K.last clock.old) (F.sessions front.new) (F.left front.new) (K.last clock.new) }
     ensures left { left.new ≤ F.left front.new }
     ensures options { F.options front.new ≡ F.options front.old }
     ensures number { F.number front.new ≡ F.number front.old }
@@ -238,7 +238,7 @@ pub fn visit_once<R: Threads + Wait + Sync, F: Changes, K: Clock, C: Connections
     ensures ended { C.has_ended connections.new ≡ C.has_ended connections.old }
     ensures faults { C.faults connections.new ≡ C.faults connections.old }
     ensures port { C.port connections.new ≡ C.port connections.old }
-    ensures goes { GoesBy (F.options front.old) F.is_alone (F.sessions front.old) (K.last clock.old) (F.sessions front.new) (K.last clock.new) }
+    ensures goes { GoesBy (F.options front.old) F.is_alone (F.sessions front.old) (F.left front.old) (K.last clock.old) (F.sessions front.new) (F.left front.new) (K.last clock.new) }
     ensures left { left.new ≤ F.left front.new }
     ensures options { F.options front.new ≡ F.options front.old }
     ensures number { F.number front.new ≡ F.number front.old }
@@ -277,4 +277,58 @@ pub fn visit_once<R: Threads + Wait + Sync, F: Changes, K: Clock, C: Connections
         Ok(true) if needs && input == Some(Input::Later) => Ok(After::Waits),
         Ok(true) => Ok(After::Again),
     }
+}
+
+/// Visits until there is no more to do at once, or it may be asked for again.
+#[tactic(auto, using(crate::proofs::Opening::still_open, crate::proofs::Opening::keeps_on, crate::proofs::Opening::same_keeps, crate::proofs::Going::by_none, crate::proofs::Going::by_both))]
+pub fn visit_on<R: Threads + Wait + Sync, F: Changes, K: Clock, C: Connections>(
+    rt: &R,
+    alloc: Global,
+    front: &mut F,
+    clock: &mut K,
+    numbering: Numbering,
+    left: &mut u64,
+    connections: &mut C,
+    number: u32,
+    client: &mut Client,
+    desk: &mut Desk,
+) -> Result<After, NoMemory>
+    requires room { vec_len desk.old.room ≡ MAX_WAITING_LEN }
+    requires client { IsClient client.old }
+    requires open { IfSome (C.log connections.old) (IsOpen number client.old.asks) }
+    requires partitions { numbering.partitions ≡ (F.options front.old).partitions }
+    requires left { left.old ≤ F.left front.old }
+    ensures again { IfOk result (λ after. after ≡ After.Again → 0 < client.new.asks) }
+    ensures room { vec_len desk.new.room ≡ MAX_WAITING_LEN }
+    ensures client { IfOk result (λ _. IsClient client.new) }
+    ensures open { IfSome (C.log connections.new) (IsOpen number client.new.asks) }
+    ensures keeps { OnLogs Keeps (C.log connections.old) (C.log connections.new) }
+    ensures told { is_some (C.log connections.new) ≡ is_some (C.log connections.old) }
+    ensures ended { C.has_ended connections.new ≡ C.has_ended connections.old }
+    ensures faults { C.faults connections.new ≡ C.faults connections.old }
+    ensures port { C.port connections.new ≡ C.port connections.old }
+    ensures goes { GoesBy (F.options front.old) F.is_alone (F.sessions front.old) (F.left front.old) (K.last clock.old) (F.sessions front.new) (F.left front.new) (K.last clock.new) }
+    ensures left { left.new ≤ F.left front.new }
+    ensures options { F.options front.new ≡ F.options front.old }
+    ensures number { F.number front.new ≡ F.number front.old }
+    ensures stands { F.stands front.new ≡ F.stands front.old }
+{
+    for _ in rt.forever() {
+        let after = visit_once(
+            rt,
+            alloc,
+            front,
+            clock,
+            numbering,
+            left,
+            connections,
+            number,
+            client,
+            desk,
+        )?;
+        if after != After::Again || client.asks > 0 {
+            return Ok(after);
+        }
+    }
+    Ok(After::Over)
 }

@@ -10,7 +10,7 @@ pub loop-f-init : goal.loop-f-init
 loop-f-init g c =
     let none = c.in_ok-hands.ensures.items in
     record {
-      of = c.requires.of;
+      of = subst (λ (n : ℕ). ArePlanned g.J.ServerPlan.plan n (map (λ f. filled_view g.P.Partition.owner g.P.Partition.home f) c.args.parts.now.items)) (omega arith) c.requires.of;
       many = ap length none;
       each = λ f hand at. absurd (let low = slice_get_within (map (λ hand. hand.items) c.in_ok-hands.hands.items) f hand at in omega (arith, ap length (ap (map (λ hand. hand.items)) none)));
     }
@@ -22,14 +22,14 @@ loop-f-preserved g c =
     let pushed = c.in_ok-push.ensures.items in
     let plan = g.J.ServerPlan.plan in
     record {
-      of = c.in_ok-lend_hand.ensures.of;
+      of = subst (λ (n : ℕ). ArePlanned plan n (map (λ f. filled_view g.P.Partition.owner g.P.Partition.home f) c.lend_hand.new.parts.items)) (omega arith) c.in_ok-lend_hand.ensures.of;
       many = ap length pushed ∙ length_push c.loop-f.hands.items hand ∙ ap (λ n. n + 1) i.many;
       each = λ f own at.
           elim (at_snoc (map (λ hand. hand.items) c.loop-f.hands.items) hand.items f own
           (ap (λ l. slice_get l f) (sym (ap (map (λ hand. hand.items)) pushed ∙ map-append (λ hand. hand.items) c.loop-f.hands.items (hand ∷ []))) ∙ at))
-          as (λ _. AreNewParts plan f own) [
+          as (λ _. AreNewParts plan (c.args.first + f) own) [
             | inl h ↦ i.each f own h.0
-            | inr h ↦ subst (λ (y : ℕ × List LockedPart). AreNewParts plan y.0 y.1)
+            | inr h ↦ subst (λ (y : ℕ × List LockedPart). AreNewParts plan (c.args.first + y.0) y.1)
                 (λ k. (sym (h.0 ∙ length-map c.loop-f.hands.items (λ hand. hand.items) ∙ i.many) k, h.1 k)) c.in_ok-lend_hand.ensures.lent
           ];
     }

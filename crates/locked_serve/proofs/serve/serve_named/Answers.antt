@@ -1,17 +1,24 @@
-use Rattle.std.proofs.Common.{rules, ◌≡◌, ◌+◌, ◌<◌, ℕ, length, vec_len, map, sym, ◌∙◌, subst}
-use Rattle.std.specs.Prelude.{IfSome}
+use Rattle.std.proofs.Common.{rules, ◌≡◌, ◌+◌, ◌<◌, ℕ, List, length, vec_len, map, refl, sym, ap, ◌∙◌, subst}
+use Rattle.std.specs.Prelude.{IfSome, Option, Result, Ok, Err}
 use Rattle.std.proofs.lemmas.List.{length-map}
+use Rattle.std.proofs.lemmas.Result.{err_from_is_err_and}
 use Rattle.mica_io.specs.Ports.{out}
+use Rattle.mica_fronts.specs.declared.totals.Totals.{Totals}
+use Rattle.mica_fronts.specs.declared.totals.ServeFault.{ServeFault}
+use Rattle.mica_serve.specs.Others.{Others}
 use Rattle.mica_serve.specs.Ends.{EndFacts, end_facts}
-use Rattle.mica_serve.specs.NetRun.{NetFacts, net_facts}
+use Rattle.mica_serve.specs.NetRun.{NetFacts, BindsAndServes, IsCauseOnceBound, net_facts}
 use Rattle.mica_serve.proofs.PortRuns.{kept_at}
 use Rattle.mica_serve.proofs.Whole.{out_until, tell_until, keeps, cause, net_kept}
 use Rattle.partition_model.specs.declared.options.Options.{Options}
 use Rattle.partition_model.specs.History.{IsHistory}
+use Rattle.locked_serve.specs.declared.stop.Stop.{Stop}
 use Rattle.locked_serve.specs.Opening.{filled_view}
-use Rattle.locked_serve.specs.Causes.{came_to}
+use Rattle.locked_serve.specs.Streams.{ListenFacts, listen_facts}
+use Rattle.locked_serve.specs.Causes.{PortFacts, HasCause, port_facts}
+use Rattle.locked_serve.proofs.Heard.{kept_unheard}
 use Rattle.locked_serve.proofs.Named.{accepted}
-use Rattle.locked_serve.proofs.Stopped.{still_told}
+use Rattle.locked_serve.proofs.Stopped.{says_then, still_told, no_memory}
 use Rattle.locked_serve.proofs.serve.serve_named.Given as given
 use Rattle.locked_serve.proofs.serve.serve_named.Goals as goal
 
@@ -21,14 +28,20 @@ facts g = end_facts g.N.End.Datagrams.port g.N.End.Datagrams.traffic g.N.End.Dat
 abbrev net_at : (g : given.Over) → g.row.N.Denot → NetFacts
 net_at g = net_facts g.N.Net.faults g.N.Net.binds g.N.Net.first g.N.Net.refused g.N.Net.ports g.N.Net.fails
 
+abbrev listens_at : (g : given.Over) → g.row.L.Denot → ListenFacts
+listens_at g = listen_facts g.L.Listeners.faults g.L.Listeners.ports
+
+abbrev ports_at : (g : given.Over) → g.row.N.Denot → g.row.L.Denot → PortFacts
+ports_at g net listeners = port_facts (net_at g net) (listens_at g listeners)
+
 pub release_all-requires-clause-ports : goal.release_all-requires-clause-ports
 release_all-requires-clause-ports g c _ _ =
-    let run = c.bind_and_serve-answer.ensures.served in
+    let run = c.bind_and_serve-answer.ensures.served.said in
     kept_at c.args.ports.now.port run.olds (map (facts g) c.bind_and_serve-answer.new.ends.items) run.many run.are_new run.keeps
 
 pub release_all-requires-clause-out : goal.release_all-requires-clause-out
 release_all-requires-clause-out g c _ _ =
-    let run = c.bind_and_serve-answer.ensures.served in
+    let run = c.bind_and_serve-answer.ensures.served.said in
     let items = c.bind_and_serve-answer.new.ends.items in
     let size : length (map (facts g) items) ≡ vec_len c.bind_and_serve-answer.new.ends = length-map items (facts g) ∙ (search rules) in
     subst (λ (n : ℕ). IfSome (g.N.Net.ports c.bind_and_serve-answer.new.net) (λ all. (i : ℕ) → i < n → all (c.args.ports.now.port + i) ≡ out)) size
@@ -36,26 +49,27 @@ release_all-requires-clause-out g c _ _ =
 
 pub release_all-requires-clause-tell : goal.release_all-requires-clause-tell
 release_all-requires-clause-tell g c _ _ =
-    let run = c.bind_and_serve-answer.ensures.served in
+    let run = c.bind_and_serve-answer.ensures.served.said in
     tell_until c.args.ports.now.port run.olds (map (facts g) c.bind_and_serve-answer.new.ends.items) (g.N.Net.ports c.args.net.now) (g.N.Net.ports c.bind_and_serve-answer.new.net) run.many run.keeps run.bound
 
 pub returns-clause-cause : goal.returns-clause-cause
 returns-clause-cause g c =
-    cause c.args.options.now c.requires.options.partitions.0 g.J.ServerPlan.plan.begun c.args.ports.now c.bind_and_serve-answer.new.tables (net_at g c.args.net.now) (net_at g c.bind_and_serve-answer.new.net)
-    (net_at g c.release_all.new.net) (map (facts g) c.bind_and_serve-answer.new.ends.items) c.release_all.ensures (came_to c.bind_and_serve-answer.result) c.bind_and_serve-answer.ensures.served
+    says_then (λ (others : Others) (came : Option (Result Totals ServeFault)).
+    cause others c.args.options.now c.requires.options.partitions.0 g.J.ServerPlan.plan.begun c.args.ports.now c.bind_and_serve-answer.new.tables (net_at g c.args.net.now)
+    (net_at g c.bind_and_serve-answer.new.net) (net_at g c.release_all.new.net) (map (facts g) c.bind_and_serve-answer.new.ends.items) c.release_all.ensures came) c.bind_and_serve-answer.ensures.served
 
 pub returns-clause-kept : goal.returns-clause-kept
 returns-clause-kept g c =
-    keeps c.args.options.now c.requires.options.partitions.0 g.J.ServerPlan.plan.begun c.args.ports.now c.bind_and_serve-answer.new.tables (net_at g c.args.net.now) (net_at g c.bind_and_serve-answer.new.net)
-    (net_at g c.release_all.new.net) (map (facts g) c.bind_and_serve-answer.new.ends.items) c.release_all.ensures (came_to c.bind_and_serve-answer.result) c.bind_and_serve-answer.ensures.served
+    let served = c.bind_and_serve-answer.ensures.served in
+    keeps _ c.args.options.now c.requires.options.partitions.0 g.J.ServerPlan.plan.begun c.args.ports.now c.bind_and_serve-answer.new.tables (net_at g c.args.net.now)
+    (net_at g c.bind_and_serve-answer.new.net) (net_at g c.release_all.new.net) (map (facts g) c.bind_and_serve-answer.new.ends.items) c.release_all.ensures served.came served.said
 
 pub returns-clause-announced : goal.returns-clause-announced
 returns-clause-announced g c =
-    still_told c.bind_and_serve-answer.result (g.A.Announce.says c.args.ports.now) (g.A.Announce.fails c.args.ports.now) (net_at g c.args.net.now) (net_at g c.bind_and_serve-answer.new.net)
-    (net_at g c.release_all.new.net) c.args.announce.now c.bind_and_serve-answer.new.announce c.release_all.ensures.refused c.bind_and_serve-answer.ensures.announced
-
-pub returns-in_err-ends-clause-kept : goal.returns-in_err-ends-clause-kept
-returns-in_err-ends-clause-kept g c = net_kept c.args.ports.now (net_at g c.args.net.now) c.requires.unbound
+    let listeners = c.bind_and_serve-answer.new.listeners in
+    still_told c.bind_and_serve-answer.result (g.A.Announce.says c.args.ports.now c.args.streams.now) (g.A.Announce.fails c.args.ports.now c.args.streams.now)
+    (ports_at g c.args.net.now c.args.listeners.now) (ports_at g c.bind_and_serve-answer.new.net listeners) (ports_at g c.release_all.new.net listeners)
+    c.args.announce.now c.bind_and_serve-answer.new.announce c.release_all.ensures.refused refl c.bind_and_serve-answer.ensures.announced
 
 pub bind_and_serve-answer-requires-clause-filled : goal.bind_and_serve-answer-requires-clause-filled
 bind_and_serve-answer-requires-clause-filled g c κs within =
@@ -64,3 +78,42 @@ bind_and_serve-answer-requires-clause-filled g c κs within =
 
 pub returns-in_err-server-clause-kept : goal.returns-in_err-server-clause-kept
 returns-in_err-server-clause-kept g c = net_kept c.args.ports.now (net_at g c.args.net.now) c.requires.unbound
+
+pub returns-in_err-server-clause-heard : goal.returns-in_err-server-clause-heard
+returns-in_err-server-clause-heard g c = kept_unheard c.args.streams.now (listens_at g c.args.listeners.now)
+
+pub returns-in_err-server-clause-cause : goal.returns-in_err-server-clause-cause
+returns-in_err-server-clause-cause g c =
+    let is = err_from_is_err_and c.from_residual.result c.from_residual.ensures.1 in
+    let all = ports_at g c.args.net.now c.args.listeners.now in
+    let clocks = map g.K.Clock.last c.args.clocks.items in
+    subst (λ (r : Result Totals Stop). HasCause r c.args.options.now g.J.ServerPlan.plan.begun c.args.ports.now c.args.streams.now clocks c.args.tables.now all all) (sym (is.1 ∙ ap Err is.2))
+    (no_memory c.args.options.now g.J.ServerPlan.plan.begun c.args.ports.now c.args.streams.now clocks c.args.tables.now all all c.requires.tables)
+
+pub returns-in_err-ends-clause-kept : goal.returns-in_err-ends-clause-kept
+returns-in_err-ends-clause-kept g c = net_kept c.args.ports.now (net_at g c.args.net.now) c.requires.unbound
+
+pub returns-in_err-ends-clause-heard : goal.returns-in_err-ends-clause-heard
+returns-in_err-ends-clause-heard g c = kept_unheard c.args.streams.now (listens_at g c.args.listeners.now)
+
+pub returns-in_err-ends-clause-cause : goal.returns-in_err-ends-clause-cause
+returns-in_err-ends-clause-cause g c =
+    let is = err_from_is_err_and c.from_residual-in_err-ends.result c.from_residual-in_err-ends.ensures.1 in
+    let all = ports_at g c.args.net.now c.args.listeners.now in
+    let clocks = map g.K.Clock.last c.args.clocks.items in
+    subst (λ (r : Result Totals Stop). HasCause r c.args.options.now g.J.ServerPlan.plan.begun c.args.ports.now c.args.streams.now clocks c.args.tables.now all all) (sym (is.1 ∙ ap Err is.2))
+    (no_memory c.args.options.now g.J.ServerPlan.plan.begun c.args.ports.now c.args.streams.now clocks c.args.tables.now all all c.requires.tables)
+
+pub returns-in_err-connections-clause-kept : goal.returns-in_err-connections-clause-kept
+returns-in_err-connections-clause-kept g c = net_kept c.args.ports.now (net_at g c.args.net.now) c.requires.unbound
+
+pub returns-in_err-connections-clause-heard : goal.returns-in_err-connections-clause-heard
+returns-in_err-connections-clause-heard g c = kept_unheard c.args.streams.now (listens_at g c.args.listeners.now)
+
+pub returns-in_err-connections-clause-cause : goal.returns-in_err-connections-clause-cause
+returns-in_err-connections-clause-cause g c =
+    let is = err_from_is_err_and c.from_residual-in_err-connections.result c.from_residual-in_err-connections.ensures.1 in
+    let all = ports_at g c.args.net.now c.args.listeners.now in
+    let clocks = map g.K.Clock.last c.args.clocks.items in
+    subst (λ (r : Result Totals Stop). HasCause r c.args.options.now g.J.ServerPlan.plan.begun c.args.ports.now c.args.streams.now clocks c.args.tables.now all all) (sym (is.1 ∙ ap Err is.2))
+    (no_memory c.args.options.now g.J.ServerPlan.plan.begun c.args.ports.now c.args.streams.now clocks c.args.tables.now all all c.requires.tables)

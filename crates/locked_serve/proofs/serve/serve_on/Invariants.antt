@@ -1,6 +1,6 @@
-use Rattle.std.proofs.Common.{map}
+use Rattle.std.proofs.Common.{◌+◌, map}
 use Rattle.locked_serve.specs.Opening.{plan_of, filled_view}
 use Rattle.locked_serve.proofs.serve.serve_on.Given as goal
 
 abbrev pub ghosts-serve_named : goal.ghosts-serve_named
-ghosts-serve_named g a = record { plan = plan_of a.options.now a.ports.now.fronts (map (λ f. filled_view g.P.Partition.owner g.P.Partition.home f) a.parts.items) }
+ghosts-serve_named g a = record { plan = plan_of a.options.now (a.streams.now.fronts + a.ports.now.fronts) (map (λ f. filled_view g.P.Partition.owner g.P.Partition.home f) a.parts.items) }

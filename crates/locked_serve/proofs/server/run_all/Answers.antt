@@ -1,82 +1,128 @@
-use Rattle.std.proofs.Common.{rules, ◌≡◌, ◌<◌, ◌≤◌, ℕ, List, length, map, vec_len, vec_capacity, sym, ap, ◌∙◌, subst, arith}
+use Rattle.std.proofs.Common.{rules, ◌≡◌, ◌<◌, ◌≤◌, ◌+◌, ◌++◌, ℕ, List, length, map, vec_len, vec_capacity, sym, ap, ◌∙◌, subst, arith, length-append}
+use Rattle.std.specs.Prelude.{Result, ⊤}
 use Rattle.std.proofs.lemmas.List.{length-map}
 use Rattle.std.proofs.lemmas.Simd.{map-map}
 use Rattle.partition_model.specs.declared.options.Options.{Options}
 use Rattle.partition_model.specs.History.{IsHistory}
 use Rattle.partition_table.specs.Tabled.{kept_seat_in}
+use Rattle.mica_fronts.specs.declared.totals.Totals.{Totals}
+use Rattle.mica_fronts.specs.declared.totals.ServeFault.{ServeFault}
 use Rattle.locked_fronts.specs.declared.returned.Returned.{Returned}
 use Rattle.locked_fronts.specs.declared.part.LockedPart.{LockedPart}
+use Rattle.locked_fronts.specs.Plan.{Plan}
 use Rattle.locked_fronts.specs.Owned.{Owned}
 use Rattle.mica_serve.specs.Ends.{EndFacts, AreOpen, end_facts}
-use Rattle.mica_serve.specs.FrontRuns.{RanAll}
 use Rattle.locked_serve.specs.declared.worker.FrontTask.{FrontTask}
+use Rattle.locked_serve.specs.declared.streams.StreamTask.{StreamTask}
 use Rattle.locked_serve.specs.Opening.{AreNewHands}
+use Rattle.locked_serve.specs.Streams.{StreamFacts, stream_facts}
+use Rattle.locked_serve.specs.Running.{AreReadyTasks, TasksRan, RanBeside}
 use Rattle.locked_serve.specs.Taking.{MayTakeHands, TakesHands, left_view}
-use Rattle.locked_serve.proofs.Ran.{HaveRan, ready, may_take, idle, ran_all}
+use Rattle.locked_serve.proofs.Joined.{hands_both}
+use Rattle.locked_serve.proofs.Taken.{may_left, may_right, may_behind, took_both}
+use Rattle.locked_serve.proofs.Ran.{AreHands, HaveRan, may_take, idle}
+use Rattle.locked_serve.proofs.RanBeside.{hand_of, stream_hand, both_are, ran_beside, ready, ready_streams}
 use Rattle.locked_serve.proofs.server.run_all.Given as given
-use Rattle.locked_serve.proofs.server.run_all.Goals.{After-pair_up, After-take_all_back, After-take_hands}
+use Rattle.locked_serve.proofs.server.run_all.Goals.{After-pair_up, After-run_workers, After-take_all_back, After-take_hands, After-take_hands-2}
 use Rattle.locked_serve.proofs.server.run_all.Goals as goal
 
 abbrev facts : (g : given.Over) → g.row.D.Denot → EndFacts
 facts g = end_facts g.D.Datagrams.port g.D.Datagrams.traffic g.D.Datagrams.faults g.D.Datagrams.has_ended g.D.Datagrams.script
 
+abbrev of_stream : (g : given.Over) → g.row.C.Denot → StreamFacts
+of_stream g = stream_facts g.C.Connections.port g.C.Connections.faults g.C.Connections.has_ended g.C.Connections.log
+
 abbrev view : (g : given.Over) → Returned g.row.P.Denot → Owned
 view g part = left_view g.P.Partition.owner g.P.Partition.home part
 
-abbrev hand : {D : Type 0} → FrontTask D → List LockedPart
-hand task = task.parts.items
+abbrev plan_of : given.Over → Plan
+plan_of g = g.J.ServerPlan.plan
 
--- the fronts with their ends
+-- the fronts with their ports
 module _ (g : given.Over) (c : After-pair_up g) where
-  opened : AreNewHands g.J.ServerPlan.plan g.J.ServerPlan.plan.fronts (map (λ (t : FrontTask g.row.D.Denot). t.parts.items) c.pair_up.new.tasks.items)
-  opened =
-      let hands : map (λ own. own.items) c.args.server.hands.items ≡ map hand c.pair_up.new.tasks.items =
-      ap (map (λ own. own.items)) (sym c.pair_up.ensures.hands) ∙ map-map (λ own. own.items) (λ (t : FrontTask g.row.D.Denot). t.parts) c.pair_up.new.tasks.items in
-      subst (λ (y : ℕ × List (List LockedPart)). AreNewHands g.J.ServerPlan.plan y.0 y.1) (λ i. (sym c.requires.takers i, hands i)) c.requires.server.lent
+  stream_hands : map (λ own. own.items) c.args.server.stream_hands.items ≡ map stream_hand c.pair_streams.new.tasks.items
+  stream_hands =
+      ap (map (λ own. own.items)) (sym c.pair_streams.ensures.hands) ∙ map-map (λ own. own.items) (λ (t : StreamTask g.row.C.Denot g.row.K.Denot). t.parts) c.pair_streams.new.tasks.items
+
+  hands : map (λ own. own.items) c.args.server.hands.items ≡ map hand_of c.pair_up.new.tasks.items
+  hands = ap (map (λ own. own.items)) (sym c.pair_up.ensures.hands) ∙ map-map (λ own. own.items) (λ (t : FrontTask g.row.D.Denot). t.parts) c.pair_up.new.tasks.items
+
+  opened_streams : AreNewHands (plan_of g) 0 (length c.args.connections.items) (map stream_hand c.pair_streams.new.tasks.items)
+  opened_streams = subst (AreNewHands (plan_of g) 0 (length c.args.connections.items)) stream_hands c.requires.server.lent_streams
+
+  opened : AreNewHands (plan_of g) (length c.args.connections.items) (length c.args.ends.now.items) (map hand_of c.pair_up.new.tasks.items)
+  opened = subst (AreNewHands (plan_of g) (length c.args.connections.items) (length c.args.ends.now.items)) hands c.requires.server.lent
 
   own : map (λ (t : FrontTask g.row.D.Denot). t.end) c.pair_up.new.tasks.items ≡ c.args.ends.now.items
   own = c.pair_up.ensures.ends ∙ (λ i. (c.replace-ends_before.ensures.value i).items)
 
-  tasks_many : length c.pair_up.new.tasks.items ≡ c.args.ports.now.fronts
-  tasks_many = sym (length-map c.pair_up.new.tasks.items (λ (t : FrontTask g.row.D.Denot). t.end)) ∙ ap length own ∙ (omega (arith, c.args.ends.now.ok, c.requires.many))
+  streams_many : length c.pair_streams.new.tasks.items ≡ length c.args.connections.items
+  streams_many = sym (length-map c.pair_streams.new.tasks.items (λ (t : StreamTask g.row.C.Denot g.row.K.Denot). t.port)) ∙ ap length c.pair_streams.ensures.ports
+
+  tasks_many : length c.pair_up.new.tasks.items ≡ length c.args.ends.now.items
+  tasks_many = sym (length-map c.pair_up.new.tasks.items (λ (t : FrontTask g.row.D.Denot). t.end)) ∙ ap length own
+
+pub pair_streams-requires-clause-hands : goal.pair_streams-requires-clause-hands
+pair_streams-requires-clause-hands g c = omega (arith, length-map c.args.server.stream_hands.items (λ own. own.items), c.requires.server.lent_streams.many)
+
+pub pair_streams-requires-clause-room : goal.pair_streams-requires-clause-room
+pair_streams-requires-clause-room g c = omega (arith, c.args.connections.ok, c.requires.server.has_room.streams_row.tasks.1)
 
 pub pair_up-requires-clause-many : goal.pair_up-requires-clause-many
 pair_up-requires-clause-many g c =
-    omega (
-      arith,
-      length-map c.args.server.hands.items (λ own. own.items),
-      c.requires.server.lent.many,
-      ap (λ v. length v.items) c.replace-ends_before.ensures.value,
-      c.args.ends.now.ok,
-      c.requires.many,
-    )
+    omega (arith, length-map c.args.server.hands.items (λ own. own.items), c.requires.server.lent.many, ap (λ v. length v.items) c.replace-ends_before.ensures.value)
 
 pub pair_up-requires-clause-room : goal.pair_up-requires-clause-room
-pair_up-requires-clause-room g c = omega (arith, ap vec_len c.replace-ends_before.ensures.value, c.requires.many, c.requires.server.has_room.tasks.1)
+pair_up-requires-clause-room g c = omega (arith, ap vec_len c.replace-ends_before.ensures.value, c.args.ends.now.ok, c.requires.server.has_room.fronts_row.tasks.1)
 
-pub run_fronts-requires-clause-locks : goal.run_fronts-requires-clause-locks
-run_fronts-requires-clause-locks g c κs within = ap length c.as_slice.ensures.value ∙ c.requires.server.locked ∙ ap (λ (o : Options). o.partitions) (sym c.requires.named)
+pub run_workers-requires-clause-locks : goal.run_workers-requires-clause-locks
+run_workers-requires-clause-locks g c κs within = ap length c.as_slice.ensures.value ∙ c.requires.server.locked ∙ ap (λ (o : Options). o.partitions) (sym c.requires.named)
 
-pub run_fronts-requires-clause-few : goal.run_fronts-requires-clause-few
-run_fronts-requires-clause-few g c κs within = omega (arith, c.requires.takers, c.requires.ports.fronts.1)
+pub run_workers-requires-clause-first : goal.run_workers-requires-clause-first
+run_workers-requires-clause-first g c κs within = omega (arith, c.len.ensures, c.pair_streams.new.tasks.ok)
 
-pub run_fronts-requires-clause-many : goal.run_fronts-requires-clause-many
-run_fronts-requires-clause-many g c κs within = tasks_many g (goal.at.run_fronts-requires-clause-many g c).After-pair_up ∙ sym c.requires.takers
+pub run_workers-requires-clause-many : goal.run_workers-requires-clause-many
+run_workers-requires-clause-many g c κs within =
+    let z = (goal.at.run_workers-requires-clause-many g c).After-pair_up in
+    omega (arith, streams_many g z, tasks_many g z, c.len.ensures, c.pair_streams.new.tasks.ok, c.requires.takers)
 
-pub run_fronts-requires-clause-ready : goal.run_fronts-requires-clause-ready
-run_fronts-requires-clause-ready g c κs within =
-    let z = (goal.at.run_fronts-requires-clause-ready g c).After-pair_up in
-    ready g.J.ServerPlan.plan c.args.ports.now.batches (facts g) c.requires.ports.batches.1 c.args.ends.now.items c.pair_up.new.tasks.items (opened g z) (own g z) c.requires.unserved
+pub run_workers-requires-clause-ready_streams : goal.run_workers-requires-clause-ready_streams
+run_workers-requires-clause-ready_streams g c κs within =
+    let z = (goal.at.run_workers-requires-clause-ready_streams g c).After-pair_up in
+    ready_streams (plan_of g) (of_stream g) g.K.Clock.last (length c.args.connections.items) c.args.connections.items c.pair_streams.new.tasks.items (opened_streams g z) c.pair_streams.ensures.ports
+    c.requires.fresh
+
+pub run_workers-requires-clause-ready : goal.run_workers-requires-clause-ready
+run_workers-requires-clause-ready g c κs within =
+    let z = (goal.at.run_workers-requires-clause-ready g c).After-pair_up in
+    subst (λ (n : ℕ). AreReadyTasks (plan_of g) c.args.batches (facts g) n c.pair_up.new.tasks.items) (omega (arith, streams_many g z, c.len.ensures, c.pair_streams.new.tasks.ok))
+    (ready (plan_of g) c.args.batches (facts g) c.requires.batches (length c.args.connections.items) (length c.args.ends.now.items) c.args.ends.now.items c.pair_up.new.tasks.items
+    (opened g z) (own g z) c.requires.unserved)
+
+pub part_streams-requires-clause-hands : goal.part_streams-requires-clause-hands
+part_streams-requires-clause-hands g c =
+    let z = (goal.at.part_streams-requires-clause-hands g c).After-pair_up in
+    omega (arith, streams_many g z, c.run_workers.ensures.streams.0, c.run_workers.new.streams.ok, c.requires.server.has_room.streams_row.hands.1)
+
+pub part_streams-requires-clause-answers : goal.part_streams-requires-clause-answers
+part_streams-requires-clause-answers g c =
+    let z = (goal.at.part_streams-requires-clause-answers g c).After-pair_up in
+    omega (arith, streams_many g z, c.run_workers.ensures.streams.0, c.run_workers.new.streams.ok, c.requires.server.has_room.streams_row.answers.1)
 
 pub part_fronts-requires-clause-ends : goal.part_fronts-requires-clause-ends
 part_fronts-requires-clause-ends g c =
-    omega (arith, tasks_many g (goal.at.part_fronts-requires-clause-ends g c).After-pair_up, c.run_fronts.ensures.0, c.run_fronts.new.fronts.ok, c.requires.server.has_room.ends.1, ap vec_capacity c.replace-ends_before.ensures.after)
+    let z = (goal.at.part_fronts-requires-clause-ends g c).After-pair_up in
+    omega (arith, tasks_many g z, c.run_workers.ensures.fronts.0, c.run_workers.new.fronts.ok, c.requires.server.has_room.ends.1, ap vec_capacity c.replace-ends_before.ensures.after)
 
 pub part_fronts-requires-clause-hands : goal.part_fronts-requires-clause-hands
-part_fronts-requires-clause-hands g c = omega (arith, tasks_many g (goal.at.part_fronts-requires-clause-hands g c).After-pair_up, c.run_fronts.ensures.0, c.run_fronts.new.fronts.ok, c.requires.server.has_room.hands.1)
+part_fronts-requires-clause-hands g c =
+    let z = (goal.at.part_fronts-requires-clause-hands g c).After-pair_up in
+    omega (arith, tasks_many g z, c.run_workers.ensures.fronts.0, c.run_workers.new.fronts.ok, c.requires.server.has_room.fronts_row.hands.1)
 
 pub part_fronts-requires-clause-answers : goal.part_fronts-requires-clause-answers
-part_fronts-requires-clause-answers g c = omega (arith, tasks_many g (goal.at.part_fronts-requires-clause-answers g c).After-pair_up, c.run_fronts.ensures.0, c.run_fronts.new.fronts.ok, c.requires.server.has_room.answers.1)
+part_fronts-requires-clause-answers g c =
+    let z = (goal.at.part_fronts-requires-clause-answers g c).After-pair_up in
+    omega (arith, tasks_many g z, c.run_workers.ensures.fronts.0, c.run_workers.new.fronts.ok, c.requires.server.has_room.fronts_row.answers.1)
 
 pub take_all_back-requires-clause-few : goal.take_all_back-requires-clause-few
 take_all_back-requires-clause-few g c =
@@ -85,50 +131,119 @@ take_all_back-requires-clause-few g c =
 pub take_all_back-requires-clause-room : goal.take_all_back-requires-clause-room
 take_all_back-requires-clause-room g c = omega (arith, c.requires.server.locked, c.args.server.locks.ok, c.requires.server.has_room.parts.1)
 
-module _ (g : given.Over) (c : After-take_all_back g) where
-  hands : map (λ own. own.items) c.part_fronts.new.hands.items ≡ map hand c.run_fronts.new.fronts.items
-  hands = ap (map (λ own. own.items)) c.part_fronts.ensures.hands ∙ map-map (λ own. own.items) (λ (t : FrontTask g.row.D.Denot). t.parts) c.run_fronts.new.fronts.items
+module _ (g : given.Over) (z : After-pair_up g) (c : After-take_all_back g) where
+  -- the fronts of datagrams come behind those of connections
+  ran_fronts : TasksRan (plan_of g) c.args.batches (facts g) (length c.pair_streams.new.tasks.items) c.pair_up.new.tasks.items c.run_workers.new.fronts.items
+  ran_fronts = subst (λ (n : ℕ). TasksRan (plan_of g) c.args.batches (facts g) n c.pair_up.new.tasks.items c.run_workers.new.fronts.items)
+      (omega (arith, c.len.ensures, c.pair_streams.new.tasks.ok)) c.run_workers.ensures.fronts
 
-  lefts_many : length (map (view g) c.take_all_back.new.parts.items) ≡ g.J.ServerPlan.plan.options.partitions
+  news : List (List LockedPart)
+  news = map stream_hand c.run_workers.new.streams.items ++ map hand_of c.run_workers.new.fronts.items
+
+  are : AreHands (plan_of g) news
+  are = both_are (plan_of g) (of_stream g) g.K.Clock.last c.pair_streams.new.tasks.items c.run_workers.new.streams.items c.args.batches (facts g) c.pair_up.new.tasks.items
+      c.run_workers.new.fronts.items c.run_workers.ensures.streams ran_fronts
+
+  lefts_many : length (map (view g) c.take_all_back.new.parts.items) ≡ (plan_of g).options.partitions
   lefts_many = length-map c.take_all_back.new.parts.items (view g) ∙ c.take_all_back.ensures.many ∙ c.requires.server.locked
+
+  may : MayTakeHands (map (view g) c.take_all_back.new.parts.items) news
+  may = may_take (plan_of g) news (map (view g) c.take_all_back.new.parts.items) are lefts_many c.take_all_back.ensures.each
+
+  stream_news : map (λ own. own.items) c.part_streams.new.hands.items ≡ map stream_hand c.run_workers.new.streams.items
+  stream_news = ap (map (λ own. own.items)) c.part_streams.ensures.hands ∙ map-map (λ own. own.items) (λ (t : StreamTask g.row.C.Denot g.row.K.Denot). t.parts) c.run_workers.new.streams.items
+
+  front_news : map (λ own. own.items) c.part_fronts.new.hands.items ≡ map hand_of c.run_workers.new.fronts.items
+  front_news = ap (map (λ own. own.items)) c.part_fronts.ensures.hands ∙ map-map (λ own. own.items) (λ (t : FrontTask g.row.D.Denot). t.parts) c.run_workers.new.fronts.items
 
 pub take_hands-requires : goal.take_hands-requires
 take_hands-requires g c =
-    let z = (goal.at.take_hands-requires g c).After-take_all_back in
-    subst (MayTakeHands (map (view g) c.take_all_back.new.parts.items)) (sym (hands g z))
-    (may_take g.J.ServerPlan.plan c.args.ports.now.batches (facts g) c.pair_up.new.tasks.items c.run_fronts.new.fronts.items (map (view g) c.take_all_back.new.parts.items) c.run_fronts.ensures (lefts_many g z)
-    c.take_all_back.ensures.each)
+    let at = goal.at.take_hands-requires g c in
+    let z = at.After-take_all_back in
+    subst (MayTakeHands (map (view g) c.take_all_back.new.parts.items)) (sym (stream_news g at.After-pair_up z))
+    (may_left (map (view g) c.take_all_back.new.parts.items) (map stream_hand c.run_workers.new.streams.items) (map hand_of c.run_workers.new.fronts.items) (may g at.After-pair_up z))
 
-module _ (g : given.Over) (c : After-take_hands g) (opens : AreNewHands g.J.ServerPlan.plan g.J.ServerPlan.plan.fronts (map (λ (t : FrontTask g.row.D.Denot). t.parts.items) c.pair_up.new.tasks.items))
-    (many : length c.pair_up.new.tasks.items ≡ c.args.ports.now.fronts) (lefts : length (map (view g) c.take_all_back.new.parts.items) ≡ g.J.ServerPlan.plan.options.partitions)
-    (news : map (λ own. own.items) c.part_fronts.new.hands.items ≡ map hand c.run_fronts.new.fronts.items) where
-  all : HaveRan g.J.ServerPlan.plan c.args.ports.now.batches (facts g) c.pair_up.new.tasks.items c.run_fronts.new.fronts.items (map (view g) c.take_all_back.new.parts.items) (map (view g) c.take_hands.new.parts.items)
+module _ (g : given.Over) (z : After-pair_up g) (b : After-take_all_back g) (c : After-take_hands g) where
+  took_streams : TakesHands (map (view g) c.take_all_back.new.parts.items) (map (view g) c.take_hands.new.parts.items) (map stream_hand c.run_workers.new.streams.items)
+  took_streams = subst (TakesHands (map (view g) c.take_all_back.new.parts.items) (map (view g) c.take_hands.new.parts.items)) (stream_news g z b) c.take_hands.ensures
+
+pub take_hands-requires-2 : goal.take_hands-requires-2
+take_hands-requires-2 g c =
+    let at = goal.at.take_hands-requires-2 g c in
+    let z = at.After-take_all_back in
+    let lefts = map (view g) c.take_all_back.new.parts.items in
+    let mids = map (view g) c.take_hands.new.parts.items in
+    subst (MayTakeHands mids) (sym (front_news g at.After-pair_up z))
+    (may_behind lefts mids (map stream_hand c.run_workers.new.streams.items) (map hand_of c.run_workers.new.fronts.items) (took_streams g at.After-pair_up z at.After-take_hands)
+    (may_right lefts (map stream_hand c.run_workers.new.streams.items) (map hand_of c.run_workers.new.fronts.items) (may g at.After-pair_up z)))
+
+module _ (g : given.Over) (z : After-pair_up g) (b : After-take_all_back g) (t : After-take_hands g) (c : After-take_hands-2 g) where
+  lefts : List Owned
+  lefts = map (view g) c.take_all_back.new.parts.items
+
+  afters : List Owned
+  afters = map (view g) c.take_hands-2.new.parts.items
+
+  olds : List (List LockedPart)
+  olds = map stream_hand c.pair_streams.new.tasks.items ++ map hand_of c.pair_up.new.tasks.items
+
+  olds_long : length olds ≡ (plan_of g).fronts
+  olds_long =
+      omega (arith, length-append (map stream_hand c.pair_streams.new.tasks.items) (map hand_of c.pair_up.new.tasks.items), length-map c.pair_streams.new.tasks.items stream_hand,
+        length-map c.pair_up.new.tasks.items hand_of, streams_many g z, tasks_many g z, c.requires.takers)
+
+  news_long : length (news g z b) ≡ length olds
+  news_long =
+      omega (
+        arith,
+        length-append (map stream_hand c.run_workers.new.streams.items) (map hand_of c.run_workers.new.fronts.items),
+        length-map c.run_workers.new.streams.items stream_hand,
+        length-map c.run_workers.new.fronts.items hand_of,
+        length-append (map stream_hand c.pair_streams.new.tasks.items) (map hand_of c.pair_up.new.tasks.items),
+        length-map c.pair_streams.new.tasks.items stream_hand,
+        length-map c.pair_up.new.tasks.items hand_of,
+        c.run_workers.ensures.streams.0,
+        c.run_workers.ensures.fronts.0,
+      )
+
+  all : HaveRan (plan_of g) olds (news g z b) lefts afters
   all = record {
-    some = omega (arith, many, c.requires.ports.fronts.0);
-    filled = subst (λ (o : Options). (p : ℕ) → p < o.partitions → IsHistory o (g.J.ServerPlan.plan.begun p)) c.requires.named c.requires.filled;
-    opened = opens;
-    ran = c.run_fronts.ensures;
-    many = lefts;
+    some = omega (arith, news_long, olds_long, c.requires.some);
+    filled = subst (λ (o : Options). (p : ℕ) → p < o.partitions → IsHistory o ((plan_of g).begun p)) c.requires.named c.requires.filled;
+    opened = subst (λ (n : ℕ). AreNewHands (plan_of g) 0 n olds) (sym c.requires.takers)
+        (hands_both (plan_of g) (length c.args.connections.items) (length c.args.ends.now.items) (map stream_hand c.pair_streams.new.tasks.items) (map hand_of c.pair_up.new.tasks.items)
+        (opened_streams g z) (opened g z));
+    same = news_long;
+    are = are g z b;
+    many = lefts_many g z b;
     back = c.take_all_back.ensures.each;
-    took = subst (TakesHands (map (view g) c.take_all_back.new.parts.items) (map (view g) c.take_hands.new.parts.items)) news c.take_hands.ensures;
+    took = took_both lefts (map (view g) c.take_hands.new.parts.items) afters (map stream_hand c.run_workers.new.streams.items) (map hand_of c.run_workers.new.fronts.items)
+        (took_streams g z b t) (subst (TakesHands (map (view g) c.take_hands.new.parts.items) afters) (front_news g z b) c.take_hands-2.ensures);
   }
 
 pub returns-clause-ran : goal.returns-clause-ran
 returns-clause-ran g c =
-    let z = goal.at.returns-clause-ran g c in
-    let plan = g.J.ServerPlan.plan in
-    let it = ran_all (all g z.After-take_hands (opened g z.After-pair_up) (tasks_many g z.After-pair_up) (lefts_many g z.After-take_all_back) (hands g z.After-take_all_back)) in
-    let kept = map (λ (left : Owned). kept_seat_in left.owner) (map (view g) c.take_hands.new.parts.items) in
-    let olds : map (λ (t : FrontTask g.row.D.Denot). facts g t.end) c.pair_up.new.tasks.items ≡ map (facts g) c.args.ends.now.items =
-    sym (map-map (facts g) (λ (t : FrontTask g.row.D.Denot). t.end) c.pair_up.new.tasks.items) ∙ ap (map (facts g)) (own g z.After-pair_up) in
-    let news : map (λ (t : FrontTask g.row.D.Denot). facts g t.end) c.run_fronts.new.fronts.items ≡ map (facts g) c.part_fronts.new.ends.items =
-    sym (map-map (facts g) (λ (t : FrontTask g.row.D.Denot). t.end) c.run_fronts.new.fronts.items) ∙ ap (map (facts g)) (sym c.part_fronts.ensures.ends) in
-    subst (λ (o : Options). RanAll o plan.begun c.args.ports.now.batches kept c.part_fronts.new.answers.items (map (facts g) c.args.ends.now.items) (map (facts g) c.part_fronts.new.ends.items)) (sym c.requires.named)
-    (subst (λ a. RanAll plan.options plan.begun c.args.ports.now.batches kept a (map (facts g) c.args.ends.now.items) (map (facts g) c.part_fronts.new.ends.items)) (sym c.part_fronts.ensures.answers)
-    (subst (λ (y : List EndFacts × List EndFacts). RanAll plan.options plan.begun c.args.ports.now.batches kept (map (λ (t : FrontTask g.row.D.Denot). t.answer) c.run_fronts.new.fronts.items) y.0 y.1)
-    (λ i. (olds i, news i)) it))
+    let at = goal.at.returns-clause-ran g c in
+    let plan = plan_of g in
+    let streams = c.run_workers.new.streams.items in
+    let stream_olds = c.pair_streams.new.tasks.items in
+    let some = subst (λ (o : Options). 1 ≤ o.partitions) c.requires.named c.requires.options.partitions.0 in
+    let it = ran_beside plan some (of_stream g) g.K.Clock.last stream_olds streams c.args.batches (facts g) c.pair_up.new.tasks.items c.run_workers.new.fronts.items c.run_workers.ensures.streams
+    (ran_fronts g at.After-pair_up at.After-take_all_back) (all g at.After-pair_up at.After-take_all_back at.After-take_hands at.After-take_hands-2) in
+    let kept = map (λ (left : Owned). kept_seat_in left.owner) (map (view g) c.take_hands-2.new.parts.items) in
+    let clocks : map (λ (t : StreamTask g.row.C.Denot g.row.K.Denot). g.K.Clock.last t.clock) stream_olds ≡ map g.K.Clock.last c.args.clocks.items =
+    sym (map-map g.K.Clock.last (λ (t : StreamTask g.row.C.Denot g.row.K.Denot). t.clock) stream_olds) ∙ ap (map g.K.Clock.last) c.pair_streams.ensures.clocks in
+    let before : map (λ (t : FrontTask g.row.D.Denot). facts g t.end) c.pair_up.new.tasks.items ≡ map (facts g) c.args.ends.now.items =
+    sym (map-map (facts g) (λ (t : FrontTask g.row.D.Denot). t.end) c.pair_up.new.tasks.items) ∙ ap (map (facts g)) (own g at.After-pair_up) in
+    let after : map (λ (t : FrontTask g.row.D.Denot). facts g t.end) c.run_workers.new.fronts.items ≡ map (facts g) c.part_fronts.new.ends.items =
+    sym (map-map (facts g) (λ (t : FrontTask g.row.D.Denot). t.end) c.run_workers.new.fronts.items) ∙ ap (map (facts g)) (sym c.part_fronts.ensures.ends) in
+    let ports : map (λ (t : StreamTask g.row.C.Denot g.row.K.Denot). of_stream g t.port) stream_olds ≡ map (of_stream g) c.args.connections.items =
+    sym (map-map (of_stream g) (λ (t : StreamTask g.row.C.Denot g.row.K.Denot). t.port) stream_olds) ∙ ap (map (of_stream g)) c.pair_streams.ensures.ports in
+    subst (λ (y : Options × List ℕ × List (Result ⊤ ServeFault) × List (Result Totals ServeFault) × List EndFacts × List EndFacts × List StreamFacts).
+    RanBeside y.0 plan.begun c.args.batches y.1 kept y.2 y.3 y.4 y.5 y.6)
+    (λ i. (sym c.requires.named i, clocks i, sym c.part_streams.ensures.answers i, sym c.part_fronts.ensures.answers i, before i, after i, ports i)) it
 
 pub returns-clause-idle : goal.returns-clause-idle
 returns-clause-idle g c =
-    let z = goal.at.returns-clause-idle g c in
-    idle (all g z.After-take_hands (opened g z.After-pair_up) (tasks_many g z.After-pair_up) (lefts_many g z.After-take_all_back) (hands g z.After-take_all_back))
+    let at = goal.at.returns-clause-idle g c in
+    idle (all g at.After-pair_up at.After-take_all_back at.After-take_hands at.After-take_hands-2)

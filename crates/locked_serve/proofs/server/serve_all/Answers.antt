@@ -1,5 +1,5 @@
 use Rattle.std.proofs.Common.{◌≡◌, ◌++◌, ℕ, List, length, map, slice_get, Some, sym, ap, ◌∙◌, subst, arith}
-use Rattle.std.specs.Prelude.{Result, Ok, Err}
+use Rattle.std.specs.Prelude.{⊤, Result, Ok, Err}
 use Rattle.std.proofs.lemmas.List.{length-map}
 use Rattle.std.proofs.lemmas.Result.{err_from_is_err_and}
 use Rattle.partition_table.specs.declared.tables.KeptSeat.{KeptSeat}
@@ -7,18 +7,23 @@ use Rattle.partition_table.specs.Tabled.{kept_seat_in}
 use Rattle.mica_fronts.specs.declared.totals.TheConstants.{MAX_BATCHES}
 use Rattle.mica_fronts.specs.declared.totals.Totals.{Totals}
 use Rattle.mica_fronts.specs.declared.totals.ServeFault.{ServeFault}
+use Rattle.mica_fronts.specs.Totals.{IsUpTo}
 use Rattle.locked_fronts.specs.declared.returned.Returned.{Returned}
 use Rattle.locked_fronts.specs.Owned.{Owned}
 use Rattle.locked_serve.specs.Taking.{left_view}
-use Rattle.mica_serve.specs.Ends.{EndFacts, ServesFronts, end_facts}
-use Rattle.mica_fronts.specs.Totals.{IsUpTo}
-use Rattle.mica_serve.specs.FrontRuns.{SumsUp}
-use Rattle.mica_serve.proofs.Gathered.{all_ran, few_answers, small_answers}
+use Rattle.locked_serve.specs.Streams.{StreamFacts, ServesBeside, stream_facts}
+use Rattle.locked_serve.specs.Running.{SumsUpBeside}
+use Rattle.mica_serve.specs.Ends.{EndFacts, end_facts}
+use Rattle.mica_serve.proofs.Gathered.{few_answers, small_answers}
+use Rattle.locked_serve.proofs.Came.{serves_beside}
 use Rattle.locked_serve.proofs.server.serve_all.Given as given
 use Rattle.locked_serve.proofs.server.serve_all.Goals as goal
 
 abbrev facts : (g : given.Over) → g.row.D.Denot → EndFacts
 facts g = end_facts g.D.Datagrams.port g.D.Datagrams.traffic g.D.Datagrams.faults g.D.Datagrams.has_ended g.D.Datagrams.script
+
+abbrev of_stream : (g : given.Over) → g.row.C.Denot → StreamFacts
+of_stream g = stream_facts g.C.Connections.port g.C.Connections.faults g.C.Connections.has_ended g.C.Connections.log
 
 abbrev view : (g : given.Over) → Returned g.row.P.Denot → Owned
 view g part = left_view g.P.Partition.owner g.P.Partition.home part
@@ -27,31 +32,30 @@ view g part = left_view g.P.Partition.owner g.P.Partition.home part
 abbrev entry : Owned → KeptSeat
 entry left = kept_seat_in left.owner
 
-pub sum_up-requires-clause-few : goal.sum_up-requires-clause-few
-sum_up-requires-clause-few g c =
+pub sum_up_beside-requires-clause-few : goal.sum_up_beside-requires-clause-few
+sum_up_beside-requires-clause-few g c =
     omega (
       arith,
-      ap (λ (l : List (Result Totals ServeFault)). length l) c.as_slice.ensures.value,
-      few_answers _ _ _ _ _ _ _ c.run_all-parts.ensures.ran,
+      ap (λ (l : List (Result Totals ServeFault)). length l) c.as_slice-2.ensures.value,
+      few_answers _ _ _ _ _ _ _ _ c.run_all.ensures.ran.ran,
       length-map c.args.ends.now.items (facts g),
-      c.args.ends.now.ok,
-      c.requires.many,
-      c.requires.ports.fronts.1,
+      c.requires.takers,
+      c.requires.few,
     )
 
-pub sum_up-requires-clause-small : goal.sum_up-requires-clause-small
-sum_up-requires-clause-small g c =
-    subst (λ (l : List (Result Totals ServeFault)). (f : ℕ) (totals : Totals) → slice_get l f ≡ Some (Ok totals) → IsUpTo MAX_BATCHES totals) (sym c.as_slice.ensures.value)
-    (small_answers _ _ _ _ _ _ _ c.run_all-parts.ensures.ran c.requires.ports.batches.1)
+pub sum_up_beside-requires-clause-small : goal.sum_up_beside-requires-clause-small
+sum_up_beside-requires-clause-small g c =
+    subst (λ (l : List (Result Totals ServeFault)). (f : ℕ) (totals : Totals) → slice_get l f ≡ Some (Ok totals) → IsUpTo MAX_BATCHES totals) (sym c.as_slice-2.ensures.value)
+    (small_answers _ _ _ _ _ _ _ _ c.run_all.ensures.ran.ran c.requires.batches)
 
 pub keep_all-requires-clause-room : goal.keep_all-requires-clause-room
 keep_all-requires-clause-room g c =
     omega (
       arith,
       ap (λ (l : List KeptSeat). length l) c.requires.tables,
-      length-map (map (view g) c.run_all-parts.result.0.items) entry,
-      length-map c.run_all-parts.result.0.items (view g),
-      c.run_all-parts.ensures.ran.taken.shapes.many,
+      length-map (map (view g) c.run_all.result.parts.items) entry,
+      length-map c.run_all.result.parts.items (view g),
+      c.run_all.ensures.ran.ran.taken.shapes.many,
       c.requires.options.partitions.1,
     )
 
@@ -59,12 +63,15 @@ pub returns-in_err-totals : goal.returns-in_err-totals
 returns-in_err-totals g c =
     let is = err_from_is_err_and c.from_residual.result c.from_residual.ensures.1 in
     let same : c.from_residual.result ≡ Err c.in_err-totals.field-0.0 = is.1 ∙ ap Err is.2 in
-    subst (λ (r : Result Totals ServeFault). ServesFronts c.args.options.now g.J.ServerPlan.plan.begun c.args.ports.now.batches r c.args.tables.now (map (facts g) c.args.ends.now.items) (map (facts g) c.run_all-parts.new.ends.items)) (sym same)
-    (all_ran _ _ _ c.requires.options.partitions.0 _ c.args.tables.now _ _ _ c.run_all-parts.ensures.ran (Err c.in_err-totals.field-0.0)
-    (subst (λ (l : List (Result Totals ServeFault)). SumsUp l (Err c.in_err-totals.field-0.0)) c.as_slice.ensures.value c.in_err-totals.ensures) c.requires.tables)
+    subst (λ (r : Result Totals ServeFault). ServesBeside c.args.options.now g.J.ServerPlan.plan.begun c.args.batches (map g.K.Clock.last c.args.clocks.items) r c.args.tables.now
+    (map (facts g) c.args.ends.now.items) (map (facts g) c.run_all.new.ends.items) (map (of_stream g) c.args.connections.items)) (sym same)
+    (serves_beside _ c.requires.options.partitions.0 _ _ _ _ _ _ _ _ _ c.run_all.ensures.ran c.args.tables.now (Err c.in_err-totals.field-0.0)
+    (subst (λ (y : List (Result ⊤ ServeFault) × List (Result Totals ServeFault)). SumsUpBeside y.0 y.1 (Err c.in_err-totals.field-0.0))
+    (λ i. (c.as_slice.ensures.value i, c.as_slice-2.ensures.value i)) c.in_err-totals.ensures) c.requires.tables)
 
 pub returns : goal.returns
 returns g c =
-    all_ran _ _ _ c.requires.options.partitions.0 _ c.keep_all.new.tables _ _ _ c.run_all-parts.ensures.ran (Ok c.in_ok-totals.totals)
-    (subst (λ (l : List (Result Totals ServeFault)). SumsUp l (Ok c.in_ok-totals.totals)) c.as_slice.ensures.value c.in_ok-totals.ensures)
-    (c.keep_all.ensures ∙ ap (λ (l : List KeptSeat). l ++ map entry (map (view g) c.run_all-parts.result.0.items)) c.requires.tables)
+    serves_beside _ c.requires.options.partitions.0 _ _ _ _ _ _ _ _ _ c.run_all.ensures.ran c.keep_all.new.tables (Ok c.in_ok-totals.totals)
+    (subst (λ (y : List (Result ⊤ ServeFault) × List (Result Totals ServeFault)). SumsUpBeside y.0 y.1 (Ok c.in_ok-totals.totals))
+    (λ i. (c.as_slice.ensures.value i, c.as_slice-2.ensures.value i)) c.in_ok-totals.ensures)
+    (c.keep_all.ensures ∙ ap (λ (l : List KeptSeat). l ++ map entry (map (view g) c.run_all.result.parts.items)) c.requires.tables)

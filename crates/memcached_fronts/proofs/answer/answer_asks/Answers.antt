@@ -8,7 +8,7 @@ use Rattle.mica_fronts.specs.Answered.{Answered}
 use Rattle.memcached_fronts.specs.AskAnswers.{said_of}
 use Rattle.memcached_fronts.specs.Going.{AnswersAt, AnswersFirst, ask_text}
 use Rattle.memcached_fronts.proofs.AskLaws.{left_of, quiet_none}
-use Rattle.memcached_fronts.proofs.Asking.{none_yet, one_more, text_more}
+use Rattle.memcached_fronts.proofs.Asking.{none_yet, one_more, text_more, writes_more}
 use Rattle.memcached_fronts.proofs.answer.answer_asks.Given as given
 use Rattle.memcached_fronts.proofs.answer.answer_asks.Goals as goal
 use Rattle.memcached_fronts.proofs.answer.answer_asks.Goals.{After-answer_ask}
@@ -24,6 +24,7 @@ loop-count-init g c =
       text = sym (ap (λ text. c.args.out.now.items ++ text) (quiet_none c.args.style.quiet) ∙ append-nil c.args.out.now.items);
       few = omega arith;
       left = omega arith;
+      given = omega arith;
       options = refl;
       number = refl;
       stands = refl;
@@ -64,6 +65,7 @@ loop-count-preserved g c =
           c.loop-count.out.items c.answer_ask.new.out.items (here g z) inv.text text;
       few = let less = c.loop-count-test.true in omega (arith, less);
       left = omega (arith, left, inv.left);
+      given = omega (arith, one.3, inv.given, writes_more inv.answers one.0);
       options = c.answer_ask.ensures.options ∙ inv.options;
       number = c.answer_ask.ensures.number ∙ inv.number;
       stands = c.answer_ask.ensures.stands ∙ inv.stands;
@@ -73,4 +75,5 @@ pub returns-in_default-answer_ask-clause-answered : goal.returns-in_default-answ
 returns-in_default-answer_ask-clause-answered g c =
     let z = (goal.at.returns-in_default-answer_ask-clause-answered g c).After-answer_ask in
     let one = c.answer_ask.ensures.answered in
-    (c.loop-count.invariant.answers ++ one.0 ∷ [], first g z one.0 one.1, tt)
+    let more = writes_more c.loop-count.invariant.answers one.0 in
+    (c.loop-count.invariant.answers ++ one.0 ∷ [], first g z one.0 one.1, tt, omega (arith, one.3, c.loop-count.invariant.given, more))

@@ -2,7 +2,7 @@ use Rattle.std.proofs.Common.{◌≡◌, ◌≤◌, ◌+◌, ◌-◌, ◌++◌, 
 use Rattle.std.specs.List.{AllByRecursion}
 use Rattle.memcached_commands.specs.Answers.{unless_quiet}
 use Rattle.memcached_commands.specs.Fit.{IsFitAsked}
-use Rattle.mica_fronts.specs.Answered.{Answered}
+use Rattle.mica_fronts.specs.Answered.{Answered, count_of_writes}
 use Rattle.memcached_fronts.specs.AskAnswers.{asks_text}
 use Rattle.memcached_fronts.specs.Going.{AnswersFirst}
 use Rattle.memcached_fronts.proofs.answer.answer_asks.Given as goal
@@ -19,6 +19,7 @@ invariant-loop-count g l =
       text : l.out.items ≡ l.initial.out.items ++ unless_quiet l.style.quiet (asks_text l.base l.style.unique l.initial.asks answers);
       few : l.count ≤ l.limits.asks;
       left : F.left l.initial.front ≤ F.left l.front + l.count;
+      given : F.left l.initial.front ≤ F.left l.front + count_of_writes answers;
       options : F.options l.front ≡ F.options l.initial.front;
       number : F.number l.front ≡ F.number l.initial.front;
       stands : F.stands l.front ≡ F.stands l.initial.front;

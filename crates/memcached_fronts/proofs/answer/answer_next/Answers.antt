@@ -40,6 +40,7 @@ returns-then-is_flush-clause-answered g c =
           (λ progress all. flush_replies options F.is_alone c.args.numbering.base next done c.requires.open old new told told flushes r.0 r.2 c.args.limits c.args.out.now.items
           c.answer_flush.new.out.items progress (all.0 ∙ c.requires.partitions) (all.1 ∙ ap (λ n. progress_of n true) c.requires.partitions)
           (all.2 ∙ ap (λ q. c.args.out.now.items ++ unless_quiet q (flush_text true r.0)) c.style_of-style.ensures.quiet)) r.3,
+      r.4,
     )
 
 pub returns-then-is_empty-clause-answered : goal.returns-then-is_empty-clause-answered
@@ -55,6 +56,7 @@ returns-then-is_empty-clause-answered g c =
       [],
       plain_goes options F.is_alone c.args.numbering.base next c.args.done c.requires.open old old told told keyed none,
       plain_replies options F.is_alone c.args.numbering.base next c.args.done c.requires.open old old told told keyed none c.args.limits c.args.out.now.items c.put_line.new.out.items text,
+      omega arith,
     )
 
 pub returns-in_default-clause-answered : goal.returns-in_default-clause-answered
@@ -65,7 +67,7 @@ returns-in_default-clause-answered g c =
     let told = g.C.Clock.last c.args.clock.now in
     let keyed : flushes_now c.args.next ≡ false = sym c.is_flush.ensures ∙ c.if-is_flush.false in
     let none : asks_in c.args.next ≡ [] = sym c.by-asks.ensures.asks ∙ none_left c.by-asks.result (sym c.is_empty.ensures ∙ c.if-is_empty.true) in
-    ([], plain_goes options F.is_alone c.args.numbering.base c.args.next c.args.done c.requires.open old old told told keyed none, tt)
+    ([], plain_goes options F.is_alone c.args.numbering.base c.args.next c.args.done c.requires.open old old told told keyed none, tt, omega arith)
 
 module _ (next : Next) (asks : List Asked) (same : asks ≡ asks_in next) (done : ℕ) (stands : IsOpenAt next done) (some : (length asks == 0) ≡ false) where
   some_asked : 0 < length (asks_in next)
@@ -125,6 +127,7 @@ returns-in-Ok-answer_asks-clause-answered g c =
       asks_go options F.is_alone base next done c.requires.open old new told tells keyed r.0 first,
       subst (λ (w : Bool). Replies options base next done c.args.limits r.0 before after (progress_of (done + count) w)) (sym c.is_empty-in-Ok-answer_asks.ensures)
           (asks_reply options F.is_alone base next done c.requires.open old new told tells keyed r.0 c.args.limits before after count left some first.to_asks replies),
+      r.3,
     )
 
 pub returns-in-Err-clause-answered : goal.returns-in-Err-clause-answered
@@ -139,4 +142,4 @@ returns-in-Err-clause-answered g c =
     let asks_are : c.skip.new.asks ≡ drop c.args.done (asks_in c.args.next) = c.skip.ensures ∙ ap (drop c.args.done) c.by-asks.ensures.asks in
     let r = c.answer_asks.ensures.answered in
     let first = subst (λ (l : List Asked). AnswersFirst options F.is_alone c.args.numbering.base l old told new tells r.0) asks_are r.1 in
-    (r.0, asks_go options F.is_alone c.args.numbering.base c.args.next c.args.done c.requires.open old new told tells keyed r.0 first, tt)
+    (r.0, asks_go options F.is_alone c.args.numbering.base c.args.next c.args.done c.requires.open old new told tells keyed r.0 first, tt, r.3)

@@ -1,4 +1,4 @@
-use Rattle.std.proofs.Common.{◌≡◌, ◌++◌, ℕ, List, ap, ◌∙◌, subst}
+use Rattle.std.proofs.Common.{◌≡◌, ◌++◌, ℕ, List, ap, ◌∙◌, subst, arith}
 use Rattle.std.specs.Prelude.{option_copied}
 use Rattle.std.proofs.lemmas.Result.{on_ok_weaker}
 use Rattle.mica_words.specs.Hash.{partition_of}
@@ -40,4 +40,5 @@ returns-clause-answered g c =
       at,
       on_ok_weaker c.put_said.result (λ text.
           text ∙ (λ i. c.args.out.now.items ++ ask_text c.args.style.quiet c.args.style.unique c.args.is_last (c.bytes-key.ensures i) (says i))) c.put_said.ensures.ok,
+      (let left = c.change-changed.ensures.left in omega (arith, left, by.count)),
     )

@@ -1,8 +1,9 @@
-use Rattle.std.proofs.Common.{◌&&◌, ◌+◌, Bool, refl, sym, ◌∙◌, subst, arith}
+use Rattle.std.proofs.Common.{◌&&◌, ◌+◌, ◌≤◌, Bool, refl, sym, ◌∙◌, subst, arith}
 use Rattle.partition_model.specs.declared.options.Options.{Options}
-use Rattle.mica_fronts.specs.Session.{Answers}
+use Rattle.mica_fronts.specs.Answered.{count_of_writes}
+use Rattle.mica_fronts.specs.Session.{Answers, AnswersInOrder}
 use Rattle.memcached_fronts.specs.FlushAnswers.{FlushesOne}
-use Rattle.memcached_fronts.proofs.Flushing.{Flushed, none_flushed, flushed_more}
+use Rattle.memcached_fronts.proofs.Flushing.{Flushed, none_flushed, flushed_more, flushes_few}
 use Rattle.memcached_fronts.proofs.flush.flush_all.Goals as goal
 
 pub loop-partition-init : goal.loop-partition-init
@@ -27,3 +28,31 @@ loop-partition-preserved g c =
       number = c.flush_one.ensures.number ∙ inv.number;
       stands = c.flush_one.ensures.stands ∙ inv.stands;
     }
+
+pub returns-in_default-clause-flushed : goal.returns-in_default-clause-flushed
+returns-in_default-clause-flushed g c =
+    let F = g.F.Front in
+    let inv = c.loop-partition.invariant in
+    let f = inv.flushed in
+    let same = c.in_default.ensures.err in
+    (
+      f.answers,
+      subst (λ front. AnswersInOrder (F.options c.args.front.now) F.is_alone (F.sessions c.args.front.now) f.answers (F.sessions front)) (sym same) f.in_order,
+      f.flushes,
+      tt,
+      subst (λ front. F.left c.args.front.now ≤ F.left front + count_of_writes f.answers) (sym same)
+          (flushes_few (F.left c.args.front.now) (F.left c.loop-partition.front) f inv.left),
+    )
+
+pub returns-clause-flushed : goal.returns-clause-flushed
+returns-clause-flushed g c =
+    let F = g.F.Front in
+    let inv = c.loop-partition.invariant in
+    let f = inv.flushed in
+    (
+      f.answers,
+      f.in_order,
+      f.flushes,
+      (f.many ∙ omega (arith, c.loop-partition-test.false, c.loop-partition.auto.partition-end), f.took_all),
+      flushes_few (F.left c.args.front.now) (F.left c.loop-partition.front) f inv.left,
+    )

@@ -36,12 +36,12 @@ release_all-requires-clause-tell g c _ _ =
 
 pub returns-clause-cause : goal.returns-clause-cause
 returns-clause-cause g c =
-    cause c.args.options.now c.requires.options.partitions.0 nothing_begun c.args.ports.now c.bind_and_serve-answer.new.tables (net_at g c.args.net.now) (net_at g c.bind_and_serve-answer.new.net)
+    cause alone c.args.options.now c.requires.options.partitions.0 nothing_begun c.args.ports.now c.bind_and_serve-answer.new.tables (net_at g c.args.net.now) (net_at g c.bind_and_serve-answer.new.net)
     (net_at g c.release_all.new.net) (map (facts g) c.bind_and_serve-answer.new.ends.items) c.release_all.ensures (Some c.bind_and_serve-answer.result) c.bind_and_serve-answer.ensures
 
 pub returns-clause-kept : goal.returns-clause-kept
 returns-clause-kept g c =
-    keeps c.args.options.now c.requires.options.partitions.0 nothing_begun c.args.ports.now c.bind_and_serve-answer.new.tables (net_at g c.args.net.now) (net_at g c.bind_and_serve-answer.new.net)
+    keeps alone c.args.options.now c.requires.options.partitions.0 nothing_begun c.args.ports.now c.bind_and_serve-answer.new.tables (net_at g c.args.net.now) (net_at g c.bind_and_serve-answer.new.net)
     (net_at g c.release_all.new.net) (map (facts g) c.bind_and_serve-answer.new.ends.items) c.release_all.ensures (Some c.bind_and_serve-answer.result) c.bind_and_serve-answer.ensures
 
 pub returns-in_err-server-clause-kept : goal.returns-in_err-server-clause-kept

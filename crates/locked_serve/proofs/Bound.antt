@@ -1,0 +1,91 @@
+-- What a server came to once its ports were bound, by what of its fronts of connections is known.
+use Rattle.std.proofs.Common.{◌≡◌, ℕ, ◌≤◌, inl, inr, List, [], length, Option, Some, None, slice_get, refl, sym, ap, ◌∙◌, subst, arith}
+use Rattle.std.specs.Prelude.{Result, Ok, Err}
+use Rattle.std.proofs.lemmas.Option.{slice_get_within}
+use Rattle.mica_io.specs.Faults.{Rose}
+use Rattle.partition_model.specs.declared.options.Options.{Options}
+use Rattle.partition_model.specs.History.{History}
+use Rattle.partition_table.specs.declared.tables.KeptSeat.{KeptSeat}
+use Rattle.mica_fronts.specs.Answered.{Answered}
+use Rattle.mica_fronts.specs.declared.totals.Totals.{Totals}
+use Rattle.mica_fronts.specs.declared.totals.ServeFault.{ServeFault}
+use Rattle.mica_fronts.specs.declared.totals.ServeFault.TheVariants.{Net, NoMemory}
+use Rattle.stream_fronts.specs.declared.ports.StreamPorts.{StreamPorts}
+use Rattle.mica_serve.specs.Others.{Others, HaveAnsweredNothing}
+use Rattle.mica_serve.specs.Ends.{EndFacts, ServesFronts}
+use Rattle.locked_serve.specs.declared.stop.Stop.{Stop}
+use Rattle.locked_serve.specs.declared.stop.Stop.TheVariants.{Unannounced, Fault}
+use Rattle.locked_serve.specs.Streams.{StreamFacts, ListenFacts, AreNewStreams, AreStreams, ServesBeside, others_of}
+use Rattle.locked_serve.specs.Causes.{CameTo, ComesBeside}
+use Rattle.locked_serve.proofs.Unheard.{no_answers, none_answered, as_heard, none_heard}
+
+module _ (says : Others → Option (Result Totals ServeFault) → Type 0) (streams : StreamPorts) (clocks : List ℕ) (before after : ListenFacts) where
+  -- a port of datagrams could not be bound
+  pub unbound : says (others_of (no_answers streams.fronts) [] []) (Some (Err Net)) → ComesBeside says (Err (Fault Net)) streams clocks before after
+  unbound said = record {
+    answers = no_answers streams.fronts;
+    olds = [];
+    news = [];
+    are = none_heard streams before.ports clocks;
+    all = tt;
+    came = Some (Err Net);
+    came_is = inl refl;
+    said = said;
+  }
+
+  module _ (heard : List StreamFacts) (new : AreNewStreams before.ports streams.port heard) (within : length heard ≤ streams.fronts) where
+    -- these were listened at, and nothing was served: the next could not be
+    pub unheard : Rose before.faults after.faults → says (others_of (no_answers streams.fronts) heard heard) None → ComesBeside says (Err (Fault Net)) streams clocks before after
+    unheard rose said = record {
+      answers = no_answers streams.fronts;
+      olds = heard;
+      news = heard;
+      are = as_heard streams before.ports clocks heard new within;
+      all = tt;
+      came = None;
+      came_is = inr (refl, rose);
+      said = said;
+    }
+
+    -- or it could not be told
+    pub untold : says (others_of (no_answers streams.fronts) heard heard) None → ComesBeside says (Err Unannounced) streams clocks before after
+    untold said = record {
+      answers = no_answers streams.fronts;
+      olds = heard;
+      news = heard;
+      are = as_heard streams before.ports clocks heard new within;
+      all = tt;
+      came = None;
+      came_is = refl;
+      said = said;
+    }
+
+    -- all fronts were served
+    module _ {options : Options} {begun : ℕ → History} {batches : ℕ} {kept : List KeptSeat} {ends_before ends_after : List EndFacts} (full : length heard ≡ streams.fronts) where
+      are : {answer : Result Totals ServeFault} (b : ServesBeside options begun batches clocks answer kept ends_before ends_after heard)
+          → AreStreams streams before.ports clocks b.answers heard b.news
+      are b = record {
+        are_new = new;
+        within = within;
+        fronts = b.many ∙ full;
+        served = b.streams;
+        unheard = λ k own at past. absurd (let low = slice_get_within b.answers k own at in omega (arith, low, past, b.many));
+      }
+
+      pub came_ok : (totals : Totals) (b : ServesBeside options begun batches clocks (Ok totals) kept ends_before ends_after heard)
+          → says (others_of b.answers heard b.news) (Some (Ok totals)) → ComesBeside says (Ok totals) streams clocks before after
+      came_ok totals b said =
+          record { answers = b.answers; olds = heard; news = b.news; are = are b; all = full; came = Some (Ok totals); came_is = refl; said = said }
+
+      came_to_fault : (fault : ServeFault) → CameTo (Err (Fault fault)) before after (Some (Err fault))
+      came_to_fault Net = inl refl
+      came_to_fault NoMemory = refl
+
+      pub came_err : (fault : ServeFault) (b : ServesBeside options begun batches clocks (Err fault) kept ends_before ends_after heard)
+          → says (others_of b.answers heard b.news) (Some (Err fault)) → ComesBeside says (Err (Fault fault)) streams clocks before after
+      came_err fault b said =
+          record { answers = b.answers; olds = heard; news = b.news; are = are b; all = tt; came = Some (Err fault); came_is = came_to_fault fault; said = said }
+
+-- those that have no port answered nothing
+pub silent : (streams : StreamPorts) (olds news : List StreamFacts) → HaveAnsweredNothing (others_of (no_answers streams.fronts) olds news)
+silent streams olds news k own at = none_answered streams.fronts k own at

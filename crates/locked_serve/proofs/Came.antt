@@ -1,0 +1,35 @@
+-- What all fronts came to together, where each came to its own.
+use Rattle.std.proofs.Common.{◌≡◌, ℕ, ◌≤◌, ◌⊎◌, inl, inr, List, [], length, Some, slice_get}
+use Rattle.std.specs.Prelude.{⊤, Result, Ok, Err}
+use Rattle.partition_model.specs.declared.options.Options.{Options}
+use Rattle.partition_model.specs.History.{History}
+use Rattle.partition_table.specs.declared.tables.KeptSeat.{KeptSeat}
+use Rattle.mica_fronts.specs.declared.totals.Totals.{Totals}
+use Rattle.mica_fronts.specs.declared.totals.ServeFault.{ServeFault}
+use Rattle.mica_fronts.specs.declared.totals.ServeFault.TheVariants.{Net, NoMemory}
+use Rattle.mica_serve.specs.Ends.{EndFacts}
+use Rattle.mica_serve.specs.FrontRuns.{ComesTo}
+use Rattle.mica_serve.proofs.Gathered.{all_ran, KeepsOf}
+use Rattle.locked_serve.specs.Streams.{StreamFacts, StopsStream, ServesBeside, others_of}
+use Rattle.locked_serve.specs.Running.{RanBeside, SumsUpBeside}
+
+module _ (options : Options) (some : 1 ≤ options.partitions) (begun : ℕ → History) (batches : ℕ) (clocks : List ℕ) (left : List KeptSeat) (streams : List (Result ⊤ ServeFault))
+    (fronts : List (Result Totals ServeFault)) (before after : List EndFacts) (olds : List StreamFacts)
+    (ran : RanBeside options begun batches clocks left streams fronts before after olds) where
+  comes : (answer : Result Totals ServeFault) → SumsUpBeside streams fronts answer → ComesTo (others_of ran.answers olds ran.news) fronts answer
+  comes (Ok totals) sums = sums.1
+  comes (Err Net) sums = (
+    elim sums.1 as (λ _. ((f : ℕ) × (slice_get fronts f ≡ Some (Err Net))) ⊎ StopsStream olds ran.news) [ inl h ↦ inr (ran.stopped h.0 h.1) | inr h ↦ inl h ],
+    sums.0,
+  )
+  comes (Err NoMemory) sums = tt
+
+  pub serves_beside : (kept : List KeptSeat) (answer : Result Totals ServeFault) → SumsUpBeside streams fronts answer
+      → KeepsOf (others_of ran.answers olds ran.news) options begun batches answer left kept → ServesBeside options begun batches clocks answer kept before after olds
+  serves_beside kept answer sums keeps = record {
+    answers = ran.answers;
+    news = ran.news;
+    many = ran.many;
+    streams = ran.served;
+    fronts = all_ran (others_of ran.answers olds ran.news) options begun batches some left kept fronts before after ran.ran answer (comes answer sums) keeps;
+  }

@@ -1,0 +1,38 @@
+-- The faults of fronts of connections, looked for one after another.
+use Rattle.std.proofs.Common.{◌≡◌, ℕ, ◌+◌, ◌<◌, ◌⊎◌, inl, inr, Bool, true, false, List, length, Some, refl, sym, ap, ◌∙◌, slice_get, arith}
+use Rattle.std.specs.Prelude.{◌≢◌, ⊤, Result, Ok, Err}
+use Rattle.std.proofs.lemmas.Bool.{cases_lt, true≢false}
+use Rattle.std.proofs.lemmas.Option.{slice_get_within}
+use Rattle.mica_fronts.specs.declared.totals.ServeFault.{ServeFault}
+use Rattle.mica_fronts.specs.declared.totals.ServeFault.TheVariants.{Net}
+use Rattle.locked_serve.specs.Running.{IsFaultOf}
+
+abbrev Answer : Type 0
+Answer = Result ⊤ ServeFault
+
+-- what stands after the first k answers, where one is a fault or none is
+pub record FaultTo (k : ℕ) (answers : List Answer) (failed : Bool) : Type 0 where
+  pub found : failed ≡ true → (f : ℕ) × (slice_get answers f ≡ Some (Err Net))
+  pub none : failed ≡ false → (f : ℕ) (fault : ServeFault) → f < k → slice_get answers f ≢ Some (Err fault)
+
+pub none_seen : (answers : List Answer) → FaultTo 0 answers false
+none_seen answers = record { found = λ no. absurd (true≢false (sym no)); none = λ _ f fault low. absurd (omega arith) }
+
+pub no_fault_more : (k : ℕ) (answers : List Answer) (failed : Bool) (all_well : ⊤) → FaultTo k answers failed → slice_get answers k ≡ Some (Ok all_well) → FaultTo (k + 1) answers failed
+no_fault_more k answers failed all_well so_far here = record {
+  found = so_far.found;
+  none = λ is f fault low at.
+      elim (cases_lt f k) as (λ _. ⊥) [
+        | inl before ↦ so_far.none is f fault before at
+        | inr past ↦ let same : f ≡ k = omega (arith, past, low) in let both = sym here ∙ ap (slice_get answers) (sym same) ∙ at in cc
+      ];
+}
+
+pub fault_more : (k : ℕ) (answers : List Answer) (failed : Bool) → slice_get answers k ≡ Some (Err Net) → FaultTo (k + 1) answers true
+fault_more k answers failed here = record { found = λ _. (k, here); none = λ no. absurd (true≢false no) }
+
+pub fault_in : (k : ℕ) (answers : List Answer) → FaultTo k answers true → IsFaultOf answers (Err Net)
+fault_in k answers all = all.found refl
+
+pub no_fault : (k : ℕ) (answers : List Answer) → length answers ≡ k → FaultTo k answers false → (f : ℕ) (fault : ServeFault) → slice_get answers f ≢ Some (Err fault)
+no_fault k answers whole all f fault at = all.none refl f fault (let low = slice_get_within answers f (Err fault) at in omega (arith, low, whole)) at

@@ -1,0 +1,48 @@
+-- One list behind another, and what two kinds of fronts have in hand together.
+use Rattle.std.proofs.Common.{◌≡◌, ℕ, zero, suc, ◌+◌, ◌⊎◌, inl, inr, List, [], ◌∷◌, ◌++◌, length, Some, slice_get, refl, sym, ap, ◌∙◌, subst, arith, length-append}
+use Rattle.std.specs.Prelude.{sum_by}
+use Rattle.std.proofs.lemmas.List.Sums.{sum_by-cons}
+use Rattle.locked_fronts.specs.declared.part.LockedPart.{LockedPart}
+use Rattle.locked_fronts.specs.Plan.{Plan}
+use Rattle.locked_serve.specs.Opening.{AreNewParts, AreNewHands}
+
+-- where elements of the one and of the other stand
+pub at_left : {X : Type 0} (xs ys : List X) (n : ℕ) (x : X) → slice_get xs n ≡ Some x → slice_get (xs ++ ys) n ≡ Some x
+at_left [] ys n x at = absurd (cc)
+at_left (z ∷ xs) ys zero x at = at
+at_left (z ∷ xs) ys (suc n) x at = at_left xs ys n x at
+
+pub at_right : {X : Type 0} (xs ys : List X) (n : ℕ) (y : X) → slice_get ys n ≡ Some y → slice_get (xs ++ ys) (length xs + n) ≡ Some y
+at_right [] ys n y at = at
+at_right (z ∷ xs) ys n y at = at_right xs ys n y at
+
+pub at_either : {X : Type 0} (xs ys : List X) (n : ℕ) (z : X) → slice_get (xs ++ ys) n ≡ Some z
+    → (slice_get xs n ≡ Some z) ⊎ ((k : ℕ) × (length xs + k ≡ n) × (slice_get ys k ≡ Some z))
+at_either [] ys n z at = inr (n, refl, at)
+at_either (x ∷ xs) ys zero z at = inl at
+at_either (x ∷ xs) ys (suc n) z at =
+    elim (at_either xs ys n z at) as (λ _. (slice_get xs n ≡ Some z) ⊎ ((k : ℕ) × (suc (length xs) + k ≡ suc n) × (slice_get ys k ≡ Some z))) [
+      | inl left ↦ inl left
+      | inr right ↦ inr (right.0, ap suc right.1, right.2)
+    ]
+
+-- a sum over one list is that over another of the same length, place by place
+pub same_sums : {X Y : Type 0} (g : X → ℕ) (h : Y → ℕ) (xs : List X) (ys : List Y) → length ys ≡ length xs
+    → ((i : ℕ) (x : X) (y : Y) → slice_get xs i ≡ Some x → slice_get ys i ≡ Some y → g x ≡ h y) → sum_by g xs ≡ sum_by h ys
+same_sums g h [] [] many same = refl
+same_sums g h [] (y ∷ ys) many same = absurd (omega arith)
+same_sums g h (x ∷ xs) [] many same = absurd (omega arith)
+same_sums g h (x ∷ xs) (y ∷ ys) many same =
+    omega (arith, sum_by-cons g x xs, sum_by-cons h y ys, same 0 x y refl refl, same_sums g h xs ys (omega arith) (λ i. same (suc i)))
+
+-- new hands of fronts that follow each other in number
+pub hands_both : (plan : Plan) (first second : ℕ) (xs ys : List (List LockedPart)) → AreNewHands plan 0 first xs → AreNewHands plan first second ys
+    → AreNewHands plan 0 (first + second) (xs ++ ys)
+hands_both plan first second xs ys left right = record {
+  many = length-append xs ys ∙ omega (arith, left.many, right.many);
+  each = λ f parts at.
+      elim (at_either xs ys f parts at) as (λ _. AreNewParts plan (0 + f) parts) [
+        | inl here ↦ left.each f parts here
+        | inr there ↦ subst (λ n. AreNewParts plan n parts) (omega (arith, there.1, left.many)) (right.each there.0 parts there.2)
+      ];
+}

@@ -1,0 +1,13 @@
+use Rattle.std.proofs.Common.{◌≡◌, ◌≤◌, map, vec_len, vec_capacity}
+use Rattle.locked_serve.specs.Streams.{AreNewStreams, LeavesOthers, stream_facts}
+use Rattle.locked_serve.proofs.listening.listen_all.Given as goal
+
+abbrev pub invariant-loop-k : goal.invariant-loop-k
+invariant-loop-k g l = record {
+  len : vec_len l.connections ≡ l.k;
+  room : l.streams.fronts ≤ vec_capacity l.connections;
+  new : AreNewStreams (g.L.Listeners.ports l.initial.listeners) l.streams.port
+      (map (stream_facts g.L.Port.Connections.port g.L.Port.Connections.faults g.L.Port.Connections.has_ended g.L.Port.Connections.log) l.connections.items);
+  others : LeavesOthers l.streams.port l.k (g.L.Listeners.ports l.initial.listeners) (g.L.Listeners.ports l.listeners);
+  faults : g.L.Listeners.faults l.listeners ≡ g.L.Listeners.faults l.initial.listeners;
+}

@@ -1,0 +1,32 @@
+//! The ports of connections, listened at one after another.
+ghost use Rattle.std.specs.Prelude.{◌≡◌, ◌+◌, ◌≤◌, [], map, vec_len, vec_capacity, OnOk, OnErr};
+ghost use Rattle.mica_io.specs.Faults.{Rose};
+ghost use Rattle.stream_fronts.specs.StreamPorts.{IsPossibleStreams};
+ghost use Rattle.locked_serve.specs.Streams.{AreNewStreams, KeepsListeners, listen_facts, stream_facts};
+
+use mica_io::Failed;
+use stream_fronts::StreamPorts;
+use stream_io::Listeners;
+
+/// Listens at a port for each front of connections, in order, up to the first one that fails.
+pub(crate) fn listen_all<L: Listeners>(
+    listeners: &mut L,
+    streams: &StreamPorts,
+    connections: &mut Vec<L::Port>,
+) -> Result<(), Failed>
+    requires streams { IsPossibleStreams streams.now }
+    requires none { connections.old.items ≡ [] }
+    requires room { streams.now.fronts ≤ vec_capacity connections.old }
+    ensures new { AreNewStreams (L.ports listeners.old) streams.now.port (map (stream_facts L.Port.port L.Port.faults L.Port.has_ended L.Port.log) connections.new.items) }
+    ensures all { OnOk result (vec_len connections.new ≡ streams.now.fronts) }
+    ensures few { vec_len connections.new ≤ streams.now.fronts }
+    ensures kept { KeepsListeners streams.now (listen_facts L.faults L.ports listeners.old) (listen_facts L.faults L.ports listeners.new) }
+    ensures steady { OnOk result (L.faults listeners.new ≡ L.faults listeners.old) }
+    ensures cause { OnErr result (Rose (L.faults listeners.old) (L.faults listeners.new)) }
+{
+    for k in 0..streams.fronts {
+        let port = listeners.listen(streams.port + k as u16)?;
+        connections.push_reserved(port);
+    }
+    Ok(())
+}

@@ -1,0 +1,156 @@
+//! The fronts of connections side by side, each in a thread of its own.
+ghost use Rattle.std.specs.Prelude.{◌≡◌, ◌<◌, ◌≤◌, [], length, map, vec_len, vec_capacity};
+ghost use Rattle.partition_model.specs.Options.{IsPossible};
+ghost use Rattle.locked_serve.specs.Streams.{stream_facts};
+ghost use Rattle.locked_serve.specs.Running.{IsReadyStream, StreamRan, AreReadyStreams, StreamsRan};
+
+use epoch_core::LendPartition;
+use locked_fronts::{LockedFront, LockedPart, OwnedPartition, ServerPlan};
+use memcached_fronts::Numbering;
+use mica_clock::Clock;
+use mica_fronts::ServeFault;
+use partition_model::Options;
+use partition_table::{Note, ReaderSeat};
+use std::alloc::Global;
+use std::mem;
+use std::sync::{Mutex, Wait};
+use std::thread::{Threads, for_each_mut};
+use stream_fronts::serve_connections;
+use stream_io::Connections;
+
+/// What a front has in hand, its port of connections, and its clock.
+#[derive(Drop)]
+pub struct StreamTask<C, K> {
+    pub parts: Vec<LockedPart>,
+    pub port: C,
+    pub clock: K,
+    pub answer: Result<(), ServeFault>,
+}
+
+impl<C: Connections, K: Clock> StreamTask<C, K> {
+    // Serves the port, as the front of this number, which has taken no turn.
+    fn run<
+        W: Threads + Wait + Sync,
+        J: ServerPlan,
+        P: LendPartition<Reader = ReaderSeat, Note = Note> + Drop,
+    >(
+        &mut self,
+        rt: &W,
+        alloc: Global,
+        options: &Options,
+        base: u64,
+        locks: &[Mutex<OwnedPartition<J, P>>],
+        number: u32,
+    )
+        requires valid { IsPossible options.now }
+        requires options { options.now ≡ J.plan.options }
+        requires locks { length locks.now ≡ options.now.partitions }
+        requires low { number < J.plan.fronts }
+        requires ready { IsReadyStream J.plan (stream_facts C.port C.faults C.has_ended C.log) K.last number self.old }
+        ensures { StreamRan J.plan (stream_facts C.port C.faults C.has_ended C.log) K.last number self.old self.new }
+    {
+        let parts = mem::replace(&mut self.parts, Vec::new(alloc));
+        let mut front = LockedFront::new(options, locks, number, parts);
+        let numbering = Numbering {
+            partitions: options.partitions,
+            base,
+        };
+        self.answer = serve_connections(
+            rt,
+            alloc,
+            &mut front,
+            &mut self.clock,
+            numbering,
+            u64::MAX,
+            &mut self.port,
+        );
+        self.parts = front.into_parts();
+    }
+}
+
+/// Runs the fronts of connections side by side, each in a thread of its own.
+pub(crate) fn run_streams<
+    W: Threads + Wait + Sync,
+    J: ServerPlan + Send + Sync,
+    P: LendPartition<Reader = ReaderSeat, Note = Note> + Drop + Send,
+    C: Connections + Send,
+    K: Clock + Drop + Send,
+>(
+    rt: &W,
+    alloc: Global,
+    options: &Options,
+    base: u64,
+    locks: &[Mutex<OwnedPartition<J, P>>],
+    streams: &mut Vec<StreamTask<C, K>>,
+)
+    requires valid { IsPossible options.now }
+    requires options { options.now ≡ J.plan.options }
+    requires locks { length locks.now ≡ options.now.partitions }
+    requires few { J.plan.fronts ≤ 64 }
+    requires many { length streams.old.items ≤ J.plan.fronts }
+    requires ready { AreReadyStreams J.plan (stream_facts C.port C.faults C.has_ended C.log) K.last streams.old.items }
+    ensures { StreamsRan J.plan (stream_facts C.port C.faults C.has_ended C.log) K.last streams.old.items streams.new.items }
+{
+    let threads = streams.len().max(1);
+    for_each_mut(
+        rt,
+        streams.as_mut_slice(),
+        threads,
+        &|number, stream|
+            requires { (number < J.plan.fronts) × (J.plan.fronts ≤ 64) × IsPossible options.now × (options.now ≡ J.plan.options) × (length locks.now ≡ options.now.partitions)
+                × IsReadyStream J.plan (stream_facts C.port C.faults C.has_ended C.log) K.last number stream.now }
+            ensures { StreamRan J.plan (stream_facts C.port C.faults C.has_ended C.log) K.last number stream.entry.now stream.exit.now }
+        { stream.run(rt, alloc, options, base, locks, number as u32) },
+    );
+}
+
+/// The fronts of connections with the ports of their places, each with a clock.
+pub(crate) fn pair_streams<C: Drop, K: Drop>(
+    hands: Vec<Vec<LockedPart>>,
+    ports: Vec<C>,
+    clocks: Vec<K>,
+    tasks: &mut Vec<StreamTask<C, K>>,
+)
+    requires none { tasks.old.items ≡ [] }
+    requires hands { length hands.items ≡ length ports.items }
+    requires clocks { length clocks.items ≡ length ports.items }
+    requires room { vec_len ports ≤ vec_capacity tasks.old }
+    ensures hands { map (λ t. t.parts) tasks.new.items ≡ hands.items }
+    ensures ports { map (λ t. t.port) tasks.new.items ≡ ports.items }
+    ensures clocks { map (λ t. t.clock) tasks.new.items ≡ clocks.items }
+{
+    let mut hands_left = hands.into_iter();
+    let mut clocks_left = clocks.into_iter();
+    for port in ports {
+        let Some(parts) = hands_left.next() else {
+            unreachable!()
+        };
+        let Some(clock) = clocks_left.next() else {
+            unreachable!()
+        };
+        tasks.push_reserved(StreamTask {
+            parts,
+            port,
+            clock,
+            answer: Err(ServeFault::NoMemory),
+        });
+    }
+}
+
+/// The hands and the answers of the fronts, in order. Their ports are let go.
+pub(crate) fn part_streams<C: Drop, K: Drop>(
+    streams: Vec<StreamTask<C, K>>,
+    hands: &mut Vec<Vec<LockedPart>>,
+    answers: &mut Vec<Result<(), ServeFault>>,
+)
+    requires none { (hands.old.items ≡ []) × (answers.old.items ≡ []) }
+    requires hands { vec_len streams ≤ vec_capacity hands.old }
+    requires answers { vec_len streams ≤ vec_capacity answers.old }
+    ensures hands { hands.new.items ≡ map (λ t. t.parts) streams.items }
+    ensures answers { answers.new.items ≡ map (λ t. t.answer) streams.items }
+{
+    for stream in streams {
+        hands.push_reserved(stream.parts);
+        answers.push_reserved(stream.answer);
+    }
+}

@@ -1,0 +1,20 @@
+use Rattle.std.proofs.Common.{◌≡◌, ◌≤◌}
+use Rattle.std.specs.Prelude.{false, is_some, vec_len}
+use Rattle.memcached_text.specs.declared.limits.TheConstants.{MAX_WAITING_LEN}
+use Rattle.stream_fronts.specs.Clients.{AreOpen}
+use Rattle.stream_fronts.specs.Going.{GoesBy}
+use Rattle.stream_fronts.proofs.serve.serve_connections.Given as goal
+
+abbrev pub invariant-loop : goal.invariant-loop
+invariant-loop g l =
+    (vec_len l.desk.room ≡ MAX_WAITING_LEN)
+    × AreOpen l.clients.held.items (g.C.Connections.log l.connections)
+    × (g.C.Connections.has_ended l.connections ≡ false)
+    × GoesBy (g.F.Front.options l.initial.front) g.F.Front.is_alone (g.F.Front.sessions l.initial.front) (g.F.Front.left l.initial.front) (g.K.Clock.last l.initial.clock) (g.F.Front.sessions l.front) (g.F.Front.left l.front) (g.K.Clock.last l.clock)
+    × (l.left ≤ g.F.Front.left l.front)
+    × (g.C.Connections.faults l.initial.connections ≤ g.C.Connections.faults l.connections)
+    × (g.C.Connections.port l.connections ≡ g.C.Connections.port l.initial.connections)
+    × (g.F.Front.options l.front ≡ g.F.Front.options l.initial.front)
+    × (g.F.Front.number l.front ≡ g.F.Front.number l.initial.front)
+    × (g.F.Front.stands l.front ≡ g.F.Front.stands l.initial.front)
+    × (is_some (g.C.Connections.log l.connections) ≡ is_some (g.C.Connections.log l.initial.connections))

@@ -1,0 +1,20 @@
+use Rattle.std.proofs.Common.{sym, ◌∙◌, subst}
+use Rattle.std.specs.Prelude.{IfSome}
+use Rattle.stream_fronts.specs.Open.{IsOpen}
+use Rattle.stream_fronts.proofs.Holding.{put_back, let_go, moves_then}
+use Rattle.stream_fronts.proofs.serve.take_in.Goals as goal
+
+pub returns-in-Ok-clause-clients : goal.returns-in-Ok-clause-clients
+returns-in-Ok-clause-clients g c =
+    let log = g.C.Connections.log c.args.connections.now in
+    let opened = subst (λ asks. IfSome log (IsOpen c.args.number asks)) (sym c.new.ensures.asks) c.requires.«open» in
+    put_back c.args.number c.args.clients.now.held.items c.make_room.new.self.held.items c.put.new.self.held.items log log c.new.result c.requires.clients
+    (λ n other. c.make_room.ensures.same n) c.put.ensures.others c.put.ensures.here (λ n a other is. is) c.new.ensures.client opened
+
+pub returns-in-Err-clause-clients : goal.returns-in-Err-clause-clients
+returns-in-Err-clause-clients g c =
+    let log = g.C.Connections.log in
+    let before = log c.args.connections.now in
+    let_go c.args.number c.args.clients.now.held.items c.take-gone.new.self.held.items before (log c.close.new.connections) c.requires.clients
+    (λ n other. c.take-gone.ensures.others n other ∙ c.make_room.ensures.same n) c.take-gone.ensures.gone
+    (moves_then c.args.number before before (log c.close.new.connections) (λ n a other is. is) c.close.ensures.told c.close.ensures.others)

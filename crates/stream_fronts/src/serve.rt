@@ -1,0 +1,197 @@
+//! One front behind its port.
+ghost use Rattle.std.specs.Prelude.{◌≡◌, ◌<◌, ◌≤◌, false, length, is_some, IfOk, IfSome, IsErrOf, vec_len};
+ghost use Rattle.mica_io.specs.Faults.{Rose};
+ghost use Rattle.memcached_text.specs.declared.limits.TheConstants.{MAX_WAITING_LEN};
+ghost use Rattle.stream_fronts.specs.Clients.{AreOpen};
+ghost use Rattle.stream_fronts.specs.Going.{GoesBy};
+ghost use Rattle.stream_fronts.specs.Open.{IsOpen, IsOpened};
+
+use crate::answer::LIMITS;
+use crate::calls::{ask_again, close};
+use crate::client::Client;
+use crate::clients::Clients;
+use crate::desk::Desk;
+use crate::visit::{After, visit_on};
+use memcached_fronts::Numbering;
+use mica_clock::Clock;
+use mica_fronts::{Changes, ServeFault};
+use mica_io::NoMemory;
+use std::alloc::Global;
+use std::sync::Wait;
+use std::thread::Threads;
+use stream_io::{Connections, Event};
+
+/// Visits the connection under a number, where one is held.
+#[tactic(auto, using(crate::proofs::Holding::put_back, crate::proofs::Holding::let_go, crate::proofs::Holding::all_kept, crate::proofs::Holding::moves_keeps, crate::proofs::Holding::moves_then, crate::proofs::Holding::others_of_asked, crate::proofs::Holding::asked_open, crate::proofs::Opening::still_open, crate::proofs::Opening::same_keeps, crate::proofs::Going::by_none))]
+fn visit_held<R: Threads + Wait + Sync, F: Changes, K: Clock, C: Connections>(
+    rt: &R,
+    alloc: Global,
+    front: &mut F,
+    clock: &mut K,
+    numbering: Numbering,
+    left: &mut u64,
+    connections: &mut C,
+    number: u32,
+    clients: &mut Clients,
+    desk: &mut Desk,
+)
+    requires room { vec_len desk.old.room ≡ MAX_WAITING_LEN }
+    requires clients { AreOpen clients.old.held.items (C.log connections.old) }
+    requires partitions { numbering.partitions ≡ (F.options front.old).partitions }
+    requires left { left.old ≤ F.left front.old }
+    ensures room { vec_len desk.new.room ≡ MAX_WAITING_LEN }
+    ensures clients { AreOpen clients.new.held.items (C.log connections.new) }
+    ensures told { is_some (C.log connections.new) ≡ is_some (C.log connections.old) }
+    ensures ended { C.has_ended connections.new ≡ C.has_ended connections.old }
+    ensures faults { C.faults connections.new ≡ C.faults connections.old }
+    ensures port { C.port connections.new ≡ C.port connections.old }
+    ensures goes { GoesBy (F.options front.old) F.is_alone (F.sessions front.old) (F.left front.old) (K.last clock.old) (F.sessions front.new) (F.left front.new) (K.last clock.new) }
+    ensures left { left.new ≤ F.left front.new }
+    ensures options { F.options front.new ≡ F.options front.old }
+    ensures number { F.number front.new ≡ F.number front.old }
+    ensures stands { F.stands front.new ≡ F.stands front.old }
+{
+    let Some(mut client) = clients.take(number) else {
+        return;
+    };
+    let asks = client.asks;
+    let after = visit_on(
+        rt,
+        alloc,
+        front,
+        clock,
+        numbering,
+        left,
+        connections,
+        number,
+        &mut client,
+        desk,
+    );
+    match after {
+        Ok(After::Waits) => clients.put(number, client),
+        Ok(After::Again) => {
+            ask_again(connections, number, client.asks);
+            client.asks -= 1;
+            clients.put(number, client);
+        }
+        Ok(After::Over) | Err(NoMemory) => close(connections, number, asks),
+    }
+}
+
+/// Holds a new connection. Where there is no memory for it, it is closed.
+#[tactic(auto, using(crate::proofs::Holding::put_back, crate::proofs::Holding::let_go, crate::proofs::Holding::moves_keeps, crate::proofs::Holding::moves_then, crate::proofs::Opening::same_keeps))]
+fn take_in<C: Connections>(alloc: Global, connections: &mut C, number: u32, clients: &mut Clients)
+    requires clients { AreOpen clients.old.held.items (C.log connections.old) }
+    requires open { IfSome (C.log connections.old) (IsOpen number 0) }
+    ensures clients { AreOpen clients.new.held.items (C.log connections.new) }
+    ensures told { is_some (C.log connections.new) ≡ is_some (C.log connections.old) }
+    ensures ended { C.has_ended connections.new ≡ C.has_ended connections.old }
+    ensures faults { C.faults connections.new ≡ C.faults connections.old }
+    ensures port { C.port connections.new ≡ C.port connections.old }
+{
+    match clients.make_room(number) {
+        Ok(()) => clients.put(number, Client::new(alloc)),
+        Err(NoMemory) => {
+            let _gone = clients.take(number);
+            close(connections, number, 0);
+        }
+    }
+}
+
+/// Serves what is reported.
+#[tactic(auto, using(crate::proofs::Holding::all_kept, crate::proofs::Opening::same_keeps, crate::proofs::Going::by_none))]
+fn serve_event<R: Threads + Wait + Sync, F: Changes, K: Clock, C: Connections>(
+    rt: &R,
+    alloc: Global,
+    front: &mut F,
+    clock: &mut K,
+    numbering: Numbering,
+    left: &mut u64,
+    connections: &mut C,
+    event: Event,
+    clients: &mut Clients,
+    desk: &mut Desk,
+)
+    requires room { vec_len desk.old.room ≡ MAX_WAITING_LEN }
+    requires clients { AreOpen clients.old.held.items (C.log connections.old) }
+    requires event { IfSome (C.log connections.old) (IsOpened event) }
+    requires partitions { numbering.partitions ≡ (F.options front.old).partitions }
+    requires left { left.old ≤ F.left front.old }
+    ensures room { vec_len desk.new.room ≡ MAX_WAITING_LEN }
+    ensures clients { AreOpen clients.new.held.items (C.log connections.new) }
+    ensures told { is_some (C.log connections.new) ≡ is_some (C.log connections.old) }
+    ensures ended { C.has_ended connections.new ≡ C.has_ended connections.old }
+    ensures faults { C.faults connections.new ≡ C.faults connections.old }
+    ensures port { C.port connections.new ≡ C.port connections.old }
+    ensures goes { GoesBy (F.options front.old) F.is_alone (F.sessions front.old) (F.left front.old) (K.last clock.old) (F.sessions front.new) (F.left front.new) (K.last clock.new) }
+    ensures left { left.new ≤ F.left front.new }
+    ensures options { F.options front.new ≡ F.options front.old }
+    ensures number { F.number front.new ≡ F.number front.old }
+    ensures stands { F.stands front.new ≡ F.stands front.old }
+{
+    match event {
+        Event::Opened(number) => take_in(alloc, connections, number, clients),
+        Event::Ready(number) => visit_held(
+            rt,
+            alloc,
+            front,
+            clock,
+            numbering,
+            left,
+            connections,
+            number,
+            clients,
+            desk,
+        ),
+    }
+}
+
+/// Serves the connections of a port, to its end, or until nearly so many writes were given to the front. A connection that there is no memory for is closed.
+#[tactic(auto, using(crate::proofs::Holding::none_held, crate::proofs::Holding::all_kept, crate::proofs::Going::by_none, crate::proofs::Going::by_both, crate::proofs::Opening::tells_keeps, crate::proofs::Opening::tells_opened, crate::proofs::Opening::called_keeps))]
+pub fn serve_connections<R: Threads + Wait + Sync, F: Changes, K: Clock, C: Connections>(
+    rt: &R,
+    alloc: Global,
+    front: &mut F,
+    clock: &mut K,
+    numbering: Numbering,
+    most: u64,
+    connections: &mut C,
+) -> Result<(), ServeFault>
+    requires open { C.has_ended connections.old ≡ false }
+    requires partitions { numbering.partitions ≡ (F.options front.old).partitions }
+    requires left { most ≤ F.left front.old }
+    ensures goes { GoesBy (F.options front.old) F.is_alone (F.sessions front.old) (F.left front.old) (K.last clock.old) (F.sessions front.new) (F.left front.new) (K.last clock.new) }
+    ensures cause { IsErrOf result ServeFault.Net → Rose (C.faults connections.old) (C.faults connections.new) }
+    ensures never_fall { C.faults connections.old ≤ C.faults connections.new }
+    ensures told { is_some (C.log connections.new) ≡ is_some (C.log connections.old) }
+    ensures port { C.port connections.new ≡ C.port connections.old }
+    ensures options { F.options front.new ≡ F.options front.old }
+    ensures number { F.number front.new ≡ F.number front.old }
+    ensures stands { F.stands front.new ≡ F.stands front.old }
+{
+    let mut desk = Desk::new(alloc)?;
+    let mut clients = Clients::new(alloc);
+    let mut left = most;
+    let least = LIMITS.asks as u64 + u64::from(numbering.partitions);
+    for _ in rt.forever() {
+        if left < least {
+            break;
+        }
+        let Some(event) = connections.next()? else {
+            break;
+        };
+        serve_event(
+            rt,
+            alloc,
+            front,
+            clock,
+            numbering,
+            &mut left,
+            connections,
+            event,
+            &mut clients,
+            &mut desk,
+        );
+    }
+    Ok(())
+}
