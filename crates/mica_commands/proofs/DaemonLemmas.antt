@@ -1,5 +1,6 @@
 -- What the words of a server that stays up give is possible.
-use Rattle.std.proofs.Common.{◌≡◌, ℕ, ◌≤◌, ◌*◌, ◌/◌, Option, Some, None, Bool, true, false, nat_le, option_map, unwrap_or, ap, refl, subst, if◌then◌else◌, arith}
+use Rattle.std.proofs.Common.{◌≡◌, ℕ, ◌≤◌, ◌+◌, ◌*◌, ◌/◌, Option, Some, None, Bool, true, false, ◌&&◌, nat_le, is_some, option_map, unwrap_or, ap, refl, subst, if◌then◌else◌, arith}
+use Rattle.std.proofs.lemmas.Bool.{leb-true}
 use lib.Count.{ones}
 use Rattle.std.specs.Int.{is_power_of_two}
 use Rattle.std.proofs.lemmas.Option.{none-some}
@@ -11,13 +12,19 @@ use Rattle.partition_sizes.specs.declared.sizes.Sizes.{Sizes}
 use Rattle.partition_sizes.specs.declared.sizes.TheConstants.{LEAST_MEMORY, MOST_MEMORY}
 use Rattle.partition_sizes.specs.Sizes.{with_sizes, sizes_for}
 use Rattle.partition_sizes.proofs.Fitting as fitting
+use Rattle.mica_fronts.specs.declared.totals.TheConstants.{MAX_BATCHES}
 use Rattle.mica_fronts.specs.declared.ports.Ports.{Ports}
-use Rattle.mica_fronts.specs.PortOptions.{IsValidPorts}
+use Rattle.stream_fronts.specs.declared.ports.TheConstants.{MOST_STREAM_FRONTS}
+use Rattle.stream_fronts.specs.StreamPorts.{IsPossibleStreams}
+use Rattle.mica_commands.specs.declared.stream_words.StreamOptions.{StreamOptions}
+use Rattle.mica_commands.specs.declared.daemon_words.TheConstants.{MOST_FRONTS}
 use Rattle.mica_commands.specs.Words.{Text}
-use Rattle.mica_commands.specs.CommandLine.{mode, tries, number_of, value_of, ◌>>=◌}
+use Rattle.mica_commands.specs.CommandLine.{mode, tries, port, number_of, value_of, ◌>>=◌}
 use Rattle.mica_commands.specs.Memory.{before_letter, amount_in, amount_or, memory_of}
-use Rattle.mica_commands.specs.DaemonWords.{Service, partitions, buckets, spares, words, wear, memory_name, sizes_by_words, sizes_by, sizes_given, service_options, image_name, lasting_ports, may_fill, daemon_given, gives_size}
-use Rattle.mica_commands.proofs.ValueLemmas.{both_told, same_options, value_bounds, power_value, number_bounds, one_kilo, lasting_valid}
+use Rattle.mica_commands.specs.StreamWords.{memcached, memcached_fronts, listen, connections, no_streams, gives_more, some_streams, streams_by, streams_given}
+use Rattle.mica_commands.specs.DaemonWords.{Service, partitions, buckets, spares, words, wear, memory_name, sizes_by_words, sizes_by, sizes_given, service_options, image_name, fronts, lasting_ports, no_ports, ports_by, ports_given, are_possible, may_fill, daemon_given, gives_size, ArePossibleFronts}
+use Rattle.mica_commands.proofs.ValueLemmas.{both_told, same_options, value_bounds, power_value, number_bounds, one_kilo, required_bounds}
+use Rattle.mica_commands.proofs.StrayWords.{and_left, and_right}
 use Rattle.mica_commands.proofs.MemoryLemmas.{memory_bounds}
 
 -- options that are possible but for their sizes
@@ -78,12 +85,72 @@ service_possible given options is =
     (value_bounds tries.name 1 1000 100 (given tries.name) t.0 (omega arith, omega arith) t.1)
     (value_bounds wear.name 1 MOST_WEAR MOST_WEAR (given wear.name) e.0 (omega arith, omega arith) e.1)))
 
-pub service_valid : (given : Text → Option Text) (service : Service) → daemon_given given ≡ Some service → IsPossible service.options × IsValidPorts service.ports
+-- ports of datagrams and of connections that may be given, apart from each other
+record ArePorts (ports : Ports) : Type 0 where
+  port : InRange 1024 65000 ports.port
+  fronts : InRange 0 MOST_FRONTS ports.fronts
+  batches : InRange 1 MAX_BATCHES ports.batches
+
+lasting_valid : (given : Text → Option Text) (ports : Ports) → lasting_ports given ≡ Some ports → ArePorts ports
+lasting_valid given ports is =
+    let p = both_told (value_of port given) _ ports is in
+    let f = both_told (value_of fronts given) _ ports p.2 in
+    let made : Ports = record { port = p.0; fronts = f.0; batches = MAX_BATCHES } in
+    subst ArePorts (ap (λ o. unwrap_or o made) f.2) (record {
+      port = required_bounds port.name 1024 65000 (given port.name) p.0 p.1;
+      fronts = (omega arith, (value_bounds fronts.name 1 MOST_FRONTS 1 (given fronts.name) f.0 (omega arith, omega arith) f.1).1);
+      batches = (omega arith, omega arith);
+    })
+
+no_ports_valid : ArePorts no_ports
+no_ports_valid = record { port = (omega arith, omega arith); fronts = (omega arith, omega arith); batches = (omega arith, omega arith) }
+
+ports_valid : (given : Text → Option Text) (first : Option Text) (ports : Ports) → ports_by given first ≡ Some ports → ArePorts ports
+ports_valid given None ports is =
+    elim (is_some (given fronts.name)) as (λ b. (if b then None else Some no_ports) ≡ Some ports → ArePorts ports) [
+      | true ↦ λ none. absurd (none-some ports none)
+      | false ↦ λ same. subst ArePorts (ap (λ o. unwrap_or o no_ports) same) no_ports_valid
+    ] is
+ports_valid given (Some text) ports is = lasting_valid given ports is
+
+some_streams_valid : (given : Text → Option Text) (streams : StreamOptions) → some_streams given ≡ Some streams → IsPossibleStreams streams.ports
+some_streams_valid given streams is =
+    let p = both_told (value_of memcached given) _ streams is in
+    let f = both_told (value_of memcached_fronts given) _ streams p.2 in
+    let l = both_told (value_of listen given) _ streams f.2 in
+    let c = both_told (value_of connections given) _ streams l.2 in
+    let made : StreamOptions = record { ports = record { port = p.0; fronts = f.0 }; address = l.0; connections = c.0 } in
+    let first = required_bounds memcached.name 1024 65000 (given memcached.name) p.0 p.1 in
+    let few = value_bounds memcached_fronts.name 1 MOST_STREAM_FRONTS 1 (given memcached_fronts.name) f.0 (omega arith, omega arith) f.1 in
+    subst (λ (s : StreamOptions). IsPossibleStreams s.ports) (ap (λ o. unwrap_or o made) c.2) (record { numbers = omega (arith, first.1, few.1); fronts = few.1 })
+
+streams_valid : (given : Text → Option Text) (first : Option Text) (streams : StreamOptions) → streams_by given first ≡ Some streams → IsPossibleStreams streams.ports
+streams_valid given None streams is =
+    elim (gives_more given) as (λ b. (if b then None else Some no_streams) ≡ Some streams → IsPossibleStreams streams.ports) [
+      | true ↦ λ none. absurd (none-some streams none)
+      | false ↦ λ same. subst (λ (s : StreamOptions). IsPossibleStreams s.ports) (ap (λ o. unwrap_or o no_streams) same) (record { numbers = omega arith; fronts = omega arith })
+    ] is
+streams_valid given (Some text) streams is = some_streams_valid given streams is
+
+both_valid : (ports : Ports) (streams : StreamOptions) → ArePorts ports → IsPossibleStreams streams.ports → are_possible ports streams ≡ true → ArePossibleFronts ports streams.ports
+both_valid ports streams p s is = record {
+  port = p.port;
+  fronts = p.fronts;
+  batches = p.batches;
+  stream_ports = s;
+  all = (leb-true 1 _ (and_left _ _ is), leb-true _ MOST_FRONTS (and_right _ _ is));
+}
+
+pub service_valid : (given : Text → Option Text) (service : Service) → daemon_given given ≡ Some service → IsPossible service.options × ArePossibleFronts service.ports service.streams.ports
 service_valid given service is =
     let o = both_told (service_options given) _ service is in
-    let p = both_told (lasting_ports given) _ service o.2 in
-    let made : Service = record { options = o.0; ports = p.0; image = given image_name } in
-    elim (may_fill o.0.mode (given image_name)) as (λ b. (if b then Some made else None) ≡ Some service → IsPossible service.options × IsValidPorts service.ports) [
-      | true ↦ λ same. subst (λ (s : Service). IsPossible s.options × IsValidPorts s.ports) (ap (λ s. unwrap_or s made) same) (service_possible given o.0 o.1, lasting_valid given p.0 p.1)
-      | false ↦ λ none. absurd (none-some service none)
-    ] p.2
+    let p = both_told (ports_given given) _ service o.2 in
+    let s = both_told (streams_given given) _ service p.2 in
+    let made : Service = record { options = o.0; ports = p.0; streams = s.0; image = given image_name } in
+    told made (are_possible p.0 s.0) (may_fill o.0.mode (given image_name)) refl (service_possible given o.0 o.1) (ports_valid given (given port.name) p.0 p.1) (streams_valid given (given memcached.name) s.0 s.1) s.2
+  where
+    told : (made : Service) (possible fills : Bool) → are_possible made.ports made.streams ≡ possible → IsPossible made.options → ArePorts made.ports → IsPossibleStreams made.streams.ports
+        → (if possible && fills then Some made else None) ≡ Some service → IsPossible service.options × ArePossibleFronts service.ports service.streams.ports
+    told made true true possible o p s same = subst (λ (s : Service). IsPossible s.options × ArePossibleFronts s.ports s.streams.ports) (ap (λ s. unwrap_or s made) same) (o, both_valid made.ports made.streams p s possible)
+    told made true false possible o p s none = absurd (none-some service none)
+    told made false fills possible o p s none = absurd (none-some service none)

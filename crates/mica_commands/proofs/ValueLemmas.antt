@@ -18,11 +18,9 @@ use Rattle.mica_client.specs.declared.options.AskOptions.{AskOptions}
 use Rattle.mica_client.specs.AskOptions.{IsValidAsk}
 use Rattle.partition_model.specs.Options.{InRange, IsPowerUpTo, IsValid}
 use Rattle.partition_model.proofs.PowersOfTwo.{small_power_of_two}
-use Rattle.mica_fronts.specs.declared.totals.TheConstants.{MAX_BATCHES}
 use Rattle.mica_fronts.specs.declared.ports.Ports.{Ports}
 use Rattle.mica_fronts.specs.PortOptions.{IsValidPorts}
 use Rattle.mica_commands.specs.Words.{Text}
-use Rattle.mica_commands.specs.DaemonWords.{lasting_ports}
 use Rattle.mica_commands.specs.CommandLine.{mode, partitions, buckets, spares, words, readers, tries, wear, port, fronts, batches, number, power_of_two, required_number, number_of, is_number, value_by, value_of, options_with, replay_options, serve_options, without_readers, exclusive_options, image_options, ask_options, per, wait, port_options, ◌>>=◌}
 
 same_number : (a b : ℕ) → Some a ≡ Some b → a ≡ b
@@ -149,17 +147,6 @@ ask_valid given options is =
       fronts = value_bounds fronts.name 1 16 1 (given fronts.name) f.0 (omega arith, omega arith) f.1;
       per = value_bounds per.name 1 255 32 (given per.name) e.0 (omega arith, omega arith) e.1;
       wait = value_bounds wait.name 1 3600 5 (given wait.name) w.0 (omega arith, omega arith) w.1;
-    })
-
-pub lasting_valid : (given : Text → Option Text) (ports : Ports) → lasting_ports given ≡ Some ports → IsValidPorts ports
-lasting_valid given ports is =
-    let p = both_told (value_of port given) _ ports is in
-    let f = both_told (value_of fronts given) _ ports p.2 in
-    let made : Ports = record { port = p.0; fronts = f.0; batches = MAX_BATCHES } in
-    subst IsValidPorts (ap (λ o. unwrap_or o made) f.2) (record {
-      port = required_bounds port.name 1024 65000 (given port.name) p.0 p.1;
-      fronts = value_bounds fronts.name 1 16 1 (given fronts.name) f.0 (omega arith, omega arith) f.1;
-      batches = (omega arith, omega arith);
     })
 
 pub ports_valid : (given : Text → Option Text) (ports : Ports) → port_options given ≡ Some ports → IsValidPorts ports

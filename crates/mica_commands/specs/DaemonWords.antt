@@ -1,21 +1,26 @@
 -- The words of a server that stays up: its partitions, by their sizes or by how much memory they may take, its ports, and an image.
-use Rattle.std.specs.Prelude.{◌≡◌, ⊤, ℕ, Bool, ◌||◌, true, List, [], ◌∷◌, Option, Some, None, is_none, is_some, option_map, codes, Result, Ok, Err, if◌then◌else◌}
+use Rattle.std.specs.Prelude.{◌≡◌, ⊤, ℕ, ◌+◌, Bool, ◌||◌, ◌&&◌, true, List, [], ◌∷◌, ◌++◌, Option, Some, None, is_none, is_some, option_map, codes, Result, Ok, Err, if◌then◌else◌}
+use Rattle.std.specs.Int.{is_in_range}
 use Rattle.partition_model.specs.declared.options.Options.{Options}
 use Rattle.partition_model.specs.declared.options.Mode.{Mode}
 use Rattle.partition_model.specs.declared.options.Mode.TheVariants.{Cache, Store}
 use Rattle.partition_model.specs.declared.options.TheConstants.{MOST_PARTITIONS, MOST_SPARES, MOST_WORDS, MOST_WEAR}
-use Rattle.partition_model.specs.Options.{IsPossible}
+use Rattle.partition_model.specs.Options.{InRange, IsPossible}
 use Rattle.partition_sizes.specs.declared.sizes.Sizes.{Sizes}
 use Rattle.partition_sizes.specs.Sizes.{sizes_for}
 use Rattle.mica_fronts.specs.declared.totals.TheConstants.{MAX_BATCHES}
 use Rattle.mica_fronts.specs.declared.ports.Ports.{Ports}
-use Rattle.mica_fronts.specs.PortOptions.{IsValidPorts}
+use Rattle.stream_fronts.specs.declared.ports.StreamPorts.{StreamPorts}
+use Rattle.stream_fronts.specs.StreamPorts.{IsPossibleStreams}
 use Rattle.mica_commands.specs.declared.command.WordsFault.{WordsFault}
 use Rattle.mica_commands.specs.declared.command.WordsFault.TheVariants.{Usage, NoMemory}
+use Rattle.mica_commands.specs.declared.daemon_words.TheConstants.{MOST_FRONTS}
 use Rattle.mica_commands.specs.declared.daemon_words.DaemonOptions.{DaemonOptions}
+use Rattle.mica_commands.specs.declared.stream_words.StreamOptions.{StreamOptions}
 use Rattle.mica_commands.specs.Words.{Text}
 use Rattle.mica_commands.specs.Memory.{memory_of}
-use Rattle.mica_commands.specs.CommandLine.{Setting, number, power_of_two, mode, tries, port, fronts, value_of, read_as, ◌>>=◌}
+use Rattle.mica_commands.specs.CommandLine.{Setting, number, power_of_two, mode, tries, port, value_of, read_as, ◌>>=◌}
+use Rattle.mica_commands.specs.StreamWords.{stream_names, streams_given}
 
 -- its options for partitions have the names of those of `serve`, and all the values that partitions can be made of
 abbrev pub partitions : Setting ℕ
@@ -80,21 +85,42 @@ service_options given =
 abbrev pub image_name : Text
 image_name = codes "image"
 
+-- how many fronts take datagrams
+abbrev pub fronts : Setting ℕ
+fronts = number (codes "fronts") 1 MOST_FRONTS 1
+
 -- the names of its options
 abbrev pub daemon_names : List Text
-daemon_names = mode.name ∷ partitions.name ∷ buckets.name ∷ spares.name ∷ words.name ∷ memory_name ∷ tries.name ∷ wear.name ∷ port.name ∷ fronts.name ∷ image_name ∷ []
+daemon_names = mode.name ∷ partitions.name ∷ buckets.name ∷ spares.name ∷ words.name ∷ memory_name ∷ tries.name ∷ wear.name ∷ port.name ∷ fronts.name ∷ image_name ∷ stream_names
 
--- its ports, each of whose fronts takes as many datagrams as can be counted
+-- the ports of datagrams, each of whose fronts takes as many as can be counted
 abbrev pub lasting_ports : (Text → Option Text) → Option Ports
 lasting_ports given =
     value_of port given >>= λ port.
     value_of fronts given >>= λ fronts.
     Some (record { port = port; fronts = fronts; batches = MAX_BATCHES })
 
--- what it is to do: its partitions, its ports, and the file whose image fills it, if one does
+-- none
+abbrev pub no_ports : Ports
+no_ports = record { port = 1024; fronts = 0; batches = MAX_BATCHES }
+
+-- There are some where their first port is given, and nothing more is said of them where it is not.
+abbrev pub ports_by : (Text → Option Text) → Option Text → Option Ports
+ports_by given None = if is_some (given fronts.name) then None else Some no_ports
+ports_by given (Some text) = lasting_ports given
+
+abbrev pub ports_given : (Text → Option Text) → Option Ports
+ports_given given = ports_by given (given port.name)
+
+-- the number of fronts of both kinds is possible
+abbrev pub are_possible : Ports → StreamOptions → Bool
+are_possible ports streams = is_in_range 1 MOST_FRONTS (ports.fronts + streams.ports.fronts)
+
+-- what it is to do: its partitions, its ports of datagrams and of connections, and the file whose image fills it, if one does
 pub record Service : Type 0 where
   pub options : Options
   pub ports : Ports
+  pub streams : StreamOptions
   pub image : Option Text
 
 -- an image fills a store, and no cache
@@ -105,8 +131,11 @@ may_fill Cache image = is_none image
 abbrev pub daemon_given : (Text → Option Text) → Option Service
 daemon_given given =
     service_options given >>= λ options.
-    lasting_ports given >>= λ ports.
-    if may_fill options.mode (given image_name) then Some (record { options = options; ports = ports; image = given image_name }) else None
+    ports_given given >>= λ ports.
+    streams_given given >>= λ streams.
+    if are_possible ports streams && may_fill options.mode (given image_name)
+    then Some (record { options = options; ports = ports; streams = streams; image = given image_name })
+    else None
 
 -- what words give
 abbrev pub daemon_of : List Text → Option Service
@@ -114,10 +143,18 @@ daemon_of words = read_as daemon_names daemon_given words
 
 -- of what was read
 abbrev pub service_of : DaemonOptions → Service
-service_of read = record { options = read.options; ports = read.ports; image = option_map (λ name. name.now) read.image }
+service_of read = record { options = read.options; ports = read.ports; streams = read.streams; image = option_map (λ name. name.now) read.image }
+
+-- the ranges of its ports: there is a front of one kind at least
+pub record ArePossibleFronts (ports : Ports) (streams : StreamPorts) : Type 0 where
+  pub port : InRange 1024 65000 ports.port
+  pub fronts : InRange 0 MOST_FRONTS ports.fronts
+  pub batches : InRange 1 MAX_BATCHES ports.batches
+  pub stream_ports : IsPossibleStreams streams
+  pub all : InRange 1 MOST_FRONTS (ports.fronts + streams.fronts)
 
 -- what is read of words that give this, or nothing: want of memory may come with any
 abbrev pub IsDaemonReading : Option Service → Result DaemonOptions WordsFault → Type 0
-IsDaemonReading given (Ok read) = (given ≡ Some (service_of read)) × IsPossible read.options × IsValidPorts read.ports
+IsDaemonReading given (Ok read) = (given ≡ Some (service_of read)) × IsPossible read.options × ArePossibleFronts read.ports read.streams.ports
 IsDaemonReading given (Err Usage) = given ≡ None
 IsDaemonReading given (Err NoMemory) = ⊤

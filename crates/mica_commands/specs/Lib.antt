@@ -1,6 +1,7 @@
 pub mod Words
 pub mod CommandLine
 pub mod Memory
+pub mod StreamWords
 pub mod DaemonWords
 pub mod ClapCommand
 pub mod GenOptions

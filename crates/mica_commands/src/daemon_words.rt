@@ -1,28 +1,35 @@
 //! The words of a server that stays up.
 ghost use Rattle.std.specs.Prelude.{◌≡◌, map, string_bytes, option_map};
 ghost use Rattle.clap.specs.Matches.{first_value, found_of};
-ghost use Rattle.mica_commands.specs.DaemonWords.{sizes_by_words, gives_size, sizes_given, service_options, daemon_given, daemon_of, service_of, IsDaemonReading};
+ghost use Rattle.mica_commands.specs.DaemonWords.{sizes_by_words, gives_size, sizes_given, service_options, lasting_ports, ports_given, are_possible, daemon_given, daemon_of, service_of, IsDaemonReading};
 
 use crate::WordsFault;
 use crate::clap_command::matches_of;
 use crate::memory::memory_of;
-use crate::option_values::{count, lasting_ports, mode, number, power_of_two};
+use crate::option_values::{count, mode, number, power_of_two, required};
+use crate::stream_words::{StreamOptions, streams_given};
 use clap::ArgMatches;
-use mica_fronts::Ports;
+use mica_fronts::{MAX_BATCHES, Ports};
 use partition_model::{MOST_PARTITIONS, MOST_SPARES, MOST_WEAR, MOST_WORDS, Mode, Options};
 use partition_sizes::{Sizes, sizes_for};
 use std::alloc::Global;
+
+/// The most fronts of a server, of both kinds together.
+pub const MOST_FRONTS: u32 = 64;
 
 /// What a server that stays up is asked to do.
 #[derive(Debug, Drop)]
 pub struct DaemonOptions<'a> {
     pub options: Options,
+    /// The ports of datagrams. There may be none.
     pub ports: Ports,
+    /// The ports of connections. There may be none.
+    pub streams: StreamOptions,
     /// The file whose image fills the store.
     pub image: Option<&'a str>,
 }
 
-static DAEMON_OPTIONS: [&str; 11] = [
+static DAEMON_OPTIONS: [&str; 15] = [
     "mode",
     "partitions",
     "buckets",
@@ -34,6 +41,10 @@ static DAEMON_OPTIONS: [&str; 11] = [
     "port",
     "fronts",
     "image",
+    "memcached",
+    "memcached-fronts",
+    "listen",
+    "connections",
 ];
 
 // The sizes that are given one by one.
@@ -90,19 +101,57 @@ fn service_options(found: &ArgMatches<'_>) -> Option<Options>
     })
 }
 
+// The ports of datagrams, each of whose fronts takes as many as can be counted.
+fn lasting_ports(found: &ArgMatches<'_>) -> Option<Ports>
+    ensures { result ≡ lasting_ports (first_value (found_of found.now)) }
+{
+    Some(Ports {
+        port: required(found, "port", 1_024, 65_000)? as u16,
+        fronts: count(found, "fronts", 1, MOST_FRONTS, 1)?,
+        batches: MAX_BATCHES,
+    })
+}
+
+// The ports of datagrams. There are some where their first port is given; else nothing more may be said of them.
+fn ports_given(found: &ArgMatches<'_>) -> Option<Ports>
+    ensures { result ≡ ports_given (first_value (found_of found.now)) }
+{
+    if found.get_str("port").is_some() {
+        return lasting_ports(found);
+    }
+    if found.get_str("fronts").is_some() {
+        return None;
+    }
+    Some(Ports {
+        port: 1_024,
+        fronts: 0,
+        batches: MAX_BATCHES,
+    })
+}
+
+// Whether there is a front, and there are not too many.
+fn are_possible(ports: &Ports, streams: &StreamOptions) -> bool
+    ensures { result ≡ are_possible ports.now streams.now }
+{
+    let all = u64::from(ports.fronts) + u64::from(streams.ports.fronts);
+    1 <= all && all <= u64::from(MOST_FRONTS)
+}
+
 // The same from the texts of its options. An image fills a store, and no cache.
 fn daemon_options<'a>(found: &ArgMatches<'a>) -> Option<DaemonOptions<'a>>
     ensures { option_map service_of result ≡ daemon_given (first_value (found_of found.now)) }
 {
     let options = service_options(found)?;
-    let ports = lasting_ports(found)?;
+    let ports = ports_given(found)?;
+    let streams = streams_given(found)?;
     let image = found.get_str("image");
-    if options.mode == Mode::Cache && image.is_some() {
+    if !are_possible(&ports, &streams) || options.mode == Mode::Cache && image.is_some() {
         return None;
     }
     Some(DaemonOptions {
         options,
         ports,
+        streams,
         image,
     })
 }

@@ -17,14 +17,16 @@ mod limits;
 mod memory;
 mod option_values;
 mod spelling;
+mod stream_words;
 mod summary;
 
 pub use command::{Command, WordsFault, read_words};
-pub use daemon_words::{DaemonOptions, read_daemon};
+pub use daemon_words::{DaemonOptions, MOST_FRONTS, read_daemon};
 pub use examples::default_replay;
 pub use gen_options::GenOptions;
 pub use generated_text::gen_text;
 pub use generator::gen_trace;
 pub use limits::MAX_SOURCE_LEN;
 pub use option_values::number_of;
+pub use stream_words::StreamOptions;
 pub use summary::put_summary;

@@ -3,12 +3,11 @@ ghost use Rattle.std.specs.Prelude.{◌≡◌, Some, None, option_map, option_an
 ghost use Rattle.std.specs.Int.{is_power_of_two};
 ghost use Rattle.clap.specs.Matches.{first_value, found_of};
 ghost use Rattle.mica_commands.specs.CommandLine.{begins_number, mode, power_of_two, number, required_number, number_of, value_of, options_with, replay_options, serve_options, without_readers, exclusive_options, image_options, ask_options, port_options, gen_options};
-ghost use Rattle.mica_commands.specs.DaemonWords.{lasting_ports};
 
 use crate::GenOptions;
 use clap::ArgMatches;
 use mica_client::AskOptions;
-use mica_fronts::{MAX_BATCHES, Ports};
+use mica_fronts::Ports;
 use partition_model::{MAX_WEAR, Mode, Options};
 
 fn begins_number(text: &str) -> bool
@@ -173,17 +172,6 @@ pub fn port_options(found: &ArgMatches<'_>) -> Option<Ports>
         port: required(found, "port", 1_024, 65_000)? as u16,
         fronts: count(found, "fronts", 1, 16, 1)?,
         batches: u64::from(required(found, "batches", 1, 1_000_000)?),
-    })
-}
-
-/// The ports of a server that stays up, or `None` where one is missing or its text is no value of it.
-pub fn lasting_ports(found: &ArgMatches<'_>) -> Option<Ports>
-    ensures { result ≡ lasting_ports (first_value (found_of found.now)) }
-{
-    Some(Ports {
-        port: required(found, "port", 1_024, 65_000)? as u16,
-        fronts: count(found, "fronts", 1, 16, 1)?,
-        batches: MAX_BATCHES,
     })
 }
 

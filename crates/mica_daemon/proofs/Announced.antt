@@ -1,5 +1,5 @@
 -- What a server that stays up has written, by what it came to.
-use Rattle.std.proofs.Common.{◌≡◌, ℕ, ◌<◌, ◌⊎◌, inl, inr, List, Option, Some, None, refl, sym, ap, subst, arith}
+use Rattle.std.proofs.Common.{◌≡◌, ℕ, ◌⊎◌, inl, inr, List, Option, Some, None, refl, sym, ap, subst, arith}
 use Rattle.std.specs.Prelude.{Result, Ok, Err}
 use Rattle.partition_model.specs.declared.options.Options.{Options}
 use Rattle.partition_model.specs.declared.write.Write.{Write}
@@ -8,8 +8,10 @@ use Rattle.mica_fronts.specs.declared.totals.ServeFault.TheVariants.{Net, NoMemo
 use Rattle.mica_fronts.specs.declared.ports.Ports.{Ports}
 use Rattle.locked_serve.specs.declared.stop.Stop.{Stop}
 use Rattle.locked_serve.specs.declared.stop.Stop.TheVariants.{Refused, Unannounced, Fault}
-use Rattle.mica_serve.specs.NetRun.{NetFacts, KeepsNet}
-use Rattle.locked_serve.specs.Causes.{IsCauseOfStop, HasAnnounced}
+use Rattle.mica_serve.specs.NetRun.{KeepsNet}
+use Rattle.stream_fronts.specs.declared.ports.StreamPorts.{StreamPorts}
+use Rattle.locked_serve.specs.Streams.{KeepsListeners}
+use Rattle.locked_serve.specs.Causes.{IsCauseOfStop, HasAnnounced, PortFacts, LacksPort, HasPorts}
 use Rattle.mica_cmd.specs.declared.status.Status.{Status}
 use Rattle.mica_commands.specs.Words.{Text}
 use Rattle.mica_commands.specs.DaemonWords.{Service}
@@ -24,15 +26,15 @@ module _ {A : Type 0} (line_of : A → List ℕ) (sink_of : A → SinkFacts) (li
   said : Says (line_of old) (sink_of old) (sink_of new) → Says line (sink_of old) (sink_of new)
   said is = subst (λ l. Says l (sink_of old) (sink_of new)) same is
 
-  pub announced_by : (answer : Result Totals Stop) (before after : NetFacts)
+  pub announced_by : (answer : Result Totals Stop) (before after : PortFacts)
       → HasAnnounced (λ a b. Says (line_of a) (sink_of a) (sink_of b)) (λ a b. FailsToSay (line_of a) (sink_of a) (sink_of b)) answer before after old new
       → HasAnnounced (Says line) (FailsToSay line) answer before after (sink_of old) (sink_of new)
   announced_by (Ok totals) before after is = said is
   announced_by (Err Refused) before after is = ap sink_of is
   announced_by (Err Unannounced) before after is = subst (λ l. FailsToSay l (sink_of old) (sink_of new)) same is
   announced_by (Err (Fault Net)) before after is =
-      elim is as (λ _. ((before.refused < after.refused) × (sink_of new ≡ sink_of old)) ⊎ ((after.refused ≡ before.refused) × Says line (sink_of old) (sink_of new))) [
-        | inl bound ↦ inl (bound.0, ap sink_of bound.1)
+      elim is as (λ _. (LacksPort before after × (sink_of new ≡ sink_of old)) ⊎ (HasPorts before after × Says line (sink_of old) (sink_of new))) [
+        | inl lacks ↦ inl (lacks.0, ap sink_of lacks.1)
         | inr told ↦ inr (told.0, said told.1)
       ]
   announced_by (Err (Fault NoRoom)) before after is =
@@ -46,18 +48,20 @@ pub written_last : (stop cause : Stop) (old new : SinkFacts) (status : Status) �
 written_last stop cause old new status is last = subst (λ (s : Stop). WritesLast (Err s) old new status) (sym is) last
 
 -- a server that came to this answer
-pub serves : (options : Options) (ports : Ports) (answer : Result Totals Stop) (writes : List Write) (old new : Outside) (between : SinkFacts) (status : Status)
-    → IsCauseOfStop answer options writes ports new.tables old.net new.net
-    → HasAnnounced (Says (ready_text ports)) (FailsToSay (ready_text ports)) answer old.net new.net old.sink between
-    → KeepsNet ports old.net new.net → WritesLast answer between new.sink status → Serves options ports writes old new status
-serves options ports answer writes old new between status is announced kept last =
-    record { answer = answer; said = between; cause = is; announced = announced; last = last; kept = kept }
+pub serves : (options : Options) (ports : Ports) (streams : StreamPorts) (seconds : List ℕ) (answer : Result Totals Stop) (writes : List Write) (old new : Outside) (between : SinkFacts) (status : Status)
+    → IsCauseOfStop answer options writes ports streams seconds new.tables old.ports new.ports
+    → HasAnnounced (Says (ready_text ports streams)) (FailsToSay (ready_text ports streams)) answer old.ports new.ports old.sink between
+    → KeepsNet ports old.ports.net new.ports.net → KeepsListeners streams old.ports.listens new.ports.listens → WritesLast answer between new.sink status
+    → Serves options ports streams seconds writes old new status
+serves options ports streams seconds answer writes old new between status is announced kept heard last =
+    record { answer = answer; said = between; cause = is; announced = announced; last = last; kept = kept; heard = heard }
 
 kept_files : (image : Option Text) (files : FilesFacts) → KeepsFiles image files files
 kept_files None files = refl
 kept_files (Some name) files = omega arith
 
 -- where there was no memory before it began, the words do not matter
-pub unwritten : (given : Option Service) (files : FilesFacts) (old new : Outside) (status : Status) → IsUnwritten old.sink new.sink status → BindsNothing old new → KeepsUp given files files old new status
-unwritten None files old new status none same = (inl none, same, refl)
-unwritten (Some service) files old new status none same = (inr (inl none, same), kept_files service.image files)
+pub unwritten : (given : Option Service) (seconds : List ℕ) (files : FilesFacts) (old new : Outside) (status : Status) → IsUnwritten old.sink new.sink status → BindsNothing old new
+    → KeepsUp given seconds files files old new status
+unwritten None seconds files old new status none same = (inl none, same, refl)
+unwritten (Some service) seconds files old new status none same = (inr (inl none, same), kept_files service.image files)

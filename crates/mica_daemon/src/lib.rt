@@ -1,8 +1,8 @@
 //! The program that stays up: a server whose fronts take as many datagrams as can be counted.
 //!
 //! A caller may rely on this: `daemon` ends at once where its partitions take more memory than the system says is free. Else it
-//! fills them by the pairs of an image, where the words name one, before it binds a port. It serves as `mica_serve` promises, says
-//! once that all its ports are bound, before it receives anything, and then nothing until it ends. `specs/Daemon.antt` says what
+//! fills them by the pairs of an image, where the words name one, before it binds a port. It serves datagrams and connections as
+//! `locked_serve` promises, says once that it has all its ports, before it receives anything, and then nothing until it ends. `specs/Daemon.antt` says what
 //! the sink took by what the server came to, and `specs/Filling.antt` what it took where there was no image.
 #![tactic(auto)]
 
@@ -10,6 +10,7 @@ mod files;
 mod filling;
 mod free_memory;
 mod host;
+mod listening;
 mod memory_files;
 mod speaker;
 mod top;
@@ -17,6 +18,7 @@ mod top;
 pub use files::{Files, HostFiles};
 pub use free_memory::{bound_in, free_in};
 pub use host::run_on_host;
+pub use listening::PlacedListeners;
 pub use memory_files::MemFiles;
 pub use speaker::Speaker;
 pub use top::daemon;

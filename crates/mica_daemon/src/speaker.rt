@@ -1,14 +1,17 @@
-//! The sink of a server that stays up, with the line that it is to write once its ports are bound.
-ghost use Rattle.std.specs.Prelude.{◌≡◌, string_bytes, IfOk};
-ghost use Rattle.mica_fronts.specs.PortOptions.{IsValidPorts};
-ghost use Rattle.mica_daemon.specs.Daemon.{ready_text};
+//! The sink of a server that stays up, with the line that it is to write once it has its ports.
+ghost use Rattle.std.specs.Prelude.{◌≡◌, ◌+◌, ◌≤◌, string_bytes, IfOk};
+ghost use Rattle.mica_serve.specs.PossiblePorts.{IsPossiblePorts};
+ghost use Rattle.stream_fronts.specs.StreamPorts.{IsPossibleStreams};
+ghost use Rattle.mica_daemon.specs.Daemon.{range_text, ready_text};
 
 use locked_serve::{Announce, Untold};
 use mica_fronts::Ports;
 use mica_io::{Datagrams, NoMemory, Sink, write_all};
 use std::alloc::Global;
+use stream_fronts::StreamPorts;
+use stream_io::Connections;
 
-/// A sink, and the line that says that the ports are bound.
+/// A sink, and the line that says that the ports are had.
 #[derive(Drop)]
 pub struct Speaker<K> {
     pub sink: K,
@@ -20,11 +23,17 @@ impl<K: Sink + Drop> Announce for Speaker<K> {
     ghost use Rattle.mica_cmd.specs.Outside.{sink_facts};
     ghost use Rattle.mica_daemon.specs.Daemon.{Says, FailsToSay};
 
-    ghost says = { λ _ a b. Says (string_bytes a.line) (sink_facts K.taken K.faults a.sink) (sink_facts K.taken K.faults b.sink) };
+    ghost says = { λ _ _ a b. Says (string_bytes a.line) (sink_facts K.taken K.faults a.sink) (sink_facts K.taken K.faults b.sink) };
 
-    ghost fails = { λ _ a b. FailsToSay (string_bytes a.line) (sink_facts K.taken K.faults a.sink) (sink_facts K.taken K.faults b.sink) };
+    ghost fails = { λ _ _ a b. FailsToSay (string_bytes a.line) (sink_facts K.taken K.faults a.sink) (sink_facts K.taken K.faults b.sink) };
 
-    fn ready<D: Datagrams>(&mut self, _ports: &Ports, _ends: &[D]) -> Result<(), Untold> {
+    fn ready<D: Datagrams, C: Connections>(
+        &mut self,
+        _ports: &Ports,
+        _streams: &StreamPorts,
+        _ends: &[D],
+        _connections: &[C],
+    ) -> Result<(), Untold> {
         match write_all(&mut self.sink, self.line.as_bytes()) {
             Ok(()) => Ok(()),
             Err(_) => Err(Untold),
@@ -32,14 +41,34 @@ impl<K: Sink + Drop> Announce for Speaker<K> {
     }
 }
 
-/// The line that says that these ports are bound: the first one and the last one.
-pub(crate) fn ready_line(alloc: Global, ports: &Ports) -> Result<String, NoMemory>
-    requires { IsValidPorts ports.now }
-    ensures { IfOk result (λ line. string_bytes line ≡ ready_text ports.now) }
+// The first port of so many and the last one, behind what they are of, where there are any.
+fn range_text(alloc: Global, before: &str, first: u16, count: u32) -> Result<String, NoMemory>
+    requires { first + count ≤ 65536 }
+    ensures { IfOk result (λ text. string_bytes text ≡ range_text before.now first count) }
 {
-    let first = ports.port;
-    let last = u32::from(first) + ports.fronts - 1;
-    match format!(in alloc; "ready {first} to {last}\n") {
+    if count == 0 {
+        return Ok(String::new(alloc));
+    }
+    let last = u32::from(first) + count - 1;
+    match format!(in alloc; "{before}{first} to {last}") {
+        Ok(text) => Ok(text),
+        Err(_) => Err(NoMemory),
+    }
+}
+
+/// The line that says that the ports are had: the first one and the last one of each kind.
+pub(crate) fn ready_line(
+    alloc: Global,
+    ports: &Ports,
+    streams: &StreamPorts,
+) -> Result<String, NoMemory>
+    requires ports { IsPossiblePorts ports.now }
+    requires streams { IsPossibleStreams streams.now }
+    ensures { IfOk result (λ line. string_bytes line ≡ ready_text ports.now streams.now) }
+{
+    let datagrams = range_text(alloc, " ", ports.port, ports.fronts)?;
+    let connections = range_text(alloc, " memcached ", streams.port, streams.fronts)?;
+    match format!(in alloc; "ready{datagrams}{connections}\n") {
         Ok(line) => Ok(line),
         Err(_) => Err(NoMemory),
     }

@@ -1,21 +1,24 @@
 //! The top call: from words to a server that stays up, and to its status.
-ghost use Rattle.std.specs.Prelude.{◌≡◌, [], All, map, string_bytes, Err, IsTrue};
+ghost use Rattle.std.specs.Prelude.{◌≡◌, ◌≤◌, [], All, length, take, map, string_bytes, Err, IsTrue};
 ghost use Rattle.partition_model.specs.Options.{IsPossible};
 ghost use Rattle.partition_model.specs.Write.{IsWrite};
-ghost use Rattle.mica_fronts.specs.PortOptions.{IsValidPorts};
 ghost use Rattle.locked_serve.specs.declared.stop.Stop.TheVariants.{Fault};
 ghost use Rattle.mica_serve.specs.NetRun.{net_facts};
-ghost use Rattle.mica_commands.specs.DaemonWords.{daemon_of};
+ghost use Rattle.locked_serve.specs.Streams.{listen_facts};
+ghost use Rattle.mica_commands.specs.declared.daemon_words.TheConstants.{MOST_FRONTS};
+ghost use Rattle.mica_commands.specs.DaemonWords.{daemon_of, ArePossibleFronts};
 ghost use Rattle.mica_cmd.specs.Outside.{sink_facts};
 ghost use Rattle.mica_daemon.specs.Files.{files_facts};
 ghost use Rattle.mica_daemon.specs.Daemon.{HasMemory, WritesLast, Serves, ServesOrNot, KeepsUp, outside, ready_text};
 
 use crate::Files;
 use crate::filling::filling_of;
+use crate::listening::PlacedListeners;
 use crate::speaker::{Speaker, ready_line};
 use locked_serve::{Stop, serve_locked};
+use mica_clock::Clock;
 use mica_cmd::{Status, print_totals, write_due};
-use mica_commands::{DaemonOptions, WordsFault, read_daemon};
+use mica_commands::{DaemonOptions, StreamOptions, WordsFault, read_daemon};
 use mica_fronts::{Ports, ServeFault};
 use mica_io::{Gate, Net, NoMemory, Sink};
 use partition_model::{Options, Write};
@@ -24,6 +27,8 @@ use partition_table::Tables;
 use std::alloc::Global;
 use std::sync::Wait;
 use std::thread::Threads;
+use stream_fronts::StreamPorts;
+use stream_io::Listeners;
 
 // Writes the line of a fault that stopped the server.
 fn write_fault<K: Sink>(fault: ServeFault, sink: &mut K) -> Status
@@ -36,30 +41,43 @@ fn write_fault<K: Sink>(fault: ServeFault, sink: &mut K) -> Status
 }
 
 // Serves, with the line to be written at hand.
-fn serve_aloud<W: Threads + Wait + Sync, K: Sink + Drop, N: Net, G: Gate>(
+fn serve_aloud<
+    W: Threads + Wait + Sync,
+    K: Sink + Drop,
+    N: Net,
+    L: Listeners,
+    C: Clock + Drop + Send,
+    G: Gate,
+>(
     rt: &W,
     alloc: Global,
     options: &Options,
     ports: &Ports,
+    streams: &StreamPorts,
     filling: Vec<Write>,
     speaker: &mut Speaker<K>,
     net: &mut N,
+    listeners: &mut L,
+    clocks: Vec<C>,
+    base: u64,
     gate: &G,
     tables: &mut Tables,
 ) -> Status
     requires options { IsPossible options.now }
-    requires ports { IsValidPorts ports.now }
+    requires fronts { ArePossibleFronts ports.now streams.now }
+    requires clocks { length clocks.items ≡ streams.now.fronts }
     requires filling { All IsWrite filling.items }
-    requires line { string_bytes speaker.old.line ≡ ready_text ports.now }
+    requires line { string_bytes speaker.old.line ≡ ready_text ports.now streams.now }
     requires unbound { N.binds net.old ≡ 0 }
     requires tables { tables.old ≡ [] }
-    ensures { Serves options.now ports.now filling.items
-        (outside (sink_facts K.taken K.faults speaker.old.sink) (net_facts N.faults N.binds N.first N.refused N.ports N.fails net.old) tables.old)
-        (outside (sink_facts K.taken K.faults speaker.new.sink) (net_facts N.faults N.binds N.first N.refused N.ports N.fails net.new) tables.new)
+    ensures { Serves options.now ports.now streams.now (map C.last clocks.items) filling.items
+        (outside (sink_facts K.taken K.faults speaker.old.sink) (net_facts N.faults N.binds N.first N.refused N.ports N.fails net.old) (listen_facts L.faults L.ports listeners.old) tables.old)
+        (outside (sink_facts K.taken K.faults speaker.new.sink) (net_facts N.faults N.binds N.first N.refused N.ports N.fails net.new) (listen_facts L.faults L.ports listeners.new) tables.new)
         result }
 {
     match serve_locked(
-        rt, alloc, options, ports, filling, net, gate, tables, speaker,
+        rt, alloc, options, ports, streams, filling, net, listeners, clocks, base, gate, tables,
+        speaker,
     ) {
         Ok(totals) => print_totals(alloc, totals, &mut speaker.sink),
         Err(Stop::Refused) => write_due(&mut speaker.sink, b"pair refused\n", Status::ImageRefused),
@@ -68,33 +86,60 @@ fn serve_aloud<W: Threads + Wait + Sync, K: Sink + Drop, N: Net, G: Gate>(
     }
 }
 
-// Serves, where there is memory for the line.
-fn stay_up<W: Threads + Wait + Sync, K: Sink + Drop, N: Net, G: Gate>(
+// Serves at the place that the words give, where there is memory for the line.
+fn stay_up<
+    W: Threads + Wait + Sync,
+    K: Sink + Drop,
+    N: Net,
+    L: PlacedListeners,
+    C: Clock + Drop + Send,
+    G: Gate,
+>(
     rt: &W,
     alloc: Global,
     options: &Options,
     ports: &Ports,
+    streams: &StreamOptions,
     filling: Vec<Write>,
     speaker: &mut Speaker<K>,
     net: &mut N,
+    listeners: &mut L,
+    clocks: Vec<C>,
+    base: u64,
     gate: &G,
     tables: &mut Tables,
 ) -> Status
     requires options { IsPossible options.now }
-    requires ports { IsValidPorts ports.now }
+    requires fronts { ArePossibleFronts ports.now streams.now.ports }
+    requires clocks { MOST_FRONTS ≤ length clocks.items }
     requires filling { All IsWrite filling.items }
     requires unbound { N.binds net.old ≡ 0 }
     requires tables { tables.old ≡ [] }
-    ensures { ServesOrNot options.now ports.now filling.items
-        (outside (sink_facts K.taken K.faults speaker.old.sink) (net_facts N.faults N.binds N.first N.refused N.ports N.fails net.old) tables.old)
-        (outside (sink_facts K.taken K.faults speaker.new.sink) (net_facts N.faults N.binds N.first N.refused N.ports N.fails net.new) tables.new)
+    ensures { ServesOrNot options.now ports.now streams.now.ports (take streams.now.ports.fronts (map C.last clocks.items)) filling.items
+        (outside (sink_facts K.taken K.faults speaker.old.sink) (net_facts N.faults N.binds N.first N.refused N.ports N.fails net.old) (listen_facts L.faults L.ports listeners.old) tables.old)
+        (outside (sink_facts K.taken K.faults speaker.new.sink) (net_facts N.faults N.binds N.first N.refused N.ports N.fails net.new) (listen_facts L.faults L.ports listeners.new) tables.new)
         result }
 {
-    match ready_line(alloc, ports) {
+    match ready_line(alloc, ports, &streams.ports) {
         Ok(line) => {
             speaker.line = line;
+            listeners.set_place(streams.address, streams.connections);
+            let mut clocks = clocks;
+            clocks.truncate(streams.ports.fronts as usize);
             serve_aloud(
-                rt, alloc, options, ports, filling, speaker, net, gate, tables,
+                rt,
+                alloc,
+                options,
+                ports,
+                &streams.ports,
+                filling,
+                speaker,
+                net,
+                listeners,
+                clocks,
+                base,
+                gate,
+                tables,
             )
         }
         Err(NoMemory) => Status::NoMemory,
@@ -113,27 +158,40 @@ fn has_memory<F: Files>(alloc: Global, files: &F, options: &Options) -> bool
 }
 
 /// Fills the partitions from the image that the words name, and serves the ports that they give, each for as many datagrams as can be
-/// counted. It writes one line once all ports are bound, and one at its end. Where they take more memory than is free, it ends at once.
-pub fn daemon<W: Threads + Wait + Sync, F: Files, K: Sink + Drop, N: Net, G: Gate>(
+/// counted, and each connection until it ends. It writes one line once it has all ports, and one at its end. Where they take more memory than is free, it ends at once.
+pub fn daemon<
+    W: Threads + Wait + Sync,
+    F: Files,
+    K: Sink + Drop,
+    N: Net,
+    L: PlacedListeners,
+    C: Clock + Drop + Send,
+    G: Gate,
+>(
     rt: &W,
     alloc: Global,
     words: &[String],
     speaker: &mut Speaker<K>,
     files: &mut F,
     net: &mut N,
+    listeners: &mut L,
+    clocks: Vec<C>,
+    base: u64,
     gate: &G,
     tables: &mut Tables,
 ) -> Status
     requires net { N.binds net.old ≡ 0 }
+    requires clocks { MOST_FRONTS ≤ length clocks.items }
     requires tables { tables.old ≡ [] }
-    ensures { KeepsUp (daemon_of (map string_bytes words.now)) (files_facts F.file F.free F.faults files.old) (files_facts F.file F.free F.faults files.new)
-        (outside (sink_facts K.taken K.faults speaker.old.sink) (net_facts N.faults N.binds N.first N.refused N.ports N.fails net.old) tables.old)
-        (outside (sink_facts K.taken K.faults speaker.new.sink) (net_facts N.faults N.binds N.first N.refused N.ports N.fails net.new) tables.new)
+    ensures { KeepsUp (daemon_of (map string_bytes words.now)) (map C.last clocks.items) (files_facts F.file F.free F.faults files.old) (files_facts F.file F.free F.faults files.new)
+        (outside (sink_facts K.taken K.faults speaker.old.sink) (net_facts N.faults N.binds N.first N.refused N.ports N.fails net.old) (listen_facts L.faults L.ports listeners.old) tables.old)
+        (outside (sink_facts K.taken K.faults speaker.new.sink) (net_facts N.faults N.binds N.first N.refused N.ports N.fails net.new) (listen_facts L.faults L.ports listeners.new) tables.new)
         result }
 {
     let DaemonOptions {
         options,
         ports,
+        streams,
         image,
     } = match read_daemon(alloc, words) {
         Ok(read) => read,
@@ -145,7 +203,8 @@ pub fn daemon<W: Threads + Wait + Sync, F: Files, K: Sink + Drop, N: Net, G: Gat
     }
     match filling_of(alloc, files, image, &mut speaker.sink) {
         Ok(filling) => stay_up(
-            rt, alloc, &options, &ports, filling, speaker, net, gate, tables,
+            rt, alloc, &options, &ports, &streams, filling, speaker, net, listeners, clocks, base,
+            gate, tables,
         ),
         Err(status) => status,
     }

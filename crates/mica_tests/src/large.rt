@@ -37,7 +37,7 @@ static REFUSED: [&str; 24] = [
     "--words 255",
     "--wear 4611686018427387905",
     "--wear 0",
-    "--fronts 17",
+    "--fronts 65",
     "--memory 63M",
     "--memory 65535K",
     "--memory 67108863",

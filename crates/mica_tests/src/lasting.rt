@@ -1,11 +1,15 @@
-//! A server that stays up, over a net in memory.
+//! A server that stays up, over a net and connections in memory.
 
-ghost use Rattle.std.specs.Prelude.{◌≡◌};
+ghost use Rattle.std.specs.Prelude.{◌≡◌, length, IfOk};
+ghost use Rattle.mica_commands.specs.declared.daemon_words.TheConstants.{MOST_FRONTS};
 
 use crate::datagrams::{BATCH, REPLIES};
 use crate::runs::words_of;
+use crate::same_schedule::SameSchedule;
+use mica_clock::MemClock;
 use mica_cmd::Status;
-use mica_daemon::{Files, MemFiles, Speaker, daemon};
+use mica_commands::MOST_FRONTS;
+use mica_daemon::{Files, MemFiles, PlacedListeners, Speaker, daemon};
 use mica_io::{FreeGate, MemNet, MemSink, Net, NoMemory};
 use partition_table::Tables;
 use std::alloc::Global;
@@ -13,12 +17,24 @@ use std::sync::Wait;
 use std::test::Fail;
 use std::thread::Threads;
 
+// As many clocks as there may be fronts.
+fn clocks_of(alloc: Global) -> Result<Vec<MemClock<'static>>, NoMemory>
+    ensures { IfOk result (λ clocks. length clocks.items ≡ MOST_FRONTS) }
+{
+    let mut clocks = Vec::with_capacity(alloc, MOST_FRONTS as usize)?;
+    for _ in 0..MOST_FRONTS {
+        clocks.push_reserved(MemClock::new(&[]));
+    }
+    Ok(clocks)
+}
+
 /// The status and what the sink took, which has so much room.
-pub fn run_lasting<W: Threads + Wait + Sync, F: Files, N: Net>(
+pub fn run_listening<W: Threads + Wait + Sync, F: Files, N: Net, L: PlacedListeners>(
     rt: &W,
     alloc: Global,
     files: &mut F,
     net: &mut N,
+    listeners: &mut L,
     line: &str,
     room: u32,
 ) -> Result<(Status, MemSink), NoMemory>
@@ -37,10 +53,28 @@ pub fn run_lasting<W: Threads + Wait + Sync, F: Files, N: Net>(
         &mut speaker,
         files,
         net,
+        listeners,
+        clocks_of(alloc)?,
+        1,
         &FreeGate,
         &mut tables,
     );
     Ok((status, speaker.sink))
+}
+
+/// The same, where nothing happens at the ports of connections.
+pub fn run_lasting<W: Threads + Wait + Sync, F: Files, N: Net>(
+    rt: &W,
+    alloc: Global,
+    files: &mut F,
+    net: &mut N,
+    line: &str,
+    room: u32,
+) -> Result<(Status, MemSink), NoMemory>
+    requires { N.binds net.old ≡ 0 }
+{
+    let mut listeners = SameSchedule::new(alloc, &[], None);
+    run_listening(rt, alloc, files, net, &mut listeners, line, room)
 }
 
 // The same with no files.
@@ -69,6 +103,53 @@ fn says_that_it_is_ready(rt: HostRuntime) -> Result<(), Fail> {
     assert!(rt; status == Status::Done);
     assert!(rt; sink.taken() == b"ready 9000 to 9001\nbatches 1 requests 2 bad 0\n".as_slice());
     assert!(rt; net.sent(9_000, 0) == Some(REPLIES));
+    Ok(())
+}
+
+#[test]
+fn says_the_ports_of_both_kinds(rt: HostRuntime) -> Result<(), Fail> {
+    let alloc = rt.alloc();
+    let mut net = MemNet::new(alloc, &[])?;
+    net.add_port(alloc, 9_000, 100, &[], &[])?;
+    net.add_port(alloc, 9_001, 100, &[], &[])?;
+    net.add_datagram(alloc, 9_000, BATCH)?;
+    let words = format!(in alloc; "{WORDS} --memcached 11211 --memcached-fronts 2")?;
+    let (status, sink) = run_unfilled(&rt, alloc, &mut net, words.as_str(), 100)?;
+    assert!(rt; status == Status::Done);
+    let said = b"ready 9000 to 9001 memcached 11211 to 11212\nbatches 1 requests 2 bad 0\n";
+    assert!(rt; sink.taken() == said.as_slice());
+    assert!(rt; net.sent(9_000, 0) == Some(REPLIES));
+    Ok(())
+}
+
+#[test]
+fn needs_no_port_of_datagrams(rt: HostRuntime) -> Result<(), Fail> {
+    let alloc = rt.alloc();
+    let mut net = MemNet::new(alloc, &[])?;
+    let words = "--mode cache --partitions 1 --memcached 11211";
+    let (status, sink) = run_unfilled(&rt, alloc, &mut net, words, 100)?;
+    assert!(rt; status == Status::Done);
+    let said = b"ready memcached 11211 to 11211\nbatches 0 requests 0 bad 0\n";
+    assert!(rt; sink.taken() == said.as_slice());
+    Ok(())
+}
+
+// The second port of connections is taken.
+#[test]
+fn is_not_ready_where_it_cannot_listen(rt: HostRuntime) -> Result<(), Fail> {
+    let alloc = rt.alloc();
+    let mut net = MemNet::new(alloc, &[])?;
+    let mut listeners = SameSchedule::new(alloc, &[], Some(11_212));
+    let (status, sink) = run_listening(
+        &rt,
+        alloc,
+        &mut MemFiles::new(alloc),
+        &mut net,
+        &mut listeners,
+        "--mode store --memcached 11211 --memcached-fronts 2",
+        100,
+    )?;
+    assert!(rt; status == Status::NetFault && sink.taken() == b"net fault\n".as_slice());
     Ok(())
 }
 

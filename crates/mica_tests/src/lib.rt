@@ -17,6 +17,8 @@ mod filled;
 #[cfg(test)]
 mod filled_udp;
 #[cfg(test)]
+mod front_words;
+#[cfg(test)]
 mod large;
 #[cfg(test)]
 mod lasting;
@@ -31,8 +33,12 @@ mod runs;
 #[cfg(test)]
 mod same_as_machine;
 #[cfg(test)]
+mod same_schedule;
+#[cfg(test)]
 mod served;
 #[cfg(test)]
 mod silence;
+#[cfg(test)]
+mod tcp;
 #[cfg(test)]
 mod udp;

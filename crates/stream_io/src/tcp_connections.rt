@@ -13,6 +13,7 @@ use std::alloc::Global;
 use std::collections::VecDeque;
 use std::io::{self, ErrorKind, Read, Write};
 use std::net::{Ipv4Addr, Net as Sockets, Shutdown, SocketAddr};
+use std::sync::atomic::{AtomicBool, Ordering};
 use std::time::Duration;
 
 /// The token of the listener, which no connection has.
@@ -23,6 +24,9 @@ const MOST_EVENTS: usize = 1_024;
 
 /// How many milliseconds to wait before the system is asked again for a connection that it refused.
 const PAUSE: u64 = 100;
+
+/// After how many seconds a port that waits looks whether another one has failed.
+const LOOK: u64 = 1;
 
 /// How many bytes that nobody reads any more are dropped before a close, so that the replies before it are not lost to a reset.
 const MOST_DROPPED: usize = 64 * 1_024;
@@ -49,9 +53,11 @@ enum Accepting {
 
 /// The TCP connections at one port, at most so many at a time: more wait to be accepted. It tells nothing of content, and waits where nothing comes.
 #[derive(Drop)]
-pub struct TcpConnections {
+pub struct TcpConnections<'a> {
     port: u16,
     most: usize,
+    /// Tells whether a port has failed, where ports fail together.
+    has_failed: Option<&'a AtomicBool>,
     poll: Poll,
     events: Events,
     listener: TcpListener,
@@ -148,14 +154,15 @@ fn drop_unread(slot: &mut Slot) {
     }
 }
 
-impl TcpConnections {
+impl<'a> TcpConnections<'a> {
     pub(crate) fn open(
         rt: &impl Sockets,
         alloc: Global,
         address: Ipv4Addr,
         port: u16,
         most: usize,
-    ) -> io::Result<TcpConnections>
+        has_failed: Option<&'a AtomicBool>,
+    ) -> io::Result<TcpConnections<'a>>
         ensures { IfOk result (λ c. (c.port ≡ port) × (c.faults ≡ 0)) }
     {
         let poll = Poll::new(rt)?;
@@ -166,6 +173,7 @@ impl TcpConnections {
         Ok(TcpConnections {
             port,
             most,
+            has_failed,
             poll,
             events,
             listener,
@@ -232,21 +240,32 @@ impl TcpConnections {
         }
     }
 
-    /// How long to wait: not at all where something is to be reported or accepted.
+    /// How long to wait: not at all where something is to be reported or accepted, and not for long where ports fail together.
     fn timeout(&self) -> Option<Duration> {
         if !self.queue.is_empty() || self.may_accept() {
             Some(Duration::ZERO)
         } else if self.accepting == Accepting::Refused {
             Some(Duration::from_millis(PAUSE))
+        } else if self.has_failed.is_some() {
+            Some(Duration::from_secs(LOOK))
         } else {
             None
         }
+    }
+
+    /// Whether a port has failed, of those that fail together.
+    fn tells_failure(&self) -> bool {
+        self.has_failed
+            .is_some_and(|told| told.load(Ordering::Relaxed))
     }
 
     /// Asks the system what is ready. All of it is one round of reports.
     fn ask(&mut self) -> io::Result<()>
         ensures { (self.new.port ≡ self.old.port) × (self.new.faults ≡ self.old.faults) }
     {
+        if self.tells_failure() {
+            return Err(ErrorKind::Other.into());
+        }
         let timeout = self.timeout();
         self.poll.poll(&mut self.events, timeout)?;
         let listens = put_events(&self.events, &mut self.slots, &mut self.queue);
@@ -292,7 +311,7 @@ impl TcpConnections {
     }
 }
 
-impl Connections for TcpConnections {
+impl<'a> Connections for TcpConnections<'a> {
     ghost port = { λ c. c.port };
 
     ghost log = { λ _. None };
@@ -306,6 +325,9 @@ impl Connections for TcpConnections {
             return Ok(Some(event));
         }
         self.faults = self.faults.saturating_add(1);
+        if let Some(has_failed) = self.has_failed {
+            has_failed.store(true, Ordering::Relaxed);
+        }
         Err(Failed)
     }
 

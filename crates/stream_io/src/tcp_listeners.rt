@@ -6,6 +6,7 @@ use crate::{Listeners, TcpConnections};
 use mica_io::Failed;
 use std::alloc::Global;
 use std::net::{Ipv4Addr, Net as Sockets};
+use std::sync::atomic::AtomicBool;
 
 /// The TCP ports of one address of this machine, each with at most so many connections at a time. They tell nothing of content.
 #[derive(Drop)]
@@ -14,6 +15,7 @@ pub struct TcpListeners<'a, R> {
     alloc: Global,
     address: Ipv4Addr,
     most: u32,
+    has_failed: Option<&'a AtomicBool>,
     faults: u64,
 }
 
@@ -26,21 +28,58 @@ impl<'a, R: Sockets> TcpListeners<'a, R> {
             alloc,
             address,
             most,
+            has_failed: None,
             faults: 0,
         }
+    }
+
+    /// Ports that fail together: once the connections at one have failed, which `has_failed` tells, those at each other one fail when they
+    /// are next waited for, and at the latest a second later.
+    pub fn failing_whole(
+        rt: &'a R,
+        alloc: Global,
+        address: Ipv4Addr,
+        most: u32,
+        has_failed: &'a AtomicBool,
+    ) -> TcpListeners<'a, R>
+        ensures { ⟦<TcpListeners<'a, R> as Listeners>⟧.faults result ≡ 0 }
+    {
+        TcpListeners {
+            rt,
+            alloc,
+            address,
+            most,
+            has_failed: Some(has_failed),
+            faults: 0,
+        }
+    }
+
+    /// From now on it listens at this address, where a port has at most so many connections at a time.
+    pub fn set_place(&mut self, address: Ipv4Addr, most: u32)
+        ensures { ⟦<TcpListeners<'a, R> as Listeners>⟧.faults self.new ≡ ⟦<TcpListeners<'a, R> as Listeners>⟧.faults self.old }
+    {
+        self.address = address;
+        self.most = most;
     }
 }
 
 impl<'a, R: Sockets> Listeners for TcpListeners<'a, R> {
-    type Port = TcpConnections;
+    type Port = TcpConnections<'a>;
 
     ghost faults = { λ l. l.faults };
 
     ghost ports = { λ _. None };
 
-    fn listen(&mut self, port: u16) -> Result<TcpConnections, Failed> {
-        let most = self.most as usize;
-        match TcpConnections::open(self.rt, self.alloc, self.address, port, most) {
+    fn listen(&mut self, port: u16) -> Result<TcpConnections<'a>, Failed> {
+        let opened = TcpConnections::open(
+            self.rt,
+            self.alloc,
+            self.address,
+            port,
+            self.most as usize,
+            self.has_failed,
+        );
+        match opened {
             Ok(connections) => Ok(connections),
             Err(_) => {
                 self.faults = self.faults.saturating_add(1);

@@ -6,4 +6,4 @@ pub returns-in-Ok : goal.returns-in-Ok
 returns-in-Ok g c = inl c.serve_aloud.ensures
 
 pub returns-in-Err : goal.returns-in-Err
-returns-in-Err g c = inr ((refl, Keeps-refl (g.K.Sink.taken c.args.speaker.now.sink)), record { net = refl; tables = refl })
+returns-in-Err g c = inr ((refl, Keeps-refl (g.K.Sink.taken c.args.speaker.now.sink)), record { ports = refl; tables = refl })

@@ -1,0 +1,55 @@
+//! Ports of connections in memory, at each of which the same schedule happens.
+ghost use Rattle.std.specs.Prelude.{◌≡◌};
+
+use mica_daemon::PlacedListeners;
+use mica_io::Failed;
+use std::alloc::Global;
+use std::net::Ipv4Addr;
+use stream_io::{Listeners, MemConnections, Step};
+
+/// They tell nothing of content.
+#[derive(Drop)]
+pub struct SameSchedule<'a> {
+    alloc: Global,
+    schedule: &'a [Step],
+    /// The port that can't be listened at, if there is one.
+    taken: Option<u16>,
+    faults: u64,
+}
+
+impl<'a> SameSchedule<'a> {
+    pub fn new(alloc: Global, schedule: &'a [Step], taken: Option<u16>) -> SameSchedule<'a> {
+        SameSchedule {
+            alloc,
+            schedule,
+            taken,
+            faults: 0,
+        }
+    }
+}
+
+impl<'a> Listeners for SameSchedule<'a> {
+    ghost use Rattle.std.specs.Prelude.{None};
+
+    type Port = MemConnections<'a>;
+
+    ghost faults = { λ l. l.faults };
+
+    ghost ports = { λ _. None };
+
+    fn listen(&mut self, port: u16) -> Result<MemConnections<'a>, Failed> {
+        if self.taken != Some(port) {
+            if let Ok(connections) =
+                MemConnections::new(self.alloc, port, self.schedule, 1_024, &[])
+            {
+                return Ok(connections);
+            }
+        }
+        self.faults = self.faults.saturating_add(1);
+        Err(Failed)
+    }
+}
+
+impl<'a> PlacedListeners for SameSchedule<'a> {
+    fn set_place(&mut self, _address: Ipv4Addr, _most: u32) {}
+}
