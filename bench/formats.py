@@ -10,6 +10,7 @@ import time
 
 TOP = pathlib.Path(__file__).resolve().parent.parent
 MICA = pathlib.Path(os.environ.get("MICA", TOP / "crates/mica/out/mica"))
+MICAD = pathlib.Path(os.environ.get("MICAD", TOP / "crates/micad/out/micad"))
 HOST = "127.0.0.1"
 
 GET, PUT, DELETE, ADD, TOUCH = range(5)

@@ -3,7 +3,7 @@
 use crate::generate::Pcg;
 use crate::number_of;
 use crate::packets::{LONGEST, batch_of};
-use std::collections::HashMap;
+use std::collections::{HashMap, VecDeque};
 use std::error::Error;
 use std::io::{self, Read, Write};
 use std::net::{TcpStream, UdpSocket};
@@ -221,6 +221,28 @@ fn connect(peer: Peer, port: u16) -> Result<Box<dyn Line>, Box<dyn Error>> {
     }
 }
 
+/// When each batch was sent that is not answered, and how many microseconds the answered ones took.
+#[derive(Default)]
+struct Waits {
+    sent: VecDeque<Instant>,
+    micros: Vec<u64>,
+}
+
+impl Waits {
+    /// Takes note of what is answered now, where so many batches are.
+    fn settle(&mut self, batches: u64) {
+        let left = (self.micros.len() + self.sent.len()).saturating_sub(batches as usize);
+        for begin in self.sent.drain(..self.sent.len() - left.min(self.sent.len())) {
+            self.micros.push(begin.elapsed().as_micros() as u64);
+        }
+    }
+
+    fn median(mut self) -> u64 {
+        self.micros.sort_unstable();
+        self.micros.get(self.micros.len() / 2).copied().unwrap_or(0)
+    }
+}
+
 /// The most batches that are made before the first is sent. Then they come again.
 const MADE: u64 = 20_000;
 
@@ -249,8 +271,8 @@ impl Load {
 }
 
 /// Sends so many batches to a port, for `--seconds` at most, with `--window` of them on their way at a time and no more than `--rate`
-/// in a second where it is given. Says how many requests were answered in a second, how many in all, how many of them were hits, and how
-/// many were lost. With `--fill 1` it puts the keys in turn.
+/// in a second where it is given. Says how many requests were answered in a second, how many in all, how many of them were hits, how
+/// many were lost, and the median of the microseconds from a batch to all its answers. With `--fill 1` it puts the keys in turn.
 pub fn load(words: &Words<'_>) -> Result<Vec<u8>, Box<dyn Error>> {
     let number = |name, default| number_of(words, name, default);
     let (port, batches) = (number("port", 9_000)? as u16, number("batches", 10_000)?);
@@ -267,7 +289,7 @@ pub fn load(words: &Words<'_>) -> Result<Vec<u8>, Box<dyn Error>> {
     let mut draws = Pcg::new(number("seed", 1)?);
     let made: Vec<_> = (0..batches.min(MADE)).map(|number| load.batch(peer, number, &mut draws)).collect();
     let mut line = connect(peer, port)?;
-    let mut answered = Answered::default();
+    let (mut answered, mut waits) = (Answered::default(), Waits::default());
     let begin = Instant::now();
     let mut sent = 0;
     for texts in made.iter().cycle() {
@@ -279,7 +301,9 @@ pub fn load(words: &Words<'_>) -> Result<Vec<u8>, Box<dyn Error>> {
         }
         while sent * load.size >= answered.settled() + window * load.size {
             line.receive(sent * load.size, &mut answered)?;
+            waits.settle(answered.settled() / load.size);
         }
+        waits.sent.push_back(Instant::now());
         for text in texts {
             line.send(text)?;
         }
@@ -287,7 +311,9 @@ pub fn load(words: &Words<'_>) -> Result<Vec<u8>, Box<dyn Error>> {
     }
     while answered.settled() < sent * load.size {
         line.receive(sent * load.size, &mut answered)?;
+        waits.settle(answered.settled() / load.size);
     }
     let rate = answered.requests as f64 / begin.elapsed().as_secs_f64();
-    Ok(format!("{rate:.0} {} {} {}\n", answered.requests, answered.hits, answered.lost).into_bytes())
+    let Answered { requests, hits, lost } = answered;
+    Ok(format!("{rate:.0} {requests} {hits} {lost} {}\n", waits.median()).into_bytes())
 }

@@ -1,7 +1,8 @@
 //! Plain Rust of the same rules as `mica`, to measure beside it: `replay` answers each line at its place on one
 //! thread, `rounds` and `queues` run owners and readers in threads over tables of atomic words, `kept` starts these threads
 //! once, `values` does as `queues` over lines that own their bytes, `gen` prints a trace, `image` and `unpack` write and read an
-//! image, `serve` answers datagrams on one thread, `fronts` at many ports with owners in threads, and `load` sends them.
+//! image, `serve` answers datagrams on one thread, `fronts` at many ports with owners in threads, `locked` at many ports whose fronts own
+//! partitions in turn by a lock, and `load` sends them.
 
 mod cache;
 mod fronts;
@@ -10,6 +11,7 @@ mod hash;
 mod image;
 mod kept;
 mod load;
+mod locked;
 mod machine;
 mod packets;
 mod queue;
@@ -160,7 +162,7 @@ fn report(command: &str, options: &Options) -> Result<Vec<u8>, Box<dyn Error>> {
 }
 
 fn run(words: &[String]) -> Result<(), Box<dyn Error>> {
-    const COMMANDS: &str = "replay, rounds, queues, kept, values, gen, image, unpack, serve, fronts or load";
+    const COMMANDS: &str = "replay, rounds, queues, kept, values, gen, image, unpack, serve, fronts, locked or load";
     let (command, rest) = words.split_first().ok_or(COMMANDS)?;
     let words = read_options(rest)?;
     let out = match command.as_str() {
@@ -174,6 +176,7 @@ fn run(words: &[String]) -> Result<(), Box<dyn Error>> {
         "load" => load::load(&words)?,
         "replay" | "rounds" | "queues" | "kept" | "values" => report(command, &options_of(&words)?)?,
         "fronts" => fronts::serve(&words, &options_of(&words)?)?,
+        "locked" => locked::serve(&words, &options_of(&words)?)?,
         "serve" => {
             let options = options_of(&words)?;
             match options.mode {
