@@ -135,10 +135,11 @@ def await_ports(running, port, fronts, seconds=60):
 
 
 @contextlib.contextmanager
-def server(*words, fronts=1, batches=1_000_000):
-    """A server, killed at the end: its process and its first port."""
+def server(*words, fronts=1, batches=1_000_000, stays_up=False):
+    """A server, killed at the end: its process and its first port. It is `mica serve`, or `micad`, which takes any number of batches."""
     port = free_port(fronts)
-    command = [MICA, "serve", "--port", str(port), "--fronts", str(fronts), "--batches", str(batches), *words]
+    program = [MICAD] if stays_up else [MICA, "serve", "--batches", str(batches)]
+    command = [*program, "--port", str(port), "--fronts", str(fronts), *words]
     with subprocess.Popen(command, stdout=subprocess.PIPE) as running:
         try:
             if not await_ports(running, port, fronts):
