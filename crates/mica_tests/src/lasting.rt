@@ -6,19 +6,20 @@ use crate::datagrams::{BATCH, REPLIES};
 use crate::runs::words_of;
 use mica_cmd::Status;
 use mica_daemon::{Files, MemFiles, Speaker, daemon};
-use mica_io::{FreeGate, MemNet, MemSink, Net, NoMemory};
+use mica_io::{FreeGate, Gate, MemNet, MemSink, Net, NoMemory};
 use partition_table::Tables;
 use std::alloc::Global;
 use std::sync::Wait;
 use std::test::Fail;
 use std::thread::Threads;
 
-/// The status and what the sink took, which has so much room.
-pub fn run_lasting<W: Threads + Wait + Sync, F: Files, N: Net>(
+/// The status and what the sink took, which has so much room. Fronts come to the gate before their requests.
+pub fn run_gated<W: Threads + Wait + Sync, F: Files, N: Net, G: Gate>(
     rt: &W,
     alloc: Global,
     files: &mut F,
     net: &mut N,
+    gate: &G,
     line: &str,
     room: u32,
 ) -> Result<(Status, MemSink), NoMemory>
@@ -37,10 +38,24 @@ pub fn run_lasting<W: Threads + Wait + Sync, F: Files, N: Net>(
         &mut speaker,
         files,
         net,
-        &FreeGate,
+        gate,
         &mut tables,
     );
     Ok((status, speaker.sink))
+}
+
+/// The same with no gate.
+pub fn run_lasting<W: Threads + Wait + Sync, F: Files, N: Net>(
+    rt: &W,
+    alloc: Global,
+    files: &mut F,
+    net: &mut N,
+    line: &str,
+    room: u32,
+) -> Result<(Status, MemSink), NoMemory>
+    requires { N.binds net.old ≡ 0 }
+{
+    run_gated(rt, alloc, files, net, &FreeGate, line, room)
 }
 
 // The same with no files.

@@ -35,4 +35,6 @@ mod served;
 #[cfg(test)]
 mod silence;
 #[cfg(test)]
+mod turns;
+#[cfg(test)]
 mod udp;
