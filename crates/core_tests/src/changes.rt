@@ -107,10 +107,12 @@ fn two_bytes(count: u32) -> [u8; 2]
     [(count % 256) as u8, (count / 256 % 256) as u8]
 }
 
-/// What the key has before, what is decided of it, what comes of the write, if there is one, and what the key has then.
+/// What the key has before, at which other keys a long value is put then, what is decided of the key's value, what comes of the write, if there is
+/// one, and what the key has then.
 #[derive(Drop)]
 struct Row<'a> {
     before: Option<&'a [u8]>,
+    later: &'a [&'a [u8]],
     change: Change,
     value: &'a [u8],
     outcome: Option<Outcome>,
@@ -121,6 +123,7 @@ struct Row<'a> {
 static ROWS: [Row<'static>; 8] = [
     Row {
         before: None,
+        later: &[],
         change: Change::Stay,
         value: b"",
         outcome: None,
@@ -128,6 +131,7 @@ static ROWS: [Row<'static>; 8] = [
     },
     Row {
         before: None,
+        later: &[],
         change: Change::Become,
         value: b"one",
         outcome: Some(Outcome::Stored),
@@ -136,6 +140,7 @@ static ROWS: [Row<'static>; 8] = [
     // What is not there does not go.
     Row {
         before: None,
+        later: &[],
         change: Change::Go,
         value: b"",
         outcome: None,
@@ -143,6 +148,7 @@ static ROWS: [Row<'static>; 8] = [
     },
     Row {
         before: Some(b"one"),
+        later: &[],
         change: Change::Stay,
         value: b"",
         outcome: None,
@@ -150,6 +156,7 @@ static ROWS: [Row<'static>; 8] = [
     },
     Row {
         before: Some(b"one"),
+        later: &[],
         change: Change::Become,
         value: b"2",
         outcome: Some(Outcome::Stored),
@@ -157,6 +164,7 @@ static ROWS: [Row<'static>; 8] = [
     },
     Row {
         before: Some(b"one"),
+        later: &[],
         change: Change::Become,
         value: b"two and more",
         outcome: Some(Outcome::Stored),
@@ -164,6 +172,7 @@ static ROWS: [Row<'static>; 8] = [
     },
     Row {
         before: Some(b"one"),
+        later: &[],
         change: Change::Become,
         value: b"",
         outcome: Some(Outcome::Stored),
@@ -171,10 +180,46 @@ static ROWS: [Row<'static>; 8] = [
     },
     Row {
         before: Some(b"one"),
+        later: &[],
         change: Change::Go,
         value: b"",
         outcome: Some(Outcome::Deleted),
         after: None,
+    },
+];
+
+/// A value that takes a fourth of the log with its key, and a little more.
+static LONG: [u8; 8_192] = [b'x'; 8_192];
+
+/// Keys whose values take more than the log.
+const MANY: &[&[u8]] = &[b"0", b"1", b"2", b"3"];
+
+// In cache mode nothing is found of a value whose item later writes displaced.
+static DISPLACED: [Row<'static>; 3] = [
+    Row {
+        before: Some(b"one"),
+        later: MANY,
+        change: Change::Stay,
+        value: b"",
+        outcome: None,
+        after: None,
+    },
+    // It does not go.
+    Row {
+        before: Some(b"one"),
+        later: MANY,
+        change: Change::Go,
+        value: b"",
+        outcome: None,
+        after: None,
+    },
+    Row {
+        before: Some(b"one"),
+        later: MANY,
+        change: Change::Become,
+        value: b"two",
+        outcome: Some(Outcome::Stored),
+        after: Some(b"two"),
     },
 ];
 
@@ -195,16 +240,32 @@ fn expect_value<R: Abort + Threads + Wait + Sync, F: Front>(
     }
 }
 
+// Puts a long value at each of the keys.
+fn put_long<R: Abort + AllocGlobal + Threads + Wait + Sync, F: Changes>(
+    rt: &R,
+    front: &mut F,
+    keys: &[&[u8]],
+) -> Result<(), Fail>
+    requires { length keys.now ≤ F.left front.old }
+    ensures { F.left front.old ≤ F.left front.new + length keys.now }
+{
+    for i in 0..keys.len() {
+        assert!(rt; key_fits(keys[i]) && value_fits(&LONG));
+        front.write(rt, rt.alloc(), Op::Put, keys[i], &LONG)?;
+    }
+    Ok(())
+}
+
 // One row, by a front.
 fn expect_row<R: Abort + AllocGlobal + Threads + Wait + Sync, F: Changes>(
     rt: &R,
     front: &mut F,
     row: &Row<'_>,
 ) -> Result<(), Fail>
-    requires { 2 ≤ F.left front.old }
-    ensures { F.left front.old ≤ F.left front.new + 2 }
+    requires { 8 ≤ F.left front.old }
+    ensures { F.left front.old ≤ F.left front.new + 8 }
 {
-    assert!(rt; key_fits(KEY) && value_fits(row.value));
+    assert!(rt; key_fits(KEY) && value_fits(row.value) && row.later.len() <= 6);
     let alloc = rt.alloc();
     let mut found = ItemBuf::new(alloc)?;
     let mut next = ItemBuf::new(alloc)?;
@@ -217,6 +278,7 @@ fn expect_row<R: Abort + AllocGlobal + Threads + Wait + Sync, F: Changes>(
             front.write(rt, alloc, Op::Del, KEY, b"")?;
         }
     }
+    put_long(rt, front, row.later)?;
     let decide = Fixed {
         change: row.change,
         value: row.value,
@@ -233,8 +295,8 @@ fn expect_rows<R: Abort + AllocGlobal + Threads + Wait + Sync, F: Changes>(
     front: &mut F,
     rows: &[Row<'_>],
 ) -> Result<(), Fail>
-    requires { 2 * length rows.now ≤ F.left front.old }
-    ensures { F.left front.old ≤ F.left front.new + 2 * length rows.now }
+    requires { 8 * length rows.now ≤ F.left front.old }
+    ensures { F.left front.old ≤ F.left front.new + 8 * length rows.now }
 {
     for i in 0..rows.len() {
         expect_row(rt, front, &rows[i])?;
@@ -372,14 +434,24 @@ fn changes_in_cache_mode(rt: HostRuntime) -> Result<(), Fail> {
     open_and_change::<CachePartition<OwnerSeat>>(&rt, &options, &ROWS)
 }
 
+#[test]
+fn a_displaced_value_is_not_found(rt: HostRuntime) -> Result<(), Fail> {
+    let options = Options {
+        mode: Mode::Cache,
+        words: 4_096,
+        ..SMALL
+    };
+    open_and_change::<CachePartition<OwnerSeat>>(&rt, &options, &DISPLACED)
+}
+
 // 8,192 bytes and a key of one take 1,027 words, more than there are, so what the key had stays.
 #[test]
 fn a_change_without_room_leaves_the_value(rt: HostRuntime) -> Result<(), Fail> {
-    let long = [b'x'; 8_192];
     let rows = [Row {
         before: Some(b"one"),
+        later: &[],
         change: Change::Become,
-        value: &long,
+        value: &LONG,
         outcome: Some(Outcome::FullBlock),
         after: Some(b"one"),
     }];

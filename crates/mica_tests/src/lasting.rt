@@ -10,7 +10,7 @@ use mica_clock::MemClock;
 use mica_cmd::Status;
 use mica_commands::MOST_FRONTS;
 use mica_daemon::{Files, MemFiles, PlacedListeners, Speaker, daemon};
-use mica_io::{FreeGate, MemNet, MemSink, Net, NoMemory};
+use mica_io::{FreeGate, Gate, MemNet, MemSink, Net, NoMemory};
 use partition_table::Tables;
 use std::alloc::Global;
 use std::sync::Wait;
@@ -28,13 +28,14 @@ fn clocks_of(alloc: Global) -> Result<Vec<MemClock<'static>>, NoMemory>
     Ok(clocks)
 }
 
-/// The status and what the sink took, which has so much room.
-pub fn run_listening<W: Threads + Wait + Sync, F: Files, N: Net, L: PlacedListeners>(
+// The status and what the sink took, which has so much room. Fronts over datagrams come to the gate before their requests.
+fn run_whole<W: Threads + Wait + Sync, F: Files, N: Net, L: PlacedListeners, G: Gate>(
     rt: &W,
     alloc: Global,
     files: &mut F,
     net: &mut N,
     listeners: &mut L,
+    gate: &G,
     line: &str,
     room: u32,
 ) -> Result<(Status, MemSink), NoMemory>
@@ -56,13 +57,44 @@ pub fn run_listening<W: Threads + Wait + Sync, F: Files, N: Net, L: PlacedListen
         listeners,
         clocks_of(alloc)?,
         1,
-        &FreeGate,
+        gate,
         &mut tables,
     );
     Ok((status, speaker.sink))
 }
 
-/// The same, where nothing happens at the ports of connections.
+/// The status and what the sink took, with no gate.
+pub fn run_listening<W: Threads + Wait + Sync, F: Files, N: Net, L: PlacedListeners>(
+    rt: &W,
+    alloc: Global,
+    files: &mut F,
+    net: &mut N,
+    listeners: &mut L,
+    line: &str,
+    room: u32,
+) -> Result<(Status, MemSink), NoMemory>
+    requires { N.binds net.old ≡ 0 }
+{
+    run_whole(rt, alloc, files, net, listeners, &FreeGate, line, room)
+}
+
+/// The status and what the sink took, where nothing happens at the ports of connections.
+pub fn run_gated<W: Threads + Wait + Sync, F: Files, N: Net, G: Gate>(
+    rt: &W,
+    alloc: Global,
+    files: &mut F,
+    net: &mut N,
+    gate: &G,
+    line: &str,
+    room: u32,
+) -> Result<(Status, MemSink), NoMemory>
+    requires { N.binds net.old ≡ 0 }
+{
+    let mut listeners = SameSchedule::new(alloc, &[], None);
+    run_whole(rt, alloc, files, net, &mut listeners, gate, line, room)
+}
+
+/// The same with no gate.
 pub fn run_lasting<W: Threads + Wait + Sync, F: Files, N: Net>(
     rt: &W,
     alloc: Global,
@@ -73,8 +105,7 @@ pub fn run_lasting<W: Threads + Wait + Sync, F: Files, N: Net>(
 ) -> Result<(Status, MemSink), NoMemory>
     requires { N.binds net.old ≡ 0 }
 {
-    let mut listeners = SameSchedule::new(alloc, &[], None);
-    run_listening(rt, alloc, files, net, &mut listeners, line, room)
+    run_gated(rt, alloc, files, net, &FreeGate, line, room)
 }
 
 // The same with no files.

@@ -41,4 +41,6 @@ mod silence;
 #[cfg(test)]
 mod tcp;
 #[cfg(test)]
+mod turns;
+#[cfg(test)]
 mod udp;

@@ -11,8 +11,8 @@ use std::sync::Wait;
 use std::test::Fail;
 use std::thread::Threads;
 
-/// Whether the port has sent one of these.
-fn has_sent(net: &MemNet, port: u16, wanted: &[&[u8]]) -> bool {
+/// Whether the port has sent one of these as its first reply.
+pub fn has_sent(net: &MemNet, port: u16, wanted: &[&[u8]]) -> bool {
     match net.sent(port, 0) {
         Some(bytes) => is_one_of(bytes, wanted),
         None => false,
