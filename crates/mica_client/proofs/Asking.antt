@@ -1,17 +1,15 @@
 -- All batches, one after another: what is left of them, and what is known of the answers.
-use Rattle.std.proofs.Common.{◌≡◌, ℕ, ◌+◌, ◌||◌, Bool, true, false, not, List, [], ◌∷◌, length, refl, sym, ap, subst, ◌∙◌, arith, Option, None}
+use Rattle.std.proofs.Common.{◌≡◌, ℕ, ◌+◌, ◌||◌, Bool, true, false, not, List, [], ◌∷◌, length, refl, sym, ap, subst, ◌∙◌, arith}
 use Rattle.std.specs.List.{AllByRecursion}
 use Rattle.std.proofs.lemmas.Bool.{or_parts, not-false, not_from_true}
 use Rattle.mica_trace.specs.declared.line.TraceLine.{TraceLine}
-use Rattle.mica_trace.specs.declared.report.Line.{Line}
 use Rattle.batch_packets.specs.declared.batch.Request.{Request}
 use Rattle.batch_packets.specs.declared.batch.Batch.{Batch}
 use Rattle.batch_packets.specs.BatchGrammar.{IsBatch}
-use Rattle.mica_client.specs.declared.options.AskOptions.{AskOptions}
 use Rattle.mica_client.specs.declared.options.TheConstants.{VERSION}
-use Rattle.mica_client.specs.Batches.{Group, ask_of, numbered, groups_of}
-use Rattle.mica_client.specs.Answers.{KnownLines, unanswered, is_answered, HasTickets, AreFor, IsOfTrace, KeepsAnswers}
-use Rattle.mica_client.specs.Exchange.{start, standing_at, lacks_answer}
+use Rattle.mica_client.specs.Batches.{Group, ask_of}
+use Rattle.mica_client.specs.Answers.{KnownLines, is_answered, HasTickets, AreFor, IsOfTrace, KeepsAnswers}
+use Rattle.mica_client.specs.Exchange.{lacks_answer}
 
 abbrev pub Grows : KnownLines → KnownLines → Type 0
 Grows old new = (ticket : ℕ) → is_answered old ticket ≡ true → is_answered new ticket ≡ true
@@ -75,11 +73,3 @@ going_more groups rest group number old mid new going keeps done = record {
 
 pub all_answered : (groups : List Group) (number : ℕ) (old new : KnownLines) → Going groups [] number old new → AllByRecursion (Answered new) groups
 all_answered groups number old new going = going.answered new (λ t h. h) tt
-
--- What is said of the whole
-
-module _ (options : AskOptions) (trace : List TraceLine) (groups : List Group) (answers : KnownLines) (groups_are : groups ≡ groups_of options trace) (answers_are : answers ≡ unanswered trace) where
-  begins : standing_at (numbered 0 groups) None answers ≡ start options trace
-  begins =
-      ap (λ (gs : List Group). standing_at (numbered 0 gs) None answers) groups_are
-      ∙ ap (λ (a : KnownLines). standing_at (numbered 0 (groups_of options trace)) None a) answers_are

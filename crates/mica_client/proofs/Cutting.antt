@@ -11,7 +11,7 @@ use Rattle.batch_packets.specs.BatchGrammar.{IsRequest}
 use Rattle.mica_client.specs.declared.options.TheConstants.{VERSION}
 use Rattle.mica_client.specs.declared.options.AskOptions.{AskOptions}
 use Rattle.mica_client.specs.declared.share.Share.{Share}
-use Rattle.mica_client.specs.Batches.{Group, request_of, on_line, rounds_from, joins, cut, batches_with, is_in_partition, port_of, groups_at, groups_in, groups_of_round, groups_of}
+use Rattle.mica_client.specs.Batches.{Group, request_of, on_line, rounds_from, joins, cut, batches_with, is_in_partition, port_of, groups_at, groups_in, groups_of_round}
 use Rattle.mica_client.specs.Cutting.{share_with, Holds, AllHold, IsCutting}
 use Rattle.mica_client.proofs.Requests.{of_line}
 use Rattle.mica_client.proofs.Fitting.{joins_none}

@@ -101,10 +101,6 @@ stops_told (Err (Stranger t)) x y faults given room wide next un is = absurd is
 stops_told (Err (Double t)) x y faults given room wide next un is = absurd is
 stops_told (Err (Wrong t)) x y faults given room wide next un is = absurd is
 
-pub link_at : (x y : Option Talk) → y ≡ x → OnTalk (StopsReading Link) x y
-link_at None y same = tt
-link_at (Some t) y same = subst (OnTalk (StopsReading Link) (Some t)) (sym same) refl
-
 -- One batch
 
 -- one datagram of answers more

@@ -262,11 +262,6 @@ pub keeps_lawful : (batch : Batch) (replies : Replies) (old new : KnownLines) �
 keeps_lawful batch replies old new made lawful version tickets =
     keeps_replies batch replies.number replies.replies old new made (recursion_from_All (IsReply VERSION) _ (subst (λ v. All (IsReply v) replies.replies) version lawful.each)) tickets
 
--- the lengths alone
-pub same_length : (batch : Batch) (number : ℕ) (reply : Reply) (old new : KnownLines) → after_one batch number reply old ≡ Ok new → length new ≡ length old
-same_length batch number reply old new h =
-    let took = took_one batch number reply old new h in ap (λ (a : KnownLines). length a) took.made ∙ length-set old (reply.ticket - 1) (Some took.line)
-
 -- the ticket of a request of the batch is that of a line
 pub ticket_in : (lines : ℕ) (requests : List Request) (ticket : ℕ) (want : Want) → HasTickets lines requests → want_at requests ticket ≡ Some want → (1 ≤ ticket) × (ticket ≤ lines)
 ticket_in lines requests ticket want all h =

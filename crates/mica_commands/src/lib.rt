@@ -22,7 +22,7 @@ mod summary;
 
 pub use command::{Command, WordsFault, read_words};
 pub use daemon_words::{DaemonOptions, MOST_FRONTS, read_daemon};
-pub use examples::default_replay;
+pub use examples::{default_replay, named_options};
 pub use gen_options::GenOptions;
 pub use generated_text::gen_text;
 pub use generator::gen_trace;

@@ -1,5 +1,5 @@
 -- The last stamps of the readers in a partition, line by line.
-use Rattle.std.proofs.Common.{◌≡◌, ◌≢◌, ℕ, ◌+◌, ◌<◌, ◌≤◌, ◌%◌, List, [], ◌∷◌, length, get_or, set, replicate, Some, None, refl, sym, ap, ◌∙◌, subst, arith, true, false, eqb, eqb-true, ltb, ltb-true, ltb-false, slice_get, get_or-set_same, get_or-set_other, length-set}
+use Rattle.std.proofs.Common.{◌≡◌, ◌≢◌, ℕ, ◌+◌, ◌<◌, ◌≤◌, ◌%◌, List, [], ◌∷◌, length, get_or, set, Some, None, refl, sym, ap, ◌∙◌, subst, arith, true, false, eqb, eqb-true, ltb, ltb-true, ltb-false, slice_get, get_or-set_same, get_or-set_other, length-set}
 use borrow.Author.Tests.{eqb-false}
 use Rattle.std.proofs.lemmas.Bool.{true≢false}
 use Rattle.std.proofs.lemmas.Option.{slice_get_within}
@@ -40,9 +40,6 @@ module _ (options : Options) (p : ℕ) (trace : List TraceLine) (report : List L
         × (reader_of options trace m ≡ q) × (printed_stamp printed ≡ get_or last q 0)
     pub none : (m : ℕ) (line : TraceLine) (printed : Line) → m < place → IsGetAt trace report m line printed → partition_in options line ≡ p
         → ¬ (FallsBehind options trace report m line printed)
-
-  zeros : (n q : ℕ) → let none : ℕ = 0 in get_or (replicate n none) q none ≡ none
-  zeros n q = grind (arith, common_steps)
 
   -- a stamp below the greatest one falls behind
   pub falls_here : (place : ℕ) (last : List ℕ) (line : TraceLine) (printed : Line) → HasNoFall place last → IsGetAt trace report place line printed → partition_in options line ≡ p

@@ -12,15 +12,10 @@ use Rattle.mica_trace.specs.LawfulReport.{IsGetAt, Answers}
 use Rattle.report_check.specs.declared.asked.Asked.{Asked}
 use Rattle.report_check.specs.declared.settling.Settling.{Settling}
 use Rattle.report_check.specs.Earlier.{earlier}
-use Rattle.report_check.specs.Machines.{AnswersIn}
 use Rattle.report_check.specs.Moments.{history_at, IsAnsweredBetween}
 use Rattle.report_check.specs.Judged.{LeavesMissed, IsFirstWithout}
 use Rattle.report_check.specs.Settling.{AreAsked, AreGets, AnswersNow, IsMissedBy, HasJudged, IsAhead, IsSettled}
 use Rattle.report_check.proofs.Histories.{stamps_grow, one_history}
-
--- An answer by the state is one after its history.
-pub answers_after : (options : Options) (history : History) (key : List ℕ) (printed : Line) → AnswersIn (state_of options history) key printed → Answers options history key printed
-answers_after options history key printed is = grind (arith, is)
 
 -- Places
 

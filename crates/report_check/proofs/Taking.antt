@@ -1,6 +1,5 @@
 -- The step that is printed for a write, and what the machine says of it.
-use Rattle.std.proofs.Common.{◌≡◌, ℕ, [], ◌∷◌, ◌++◌, Option, Some, Bool, true, false, cond, refl, sym, ap, subst, eqb, MatchBool, arith}
-use Rattle.std.specs.Prelude.{option_map}
+use Rattle.std.proofs.Common.{◌≡◌, ℕ, Bool, true, false, refl, sym, subst, eqb, MatchBool, arith}
 use Rattle.std.proofs.lemmas.Grind.{common_steps}
 use Rattle.partition_model.specs.declared.options.Options.{Options}
 use Rattle.partition_model.specs.declared.write.Op.{Op}
@@ -8,12 +7,12 @@ use Rattle.partition_model.specs.declared.write.Write.{Write}
 use Rattle.partition_model.specs.declared.write.Outcome.{Outcome}
 use Rattle.partition_model.specs.Cache.{Cache}
 use Rattle.partition_model.specs.CacheStep.{reply}
-use Rattle.partition_model.specs.History.{History, State, cache_state, Allows, IsStep, after, state_of, stamp_in}
-use Rattle.partition_model.specs.Run.{RunStep, IsRunFrom, history_of}
-use Rattle.partition_model.specs.Write.{is_accepted, write_of}
+use Rattle.partition_model.specs.History.{History, State, cache_state, Allows, IsStep, state_of, stamp_in}
+use Rattle.partition_model.specs.Run.{IsRunFrom}
+use Rattle.partition_model.specs.Write.{write_of}
 use Rattle.mica_trace.specs.declared.line.TraceLine.{TraceLine}
 use Rattle.mica_trace.specs.declared.report.Line.TheVariants.{Wrote}
-use Rattle.mica_trace.specs.Rounds.{op_of, write_by}
+use Rattle.mica_trace.specs.Rounds.{op_of}
 use Rattle.mica_trace.specs.LawfulReport.{IsReplyTo}
 use Rattle.report_check.specs.declared.cache_buckets.CacheBuckets.{CacheBuckets}
 use Rattle.report_check.specs.declared.machine.Machine.{Machine}
@@ -21,22 +20,9 @@ use Rattle.report_check.specs.declared.machine.Machine.TheVariants.{Cache as OfC
 use Rattle.report_check.specs.Judged.{step_at, TakesStep}
 use Rattle.report_check.specs.Machines.{options_in, AreBuckets, IsAt, IsAfter, TakesWrite, TakesInBuckets}
 
-by_reply : (asked : Option Op) (op : Op) → IsReplyTo asked op → asked ≡ Some op
-by_reply asked op is = grind (arith, is)
-
 module _ (options : Options) (history : History) (line : TraceLine) (op : Op) (outcome : Outcome) (stamp : ℕ) (replies : IsReplyTo (op_of line.op) op) where
   abbrev write : Write
   write = write_of op line.key line.value
-
-  abbrev step : RunStep
-  step = record { write = write; outcome = outcome; stamp = stamp }
-
-  written : write_by line.op line.key line.value ≡ Some write
-  written = ap (option_map (λ does. write_of does line.key line.value)) (by_reply (op_of line.op) op replies)
-
-  -- the state behind it
-  now_is : state_of options (history ++ history_of (step ∷ [])) ≡ cond (is_accepted outcome) (after options (state_of options history) write) (state_of options history)
-  now_is = grind (arith, common_steps)
 
   module _ (old new : Machine) (was : IsAfter options history old) where
     -- the machine may take it, and then has a stamp
