@@ -1,11 +1,11 @@
 -- Writes that were made of a look stand in their partition's run right behind what was looked at.
-use Rattle.std.proofs.Common.{◌≡◌, ℕ, zero, suc, ◌==◌, Bool, cond, true, false, List, [], ◌∷◌, ◌++◌, Option, Some, None, refl, sym, ap, ◌∙◌, subst, append_assoc, slice_get, arith}
+use Rattle.std.proofs.Common.{◌≡◌, ℕ, zero, suc, ◌==◌, Bool, cond, true, false, List, [], ◌∷◌, ◌++◌, Some, None, refl, sym, ap, ◌∙◌, subst, append_assoc, slice_get}
 use Rattle.std.specs.List.{All, AllByRecursion, cons_option}
 use Rattle.std.proofs.lemmas.List.{append-nil, append_cancel_right}
 use Rattle.std.proofs.lemmas.List.Elements.{All-from_recursion, recursion_from_All}
 use Rattle.std.proofs.lemmas.Option.{same_Some}
 use Rattle.partition_model.specs.declared.options.Options.{Options}
-use Rattle.partition_model.specs.History.{History, IsPrefix, stamp_of}
+use Rattle.partition_model.specs.History.{History, stamp_of}
 use Rattle.partition_model.specs.Run.{RunStep, history_of, IsRunFrom}
 use Rattle.partition_model.proofs.Rises.{one_cut}
 use Rattle.partition_model.proofs.Runs.{history-append}

@@ -34,7 +34,7 @@ use Rattle.mica_fronts.specs.Session.{Told, Session}
 use Rattle.mica_fronts.specs.Placed.{Placed, steps_in, steps_by, history_in}
 use Rattle.mica_serve.specs.Others.{alone}
 use Rattle.mica_serve.specs.Served.{nothing_begun}
-use Rattle.mica_serve.specs.Beside.{closed_of, total_below}
+use Rattle.mica_serve.specs.Beside.{closed_of, total_below, RunsPartitions}
 use Rattle.mica_fronts.specs.QueueFront.{QueueView, IsFrontPart, queue_view, stand_of, told_by, session_or_none, sessions_of, ended_part, step_by, acknowledged_by}
 use Rattle.owner_queue.specs.Worked.{Acknowledged, DoneJob, jobs_in, job_of}
 use Rattle.mica_fronts.specs.OwnerWork.{placed_in}
@@ -313,7 +313,7 @@ module _ {D : Type 0} {batches : ℕ} {facts : D → EndFacts} {options : Option
     taken : AreTakenIn alone options nothing_begun runs kept
     taken = record {
       runs = placed;
-      ran = record {
+      ran = subst (λ (n : ℕ). RunsPartitions options nothing_begun n placed) (numbered (length runs)) (record {
         filled = λ p low. tt;
         run = λ p low.
             let o = (owner_of p low).1 in
@@ -329,9 +329,11 @@ module _ {D : Type 0} {batches : ℕ} {facts : D → EndFacts} {options : Option
             (all_low o.1.ran.served.done o.0.jobs.taken (length runs) o.1.ran.served.worked.jobs
             (subst (λ (m : ℕ). AllByRecursion (λ s. sender_of s < m) o.0.jobs.taken) senders
             (recursion_from_All (λ s. sender_of s < o.1.old.jobs.senders) o.0.jobs.taken o.1.ran.served.worked.low))));
-      };
+      });
       before = λ f answers is. absurd (cc);
-      each = λ f run is. let n = front_of f run is in subst (IsTakenIn options nothing_begun placed f) n.2 (taken_front n.1);
+      each = λ f run is.
+          let n = front_of f run is in
+          subst (λ (k : ℕ). IsTakenIn options nothing_begun placed k run) (numbered f) (subst (IsTakenIn options nothing_begun placed f) n.2 (taken_front n.1));
       shapes = record {
         many = length-map after (λ (o : OwnerEnd). kept_seat_in o.state) ∙ met.many ∙ owners_long;
         shapes = λ p entry is.
@@ -345,6 +347,10 @@ module _ {D : Type 0} {batches : ℕ} {facts : D → EndFacts} {options : Option
           omega (arith, ap (λ (e : KeptSeat). e.closed) m.3, none, all_closed p);
     }
       where
+        -- no others come before these fronts
+        numbered : (n : ℕ) → n ≡ length alone.answers + n
+        numbered n = omega arith
+
         all_low : (done : List DoneJob) (messages : List Message) (n : ℕ) → map job_of done ≡ jobs_in messages → AllByRecursion (λ s. sender_of s < n) messages
             → AllByRecursion (λ s. s.front < n) (placed_in done)
         all_low [] [] n is low = tt

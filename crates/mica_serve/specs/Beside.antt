@@ -1,5 +1,5 @@
 -- What is known of fronts that were served beside each other, once their owners have taken in what each of them has in hand.
-use Rattle.std.specs.Prelude.{false, ◌≡◌, ◌+◌, ◌<◌, ◌≤◌, ℕ, zero, suc, List, ◌++◌, [], map, length, slice_get, Option, Some, None, All, sum_by}
+use Rattle.std.specs.Prelude.{false, ◌≡◌, ◌+◌, ◌<◌, ◌≤◌, ℕ, zero, suc, List, ◌++◌, [], length, slice_get, Option, Some, None, All, sum_by}
 use Rattle.partition_model.specs.declared.options.Options.{Options}
 use Rattle.partition_model.specs.History.{History, IsHistory, IsPrefix}
 use Rattle.partition_model.specs.Run.{RunStep, IsRunFrom}

@@ -18,7 +18,7 @@ abbrev net_at : (g : given.Over) → g.row.N.Denot → NetFacts
 net_at g = net_facts g.N.Net.faults g.N.Net.binds g.N.Net.first g.N.Net.refused g.N.Net.ports g.N.Net.fails
 
 pub bind_all-requires-clause-ports : goal.bind_all-requires-clause-ports
-bind_all-requires-clause-ports g c = possible_ports c.args.ports.now c.requires.ports
+bind_all-requires-clause-ports g c κs within = possible_ports c.args.ports.now c.requires.ports
 
 pub serve_all-requires-clause-open : goal.serve_all-requires-clause-open
 serve_all-requires-clause-open g c _ _ i e is = let new = c.bind_all.ensures.new i e is in (new.unended, new.fresh)

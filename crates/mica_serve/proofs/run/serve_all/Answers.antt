@@ -58,10 +58,10 @@ returns-in_err-totals g c =
     let same : c.from_residual.result ≡ Err c.in_err-totals.field-0.0 = is.1 ∙ ap Err is.2 in
     subst (λ (r : Result Totals ServeFault). ServesFronts alone c.args.options.now nothing_begun c.args.ports.now.batches r c.args.tables.now (map (facts g) c.args.ends.now.items) (map (facts g) c.run_all-owners.new.ends.items)) (sym same)
     (all_ran alone _ _ _ c.requires.options.partitions.0 _ c.args.tables.now _ _ _ c.run_all-owners.ensures.ran (Err c.in_err-totals.field-0.0)
-    (sums_beside alone _ _ (subst (λ (l : List (Result Totals ServeFault)). SumsUp l (Err c.in_err-totals.field-0.0)) c.as_slice.ensures.value c.in_err-totals.ensures)) c.requires.tables)
+    (sums_beside alone c.run_all-owners.result.1.items (Err c.in_err-totals.field-0.0) (subst (λ (l : List (Result Totals ServeFault)). SumsUp l (Err c.in_err-totals.field-0.0)) c.as_slice.ensures.value c.in_err-totals.ensures)) c.requires.tables)
 
 pub returns : goal.returns
 returns g c =
     all_ran alone _ _ _ c.requires.options.partitions.0 _ c.keep_all.new.tables _ _ _ c.run_all-owners.ensures.ran (Ok c.in_ok-totals.totals)
-    (sums_beside alone _ _ (subst (λ (l : List (Result Totals ServeFault)). SumsUp l (Ok c.in_ok-totals.totals)) c.as_slice.ensures.value c.in_ok-totals.ensures))
+    (sums_beside alone c.run_all-owners.result.1.items (Ok c.in_ok-totals.totals) (subst (λ (l : List (Result Totals ServeFault)). SumsUp l (Ok c.in_ok-totals.totals)) c.as_slice.ensures.value c.in_ok-totals.ensures))
     (c.keep_all.ensures ∙ ap (λ (l : List KeptSeat). l ++ map (entry g) c.run_all-owners.result.0.items) c.requires.tables)
