@@ -19,6 +19,10 @@ use Rattle.locked_serve.specs.Streams.{StreamFacts, ListenFacts, AreNewStreams, 
 use Rattle.locked_serve.specs.Causes.{CameTo, ComesBeside}
 use Rattle.locked_serve.proofs.Unheard.{no_answers, none_answered, as_heard, none_heard}
 
+came_to_fault : (before after : ListenFacts) (fault : ServeFault) → CameTo (Err (Fault fault)) before after (Some (Err fault))
+came_to_fault before after Net = inl refl
+came_to_fault before after NoMemory = refl
+
 module _ (says : Others → Option (Result Totals ServeFault) → Type 0) (streams : StreamPorts) (clocks : List ℕ) (before after : ListenFacts) where
   -- a port of datagrams could not be bound
   pub unbound : says (others_of (no_answers streams.fronts) [] []) (Some (Err Net)) → ComesBeside says (Err (Fault Net)) streams clocks before after
@@ -77,14 +81,10 @@ module _ (says : Others → Option (Result Totals ServeFault) → Type 0) (strea
       came_ok totals b said =
           record { answers = b.answers; olds = heard; news = b.news; are = are b; all = full; came = Some (Ok totals); came_is = refl; said = said }
 
-      came_to_fault : (fault : ServeFault) → CameTo (Err (Fault fault)) before after (Some (Err fault))
-      came_to_fault Net = inl refl
-      came_to_fault NoMemory = refl
-
       pub came_err : (fault : ServeFault) (b : ServesBeside options begun batches clocks (Err fault) kept ends_before ends_after heard)
           → says (others_of b.answers heard b.news) (Some (Err fault)) → ComesBeside says (Err (Fault fault)) streams clocks before after
       came_err fault b said =
-          record { answers = b.answers; olds = heard; news = b.news; are = are b; all = tt; came = Some (Err fault); came_is = came_to_fault fault; said = said }
+          record { answers = b.answers; olds = heard; news = b.news; are = are b; all = tt; came = Some (Err fault); came_is = came_to_fault before after fault; said = said }
 
 -- those that have no port answered nothing
 pub silent : (streams : StreamPorts) (olds news : List StreamFacts) → HaveAnsweredNothing (others_of (no_answers streams.fronts) olds news)

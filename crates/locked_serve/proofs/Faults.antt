@@ -4,7 +4,10 @@ use Rattle.std.specs.Prelude.{◌≢◌, ⊤, Result, Ok, Err}
 use Rattle.std.proofs.lemmas.Bool.{cases_lt, true≢false}
 use Rattle.std.proofs.lemmas.Option.{slice_get_within}
 use Rattle.mica_fronts.specs.declared.totals.ServeFault.{ServeFault}
-use Rattle.mica_fronts.specs.declared.totals.ServeFault.TheVariants.{Net}
+use Rattle.mica_fronts.specs.declared.totals.ServeFault.TheVariants.{Net, NoMemory}
+use Rattle.mica_fronts.specs.declared.totals.Totals.{Totals}
+use Rattle.mica_serve.specs.FrontRuns.{SumsUp}
+use Rattle.list_laws.proofs.Places.{from_map}
 use Rattle.locked_serve.specs.Running.{IsFaultOf}
 
 abbrev Answer : Type 0
@@ -36,3 +39,7 @@ fault_in k answers all = all.found refl
 
 pub no_fault : (k : ℕ) (answers : List Answer) → length answers ≡ k → FaultTo k answers false → (f : ℕ) (fault : ServeFault) → slice_get answers f ≢ Some (Err fault)
 no_fault k answers whole all f fault at = all.none refl f fault (let low = slice_get_within answers f (Err fault) at in omega (arith, low, whole)) at
+
+-- where all are counted, no front of datagrams lacks memory
+pub all_counted : (fronts : List (Result Totals ServeFault)) (totals : Totals) → SumsUp fronts (Ok totals) → (f : ℕ) → slice_get fronts f ≢ Some (Err NoMemory)
+all_counted fronts totals sums f at = let t = from_map (λ (t : Totals). Ok {E = ServeFault} t) sums.0 f (Err NoMemory) (ap (λ l. slice_get l f) (sym sums.1) ∙ at) in cc

@@ -12,18 +12,22 @@ at_left [] ys n x at = absurd (cc)
 at_left (z ∷ xs) ys zero x at = at
 at_left (z ∷ xs) ys (suc n) x at = at_left xs ys n x at
 
+at_place : {X : Type 0} (xs ys : List X) (n m : ℕ) (y : X) → length xs + n ≡ m → slice_get ys n ≡ Some y → slice_get (xs ++ ys) m ≡ Some y
+at_place [] ys n m y is at = ap (slice_get ys) (omega (arith, is)) ∙ at
+at_place (z ∷ xs) ys n zero y is at = absurd (omega (arith, is))
+at_place (z ∷ xs) ys n (suc m) y is at = at_place xs ys n m y (omega (arith, is)) at
+
 pub at_right : {X : Type 0} (xs ys : List X) (n : ℕ) (y : X) → slice_get ys n ≡ Some y → slice_get (xs ++ ys) (length xs + n) ≡ Some y
-at_right [] ys n y at = at
-at_right (z ∷ xs) ys n y at = at_right xs ys n y at
+at_right xs ys n y at = at_place xs ys n (length xs + n) y refl at
 
 pub at_either : {X : Type 0} (xs ys : List X) (n : ℕ) (z : X) → slice_get (xs ++ ys) n ≡ Some z
     → (slice_get xs n ≡ Some z) ⊎ ((k : ℕ) × (length xs + k ≡ n) × (slice_get ys k ≡ Some z))
-at_either [] ys n z at = inr (n, refl, at)
+at_either [] ys n z at = inr (n, omega arith, at)
 at_either (x ∷ xs) ys zero z at = inl at
 at_either (x ∷ xs) ys (suc n) z at =
     elim (at_either xs ys n z at) as (λ _. (slice_get xs n ≡ Some z) ⊎ ((k : ℕ) × (suc (length xs) + k ≡ suc n) × (slice_get ys k ≡ Some z))) [
       | inl left ↦ inl left
-      | inr right ↦ inr (right.0, ap suc right.1, right.2)
+      | inr right ↦ inr (right.0, omega (arith, right.1), right.2)
     ]
 
 -- a sum over one list is that over another of the same length, place by place

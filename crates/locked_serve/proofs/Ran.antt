@@ -83,7 +83,7 @@ module _ {plan : Plan} {olds news : List (List LockedPart)} {lefts afters : List
   hand_at f new at =
       let low = slice_get_within news f new at in
       let old = element_at olds f (omega (arith, low, all.same)) in
-      record { old = old.0; at = at; old_at = old.1; fresh = all.opened.each f old.0 old.1 }
+      record { old = old.0; at = at; old_at = old.1; fresh = subst (λ n. AreNewParts plan n old.0) (omega arith) (all.opened.each f old.0 old.1) }
 
   -- the partition at a place
   record LeftAt (p : ℕ) (left : Owned) : Type 0 where

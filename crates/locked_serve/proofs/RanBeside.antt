@@ -51,14 +51,14 @@ closed_told p parts = by (slice_get parts p)
 -- Fronts of connections
 
 module _ {C K : Type 0} (plan : Plan) (facts : C → StreamFacts) (last : K → ℕ) (olds news : List (StreamTask C K)) (ran : StreamsRan plan facts last olds news) where
-  abbrev port_of : StreamTask C K → StreamFacts
+  abbrev pub port_of : StreamTask C K → StreamFacts
   port_of task = facts task.port
 
-  abbrev last_of : StreamTask C K → ℕ
+  abbrev pub last_of : StreamTask C K → ℕ
   last_of task = last task.clock
 
   -- what the front of a place answered
-  record StreamAt (k : ℕ) (own : List Answered) : Type 0 where
+  pub record StreamAt (k : ℕ) (own : List Answered) : Type 0 where
     pub old : StreamTask C K
     pub new : StreamTask C K
     pub was : slice_get olds k ≡ Some old
@@ -66,7 +66,7 @@ module _ {C K : Type 0} (plan : Plan) (facts : C → StreamFacts) (last : K → 
     pub front : IsLockedFront plan (locked_view plan.options k new.parts.items)
     pub run : RunsStream plan.options (stream_run plan facts last old new) own new.answer (facts old.port) (facts new.port)
 
-  stream_at : (k : ℕ) → k < length olds → (own : List Answered) × StreamAt k own
+  pub stream_at : (k : ℕ) → k < length olds → (own : List Answered) × StreamAt k own
   stream_at k low =
       let old = element_at olds k low in
       let new = element_at news k (omega (arith, low, ran.0)) in
@@ -74,7 +74,7 @@ module _ {C K : Type 0} (plan : Plan) (facts : C → StreamFacts) (last : K → 
       (λ i. (get_or_from_slice_get olds k old.0 new.0 old.1 i, get_or_from_slice_get news k new.0 new.0 new.1 i)) (ran.1 k new.0 low) in
       (it.answered, record { old = old.0; new = new.0; was = old.1; is = new.1; front = it.is; run = it.run })
 
-  abbrev all_at : (answers : List (List Answered)) × (length answers ≡ length olds) × ((k : ℕ) (own : List Answered) → slice_get answers k ≡ Some own → StreamAt k own)
+  abbrev pub all_at : (answers : List (List Answered)) × (length answers ≡ length olds) × ((k : ℕ) (own : List Answered) → slice_get answers k ≡ Some own → StreamAt k own)
   all_at = chosen StreamAt (length olds) stream_at
 
   abbrev pub answers : List (List Answered)
@@ -143,19 +143,19 @@ module _ {C K : Type 0} (plan : Plan) (facts : C → StreamFacts) (last : K → 
 -- Fronts of datagrams
 
 -- a front with what it was before
-record Ran {D : Type 0} (plan : Plan) (batches : ℕ) (facts : D → EndFacts) (old new : FrontTask D) : Type 0 where
+pub record Ran {D : Type 0} (plan : Plan) (batches : ℕ) (facts : D → EndFacts) (old new : FrontTask D) : Type 0 where
   pub number : ℕ
   pub ran : TaskRan plan batches facts number old new
 
-abbrev front_run : {D : Type 0} {plan : Plan} {batches : ℕ} {facts : D → EndFacts} (o n : FrontTask D) → Ran plan batches facts o n → FrontRun
+abbrev pub front_run : {D : Type 0} {plan : Plan} {batches : ℕ} {facts : D → EndFacts} (o n : FrontTask D) → Ran plan batches facts o n → FrontRun
 front_run o n r = run_of o.parts.items n.answer n.parts.items
 
 module _ {D : Type 0} (plan : Plan) (batches : ℕ) (facts : D → EndFacts) (first : ℕ) (olds news : List (FrontTask D)) (ran : TasksRan plan batches facts first olds news) where
-  abbrev end_of : FrontTask D → EndFacts
+  abbrev pub end_of : FrontTask D → EndFacts
   end_of task = facts task.end
 
   -- a front after it ran, at its place
-  record FrontAt (f : ℕ) (new : FrontTask D) : Type 0 where
+  pub record FrontAt (f : ℕ) (new : FrontTask D) : Type 0 where
     pub old : FrontTask D
     pub is : slice_get news f ≡ Some new
     pub was : slice_get olds f ≡ Some old
@@ -178,7 +178,7 @@ module _ {D : Type 0} (plan : Plan) (batches : ℕ) (facts : D → EndFacts) (fi
       let n = from_map hand_of news f parts at in
       subst (λ (l : List LockedPart). IsLockedFront plan (locked_view plan.options (first + f) l)) n.2 (front_at f n.0 n.1).ran_so.is
 
-  zipped : AllZip (Ran plan batches facts) olds news
+  pub zipped : AllZip (Ran plan batches facts) olds news
   zipped = all_zipped (Ran plan batches facts) olds news ran.0 (λ f d low. record { number = first + f; ran = ran.1 f d low })
 
   -- what the fronts came to
@@ -322,4 +322,4 @@ module _ {C K : Type 0} (plan : Plan) (facts : C → StreamFacts) (last : K → 
       let t = element_at tasks k low in
       let unended = fresh k (facts t.0.port) (at_map facts ports k t.0.port (ap (λ l. slice_get l k) (sym own) ∙ at_map (λ (t : StreamTask C K). t.port) tasks k t.0 t.1)) in
       subst (IsReadyStream plan facts last k) (sym (get_or_from_slice_get tasks k t.0 d t.1))
-      (record { parts = opened.each k (stream_hand t.0) (at_map stream_hand tasks k t.0 t.1); unended = unended })
+      (record { parts = subst (λ n. AreNewParts plan n (stream_hand t.0)) (omega arith) (opened.each k (stream_hand t.0) (at_map stream_hand tasks k t.0 t.1)); unended = unended })

@@ -1,5 +1,7 @@
 use Rattle.std.proofs.Common.{rules, ◌≡◌, ◌+◌, ◌++◌, ◌∷◌, [], ℕ, List, Some, length, slice_get, vec_len, map, refl, sym, ap, ◌∙◌, subst, arith}
-use Rattle.std.specs.Prelude.{Option, IfSome, option_map}
+use Rattle.std.specs.Prelude.{⊤, Option, IfSome, option_map, Result, OnErr}
+use Rattle.std.proofs.lemmas.Result.{err_from_is_err_and}
+use Rattle.mica_io.specs.declared.fault.Failed.{Failed}
 use Rattle.std.proofs.lemmas.List.{length-map, map-append}
 use Rattle.std.proofs.lemmas.Option.{slice_get_within}
 use Rattle.mica_io.specs.Faults.{Rose}
@@ -77,4 +79,8 @@ returns-in_err-port-clause-kept g c =
     }
 
 pub returns-in_err-port-clause-cause : goal.returns-in_err-port-clause-cause
-returns-in_err-port-clause-cause g c = subst (λ (n : ℕ). Rose n (g.L.Listeners.faults c.listen.new.self)) c.loop-k.invariant.faults c.in_err-port.ensures.cause
+returns-in_err-port-clause-cause g c =
+    let is = err_from_is_err_and c.from_residual.result c.from_residual.ensures.1 in
+    let old = g.L.Listeners.faults c.args.listeners.now in
+    let new = g.L.Listeners.faults c.listen.new.self in
+    subst (λ (r : Result ⊤ Failed). OnErr r (Rose old new)) (sym is.1) (subst (λ (n : ℕ). Rose n new) c.loop-k.invariant.faults c.in_err-port.ensures.cause)

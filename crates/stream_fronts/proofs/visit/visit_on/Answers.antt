@@ -20,7 +20,8 @@ loop-preserved g c =
     let inv = c.loop.invariant in
     let visit = c.in_ok-after.ensures in
     let later = subst
-    (λ options. GoesBy options g.F.Front.is_alone (g.F.Front.sessions c.loop.front) (g.K.Clock.last c.loop.clock) (g.F.Front.sessions c.visit_once.new.front) (g.K.Clock.last c.visit_once.new.clock))
+    (λ options. GoesBy options g.F.Front.is_alone (g.F.Front.sessions c.loop.front) (g.F.Front.left c.loop.front) (g.K.Clock.last c.loop.clock) (g.F.Front.sessions c.visit_once.new.front)
+    (g.F.Front.left c.visit_once.new.front) (g.K.Clock.last c.visit_once.new.clock))
     inv.10 visit.goes in (
       visit.room,
       visit.client,
@@ -31,7 +32,7 @@ loop-preserved g c =
       visit.faults ∙ inv.6,
       visit.port ∙ inv.7,
       by_both (g.F.Front.options c.args.front.now) g.F.Front.is_alone (g.F.Front.sessions c.args.front.now) (g.F.Front.sessions c.loop.front) (g.F.Front.sessions c.visit_once.new.front)
-          (g.K.Clock.last c.args.clock.now) (g.K.Clock.last c.loop.clock) (g.K.Clock.last c.visit_once.new.clock) inv.8 later,
+          (g.F.Front.left c.args.front.now) (g.F.Front.left c.loop.front) (g.F.Front.left c.visit_once.new.front) (g.K.Clock.last c.args.clock.now) (g.K.Clock.last c.loop.clock) (g.K.Clock.last c.visit_once.new.clock) inv.8 later,
       visit.left,
       visit.options ∙ inv.10,
       visit.number ∙ inv.11,
