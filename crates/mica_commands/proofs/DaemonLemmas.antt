@@ -22,7 +22,7 @@ use Rattle.mica_commands.specs.Words.{Text}
 use Rattle.mica_commands.specs.CommandLine.{mode, tries, port, number_of, value_of, ◌>>=◌}
 use Rattle.mica_commands.specs.Memory.{before_letter, amount_in, amount_or, memory_of}
 use Rattle.mica_commands.specs.StreamWords.{memcached, memcached_fronts, listen, connections, no_streams, gives_more, some_streams, streams_by, streams_given}
-use Rattle.mica_commands.specs.DaemonWords.{Service, partitions, buckets, spares, words, wear, memory_name, sizes_by_words, sizes_by, sizes_given, service_options, image_name, fronts, lasting_ports, no_ports, ports_by, ports_given, are_possible, may_fill, daemon_given, gives_size, ArePossibleFronts}
+use Rattle.mica_commands.specs.DaemonWords.{Service, partitions, buckets, spares, words, wear, memory_name, sizes_by_words, sizes_by, sizes_given, mode_given, service_options, image_name, fronts, lasting_ports, no_ports, ports_by, ports_given, are_possible, may_fill, daemon_given, gives_size, ArePossibleFronts}
 use Rattle.mica_commands.proofs.ValueLemmas.{both_told, same_options, value_bounds, power_value, number_bounds, one_kilo, required_bounds}
 use Rattle.mica_commands.proofs.StrayWords.{and_left, and_right}
 use Rattle.mica_commands.proofs.MemoryLemmas.{memory_bounds}
@@ -77,7 +77,7 @@ by_either given (Some text) sizes options is rest = by_memory given text sizes o
 
 service_possible : (given : Text → Option Text) (options : Options) → service_options given ≡ Some options → IsPossible options
 service_possible given options is =
-    let m = both_told (value_of mode given) _ options is in
+    let m = both_told (mode_given given) _ options is in
     let z = both_told (sizes_given m.0 given) _ options m.2 in
     let t = both_told (value_of tries given) _ options z.2 in
     let e = both_told (value_of wear given) _ options t.2 in

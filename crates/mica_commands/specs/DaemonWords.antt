@@ -20,7 +20,7 @@ use Rattle.mica_commands.specs.declared.stream_words.StreamOptions.{StreamOption
 use Rattle.mica_commands.specs.Words.{Text}
 use Rattle.mica_commands.specs.Memory.{memory_of}
 use Rattle.mica_commands.specs.CommandLine.{Setting, number, power_of_two, mode, tries, port, value_of, read_as, ◌>>=◌}
-use Rattle.mica_commands.specs.StreamWords.{stream_names, streams_given}
+use Rattle.mica_commands.specs.StreamWords.{memcached, stream_names, streams_given}
 
 -- its options for partitions have the names of those of `serve`, and all the values that partitions can be made of
 abbrev pub partitions : Setting ℕ
@@ -63,10 +63,14 @@ sizes_by chosen given (Some text) = if gives_size given then None else option_ma
 abbrev pub sizes_given : Mode → (Text → Option Text) → Option Sizes
 sizes_given mode given = sizes_by mode given (given memory_name)
 
+-- the mode, which is that of a cache where none is given beside a port for memcached's clients
+abbrev pub mode_given : (Text → Option Text) → Option Mode
+mode_given given = if is_none (given mode.name) && is_some (given memcached.name) then Some Cache else value_of mode given
+
 -- its partitions, which one reader a front reads
 abbrev pub service_options : (Text → Option Text) → Option Options
 service_options given =
-    value_of mode given >>= λ mode.
+    mode_given given >>= λ mode.
     sizes_given mode given >>= λ sizes.
     value_of tries given >>= λ tries.
     value_of wear given >>= λ wear.

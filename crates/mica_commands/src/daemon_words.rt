@@ -1,7 +1,7 @@
 //! The words of a server that stays up.
 ghost use Rattle.std.specs.Prelude.{◌≡◌, map, string_bytes, option_map};
 ghost use Rattle.clap.specs.Matches.{first_value, found_of};
-ghost use Rattle.mica_commands.specs.DaemonWords.{sizes_by_words, gives_size, sizes_given, service_options, lasting_ports, ports_given, are_possible, daemon_given, daemon_of, service_of, IsDaemonReading};
+ghost use Rattle.mica_commands.specs.DaemonWords.{sizes_by_words, gives_size, sizes_given, mode_given, service_options, lasting_ports, ports_given, are_possible, daemon_given, daemon_of, service_of, IsDaemonReading};
 
 use crate::WordsFault;
 use crate::clap_command::matches_of;
@@ -83,11 +83,21 @@ fn sizes_given(found: &ArgMatches<'_>, mode: Mode) -> Option<Sizes>
     Some(sizes_for(mode, memory))
 }
 
+// The mode, which is that of a cache where none is given beside a port for memcached's clients.
+fn mode_given(found: &ArgMatches<'_>) -> Option<Mode>
+    ensures { result ≡ mode_given (first_value (found_of found.now)) }
+{
+    if found.get_str("mode").is_none() && found.get_str("memcached").is_some() {
+        return Some(Mode::Cache);
+    }
+    mode(found)
+}
+
 // The partitions, which one reader a front reads.
 fn service_options(found: &ArgMatches<'_>) -> Option<Options>
     ensures { result ≡ service_options (first_value (found_of found.now)) }
 {
-    let mode = mode(found)?;
+    let mode = mode_given(found)?;
     let sizes = sizes_given(found, mode)?;
     Some(Options {
         mode,
