@@ -25,9 +25,9 @@ use Rattle.mica_cmd.specs.declared.status.Status.{Status}
 use Rattle.mica_cmd.specs.declared.status.Status.TheVariants.{Done, TraceRefused, WriteFault, NetFault}
 use Rattle.mica_commands.specs.declared.gen_options.GenOptions.{GenOptions}
 use Rattle.mica_cmd.specs.Outside.{SourceFacts, SinkFacts, LinkFacts, Outside, outside}
-use Rattle.mica_cmd.specs.Headline.{IsTooLong, GivesTooMany, ReadsWhole, IsDueByBytes, IsDueByTrace}
+use Rattle.mica_cmd.specs.Headline.{IsTooLong, ReadsWhole}
 use Rattle.mica_cmd.specs.Promise.{KeepsPromise, IsWritten, WritesDue, IsTold}
-use Rattle.mica_cmd.specs.Input.{with_line_feed, IsDueOfInput, IsDueOfTrace, NoneByTrace, ReadsInput, GivesTrace, IsRefusedWith}
+use Rattle.mica_cmd.specs.Input.{with_line_feed, GivesTooMany, IsDueByBytes, IsDueByTrace, IsDueOfInput, IsDueOfTrace, NoneByTrace, ReadsInput, GivesTrace, IsRefusedWith}
 use Rattle.mica_cmd.specs.Promises.{replay_promise, IsDueOfReplay, IsSeatedReport, serve_promise, bench_promise, IsSeatedSummary, IsSeatedService, totals_text}
 use Rattle.mica_cmd.proofs.Keeping.{keeps_promise, stopped_trace, told_due, trace_not_done, keeps_tables, keeps_seats}
 use Rattle.mica_cmd.proofs.Settled.{settles_replay, settles_serve, settles_bench}

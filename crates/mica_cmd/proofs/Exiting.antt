@@ -1,13 +1,11 @@
 -- How the process ends with what its words ask for.
-use Rattle.std.proofs.Common.{◌≡◌, ◌≢◌, ◌∙◌, ℕ, List, [], Option, Some, None, Result, Ok, Err, refl, sym, ap, subst, map, drop}
+use Rattle.std.proofs.Common.{◌≡◌, ◌∙◌, ℕ, List, Option, Some, None, Result, Ok, Err, refl, sym, ap, subst, map, drop}
 use Rattle.std.specs.Prelude.{option_map, IfOk}
 use Rattle.std.specs.Vec.Iter.{into_iter_items}
 use Rattle.std.specs.declared.vec.IntoIter.{IntoIter}
 use Rattle.std.specs.declared.vec.Vec.{Vec}
 use Rattle.std.specs.declared.io.Error.{Error}
 use Rattle.std.proofs.lemmas.List.{drop-map}
-use Rattle.std.specs.declared.io.ErrorKind.{ErrorKind}
-use Rattle.std.specs.declared.io.ErrorKind.TheVariants.{OutOfMemory}
 use Rattle.mica_cmd.specs.declared.status.Status.{Status}
 use Rattle.mica_cmd.specs.declared.status.Status.TheVariants.{NoMemory}
 use Rattle.mica_commands.specs.Words.{Text}
@@ -15,12 +13,8 @@ use Rattle.mica_commands.specs.CommandLine.{command_of}
 use Rattle.mica_cmd.specs.Outside.{Outside}
 use Rattle.mica_cmd.specs.Promise.{KeepsPromise}
 use Rattle.mica_cmd.specs.Promises.{promise_of}
-use Rattle.mica_cmd.specs.Exit.{words_by, all_words_of, exit_number, Exits}
+use Rattle.mica_cmd.specs.Exit.{all_words_of, exit_number, Exits}
 use Rattle.mica_cmd.proofs.Settled.{memory_promise}
-
-pub no_words : (kind : ErrorKind) → kind ≢ OutOfMemory → words_by kind ≡ Some []
-no_words OutOfMemory other = absurd (other refl)
-no_words _ other = refl
 
 -- words that were gathered
 pub gathered_words : {S Z E : Type 0} (text : S → Text) (all : Result (IntoIter S Z) Error) (args : IntoIter S Z) (result : Result (Vec S Z) E) → all ≡ Ok args

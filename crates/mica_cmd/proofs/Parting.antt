@@ -40,9 +40,6 @@ lines_behind (b ∷ c ∷ front) rest whole =
 abbrev fed : List (List ℕ) → List ℕ
 fed lines = flat_map (λ line. line ++ 10 ∷ []) lines
 
-fed_onto : (b : ℕ) (first : List ℕ) (others : List (List ℕ)) → fed (onto_first b (first ∷ others)) ≡ b ∷ fed (first ∷ others)
-fed_onto b first others = refl
-
 whole_again : (front : List ℕ) → EndsLine front → fed (lines_of front) ≡ front
 whole_again [] whole = refl
 whole_again (b ∷ []) whole = subst (λ x. fed (lines_of (x ∷ [])) ≡ x ∷ []) (sym whole) refl

@@ -18,10 +18,9 @@ use Rattle.mica_cmd.specs.declared.status.Status.{Status}
 use Rattle.mica_cmd.specs.declared.status.Status.TheVariants.{Done, Usage, NoMemory, NetFault, ImageRefused}
 use Rattle.mica_commands.specs.declared.gen_options.GenOptions.{GenOptions}
 use Rattle.mica_cmd.specs.Outside.{SourceFacts, Outside}
-use Rattle.mica_cmd.specs.Headline.{IsLawfulText}
 use Rattle.mica_cmd.specs.Promise.{KeepsPromise}
 use Rattle.mica_cmd.specs.Input.{AtDone, IsDueOfTrace, IsKindOfTrace}
-use Rattle.mica_cmd.specs.Promises.{IsAlwaysDone, output_promise, input_promise, trace_promise, replay_promise, serve_promise, gen_promise, bench_promise, exclusive_promise, image_promise, ask_promise, unpack_promise, usage_promise, IsDueOfReplay, IsDueOfExclusive, IsDueOfImage, IsExactText, IsImageText, IsGenerated, IsSummary, IsNeverTold, IsDueOfAsk, IsDueOfUnpack, IsKindOfUnpack, IsDueOfServe, IsDueOfNoCommand, promise_of}
+use Rattle.mica_cmd.specs.Promises.{IsAlwaysDone, IsLawfulText, output_promise, input_promise, trace_promise, replay_promise, serve_promise, gen_promise, bench_promise, exclusive_promise, image_promise, ask_promise, unpack_promise, usage_promise, IsDueOfReplay, IsDueOfExclusive, IsDueOfImage, IsExactText, IsImageText, IsGenerated, IsSummary, IsNeverTold, IsDueOfAsk, IsDueOfUnpack, IsKindOfUnpack, IsDueOfServe, IsDueOfNoCommand, promise_of}
 use Rattle.mica_cmd.proofs.Keeping.{Settles, at_done, input_once, trace_once}
 
 settles_output : (due : Outside → Outside → Status → List ℕ → Type 0) (only : Status)

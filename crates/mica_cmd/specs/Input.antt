@@ -1,5 +1,5 @@
 -- What is due of a command that reads the source, and what it reads.
-use Rattle.std.specs.Prelude.{◌≡◌, ◌≢◌, ℕ, ◌+◌, ◌≤◌, ◌⊎◌, List, [], ◌∷◌, ◌++◌, length, codes}
+use Rattle.std.specs.Prelude.{◌≡◌, ◌≢◌, ℕ, ◌+◌, ◌<◌, ◌≤◌, ◌⊎◌, false, List, [], ◌∷◌, ◌++◌, length, codes, IfSome}
 use Rattle.std.specs.Option.{IsSomeAnd}
 use Rattle.std.specs.Io.KnownBytes.{Consumes}
 use Rattle.mica_io.specs.Faults.{Rose}
@@ -11,7 +11,7 @@ use Rattle.mica_commands.specs.declared.limits.TheConstants.{MAX_SOURCE_LEN}
 use Rattle.mica_cmd.specs.declared.status.Status.{Status}
 use Rattle.mica_cmd.specs.declared.status.Status.TheVariants.{Done, TraceRefused, TraceLong, ReadFault}
 use Rattle.mica_cmd.specs.Outside.{SourceFacts, SinkFacts, Outside}
-use Rattle.mica_cmd.specs.Headline.{IsTooLong, GivesTooMany, ReadsWhole, IsDueByBytes, IsDueByTrace}
+use Rattle.mica_cmd.specs.Headline.{IsTooLong, ReadsWhole}
 use Rattle.mica_cmd.specs.Promise.{IsUnwritten, IsWritten}
 
 -- a line that names what went wrong
@@ -22,6 +22,20 @@ with_line_feed text = text ++ 10 ∷ []
 abbrev pub AtDone : (List ℕ → Type 0) → Status → List ℕ → Type 0
 AtDone is_due Done text = is_due text
 AtDone is_due _ text = ⊥
+
+-- the reads gave more bytes than a source may give, also where it tells no bytes, and none has answered that it ended
+pub record GivesTooMany (old new : SourceFacts) : Type 0 where
+  pub many : IfSome old.left IsTooLong
+  pub given : old.given + MAX_SOURCE_LEN < new.given
+  pub goes_on : new.has_ended ≡ false
+
+-- the text is due by the bytes that the source gave
+abbrev pub IsDueByBytes : (List ℕ → List ℕ → Type 0) → SourceFacts → SourceFacts → List ℕ → Type 0
+IsDueByBytes is_due old new text = (bytes : List ℕ) × ReadsWhole old new bytes × is_due bytes text
+
+-- the text is due by the trace that the bytes spell
+abbrev pub IsDueByTrace : (List TraceLine → List ℕ → Type 0) → List ℕ → List ℕ → Type 0
+IsDueByTrace is_due bytes text = (trace : List TraceLine) × IsTrace bytes trace × is_due trace text
 
 -- the text that is due of a source: the line of too many bytes, the line of a read that failed, or what is due by all its bytes
 abbrev pub IsDueOfInput : (Status → List ℕ → List ℕ → Type 0) → SourceFacts → SourceFacts → Status → List ℕ → Type 0

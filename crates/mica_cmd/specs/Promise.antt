@@ -6,7 +6,6 @@ use Rattle.mica_serve.specs.NetRun.{NetFacts}
 use Rattle.mica_cmd.specs.declared.status.Status.{Status}
 use Rattle.mica_cmd.specs.declared.status.Status.TheVariants.{NoMemory, WriteFault}
 use Rattle.mica_cmd.specs.Outside.{SourceFacts, SinkFacts, Outside}
-use Rattle.mica_cmd.specs.Headline.{Prints}
 
 -- the promises of one command, of what was outside before a run and is after it
 pub record Promise : Type 1 where
@@ -28,6 +27,10 @@ abbrev pub IsDue : (Status → List ℕ → Type 0) → Status → List ℕ → 
 IsDue is_due NoMemory text = ⊥
 IsDue is_due WriteFault text = ⊥
 IsDue is_due status text = is_due status text
+
+-- the sink took a text of this kind, and nothing else
+abbrev pub Prints : (List ℕ → Type 0) → SinkFacts → SinkFacts → Type 0
+Prints is_due old new = (text : List ℕ) × is_due text × Appends old.taken new.taken text
 
 -- the sink took a proper prefix of the text, and nothing else
 abbrev pub AppendsPart : SinkFacts → SinkFacts → List ℕ → Type 0

@@ -37,9 +37,8 @@ use Rattle.mica_commands.specs.Summary.{summary_text}
 use Rattle.mica_cmd.specs.declared.finding.Finding.{Finding}
 use Rattle.mica_cmd.specs.Findings.{Finds, finding_text, status_of}
 use Rattle.mica_cmd.specs.Outside.{SourceFacts, SinkFacts, Outside}
-use Rattle.mica_cmd.specs.Headline.{IsDueByBytes, IsDueByTrace, IsLawfulText, Prints}
-use Rattle.mica_cmd.specs.Promise.{Promise, IsUnwritten, IsWritten}
-use Rattle.mica_cmd.specs.Input.{with_line_feed, AtDone, IsDueOfInput, IsDueOfTrace, IsUntroubled, TellsInput, IsKindOfTrace, ReadsInput, GivesTrace}
+use Rattle.mica_cmd.specs.Promise.{Promise, Prints, IsUnwritten, IsWritten}
+use Rattle.mica_cmd.specs.Input.{with_line_feed, AtDone, IsDueByBytes, IsDueByTrace, IsDueOfInput, IsDueOfTrace, IsUntroubled, TellsInput, IsKindOfTrace, ReadsInput, GivesTrace}
 
 -- ---- what commands share
 
@@ -105,6 +104,10 @@ IsAlwaysDone status trace = status ≡ Done
 -- the report is that of a run whose owners' seats these are
 abbrev pub IsSeatedReport : Options → List KeptSeat → List TraceLine → List ℕ → Type 0
 IsSeatedReport options kept trace text = (report : List Line) × IsReplayed options trace report kept × (text ≡ report_text report)
+
+-- the text of a lawful report of the trace
+abbrev pub IsLawfulText : Options → List TraceLine → List ℕ → Type 0
+IsLawfulText options trace text = (report : List Line) × LawfulReport options trace report × (text ≡ report_text report)
 
 -- with Done this is the headline
 abbrev pub IsDueOfReplay : Options → Outside → Outside → Status → List TraceLine → List ℕ → Type 0
