@@ -44,17 +44,6 @@ module _ (f h : Feeder) (ready : IsReadyFeeder f) (so_far : IsFeeding f h) (feed
       omega arith
 
   module _ (now : Outbox) (at : slice_get h.senders.items feed.queue ≡ Some now) where
-    now_is : now ≡ outbox ordered.0.queue ordered.0.number ordered.0.jobs (jobs_for feed.queue so_far.sent)
-    now_is = let it = ordered in so_far.each feed.queue it.0 now it.1 at
-
-    pub own : feed.job.sender ≡ now.number
-    own = let it = ordered in it.2 ∙ sym (ap (λ (o : Outbox). o.number) now_is)
-
-    pub may_follow : MayFollow now.jobs now.sent (kind.Job feed.job)
-    may_follow =
-        let it = ordered in
-        subst (λ (o : Outbox). MayFollow o.jobs o.sent (kind.Job feed.job)) (sym now_is) it.3
-
     pub feeds_one : (later : Feeder) → into_iter_items later.feeds ≡ rest → later.senders.items ≡ slice_set h.senders.items feed.queue (outbox now.queue now.number now.jobs (now.sent ++ kind.Job feed.job ∷ [])) → IsFeeding f later
     feeds_one later left set = record {
       sent = so_far.sent ++ feed ∷ [];

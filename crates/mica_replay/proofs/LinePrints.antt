@@ -1,5 +1,5 @@
 -- One line of a round, with the lines after it: what is merged for these makes the whole with what is printed for it.
-use Rattle.std.proofs.Common.{◌≡◌, ◌≢◌, ℕ, ◌+◌, ◌%◌, ◌==◌, ◌⊎◌, inl, inr, List, [], ◌∷◌, length, zip, slice_get, slice_set, Option, Some, None, refl, sym, ap, ◌∙◌, subst, arith, cond, Bool, true, false, eq-eqb}
+use Rattle.std.proofs.Common.{◌≡◌, ◌≢◌, ℕ, ◌+◌, ◌%◌, ◌==◌, ◌⊎◌, inl, inr, List, ◌∷◌, length, zip, slice_get, slice_set, Option, Some, None, refl, sym, ap, ◌∙◌, subst, arith, cond, Bool, true, false, eq-eqb}
 use Rattle.std.specs.List.{AllZip, cons_option}
 use Rattle.std.proofs.lemmas.Bool.{cases_eq, ne_eqb}
 use Rattle.std.proofs.lemmas.List.{length-set}

@@ -1,5 +1,5 @@
 -- Lemmas on the lines of a text and of a trace.
-use Rattle.std.proofs.Common.{◌≡◌, ◌≢◌, ℕ, ◌+◌, ◌<◌, ◌≤◌, List, [], ◌∷◌, ◌++◌, length, length-append, cond, refl, sym, ap, ◌∙◌, subst, arith, ne_eqb, codes}
+use Rattle.std.proofs.Common.{◌≡◌, ℕ, ◌+◌, ◌<◌, ◌≤◌, List, [], ◌∷◌, ◌++◌, length, length-append, cond, refl, sym, ap, ◌∙◌, subst, arith, ne_eqb}
 use Rattle.std.specs.List.{AllByRecursion}
 use Rattle.std.proofs.lemmas.List.Sums.{sum_by-cons}
 use Rattle.std.proofs.lemmas.Grind.{common_steps}
@@ -8,7 +8,7 @@ use Rattle.mica_trace.specs.declared.line.TraceOp.{TraceOp}
 use Rattle.mica_trace.specs.declared.line.TraceOp.TheVariants.{Put, Add, Del, Touch, Get, Sync}
 use Rattle.mica_trace.specs.declared.line.TraceLine.{TraceLine}
 use Rattle.mica_trace.specs.Lines.{lines_of, Lacks}
-use Rattle.mica_trace.specs.TraceGrammar.{IsKey, IsValue, HasFields, op_text, IsTextOf, is_sync, syncs_in}
+use Rattle.mica_trace.specs.TraceGrammar.{HasFields, op_text, IsTextOf, is_sync, syncs_in}
 
 pub lines_of_fed : (line rest : List ℕ) → Lacks 10 line → lines_of (line ++ 10 ∷ rest) ≡ line ∷ lines_of rest
 lines_of_fed [] rest lacks = refl
@@ -22,24 +22,6 @@ lines_of_last (b ∷ c ∷ line) some lacks = grind (arith, common_steps, lines_
 pub key_lacks_space : (key : List ℕ) → AllByRecursion (λ b. (33 ≤ b) × (b ≤ 126)) key → Lacks 32 key
 key_lacks_space [] all = tt
 key_lacks_space (b ∷ key) all = ((λ is. let here = all.0 in omega arith), key_lacks_space key all.1)
-
--- what no reading of a line finds
-pub no_line : (text : List ℕ) → text ≢ codes "sync"
-    → ((key : List ℕ) → text ≡ codes "get " ++ key → ¬ (IsKey key))
-    → ((key : List ℕ) → text ≡ codes "del " ++ key → ¬ (IsKey key))
-    → ((key : List ℕ) → text ≡ codes "touch " ++ key → ¬ (IsKey key))
-    → ((key value : List ℕ) → text ≡ codes "put " ++ (key ++ 32 ∷ value) → IsKey key → ¬ (IsValue value))
-    → ((key value : List ℕ) → text ≡ codes "add " ++ (key ++ 32 ∷ value) → IsKey key → ¬ (IsValue value))
-    → (line : TraceLine) → ¬ (IsTextOf text line)
-no_line text no_sync no_get no_del no_touch no_put no_add line is = by line.op line.key line.value is.0 is.1
-  where
-    by : (op : TraceOp) (key value : List ℕ) → HasFields op key value → text ≡ op_text op key value → ⊥
-    by Put key value fields spelled = no_put key value spelled fields.0 fields.1
-    by Add key value fields spelled = no_add key value spelled fields.0 fields.1
-    by Del key value fields spelled = no_del key spelled fields.0
-    by Touch key value fields spelled = no_touch key spelled fields.0
-    by Get key value fields spelled = no_get key spelled fields.0
-    by Sync key value fields spelled = no_sync spelled
 
 op_text_length : (op : TraceOp) (key value : List ℕ) → HasFields op key value → length (op_text op key value) ≤ MAX_LINE_LEN
 op_text_length Put key value fields = let k = fields.0.0.1 in let v = fields.1.0 in omega (arith, length-append key (32 ∷ value))

@@ -24,9 +24,6 @@ AllZip_push R [] (b ∷ ys) x y all here = absurd all
 AllZip_push R (a ∷ xs) [] x y all here = absurd all
 AllZip_push R (a ∷ xs) (b ∷ ys) x y all here = (all.0, AllZip_push R xs ys x y all.1 here)
 
-pub reads_none : (from : List ℕ) → HasRead from [] from 0
-reads_none from = record { texts = []; parts = refl; spelled = tt; within = record { few_lines = omega arith; few_rounds = omega arith }; counted = refl }
-
 sync_room : (b : Bool) (syncs : ℕ) → syncs < MAX_ROUNDS → (b ≡ true → syncs + 1 < MAX_ROUNDS) → syncs + cond b 1 0 < MAX_ROUNDS
 sync_room true syncs few room = room refl
 sync_room false syncs few room = omega arith

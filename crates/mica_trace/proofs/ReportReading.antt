@@ -3,7 +3,6 @@ use Rattle.std.proofs.Common.{◌≡◌, ◌≢◌, ℕ, ◌+◌, ◌<◌, ◌�
 use Rattle.std.specs.List.{AllByRecursion}
 use Rattle.std.specs.Fmt.{decimal}
 use Rattle.std.specs.Result.{result_ok}
-use Rattle.std.proofs.lemmas.List.{append-nil}
 use Rattle.std.proofs.lemmas.Bool.{false≢true}
 use Rattle.std.proofs.lemmas.Option.{none-some}
 use Rattle.std.proofs.lemmas.Grind.{common_steps}
@@ -14,17 +13,13 @@ use Rattle.mica_trace.specs.declared.report.Line.{Line}
 use Rattle.mica_trace.specs.declared.report.Line.TheVariants.{Wrote, Hit, Miss, Sync}
 use Rattle.mica_trace.specs.Lines.{Lacks}
 use Rattle.mica_trace.specs.TraceGrammar.{IsValue}
-use Rattle.mica_trace.specs.ReportGrammar.{op_word, outcome_words, HasOutcome, IsStamp, IsPrintable, report_line_text, SpellsLine, SpellsNoLine, report_text, IsReport, IsNoReport, BeginsWithNoLine, IsFirstBadLine}
+use Rattle.mica_trace.specs.ReportGrammar.{op_word, outcome_words, HasOutcome, IsStamp, IsPrintable, report_line_text, SpellsNoLine, report_text, IsNoReport, BeginsWithNoLine, IsFirstBadLine}
 use Rattle.mica_trace.proofs.TextLaws.{one_split, lacks_or_has}
 use Rattle.mica_trace.proofs.ReportLaws.{line_lacks, one_reply}
 
 pub record HasReadLines (from : List ℕ) (report : List Line) (rest : List ℕ) : Type 0 where
   pub lines : AllByRecursion IsPrintable report
   pub parts : from ≡ report_text report ++ rest
-
-All_push : (lines : List Line) (line : Line) → AllByRecursion IsPrintable lines → IsPrintable line → AllByRecursion IsPrintable (lines ++ line ∷ [])
-All_push [] line all here = (here, tt)
-All_push (l ∷ lines) line all here = (all.0, All_push lines line all.1 here)
 
 -- each line has its line feed, so there are no more lines than bytes
 pub few_lines : (lines : List Line) → length lines ≤ length (report_text lines)
@@ -39,12 +34,6 @@ pub no_end : (rest : List ℕ) → eqb (length rest) 0 ≡ false → rest ≢ []
 no_end rest more ended = let some = some_length rest more in let none = ap length ended in omega arith
 
 module _ (from : List ℕ) (report : List Line) (rest : List ℕ) (so_far : HasReadLines from report rest) where
-  pub reads_more : (text after : List ℕ) (line : Line) → rest ≡ text ++ 10 ∷ after → SpellsLine text line → HasReadLines from (report ++ line ∷ []) after
-  reads_more text after line first is = grind (arith, common_steps)
-
-  pub reads_all : rest ≡ [] → IsReport from report
-  reads_all ended = record { lines = so_far.lines; spelled = so_far.parts ∙ ap (λ r. report_text report ++ r) ended ∙ append-nil (report_text report) }
-
   -- a line more finds room in a report
   pub room : eqb (length rest) 0 ≡ false → length from < 4294967296 → length report < 4294967295
   room more fits = grind (arith, common_steps, few_lines report, length-append (report_text report) rest, some_length rest more)

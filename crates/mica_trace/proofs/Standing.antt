@@ -15,7 +15,7 @@ use Rattle.mica_trace.specs.declared.line.TraceOp.TheVariants.{Put, Add, Del, To
 use Rattle.mica_trace.specs.declared.line.TraceLine.{TraceLine}
 use Rattle.mica_trace.specs.declared.report.Line.{Line}
 use Rattle.mica_trace.specs.declared.report.Line.TheVariants.{Wrote, Hit, Miss, Sync as SyncLine}
-use Rattle.mica_trace.specs.TraceGrammar.{IsValue, HasFields, IsTraceLine}
+use Rattle.mica_trace.specs.TraceGrammar.{IsValue, IsTraceLine}
 use Rattle.mica_trace.specs.ReportGrammar.{HasOutcome, IsReportLine}
 use Rattle.mica_trace.specs.Rounds.{is_in_partition, write_by}
 use Rattle.mica_trace.specs.LawfulReport.{IsKindOf, IsLineFor, step_by, step_in, steps_of, Answers}
@@ -45,27 +45,6 @@ all_both (w ∷ a) b one two = (one.0, all_both a b one.1 two)
 
 pub stored_in_prefix : (a h : History) → IsPrefix a h → AllByRecursion StoresValue h → AllByRecursion StoresValue a
 stored_in_prefix a h is all = all_front a is.0 (subst (AllByRecursion StoresValue) is.1 all)
-
-written : (op : TraceOp) (key value : List ℕ) (r : Line) (h : History) → HasFields op key value → AllByRecursion StoresValue h
-    → AllByRecursion StoresValue (history_of (cons_option (step_by (write_by op key value) r) []) ++ h)
-written Put key value (Wrote op outcome s) h fields all = grind (arith, common_steps)
-written Add key value (Wrote op outcome s) h fields all = grind (arith, common_steps)
-written Del key value (Wrote op outcome s) h fields all = grind (arith, common_steps)
-written Touch key value (Wrote op outcome s) h fields all = grind (arith, common_steps)
-written Put key value (Hit s v) h fields all = all
-written Add key value (Hit s v) h fields all = all
-written Put key value (Miss s) h fields all = all
-written Add key value (Miss s) h fields all = all
-written Put key value SyncLine h fields all = all
-written Add key value SyncLine h fields all = all
-written Del key value (Hit s v) h fields all = all
-written Touch key value (Hit s v) h fields all = all
-written Del key value (Miss s) h fields all = all
-written Touch key value (Miss s) h fields all = all
-written Del key value SyncLine h fields all = all
-written Touch key value SyncLine h fields all = all
-written Get key value r h fields all = all
-written Sync key value r h fields all = all
 
 pub history_first : (o : Option RunStep) (steps : List RunStep) → history_of (cons_option o steps) ≡ history_of (cons_option o []) ++ history_of steps
 history_first None steps = refl

@@ -15,6 +15,7 @@ use Rattle.mica_trace.specs.ReportGrammar.{IsReportLine}
 pub use Rattle.mica_trace.specs.ReportGrammar.{printed_stamp}
 use Rattle.mica_trace.specs.Rounds.{partition_in, is_in_partition, op_of, write_by, round_of, round_begin, round_end, reader_of}
 
+-- a write was asked for, and it is this one that is replied to
 abbrev pub IsReplyTo : Option Op → Op → Type 0
 IsReplyTo None replied = ⊥
 IsReplyTo (Some asked) replied = replied ≡ asked
@@ -31,10 +32,12 @@ IsKindOf _ _ = ⊥
 abbrev pub IsLineFor : TraceLine → Line → Type 0
 IsLineFor line printed = IsReportLine printed × IsKindOf line.op printed
 
+-- the step that a report line prints for a write; a line that prints no reply has none
 abbrev pub step_by : Option Write → Line → Option RunStep
 step_by (Some write) (Wrote op outcome stamp) = Some (record { write = write; outcome = outcome; stamp = stamp })
 step_by _ _ = None
 
+-- the step of a line of the trace and of the one printed for it, if it is a write of the partition
 abbrev pub step_in : Options → ℕ → TraceLine × Line → Option RunStep
 step_in options partition (line, printed) =
     if is_in_partition options partition line then step_by (write_by line.op line.key line.value) printed else None
@@ -67,6 +70,7 @@ IsAnsweredInRound options lines report n line printed =
     (i : ℕ) × (round_begin options p lines round ≤ i) × (i ≤ round_end options p lines round)
     × Answers options (history_after options p lines report i) line.key printed
 
+-- What many threads may print for a trace: each reply is that of a one-thread machine at the printed stamp.
 pub record LawfulReport (options : Options) (trace : List TraceLine) (report : List Line) : Type 0 where
   -- its lines stand one to one for those of the trace
   pub lines : AllZip IsLineFor trace report

@@ -12,12 +12,14 @@ use Rattle.mica_trace.specs.declared.report_reader.ReportFault.{ReportFault}
 use Rattle.mica_trace.specs.declared.report_reader.ReportFault.TheVariants.{BadLine, NoMemory}
 use Rattle.mica_trace.specs.TraceGrammar.{IsValue}
 
+-- the word of an operation
 abbrev pub op_word : Op → List ℕ
 op_word Put = codes "put"
 op_word Add = codes "add"
 op_word Touch = codes "touch"
 op_word Del = codes "del"
 
+-- the words of an outcome
 abbrev pub outcome_words : Outcome → List ℕ
 outcome_words Stored = codes "stored"
 outcome_words Deleted = codes "deleted"
@@ -54,6 +56,7 @@ IsReportLine (Hit stamp value) = IsValue value
 IsReportLine (Miss stamp) = Unit {0}
 IsReportLine Sync = Unit {0}
 
+-- the stamp that a line prints; a sync prints none
 abbrev pub printed_stamp : Line → ℕ
 printed_stamp (Wrote op outcome stamp) = stamp
 printed_stamp (Hit stamp value) = stamp

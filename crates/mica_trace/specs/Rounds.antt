@@ -39,6 +39,7 @@ write_by op key value = option_map (λ does. write_of does key value) (op_of op)
 abbrev pub partition_in : Options → TraceLine → ℕ
 partition_in options line = partition_of line.key options.partitions
 
+-- the key of the line belongs to the partition
 abbrev pub is_in_partition : Options → ℕ → TraceLine → Bool
 is_in_partition options partition line = partition_in options line == partition
 
@@ -59,6 +60,7 @@ round_begin options partition lines round = length (writes_of options partition 
 abbrev pub round_end : Options → ℕ → List TraceLine → ℕ → ℕ
 round_end options partition lines round = round_begin options partition lines (suc round)
 
+-- whether an operation is a get
 abbrev pub is_get_op : TraceOp → Bool
 is_get_op Get = true
 is_get_op _ = false

@@ -32,6 +32,7 @@ HasFields Sync key value = (key ≡ []) × (value ≡ [])
 abbrev pub IsTraceLine : TraceLine → Type 0
 IsTraceLine line = HasFields line.op line.key line.value
 
+-- the text of an operation with this key and this value, without its line feed
 abbrev pub op_text : TraceOp → List ℕ → List ℕ → List ℕ
 op_text Put key value = codes "put " ++ key ++ 32 ∷ value
 op_text Add key value = codes "add " ++ key ++ 32 ∷ value
@@ -44,6 +45,7 @@ op_text Sync key value = codes "sync"
 abbrev pub line_text : TraceLine → List ℕ
 line_text line = op_text line.op line.key line.value
 
+-- the text is that of the line, which is one of a trace
 abbrev pub IsTextOf : List ℕ → TraceLine → Type 0
 IsTextOf text line = IsTraceLine line × (text ≡ line_text line)
 
@@ -51,10 +53,12 @@ IsTextOf text line = IsTraceLine line × (text ≡ line_text line)
 abbrev pub sync_line : TraceLine
 sync_line = record { op = Sync; key = []; value = [] }
 
+-- whether an operation ends a round
 abbrev pub is_sync_op : TraceOp → Bool
 is_sync_op Sync = true
 is_sync_op _ = false
 
+-- whether a line does
 abbrev pub is_sync : TraceLine → Bool
 is_sync line = is_sync_op line.op
 
