@@ -3,14 +3,15 @@ use Rattle.std.proofs.Common.{◌≡◌, ℕ, ◌⊎◌, inl, inr, List, Option,
 use Rattle.std.specs.Prelude.{Result, Ok, Err}
 use Rattle.partition_model.specs.declared.options.Options.{Options}
 use Rattle.partition_model.specs.declared.write.Write.{Write}
+use Rattle.partition_table.specs.declared.tables.KeptSeat.{KeptSeat}
 use Rattle.mica_fronts.specs.declared.totals.Totals.{Totals}
 use Rattle.mica_fronts.specs.declared.totals.ServeFault.TheVariants.{Net, NoMemory as NoRoom}
 use Rattle.mica_fronts.specs.declared.ports.Ports.{Ports}
 use Rattle.locked_serve.specs.declared.stop.Stop.{Stop}
 use Rattle.locked_serve.specs.declared.stop.Stop.TheVariants.{Refused, Unannounced, Fault}
-use Rattle.mica_serve.specs.NetRun.{KeepsNet}
+use Rattle.mica_serve.specs.NetRun.{NetFacts, KeepsNet}
 use Rattle.stream_fronts.specs.declared.ports.StreamPorts.{StreamPorts}
-use Rattle.locked_serve.specs.Streams.{KeepsListeners}
+use Rattle.locked_serve.specs.Streams.{ListenFacts, KeepsListeners}
 use Rattle.locked_serve.specs.Causes.{IsCauseOfStop, HasAnnounced, PortFacts, LacksPort, HasPorts}
 use Rattle.mica_cmd.specs.declared.status.Status.{Status}
 use Rattle.mica_commands.specs.Words.{Text}
@@ -19,7 +20,7 @@ use Rattle.mica_cmd.specs.Outside.{SinkFacts}
 use Rattle.mica_cmd.specs.Promise.{IsUnwritten}
 use Rattle.mica_daemon.specs.Files.{FilesFacts}
 use Rattle.mica_daemon.specs.Filling.{KeepsFiles}
-use Rattle.mica_daemon.specs.Daemon.{Outside, Says, FailsToSay, ready_text, WritesLast, Serves, BindsNothing, KeepsUp}
+use Rattle.mica_daemon.specs.Daemon.{Outside, outside, Says, FailsToSay, ready_text, WritesLast, Serves, BindsNothing, KeepsUp}
 
 -- what was announced by a sink with a line at hand was announced by the sink
 module _ {A : Type 0} (line_of : A → List ℕ) (sink_of : A → SinkFacts) (line : List ℕ) (old new : A) (same : line_of old ≡ line) where
@@ -55,6 +56,14 @@ pub serves : (options : Options) (ports : Ports) (streams : StreamPorts) (second
     → Serves options ports streams seconds writes old new status
 serves options ports streams seconds answer writes old new between status is announced kept heard last =
     record { answer = answer; said = between; cause = is; announced = announced; last = last; kept = kept; heard = heard }
+
+-- a server whose listeners had been told where to listen, with the clocks that it took
+pub placed : (options : Options) (ports : Ports) (streams : StreamPorts) (taken seconds : List ℕ) (writes : List Write) (sink : SinkFacts) (net : NetFacts) (listens told : ListenFacts)
+    (tables : List KeptSeat) (new : Outside) (status : Status) → taken ≡ seconds → told ≡ listens
+    → Serves options ports streams seconds writes (outside sink net told tables) new status → Serves options ports streams taken writes (outside sink net listens tables) new status
+placed options ports streams taken seconds writes sink net listens told tables new status same is served =
+    subst (λ s. Serves options ports streams s writes (outside sink net listens tables) new status) (sym same)
+    (subst (λ l. Serves options ports streams seconds writes (outside sink net l tables) new status) is served)
 
 kept_files : (image : Option Text) (files : FilesFacts) → KeepsFiles image files files
 kept_files None files = refl

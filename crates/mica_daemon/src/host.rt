@@ -74,9 +74,7 @@ fn run_words<R: Threads + Wait + Sync + AllocGlobal + Files + Print + Sockets + 
 /// The program as `main` runs it: with the words that it was started with.
 pub fn run_on_host<
     R: Threads + Wait + Sync + AllocGlobal + Env + Files + Print + Sockets + time::Clock,
->(
-    rt: &R,
-) -> ExitCode
+>(rt: &R) -> ExitCode
     ensures { (status : Status) × (exit_status result ≡ exit_number status) }
 {
     match all_words(rt.alloc(), env::args(rt)) {

@@ -39,9 +39,13 @@ impl<'a> Listeners for SameSchedule<'a> {
 
     fn listen(&mut self, port: u16) -> Result<MemConnections<'a>, Failed> {
         if self.taken != Some(port) {
-            if let Ok(connections) =
-                MemConnections::new(self.alloc, port, self.schedule, 1_024, &[])
-            {
+            if let Ok(connections) = MemConnections::new(
+                self.alloc,
+                port,
+                self.schedule,
+                1_024,
+                &[],
+            ) {
                 return Ok(connections);
             }
         }

@@ -16,8 +16,13 @@ fn new_port<'a, R: Abort + AllocGlobal + Sockets>(
 ) -> (TcpConnections<'a>, u16)
     ensures { ⟦<TcpConnections<'a> as Connections>⟧.has_ended result.0 ≡ false }
 {
-    let mut listeners =
-        TcpListeners::failing_whole(rt, rt.alloc(), Ipv4Addr::LOCALHOST, 8, has_failed);
+    let mut listeners = TcpListeners::failing_whole(
+        rt,
+        rt.alloc(),
+        Ipv4Addr::LOCALHOST,
+        8,
+        has_failed,
+    );
     for port in 47_500..47_600u16 {
         if let Ok(connections) = listeners.listen(port) {
             return (connections, port);
