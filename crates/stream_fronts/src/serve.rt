@@ -24,7 +24,7 @@ use std::thread::Threads;
 use stream_io::{Connections, Event};
 
 /// Visits the connection under a number, where one is held.
-#[tactic(auto, using(crate::proofs::Holding::put_back, crate::proofs::Holding::let_go, crate::proofs::Holding::all_kept, crate::proofs::Holding::moves_keeps, crate::proofs::Holding::moves_then, crate::proofs::Holding::others_of_asked, crate::proofs::Holding::asked_open, crate::proofs::Opening::still_open, crate::proofs::Opening::same_keeps, crate::proofs::Going::by_none))]
+#[tactic(auto, using(crate::proofs::Going::by_none))]
 fn visit_held<R: Threads + Wait + Sync, F: Changes, K: Clock, C: Connections>(
     rt: &R,
     alloc: Global,
@@ -75,7 +75,6 @@ fn visit_held<R: Threads + Wait + Sync, F: Changes, K: Clock, C: Connections>(
 }
 
 /// Holds a new connection. Where there is no memory for it, it is closed.
-#[tactic(auto, using(crate::proofs::Holding::put_back, crate::proofs::Holding::let_go, crate::proofs::Holding::moves_keeps, crate::proofs::Holding::moves_then, crate::proofs::Opening::same_keeps))]
 fn take_in<C: Connections>(alloc: Global, connections: &mut C, number: u32, clients: &mut Clients)
     requires clients { AreOpen clients.old.held.items (C.log connections.old) }
     requires open { IfSome (C.log connections.old) (IsOpen number 0) }
@@ -92,7 +91,7 @@ fn take_in<C: Connections>(alloc: Global, connections: &mut C, number: u32, clie
 }
 
 /// Serves what is reported.
-#[tactic(auto, using(crate::proofs::Holding::all_kept, crate::proofs::Opening::same_keeps, crate::proofs::Going::by_none))]
+#[tactic(auto, using(crate::proofs::Going::by_none))]
 fn serve_event<R: Threads + Wait + Sync, F: Changes, K: Clock, C: Connections>(
     rt: &R,
     alloc: Global,
@@ -134,7 +133,7 @@ fn serve_event<R: Threads + Wait + Sync, F: Changes, K: Clock, C: Connections>(
 }
 
 /// Serves the connections of a port, to its end, or until nearly so many writes were given to the front. A connection that there is no memory for is closed.
-#[tactic(auto, using(crate::proofs::Holding::none_held, crate::proofs::Holding::all_kept, crate::proofs::Going::by_none, crate::proofs::Going::by_both, crate::proofs::Opening::tells_keeps, crate::proofs::Opening::tells_opened, crate::proofs::Opening::called_keeps))]
+#[tactic(auto, using(crate::proofs::Holding::none_held, crate::proofs::Going::by_none, crate::proofs::Going::by_both))]
 pub fn serve_connections<R: Threads + Wait + Sync, F: Changes, K: Clock, C: Connections>(
     rt: &R,
     alloc: Global,
