@@ -8,7 +8,7 @@ use Rattle.mica_fronts.proofs.InOrder.{answers_append}
 use Rattle.memcached_text.specs.declared.next.Next.{Next}
 use Rattle.memcached_fronts.specs.Going.{GoesOn}
 use Rattle.memcached_fronts.specs.Seconds.{second_in, seconds_of, ToldFrom}
-use Rattle.stream_fronts.specs.Going.{GoesBy}
+use Rattle.stream_fronts.specs.Going.{GoesBy, GoesByThese, GoesBySome}
 
 seconds_append : (one two : List Answered) → seconds_of (one ++ two) ≡ seconds_of one ++ seconds_of two
 seconds_append one two = filter_map-append second_in one two
@@ -36,3 +36,21 @@ module _ (options : Options) (is_alone : Bool) where
   pub by_answers : (old : Sessions) (told : ℕ) (new : Sessions) (tells : ℕ) (base : ℕ) (next : Next) (done : ℕ) (answers : List Answered)
       → GoesOn options is_alone base next done old told new tells answers → GoesBy options is_alone old told new tells
   by_answers old told new tells base next done answers goes = record { answers = answers; in_order = goes.in_order; seconds = goes.seconds }
+
+  pub these_none : (old : Sessions) (told : ℕ) → GoesByThese options is_alone old told [] old told
+  these_none old told = record { in_order = λ q. refl; seconds = refl }
+
+  pub these_then : {old between new : Sessions} {told then_told tells : ℕ} {one two : List Answered} → GoesByThese options is_alone old told one between then_told
+      → GoesByThese options is_alone between then_told two new tells → GoesByThese options is_alone old told (one ++ two) new tells
+  these_then {old} {between} {new} {told} {then_told} {tells} {one} {two} first second = record {
+    in_order = answers_append options is_alone one two old between new first.in_order second.in_order;
+    seconds = subst (λ s. ToldFrom told s tells) (sym (seconds_append one two)) (told_append told (seconds_of one) then_told (seconds_of two) tells first.seconds second.seconds);
+  }
+
+  pub these_of : {old : Sessions} {told : ℕ} {new : Sessions} {tells : ℕ} {base : ℕ} {next : Next} {done : ℕ} {answers : List Answered}
+      → GoesOn options is_alone base next done old told new tells answers → GoesByThese options is_alone old told answers new tells
+  these_of goes = record { in_order = goes.in_order; seconds = goes.seconds }
+
+  pub these_goes : {old : Sessions} {told : ℕ} {answers : List Answered} {new : Sessions} {tells : ℕ} → GoesByThese options is_alone old told answers new tells
+      → GoesBy options is_alone old told new tells
+  these_goes {answers = answers} these = record { answers = answers; in_order = these.in_order; seconds = these.seconds }

@@ -1,5 +1,6 @@
 pub mod Given
 pub mod Talk
+pub mod Reached
 pub mod Closing
 pub mod Moments
 pub mod Serving
