@@ -1,16 +1,14 @@
 -- Commands that bytes spell are answered one after another.
-use Rattle.std.proofs.Common.{◌≡◌, ℕ, ◌+◌, ◌-◌, ◌≤◌, ◌<◌, Bool, List, [], ◌∷◌, ◌++◌, length, drop, refl, sym, ap, ◌∙◌, subst, arith, length-drop}
+use Rattle.std.proofs.Common.{◌≡◌, ℕ, ◌+◌, ◌-◌, ◌≤◌, ◌<◌, Bool, List, [], ◌++◌, length, drop, sym, ap, ◌∙◌, subst, arith, length-drop}
 use Rattle.std.proofs.lemmas.List.{drop-drop, drop_all}
 use Rattle.partition_model.specs.declared.options.Options.{Options}
-use Rattle.memcached_text.specs.declared.next.Next.TheVariants.{More}
 use Rattle.memcached_text.specs.Next.{next_of}
 use Rattle.mica_fronts.specs.Answered.{Answered}
 use Rattle.mica_fronts.specs.Session.{Sessions}
 use Rattle.stream_fronts.specs.declared.answer.Answered.{Answered as HowFar}
 use Rattle.stream_fronts.specs.declared.answer.Said.{Said}
-use Rattle.stream_fronts.specs.declared.answer.Said.TheVariants.{Nothing, Part, Whole, Last}
 use Rattle.stream_fronts.specs.declared.answer.Stand.{Stand}
-use Rattle.stream_fronts.specs.declared.answer.Stand.TheVariants.{Needs, Enough, Leaves}
+use Rattle.stream_fronts.specs.declared.answer.Stand.TheVariants.{Needs, Leaves}
 use Rattle.stream_fronts.specs.Going.{GoesByThese, GoesBySome}
 use Rattle.stream_fronts.specs.Reached.{Place, place_at, place_in, Reaches, Ends, GoesOnTo, ReachesAfter, StandsAs}
 use Rattle.stream_fronts.proofs.Going.{these_then}

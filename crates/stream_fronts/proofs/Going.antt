@@ -8,7 +8,7 @@ use Rattle.mica_fronts.proofs.InOrder.{answers_append}
 use Rattle.memcached_text.specs.declared.next.Next.{Next}
 use Rattle.memcached_fronts.specs.Going.{GoesOn}
 use Rattle.memcached_fronts.specs.Seconds.{second_in, seconds_of, ToldFrom}
-use Rattle.stream_fronts.specs.Going.{GoesBy, GoesByThese, GoesBySome}
+use Rattle.stream_fronts.specs.Going.{GoesBy, GoesByThese}
 
 seconds_append : (one two : List Answered) → seconds_of (one ++ two) ≡ seconds_of one ++ seconds_of two
 seconds_append one two = filter_map-append second_in one two

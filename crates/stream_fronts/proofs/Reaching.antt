@@ -12,13 +12,13 @@ use Rattle.memcached_commands.specs.Asks.{asks_in}
 use Rattle.mica_fronts.specs.Answered.{Answered}
 use Rattle.mica_fronts.specs.Session.{Sessions}
 use Rattle.memcached_fronts.specs.Exchange.{Exchange, AnswersBy, AnswersNext, flushes_now, is_answered, count_of_answers, due_to, due_before}
-use Rattle.memcached_fronts.specs.Spells.{Spells, MayGoOn, taken_by, due_to_all, answers_to_all}
+use Rattle.memcached_fronts.specs.Spells.{Spells, taken_by, due_to_all, answers_to_all}
 use Rattle.memcached_fronts.specs.declared.answer.Limits.{Limits}
 use Rattle.memcached_fronts.specs.declared.answer.Progress.{Progress}
 use Rattle.memcached_fronts.specs.Going.{StandsAt, GoesOn, Replies}
 use Rattle.memcached_fronts.proofs.SpellsLaws.{rest_is, spells_more, spells_next, may_go_on, due_then, answers_then, nothing_before, due_still}
 use Rattle.stream_fronts.specs.Talk.{has_left}
-use Rattle.stream_fronts.specs.declared.answer.Said.TheVariants.{Nothing, Part, Whole, Last}
+use Rattle.stream_fronts.specs.declared.answer.Said.TheVariants.{Part, Whole, Last}
 use Rattle.stream_fronts.specs.declared.answer.Stand.{Stand}
 use Rattle.stream_fronts.specs.declared.answer.Stand.TheVariants.{Needs, Enough, Leaves}
 use Rattle.stream_fronts.specs.Reached.{Place, place_at, begun, Reaches, Ends, GoesOnTo, ReachesAfter, StandsAs}

@@ -6,5 +6,7 @@ pub mod Moments
 pub mod Serving
 pub mod Open
 pub mod Going
+pub mod Traffic
 pub mod Parts
 pub mod Clients
+pub mod Held

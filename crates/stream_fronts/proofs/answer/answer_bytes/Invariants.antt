@@ -2,7 +2,7 @@ use Rattle.std.proofs.Common.{◌≡◌, ◌≤◌, length}
 use Rattle.std.specs.Prelude.{drop}
 use Rattle.memcached_text.specs.Next.{next_of}
 use Rattle.memcached_fronts.specs.Exchange.{IsOpenAt}
-use Rattle.stream_fronts.specs.Going.{GoesBy, GoesBySome}
+use Rattle.stream_fronts.specs.Going.{GoesBySome}
 use Rattle.stream_fronts.specs.Reached.{Reaches, GoesOnTo, place_at}
 use Rattle.stream_fronts.proofs.answer.answer_bytes.Given as goal
 
