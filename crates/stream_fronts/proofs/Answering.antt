@@ -1,5 +1,6 @@
 -- Commands that bytes spell are answered one after another.
 use Rattle.std.proofs.Common.{◌≡◌, ℕ, ◌+◌, ◌-◌, ◌≤◌, ◌<◌, Bool, List, [], ◌++◌, length, drop, sym, ap, ◌∙◌, subst, arith, length-drop}
+use Rattle.std.specs.Prelude.{MatchResult, Result, Err}
 use Rattle.std.proofs.lemmas.List.{drop-drop, drop_all}
 use Rattle.partition_model.specs.declared.options.Options.{Options}
 use Rattle.memcached_text.specs.Next.{next_of}
@@ -10,9 +11,9 @@ use Rattle.stream_fronts.specs.declared.answer.Said.{Said}
 use Rattle.stream_fronts.specs.declared.answer.Stand.{Stand}
 use Rattle.stream_fronts.specs.declared.answer.Stand.TheVariants.{Needs, Leaves}
 use Rattle.stream_fronts.specs.Going.{GoesByThese, GoesBySome}
-use Rattle.stream_fronts.specs.Reached.{Place, place_at, place_in, Reaches, Ends, GoesOnTo, ReachesAfter, StandsAs}
+use Rattle.stream_fronts.specs.Reached.{Place, place_at, place_in, Reaches, Ends, GoesOnTo, ReachesAfter, SpokeFrom, StandsAs}
 use Rattle.stream_fronts.proofs.Going.{these_then}
-use Rattle.stream_fronts.proofs.Reaching.{on_then, on_as, stands_more, nothing_next}
+use Rattle.stream_fronts.proofs.Reaching.{on_then, on_as, spoke_then, stands_more, nothing_next}
 
 module _ (options : Options) (is_alone : Bool) (base : ℕ) where
   -- the same sessions, by the same answers
@@ -38,6 +39,16 @@ module _ (options : Options) (is_alone : Bool) (base : ℕ) where
         let all = subst (λ r. GoesBySome options is_alone between then new tells
         (λ answers. GoesOnTo options base (place_at r done) answers here after (ReachesAfter options base r done is))) rest_is by_said in
         (first.0 ++ all.0, these_then options is_alone first.1 all.1, on_then options base first.2 all.2)
+
+    -- memory lacked
+    pub spoke_on : (most : ℕ) (place : Place) (bytes rest : List ℕ) (done : ℕ) (before here : List ℕ) (o : Options) → rest ≡ bytes → o ≡ options → length bytes ≤ most
+        → GoesBySome options is_alone old told between then (λ answers. GoesOnTo options base place answers before here (Reaches options base (place_at bytes done)))
+        → GoesBySome o is_alone between then new tells (λ answers. SpokeFrom o base (length rest) (place_at rest done) answers)
+        → GoesBySome options is_alone old told new tells (λ answers. SpokeFrom options base most place answers)
+    spoke_on most place bytes rest done before here o rest_is same less first second =
+        let one = subst (λ (x : Options). GoesBySome x is_alone between then new tells (λ answers. SpokeFrom x base (length rest) (place_at rest done) answers)) same second in
+        let all = subst (λ r. GoesBySome options is_alone between then new tells (λ answers. SpokeFrom options base (length r) (place_at r done) answers)) rest_is one in
+        (first.0 ++ all.0, these_then options is_alone first.1 all.1, spoke_then options base less first.2 all.2)
 
   -- by the same answers, more is said of where the talk came to
   pub some_as : {old new : Sessions} {told tells : ℕ} (place : Place) (before after : List ℕ) (P Q : List ℕ → List Answered → List ℕ → Type 0)
@@ -86,3 +97,6 @@ module _ (options : Options) (is_alone : Bool) (base : ℕ) where
       let none : len - length (drop taken bytes) ≡ 0 = omega (arith, come, same) in
       subst (λ b. Reaches options base (place_at b 0) received given due) (drop-drop len taken bytes)
       (subst (λ n. Reaches options base (record { bytes = drop len (drop taken bytes); done = 0; dropping = n }) received given due) none at)
+
+pub match_err : {T E : Type 0} (P : T → Type 0) (Q : E → Type 0) (r : Result T E) (e : E) → r ≡ Err e → Q e → MatchResult r P Q
+match_err P Q r e is q = subst (λ x. MatchResult x P Q) (sym is) q

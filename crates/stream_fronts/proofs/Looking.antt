@@ -1,6 +1,6 @@
 -- One look at what is kept of a client, and at what was read behind it.
 use Rattle.std.proofs.Common.{◌≡◌, ℕ, ◌-◌, ◌≤◌, ◌<◌, inl, inr, List, [], ◌∷◌, ◌++◌, length, drop, sym, ap, ◌∙◌, subst, arith, length-drop}
-use Rattle.std.specs.Prelude.{Option, Some, None, IfSome, IfOk, Result, Ok, Err}
+use Rattle.std.specs.Prelude.{Option, Some, None, IfSome, MatchResult, Result, Ok, Err}
 use Rattle.std.proofs.lemmas.List.{append-nil, drop_all}
 use Rattle.partition_model.specs.declared.options.Options.{Options}
 use Rattle.memcached_text.specs.declared.limits.TheConstants.{MAX_WAITING_LEN}
@@ -17,7 +17,7 @@ use Rattle.stream_fronts.specs.declared.answer.Stand.TheVariants.{Needs}
 use Rattle.stream_fronts.specs.declared.client.Client.{Client}
 use Rattle.stream_fronts.specs.Open.{OnLogs}
 use Rattle.stream_fronts.specs.Traffic.{OnHeld}
-use Rattle.stream_fronts.specs.Reached.{Place, place_at, place_of, Reaches, GoesOnTo, StandsAs}
+use Rattle.stream_fronts.specs.Reached.{Place, place_at, place_of, Reaches, GoesOnTo, SpokeFrom, SpokeBehind, StandsAs}
 use Rattle.stream_fronts.proofs.Reaching.{read_more, none_kept, stands_more, nothing_next}
 
 -- of a command that was answered in part, something is there
@@ -51,8 +51,26 @@ module _ (options : Options) (base : ℕ) where
         stands_more options base stand (place_of now) (length client.kept.items) MAX_WAITING_LEN received (given ++ answers) (due ++ goes.text) short (goes.on received given due at);
   }
 
+  pub lacks_further : (client : Client) (answers : List Answered) → IsOpenAt (next_of client.kept.items) client.done → 0 < client.done → length client.kept.items ≤ MAX_WAITING_LEN
+      → SpokeFrom options base (length client.kept.items) (place_at client.kept.items client.done) answers → SpokeFrom options base MAX_WAITING_LEN (place_of client) answers
+  lacks_further client answers stands some short spoke received given due r =
+      let none : client.dropping ≡ 0 = none_dropped r stands some in
+      let at = subst (λ n. Reaches options base (record { bytes = client.kept.items; done = client.done; dropping = n }) received given due) none r in
+      let s = spoke received given due at in
+      record { talk = s.talk; few = let f = s.few in omega (arith, f, short) }
+
   -- Bytes were read, and what is to be dropped of them is left out.
   module _ (client : Client) (bytes more : List ℕ) (first : client.done ≡ 0) (all : bytes ≡ client.kept.items ++ more) where
+    read_at : (rest : List ℕ) {received : List ℕ} {given : List Answered} {due : List ℕ} → client.dropping ≤ length bytes → rest ≡ drop client.dropping bytes
+        → Reaches options base (place_of client) received given due → Reaches options base (place_at rest 0) (received ++ more) given due
+    read_at rest {received} {given} {due} come rest_is_it r =
+        let same = ap length all in
+        let none : client.dropping - length (client.kept.items ++ more) ≡ 0 = omega (arith, come, same) in
+        let rest_all : drop client.dropping (client.kept.items ++ more) ≡ rest = ap (drop client.dropping) (sym all) ∙ sym rest_is_it in
+        subst (λ b. Reaches options base (place_at b 0) (received ++ more) given due) rest_all
+        (subst (λ n. Reaches options base (record { bytes = drop client.dropping (client.kept.items ++ more); done = 0; dropping = n }) (received ++ more) given due) none
+        (read_more options base r first more))
+
     pub looks_at : (now : Client) (stand : Stand) (answers : List Answered) (replies rest : List ℕ) → client.dropping ≤ length bytes → length bytes ≤ MAX_WAITING_LEN → rest ≡ drop client.dropping bytes
         → GoesOnTo options base (place_at rest 0) answers [] replies (StandsAs options base (length rest) stand (place_of now))
         → GoesOnTo options base (place_of client) answers [] replies (λ received given due. StandsAs options base MAX_WAITING_LEN stand (place_of now) (received ++ more) given due)
@@ -60,15 +78,17 @@ module _ (options : Options) (base : ℕ) where
       text = goes.text;
       appended = goes.appended;
       on = λ received given due r.
-          let same = ap length all in
-          let none : client.dropping - length (client.kept.items ++ more) ≡ 0 = omega (arith, come, same) in
-          let rest_all : drop client.dropping (client.kept.items ++ more) ≡ rest = ap (drop client.dropping) (sym all) ∙ sym rest_is_it in
-          let at = subst (λ b. Reaches options base (place_at b 0) (received ++ more) given due) rest_all
-          (subst (λ n. Reaches options base (record { bytes = drop client.dropping (client.kept.items ++ more); done = 0; dropping = n }) (received ++ more) given due) none
-          (read_more options base r first more)) in
+          let at = read_at rest come rest_is_it r in
           let fewer : length rest ≤ MAX_WAITING_LEN = let len = ap length rest_is_it ∙ length-drop client.dropping bytes in omega (arith, len, short) in
           stands_more options base stand (place_of now) (length rest) MAX_WAITING_LEN (received ++ more) (given ++ answers) (due ++ goes.text) fewer (goes.on (received ++ more) given due at);
     }
+
+    pub lacks_at : (answers : List Answered) (rest : List ℕ) → client.dropping ≤ length bytes → length bytes ≤ MAX_WAITING_LEN → rest ≡ drop client.dropping bytes
+        → SpokeFrom options base (length rest) (place_at rest 0) answers → SpokeBehind options base MAX_WAITING_LEN (place_of client) more answers
+    lacks_at answers rest come short rest_is_it spoke received given due r =
+        let s = spoke (received ++ more) given due (read_at rest come rest_is_it r) in
+        let len = ap length rest_is_it ∙ length-drop client.dropping bytes in
+        record { talk = s.talk; few = let f = s.few in omega (arith, f, short, len) }
 
     -- All of them are left out.
     pub looks_at_none : (after : List ℕ) → after ≡ [] → length bytes < client.dropping
@@ -104,6 +124,6 @@ on_same number P (Some a) is = by (held number (connections_of a))
     by None = tt
     by (Some c) = is c a
 
-pub if_ok : {T E : Type 0} (P Q : T → Type 0) (r : Result T E) → ((t : T) → P t → Q t) → IfOk r P → IfOk r Q
-if_ok P Q (Ok t) then is = then t is
-if_ok P Q (Err e) then is = is
+pub if_match : {T E : Type 0} (P Q : T → Type 0) (S U : E → Type 0) (r : Result T E) → ((t : T) → P t → Q t) → ((e : E) → S e → U e) → MatchResult r P S → MatchResult r Q U
+if_match P Q S U (Ok t) then or_else is = then t is
+if_match P Q S U (Err e) then or_else is = or_else e is

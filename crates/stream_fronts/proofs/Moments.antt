@@ -1,5 +1,5 @@
 -- What is true at each moment of a log stays so as calls add to it, and as more is answered.
-use Rattle.std.proofs.Common.{◌≡◌, ℕ, ◌+◌, ◌==◌, ◌≤◌, Bool, true, false, cond, List, [], ◌∷◌, ◌++◌, length, map, refl, sym, ap, ◌∙◌, subst, arith, append_assoc, length-append}
+use Rattle.std.proofs.Common.{◌≡◌, ℕ, ◌+◌, ◌==◌, ◌≤◌, inl, Bool, true, false, cond, List, [], ◌∷◌, ◌++◌, length, map, refl, sym, ap, ◌∙◌, subst, arith, append_assoc, length-append}
 use Rattle.std.specs.Prelude.{filter}
 use Rattle.std.specs.List.{AllByRecursion}
 use Rattle.std.proofs.lemmas.List.{append-nil, map-append}
@@ -13,7 +13,7 @@ use Rattle.stream_io.specs.Log.{received_of, sent_of}
 use Rattle.mica_fronts.specs.Answered.{Answered}
 use Rattle.stream_fronts.specs.Given.{Given, given_to}
 use Rattle.stream_fronts.specs.Talk.{IsBeginning, TalksWith}
-use Rattle.stream_fronts.specs.Moments.{TalksWithAll, HasCause, TalksThrough}
+use Rattle.stream_fronts.specs.Moments.{TalksWithOne, TalksWithAll, HasCause, TalksThrough}
 use Rattle.stream_fronts.specs.Traffic.{IsSend}
 use Rattle.stream_fronts.specs.Held.{all_to}
 use Rattle.stream_fronts.proofs.Talking.{Told}
@@ -52,32 +52,35 @@ module _ (options : Options) (base most : ℕ) where
     pub went : sent_of d new ≡ sent_of d old
     pub given : given_to d now ≡ given_to d all
 
-  talks_same : {came went r s : List ℕ} {answers a : List Answered} → r ≡ came → s ≡ went → a ≡ answers → TalksWith options base most came went answers → TalksWith options base most r s a
-  talks_same {came} {went} {r} {s} {answers} {a} r_is s_is a_is talks =
-      subst (λ x. TalksWith options base most x s a) (sym r_is) (subst (λ x. TalksWith options base most came x a) (sym s_is)
-      (subst (λ x. TalksWith options base most came went x) (sym a_is) talks))
+  module _ (lacking : List ℕ) where
+    talks_same : (c : ℕ) {came went r s : List ℕ} {answers a : List Answered} → r ≡ came → s ≡ went → a ≡ answers → TalksWithOne options base most lacking c came went answers
+        → TalksWithOne options base most lacking c r s a
+    talks_same c {came} {went} {r} {s} {answers} {a} r_is s_is a_is talks =
+        subst (λ x. TalksWithOne options base most lacking c x s a) (sym r_is) (subst (λ x. TalksWithOne options base most lacking c came x a) (sym s_is)
+        (subst (λ x. TalksWithOne options base most lacking c came went x) (sym a_is) talks))
 
-  pub with_all : (c : ℕ) (old new : List Entry) (all now : List Given) → ((d : ℕ) → (c == d) ≡ false → SameFor d old new all now)
-      → TalksWith options base most (received_of c new) (sent_of c new) (given_to c now) → TalksWithAll options base most old all → TalksWithAll options base most new now
-  with_all c old new all now same here before d = by (c == d) refl
-    where
-      by : (t : Bool) → (c == d) ≡ t → TalksWith options base most (received_of d new) (sent_of d new) (given_to d now)
-      by true is = subst (λ e. TalksWith options base most (received_of e new) (sent_of e new) (given_to e now)) (eqb-true c d is) here
-      by false is = let s = same d is in talks_same s.came s.went s.given (before d)
+    pub with_all : (c : ℕ) (old new : List Entry) (all now : List Given) → ((d : ℕ) → (c == d) ≡ false → SameFor d old new all now)
+        → TalksWithOne options base most lacking c (received_of c new) (sent_of c new) (given_to c now) → TalksWithAll options base most lacking old all
+        → TalksWithAll options base most lacking new now
+    with_all c old new all now same here before d = by (c == d) refl
+      where
+        by : (t : Bool) → (c == d) ≡ t → TalksWithOne options base most lacking d (received_of d new) (sent_of d new) (given_to d now)
+        by true is = subst (λ e. TalksWithOne options base most lacking e (received_of e new) (sent_of e new) (given_to e now)) (eqb-true c d is) here
+        by false is = let s = same d is in talks_same d s.came s.went s.given (before d)
 
   module _ (schedule : List Step) (lacking : List ℕ) where
-    pub last_moment : (entries : List Entry) (all : List Given) → TalksThrough options base most schedule lacking entries all → TalksWithAll options base most entries all
+    pub last_moment : (entries : List Entry) (all : List Given) → TalksThrough options base most schedule lacking entries all → TalksWithAll options base most lacking entries all
     last_moment [] all through = through
     last_moment (e ∷ entries) all through = through.0
 
     -- one entry more
-    pub through_entry : (entry : Entry) (entries : List Entry) (all : List Given) → TalksWithAll options base most (entry ∷ entries) all
+    pub through_entry : (entry : Entry) (entries : List Entry) (all : List Given) → TalksWithAll options base most lacking (entry ∷ entries) all
         → HasCause options base schedule lacking entry entries all → TalksThrough options base most schedule lacking entries all
         → TalksThrough options base most schedule lacking (entry ∷ entries) all
     through_entry entry entries all talks cause through = (talks, (all, ([], sym (append-nil all)), cause, through))
 
     -- more answers at one moment
-    pub through_answers : (entries : List Entry) (all more : List Given) → TalksWithAll options base most entries (all ++ more)
+    pub through_answers : (entries : List Entry) (all more : List Given) → TalksWithAll options base most lacking entries (all ++ more)
         → TalksThrough options base most schedule lacking entries all → TalksThrough options base most schedule lacking entries (all ++ more)
     through_answers [] all more talks through = talks
     through_answers (e ∷ entries) all more talks through = (
@@ -125,9 +128,9 @@ module _ (options : Options) (base most : ℕ) where
           let long = longer (sent e bytes ∷ more) each in
           let here : TalksWith options base most (received_of c entries) (sent_of c (sent e bytes ∷ now)) (given_to c all) =
           (t.talk, record { kept = t.few; unsent = let all_due = ap length t.due_is in omega (arith, few, long, all_due) }) in
-          through_entry (sent e bytes) now all (with_all c now (sent e bytes ∷ now) all all
+          through_entry (sent e bytes) now all (with_all lacking c now (sent e bytes ∷ now) all all
           (λ d other. record { came = refl; went = other_entry d e bytes now each.0 other; given = refl })
-          (talks_same (sends_received c more entries each.1 c) refl refl here) (last_moment now all through)) tt through
+          (talks_same lacking c (sends_received c more entries each.1 c) refl refl (inl here)) (last_moment now all through)) tt through
       through_sends (opened n ∷ more) each due few told begins = absurd each.0
       through_sends (reported n ∷ more) each due few told begins = absurd each.0
       through_sends (received e bytes ∷ more) each due few told begins = absurd each.0

@@ -8,20 +8,22 @@ use Rattle.memcached_text.specs.declared.next.Next.TheVariants.{More}
 use Rattle.memcached_text.specs.Next.{next_of}
 use Rattle.memcached_text.specs.Stream.{len_of, is_last}
 use Rattle.memcached_text.proofs.NextLaws.{no_line_short}
+use Rattle.memcached_commands.specs.declared.asks.Asked.{Asked}
 use Rattle.memcached_commands.specs.Asks.{asks_in}
 use Rattle.mica_fronts.specs.Answered.{Answered}
 use Rattle.mica_fronts.specs.Session.{Sessions}
-use Rattle.memcached_fronts.specs.Exchange.{Exchange, AnswersBy, AnswersNext, flushes_now, is_answered, count_of_answers, due_to, due_before}
+use Rattle.memcached_fronts.specs.Exchange.{Exchange, AnswersBy, AnswersNext, IsOpenAt, flushes_now, is_answered, count_of_answers, due_to, due_before}
 use Rattle.memcached_fronts.specs.Spells.{Spells, taken_by, due_to_all, answers_to_all}
 use Rattle.memcached_fronts.specs.declared.answer.Limits.{Limits}
 use Rattle.memcached_fronts.specs.declared.answer.Progress.{Progress}
 use Rattle.memcached_fronts.specs.Going.{StandsAt, GoesOn, Replies}
+use Rattle.memcached_fronts.proofs.ExchangeLaws.{no_asks, at_first, asks_are_due}
 use Rattle.memcached_fronts.proofs.SpellsLaws.{rest_is, spells_more, spells_next, may_go_on, due_then, answers_then, nothing_before, due_still}
 use Rattle.stream_fronts.specs.Talk.{has_left}
 use Rattle.stream_fronts.specs.declared.answer.Said.TheVariants.{Part, Whole, Last}
 use Rattle.stream_fronts.specs.declared.answer.Stand.{Stand}
 use Rattle.stream_fronts.specs.declared.answer.Stand.TheVariants.{Needs, Enough, Leaves}
-use Rattle.stream_fronts.specs.Reached.{Place, place_at, begun, Reaches, Ends, GoesOnTo, ReachesAfter, StandsAs}
+use Rattle.stream_fronts.specs.Reached.{Place, place_at, begun, Reaches, Ends, GoesOnTo, ReachesAfter, StandsAs, Spoke, SpokeFrom}
 
 taken_then : (es : List Exchange) (e : Exchange) → taken_by (es ++ e ∷ []) ≡ taken_by es + len_of e.next
 taken_then [] e = omega arith
@@ -39,6 +41,9 @@ module _ (options : Options) (base : ℕ) where
       go : (t : Bool) → AnswersBy t options base (asks_in next) []
       go true = tt
       go false = tt
+
+  none_begun : (bytes : List ℕ) (part : List Answered) → length part ≡ 0 → due_before options base (begun bytes part) ≡ []
+  none_begun bytes part none = subst (λ p. due_before options base (begun bytes p) ≡ []) (sym (nil_from_length part none)) (nothing_before options base (next_of bytes))
 
   -- The command at a place
 
@@ -156,6 +161,71 @@ module _ (options : Options) (base : ℕ) where
             (ap is_last (sym is) ∙ last);
       }
 
+  -- Memory lacked
+
+  -- what is due grows
+  due_grows : (bytes : List ℕ) (done : ℕ) (part answers : List Answered) → IsOpenAt (next_of bytes) done → StandsAt options base (next_of bytes) done (begun bytes part)
+      → (later : List ℕ) × (due_to options base (begun bytes (part ++ answers)) ≡ due_before options base (begun bytes part) ++ later)
+  due_grows bytes done part answers stands at = by (flushes_now (next_of bytes)) refl (asks_in (next_of bytes)) refl
+    where
+      at_once : asks_in (next_of bytes) ≡ [] → (later : List ℕ) × (due_to options base (begun bytes (part ++ answers)) ≡ due_before options base (begun bytes part) ++ later)
+      at_once none = (
+        due_to options base (begun bytes (part ++ answers)),
+        ap (λ t. t ++ due_to options base (begun bytes (part ++ answers))) (sym (none_begun bytes part (at.count ∙ at_first (next_of bytes) done stands none))),
+      )
+
+      by : (flushes : Bool) → flushes_now (next_of bytes) ≡ flushes → (asks : List Asked) → asks_in (next_of bytes) ≡ asks
+          → (later : List ℕ) × (due_to options base (begun bytes (part ++ answers)) ≡ due_before options base (begun bytes part) ++ later)
+      by true flushes asks is = at_once (no_asks (next_of bytes) flushes)
+      by false keyed [] is = at_once is
+      by false keyed (asked ∷ asks) is =
+          (_, asks_are_due options base (next_of bytes) done answers keyed stands (let many = ap length is in omega (arith, many)) (begun bytes part) at)
+
+  module _ {is_alone : Bool} {old new : Sessions} {told tells : ℕ} {answers : List Answered} (bytes : List ℕ) (done : ℕ) (next : Next) (is : next ≡ next_of bytes)
+      (goes : GoesOn options is_alone base next done old told new tells answers) (some : next ≢ More) (stands : IsOpenAt (next_of bytes) done) where
+    pub spoke_of : SpokeFrom options base (length bytes) (place_at bytes done) answers
+    spoke_of received given due r =
+        let by_all = subst (λ (n : Next). GoesOn options is_alone base n done old told new tells answers) is goes in
+        let begins = by_all.next_ones (begun bytes r.part) (here r) in
+        let grows = due_grows bytes done r.part answers stands (here r) in
+        let now = begun bytes (r.part ++ answers) in
+        record {
+          talk = record {
+            said = r.whole ++ begun bytes (r.part ++ answers) ∷ [];
+            rest = drop (len_of (next_of bytes)) bytes;
+            spells = spells_next options base received r.whole bytes now r.spells r.follows (record { next = refl; some = λ none. some (is ∙ none); answers = begins });
+            answered =
+                answers_then options base r.whole now ∙ sym (append_assoc (answers_to_all r.whole) r.part answers) ∙ ap (λ g. g ++ answers) r.answered;
+            begins = (
+              grows.0,
+              due_then options base r.whole now ∙ ap (λ t. due_to_all options base r.whole ++ t) grows.1
+                  ∙ sym (append_assoc (due_to_all options base r.whole) (due_before options base (begun bytes r.part)) grows.0) ∙ ap (λ t. t ++ grows.0) r.due_is,
+            );
+          };
+          few = let len = length-drop (len_of (next_of bytes)) bytes in omega (arith, len);
+        }
+
+  -- less was due before, and more may be left
+  spoke_less : {few most : ℕ} {received : List ℕ} {answers : List Answered} (due text : List ℕ) → few ≤ most → Spoke options base few received answers (due ++ text)
+      → Spoke options base most received answers due
+  spoke_less due text less s = record {
+    talk = record {
+      said = s.talk.said;
+      rest = s.talk.rest;
+      spells = s.talk.spells;
+      answered = s.talk.answered;
+      begins = (text ++ s.talk.begins.0, s.talk.begins.1 ∙ append_assoc due text s.talk.begins.0);
+    };
+    few = let f = s.few in omega (arith, less, f);
+  }
+
+  -- behind what was answered before
+  pub spoke_then : {place between : Place} {one two : List Answered} {before after : List ℕ} {few most : ℕ} → few ≤ most
+      → GoesOnTo options base place one before after (Reaches options base between) → SpokeFrom options base few between two → SpokeFrom options base most place (one ++ two)
+  spoke_then {place} {between} {one} {two} {before} {after} {few} {most} less first then received given due r =
+      subst (λ g. Spoke options base most received g due) (append_assoc given one two)
+      (spoke_less due first.text less (then received (given ++ one) (due ++ first.text) (first.on received given due r)))
+
   -- One after another
 
   pub on_none : (place : Place) (old : List ℕ) → GoesOnTo options base place [] old old (Reaches options base place)
@@ -182,9 +252,6 @@ module _ (options : Options) (base : ℕ) where
   on_as as_q goes = record { text = goes.text; appended = goes.appended; on = λ received given due r. as_q received (given ++ _) (due ++ goes.text) (goes.on received given due r) }
 
   -- More bytes
-
-  none_begun : (bytes : List ℕ) (part : List Answered) → length part ≡ 0 → due_before options base (begun bytes part) ≡ []
-  none_begun bytes part none = subst (λ p. due_before options base (begun bytes p) ≡ []) (sym (nil_from_length part none)) (nothing_before options base (next_of bytes))
 
   module _ {place : Place} {received : List ℕ} {given : List Answered} {due : List ℕ} (r : Reaches options base place received given due) (first : place.done ≡ 0) (more : List ℕ) where
     abbrev taken : ℕ

@@ -17,7 +17,9 @@ use Rattle.stream_io.specs.Connection.{Connection}
 use Rattle.stream_fronts.specs.Talk.{IsBeginning, Talk, due_in}
 use Rattle.stream_fronts.specs.Closing.{MayClose, broke, left, ended}
 use Rattle.stream_fronts.specs.Traffic.{HasEnded}
-use Rattle.stream_fronts.specs.Reached.{Place, begun, Reaches, Ends}
+use Rattle.stream_fronts.specs.declared.answer.Stand.{Stand}
+use Rattle.stream_fronts.specs.declared.answer.Stand.TheVariants.{Needs, Enough, Leaves}
+use Rattle.stream_fronts.specs.Reached.{Place, begun, Reaches, Ends, GoesOnTo, StandsAs, Spoke, SpokeFrom}
 
 -- what was asked in part asks something
 asks_some : (next : Next) (done n : ℕ) → IsOpenAt next done → done ≡ suc n → done < length (asks_in next)
@@ -105,6 +107,22 @@ module _ (options : Options) (base : ℕ) where
       due_is = r.due_is;
       few = r.few;
     }
+
+  -- Memory lacked behind an answer
+  pub spoke_stands : (stand : Stand) (place at : Place) (answers : List Answered) (before after : List ℕ) (most : ℕ) → IsOpenAt (next_of at.bytes) at.done → length at.bytes ≤ most
+      → GoesOnTo options base place answers before after (StandsAs options base most stand at) → SpokeFrom options base most place answers
+  spoke_stands stand place at answers before after most stands short goes received given due r = by stand (goes.on received given due r)
+    where
+      begins : IsBeginning due (due ++ goes.text)
+      begins = (goes.text, refl)
+
+      told : {few : ℕ} → few ≤ most → Told received due (given ++ answers) (due ++ goes.text) few → Spoke options base most received (given ++ answers) due
+      told less t = record { talk = t.talk; few = let f = t.few in omega (arith, f, less) }
+
+      by : (s : Stand) → StandsAs options base most s at received (given ++ answers) (due ++ goes.text) → Spoke options base most received (given ++ answers) due
+      by Needs is = told short (talk_at is.0 stands due begins)
+      by Enough is = told short (talk_at is stands due begins)
+      by Leaves is = told (omega arith) (talk_ends is due begins)
 
   -- Causes of a close
 

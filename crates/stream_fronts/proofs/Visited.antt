@@ -1,5 +1,5 @@
 -- What a visit makes of a talk, by what each part of it did.
-use Rattle.std.proofs.Common.{◌≡◌, ◌≢◌, ℕ, ◌==◌, ◌≤◌, inl, inr, Bool, true, false, true≢false, List, [], ◌++◌, length, drop, refl, sym, ap, ◌∙◌, subst, arith, length-append}
+use Rattle.std.proofs.Common.{◌≡◌, ◌≢◌, ℕ, ◌==◌, ◌≤◌, inl, inr, Bool, true, false, true≢false, List, [], ◌++◌, length, take, drop, refl, sym, ap, ◌∙◌, subst, arith, length-append}
 use Rattle.std.specs.Prelude.{slice_get, Option, Some, None, IfSome, Result, Ok, Err}
 use Rattle.std.proofs.lemmas.List.{append-nil, take-append-drop}
 use Rattle.partition_model.specs.declared.options.Options.{Options}
@@ -18,18 +18,18 @@ use Rattle.stream_fronts.specs.declared.client.Client.{Client}
 use Rattle.stream_fronts.specs.declared.visit.After.{After}
 use Rattle.stream_fronts.specs.declared.visit.After.TheVariants.{Waits, Again, Over}
 use Rattle.stream_fronts.specs.Given.{Given, given_to}
-use Rattle.stream_fronts.specs.Reached.{Place, Reaches, Ends, StandsAs, place_of}
+use Rattle.stream_fronts.specs.Reached.{Place, Reaches, Ends, StandsAs, Spoke, place_of}
 use Rattle.stream_fronts.specs.Closing.{MayClose}
 use Rattle.stream_fronts.specs.Moments.{TalksThrough}
 use Rattle.stream_fronts.specs.Clients.{IsClient}
 use Rattle.stream_fronts.specs.Traffic.{Sends, SendsFrom, Reads, IsIn, HasEnded, EndsBy}
-use Rattle.stream_fronts.specs.Held.{StaysAs, Holds, goes_on, left, ended, all_to, Becomes, Visits, leaves_by, Looks}
+use Rattle.stream_fronts.specs.Held.{StaysAs, Holds, goes_on, left, ended, all_to, Becomes, Visits, leaves_by, Looks, Lacks, VisitLacks}
 use Rattle.stream_fronts.proofs.Talking.{may_leave, may_end}
 use Rattle.stream_fronts.proofs.Staying.{stays_same, stays_then, stays_sent, stays_read}
 use Rattle.stream_fronts.proofs.Traffic.{reads_held}
 use Rattle.stream_fronts.proofs.Drying.{sends_ended}
 use Rattle.stream_fronts.proofs.Moments.{given_more}
-use Rattle.stream_fronts.proofs.Visiting.{Stage, stage_held, stage_sent, due_same, received_same, stage_breaks, stage_read, received_now, sent_now, stage_answered}
+use Rattle.stream_fronts.proofs.Visiting.{Stage, stage_held, stage_sent, due_same, received_same, stage_breaks, stage_read, received_now, sent_now, stage_answered, stage_lacking}
 
 for_any : {X : Type 0} {Q : X → Type 0} (o : Option X) → ((x : X) → Q x) → IfSome o Q
 for_any None then = tt
@@ -242,6 +242,33 @@ module _ (options : Options) (base : ℕ) where
               } in
               subst (λ a. Visits options base client a replies then Over c old log) (sym looks.0) still
 
+          -- memory lacked as it was looked at
+          pub visit_lacks : Lacks options base now answers c mid log → VisitLacks options base client answers replies c old log
+          visit_lacks lacks = elim lacks as (λ _. VisitLacks options base client answers replies c old log) [
+            | inl further ↦ record {
+              schedule = ap (λ (l : Log). l.schedule) further.same ∙ sends.1.schedule;
+              others = λ d other. stays_then (stays_sent sends.1 d other) (subst (λ (l : Log). StaysAs d mid l) (sym further.same) (stays_same d mid));
+              talks = λ most lacking all few among holds through.
+                  let before = subst (λ s. Stage options base most c old.schedule lacking mid all s) none (stage_then most lacking all holds through) in
+                  let at = held_reaches most c (held_then most lacking all holds through) reading none in
+                  let all_through = stage_lacking options base most c answers among before (further.spoke (received_of c mid.entries) (given_to c all) (sent_of c mid.entries ++ []) at) in
+                  subst (λ (l : Log). TalksThrough options base most old.schedule lacking l.entries (all ++ all_to c answers)) (sym further.same) all_through;
+            }
+            | inr read ↦ record {
+              schedule = read.reads.schedule ∙ sends.1.schedule;
+              others = λ d other. stays_then (stays_sent sends.1 d other) (stays_read read.reads d other);
+              talks = λ most lacking all few among holds through.
+                  let before = subst (λ s. Stage options base most c old.schedule lacking mid all s) none (stage_then most lacking all holds through) in
+                  let at = held_reaches most c (held_then most lacking all holds through) reading none in
+                  let here = stage_read options base most c now before read.reads at read.first read.short in
+                  let spoke = read.spoke (received_of c mid.entries) (given_to c all) (sent_of c mid.entries ++ []) at in
+                  stage_lacking options base most c answers among here (subst (λ r. Spoke options base MAX_WAITING_LEN r (given_to c all ++ answers) (sent_of c log.entries ++ []))
+                  (sym (received_now options base most c now before read.reads at read.first read.short))
+                  (subst (λ s. Spoke options base MAX_WAITING_LEN (received_of c mid.entries ++ read.bytes) (given_to c all ++ answers) (s ++ []))
+                  (sym (sent_now options base most c now before read.reads at read.first read.short)) spoke));
+            }
+          ]
+
           -- it was looked at, and the replies were sent
 
           module _ (r : Stand × Option Input) (looks : Looks options base now answers replies then (Ok r) c mid log) (is_then : IsClient then) where
@@ -265,6 +292,16 @@ module _ (options : Options) (base : ℕ) where
             ])
 
             module _ {new : Log} (last : Client) where
+              -- memory lacked for those that were not taken
+              pub visit_keeps_none : (n : ℕ) → Sends c (take n replies) log new → VisitLacks options base client answers replies c old new
+              visit_keeps_none n then_sends = record {
+                schedule = then_sends.schedule ∙ looked_schedule;
+                others = λ d other. stays_then (looked_others d other) (stays_sent then_sends d other);
+                talks = λ most lacking all few among holds through.
+                    let f = found most lacking all few holds through in
+                    (stage_sent options base most c (drop n replies) f.stage then_sends (sym (take-append-drop n replies))).through;
+              }
+
               pub visit_unsent : (broken : Broken) → SendsFrom {X = Bool} replies last.unsent (Err broken) c log new → Visits options base client answers replies last Over c old new
               visit_unsent broken then_sends = record {
                 schedule = then_sends.0.1.schedule ∙ looked_schedule;

@@ -1,5 +1,5 @@
 -- One visit of a connection, from moment to moment.
-use Rattle.std.proofs.Common.{◌≡◌, ℕ, ◌+◌, ◌-◌, ◌==◌, ◌≤◌, inl, false, cond, List, [], ◌∷◌, ◌++◌, length, drop, refl, sym, ap, ◌∙◌, subst, arith, append_assoc, length-append, length-drop}
+use Rattle.std.proofs.Common.{◌≡◌, ℕ, ◌+◌, ◌-◌, ◌==◌, ◌≤◌, inl, inr, false, cond, List, [], ◌∷◌, ◌++◌, length, drop, refl, sym, ap, ◌∙◌, subst, arith, append_assoc, length-append, length-drop}
 use Rattle.std.specs.Prelude.{slice_get, Option, Some, None, IfSome}
 use Rattle.std.proofs.lemmas.List.{append-nil}
 use Rattle.std.proofs.lemmas.Bool.{eq-eqb}
@@ -14,10 +14,10 @@ use Rattle.stream_fronts.specs.declared.answer.Stand.{Stand}
 use Rattle.stream_fronts.specs.declared.answer.Stand.TheVariants.{Needs, Enough, Leaves}
 use Rattle.stream_fronts.specs.declared.client.Client.{Client}
 use Rattle.stream_fronts.specs.Given.{Given, given_to}
-use Rattle.stream_fronts.specs.Talk.{IsBeginning, TalksWith}
-use Rattle.stream_fronts.specs.Reached.{Place, Reaches, StandsAs, place_of}
+use Rattle.stream_fronts.specs.Talk.{IsBeginning, TalksKept, TalksWith}
+use Rattle.stream_fronts.specs.Reached.{Place, Reaches, StandsAs, Spoke, place_of}
 use Rattle.stream_fronts.specs.Closing.{MayClose}
-use Rattle.stream_fronts.specs.Moments.{TalksThrough}
+use Rattle.stream_fronts.specs.Moments.{IsAmong, TalksThrough}
 use Rattle.stream_fronts.specs.Clients.{IsClient}
 use Rattle.stream_fronts.specs.Traffic.{Sends, Reads, IsIn, IsBroken, after_receiving}
 use Rattle.stream_fronts.specs.Held.{Holds, goes_on, left, ended, all_to}
@@ -164,9 +164,9 @@ module _ (options : Options) (base most c : ℕ) where
           let here : TalksWith options base most (received_of c old.entries ++ bytes) (sent_of c entries) (given_to c all) =
           (t.talk, record { kept = t.few; unsent = let all_due = ap length (t.due_is ∙ append-nil (sent_of c old.entries) ∙ sym sent_same) in omega (arith, all_due) }) in
           through_entry options base most schedule lacking (entry.received c (byte ∷ b)) entries all
-          (with_all options base most c entries (entry.received c (byte ∷ b) ∷ entries) all all
+          (with_all options base most lacking c entries (entry.received c (byte ∷ b) ∷ entries) all all
           (λ d other. record { came = other_received c d (byte ∷ b) entries other; went = refl; given = refl })
-          (subst (λ r. TalksWith options base most r (sent_of c entries) (given_to c all)) (sym received_is) here) (last_moment options base most schedule lacking entries all met_through))
+          (inl (subst (λ r. TalksWith options base most r (sent_of c entries) (given_to c all)) (sym received_is) here)) (last_moment options base most schedule lacking entries all met_through))
           tt met_through
 
       pub stage_read : Stage schedule lacking new all []
@@ -195,8 +195,21 @@ module _ (options : Options) (base most c : ℕ) where
           told = told;
           few = few;
           through = through_answers options base most schedule lacking log.entries all (all_to c answers)
-              (with_all options base most c log.entries log.entries all (all ++ all_to c answers)
+              (with_all options base most lacking c log.entries log.entries all (all ++ all_to c answers)
               (λ d other. record { came = refl; went = refl; given = given_others c d all answers other })
-              (t.talk, record { kept = t.few; unsent = let all_due = ap length t.due_is in let len = length-append (sent_of c log.entries) replies in omega (arith, all_due, len, few) })
+              (inl (t.talk, record { kept = t.few; unsent = let all_due = ap length t.due_is in let len = length-append (sent_of c log.entries) replies in omega (arith, all_due, len, few) }))
               (last_moment options base most schedule lacking log.entries all stage.through)) stage.through;
         }
+
+    -- Memory lacked
+
+    pub stage_lacking : (answers : List Answered) {log : Log} → IsAmong c lacking → Stage schedule lacking log all []
+        → Spoke options base MAX_WAITING_LEN (received_of c log.entries) (given_to c all ++ answers) (sent_of c log.entries ++ [])
+        → TalksThrough options base most schedule lacking log.entries (all ++ all_to c answers)
+    stage_lacking answers {log} among stage spoke =
+        let talk = subst (λ s. TalksKept options base (received_of c log.entries) s (given_to c all ++ answers)) (append-nil (sent_of c log.entries)) (spoke.talk, spoke.few) in
+        let here = subst (λ g. TalksKept options base (received_of c log.entries) (sent_of c log.entries) g) (sym (given_more c all answers)) talk in
+        through_answers options base most schedule lacking log.entries all (all_to c answers)
+        (with_all options base most lacking c log.entries log.entries all (all ++ all_to c answers)
+        (λ d other. record { came = refl; went = refl; given = given_others c d all answers other }) (inr (among, here))
+        (last_moment options base most schedule lacking log.entries all stage.through)) stage.through

@@ -15,9 +15,9 @@ use Rattle.stream_fronts.specs.declared.client.Client.{Client}
 use Rattle.stream_fronts.specs.declared.visit.After.{After}
 use Rattle.stream_fronts.specs.declared.visit.After.TheVariants.{Over}
 use Rattle.stream_fronts.specs.Given.{Given, given_to}
-use Rattle.stream_fronts.specs.Reached.{Reaches, Ends, GoesOnTo, StandsAs, place_of}
+use Rattle.stream_fronts.specs.Reached.{Reaches, Ends, GoesOnTo, SpokeFrom, SpokeBehind, StandsAs, place_of}
 use Rattle.stream_fronts.specs.Closing.{MayClose}
-use Rattle.stream_fronts.specs.Moments.{TalksThrough}
+use Rattle.stream_fronts.specs.Moments.{IsAmong, TalksThrough}
 use Rattle.stream_fronts.specs.Traffic.{Reads, IsIn, IsBroken, HasEnded, EndsBy}
 
 -- What is held of the client of the c-th connection goes with their talk, where these answers were given. What is unsent is the end of what is due, so many
@@ -88,6 +88,31 @@ Looks options base client answers replies now (Ok r) c old new =
     GoesFurther options base client answers replies now r c old new ⊎ ReadsOn options base client answers replies now r c old new
 Looks options base client answers replies now (Err broken) c old new =
     (answers ≡ []) × (client.done ≡ 0) × Reads c [] old new × IsIn IsBroken c new
+
+-- Memory lacked at a look
+
+-- A command that was answered in part may have been answered further.
+pub record LacksFurther (options : Options) (base : ℕ) (client : Client) (answers : List Answered) (old new : Log) : Type 0 where
+  pub same : new ≡ old
+  pub spoke : SpokeFrom options base MAX_WAITING_LEN (place_of client) answers
+
+-- The connection was read once, and what had come may have been answered.
+pub record LacksRead (options : Options) (base : ℕ) (client : Client) (answers : List Answered) (c : ℕ) (old new : Log) : Type 0 where
+  pub first : client.done ≡ 0
+  pub bytes : List ℕ
+  pub short : length (client.kept.items ++ bytes) ≤ MAX_WAITING_LEN
+  pub reads : Reads c bytes old new
+  pub spoke : SpokeBehind options base MAX_WAITING_LEN (place_of client) bytes answers
+
+abbrev pub Lacks : Options → ℕ → Client → List Answered → ℕ → Log → Log → Type 0
+Lacks options base client answers c old new = LacksFurther options base client answers old new ⊎ LacksRead options base client answers c old new
+
+-- The c-th connection was visited, and memory lacked for it. At each moment the front had talked with all clients all the same.
+pub record VisitLacks (options : Options) (base : ℕ) (client : Client) (answers : List Answered) (replies : List ℕ) (c : ℕ) (old new : Log) : Type 0 where
+  pub schedule : new.schedule ≡ old.schedule
+  pub others : (d : ℕ) → (c == d) ≡ false → StaysAs d old new
+  pub talks : (most : ℕ) (lacking : List ℕ) (all : List Given) → length replies ≤ most → IsAmong c lacking → Holds options base most c old (given_to c all) client
+      → TalksThrough options base most old.schedule lacking old.entries all → TalksThrough options base most old.schedule lacking new.entries (all ++ all_to c answers)
 
 -- so many bytes were kept, and these were read behind them
 abbrev pub filled_bytes : ℕ → List ℕ → Result (ℕ × Option Input) Broken → List ℕ

@@ -12,7 +12,7 @@ use Rattle.stream_fronts.specs.declared.answer.Said.TheVariants.{Nothing, Part, 
 use Rattle.stream_fronts.specs.declared.answer.Stand.{Stand}
 use Rattle.stream_fronts.specs.declared.answer.Stand.TheVariants.{Needs, Enough, Leaves}
 use Rattle.stream_fronts.specs.declared.client.Client.{Client}
-use Rattle.stream_fronts.specs.Talk.{has_left}
+use Rattle.stream_fronts.specs.Talk.{Talk, has_left}
 
 -- The bytes that are not answered, how many answers were given to the command that they begin with, and how many bytes of what is to be dropped have not
 -- come.
@@ -84,3 +84,19 @@ place_of client = record { bytes = client.kept.items; done = client.done; droppi
 abbrev pub leaves : Stand → Bool
 leaves Leaves = true
 leaves _ = false
+
+-- Where memory lacked: the client said what was answered all the same, and what had been due is. So many bytes are left at most.
+pub record Spoke (options : Options) (base most : ℕ) (received : List ℕ) (answers : List Answered) (due : List ℕ) : Type 0 where
+  pub talk : Talk options base received due answers
+  pub few : length talk.rest ≤ most
+
+-- from this place, whatever was said before
+abbrev pub SpokeFrom : Options → ℕ → ℕ → Place → List Answered → Type 0
+SpokeFrom options base most place answers =
+    (received : List ℕ) (given : List Answered) (due : List ℕ) → Reaches options base place received given due → Spoke options base most received (given ++ answers) due
+
+-- with these bytes behind what was received
+abbrev pub SpokeBehind : Options → ℕ → ℕ → Place → List ℕ → List Answered → Type 0
+SpokeBehind options base most place more answers =
+    (received : List ℕ) (given : List Answered) (due : List ℕ) → Reaches options base place received given due
+    → Spoke options base most (received ++ more) (given ++ answers) due

@@ -52,15 +52,19 @@ pub record HasEnded (connection : Connection) : Type 0 where
 abbrev pub OnHeld : ℕ → (ℕ → Log → Log → Type 0) → Log → Log → Type 0
 OnHeld number P old new = OfHeld number old (λ c. P c old new)
 
+-- so much of a text was sent
+abbrev pub SendsSome : List ℕ → ℕ → Log → Log → Type 0
+SendsSome text c old new = (n : ℕ) × Sends c (take n text) old new
+
 -- so much of a text was sent; or the connection is broken
 abbrev pub SendsOf : List ℕ → Result ℕ Broken → ℕ → Log → Log → Type 0
 SendsOf text (Ok n) c old new = Sends c (take n text) old new
-SendsOf text (Err broken) c old new = ((n : ℕ) × Sends c (take n text) old new) × IsIn IsBroken c new
+SendsOf text (Err broken) c old new = SendsSome text c old new × IsIn IsBroken c new
 
 -- the rest of a text is left, where so much was sent; or the connection is broken
 abbrev pub SendsFrom : {X : Type 0} → List ℕ → List ℕ → Result X Broken → ℕ → Log → Log → Type 0
 SendsFrom before after (Ok all) c old new = (text : List ℕ) × Sends c text old new × (before ≡ text ++ after)
-SendsFrom before after (Err broken) c old new = ((n : ℕ) × Sends c (take n before) old new) × IsIn IsBroken c new
+SendsFrom before after (Err broken) c old new = SendsSome before c old new × IsIn IsBroken c new
 
 -- where a read told the end
 abbrev pub EndsBy : Option Input → ℕ → Log → Type 0

@@ -8,8 +8,8 @@
 //! under a number is what was held there last.
 //!
 //! `visit_once` is made of these. Where what is held of a client goes with its talk, and the front had talked with all clients before, at each moment of the
-//! log, both are so after the visit; and where the connection is over, there is a cause for its close (`specs/Held`). After want of memory nothing is said of
-//! the talk. The loop over a port is not here yet.
+//! log, both are so after the visit; and where the connection is over, there is a cause for its close (`specs/Held`). After want of memory the front had
+//! talked with all clients all the same, and this one is to be closed. The loop over a port is not here yet.
 //!
 //! What such a loop is to promise is defined: `Talk` says what a front and one of its clients said to each other, `Closing` why a connection is closed and
 //! what one that is open waits for, `Moments` what is true at each moment of a port's log, and `Serving` what the front made of its port. No contract cites

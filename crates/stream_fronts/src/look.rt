@@ -1,11 +1,11 @@
 //! What is made of the bytes of a connection that lie there.
-ghost use Rattle.std.specs.Prelude.{◌≡◌, ◌≤◌, [], length, IfOk, OnOk};
+ghost use Rattle.std.specs.Prelude.{◌≡◌, ◌≤◌, [], length, IfOk, MatchResult, OnOk};
 ghost use Rattle.memcached_text.specs.declared.limits.TheConstants.{MAX_WAITING_LEN};
 ghost use Rattle.memcached_text.specs.Next.{next_of};
 ghost use Rattle.memcached_fronts.specs.Exchange.{IsOpenAt};
 ghost use Rattle.stream_fronts.specs.Clients.{IsClient};
 ghost use Rattle.stream_fronts.specs.Going.{GoesBy, GoesBySome};
-ghost use Rattle.stream_fronts.specs.Reached.{GoesOnTo, StandsAs, leaves, place_at, place_of};
+ghost use Rattle.stream_fronts.specs.Reached.{GoesOnTo, SpokeFrom, StandsAs, leaves, place_at, place_of};
 
 use crate::answer::{Stand, answer_bytes};
 use crate::client::Client;
@@ -62,8 +62,9 @@ pub fn look_at<R: Threads + Wait + Sync, F: Changes, K: Clock>(
     ensures unsent { client.new.unsent ≡ client.old.unsent }
     ensures asks { client.new.asks ≡ client.old.asks }
     ensures talk { GoesBySome (F.options front.old) F.is_alone (F.sessions front.old) (K.last clock.old) (F.sessions front.new) (K.last clock.new)
-        (λ answers. IfOk result (λ stand. GoesOnTo (F.options front.old) numbering.base (place_at bytes.now done) answers [] replies.new.items
-        (StandsAs (F.options front.old) numbering.base (length bytes.now) stand (place_of client.new)))) }
+        (λ answers. MatchResult result (λ stand. GoesOnTo (F.options front.old) numbering.base (place_at bytes.now done) answers [] replies.new.items
+        (StandsAs (F.options front.old) numbering.base (length bytes.now) stand (place_of client.new)))
+        (λ _. SpokeFrom (F.options front.old) numbering.base (length bytes.now) (place_at bytes.now done) answers)) }
     ensures goes { GoesBy (F.options front.old) F.is_alone (F.sessions front.old) (K.last clock.old) (F.sessions front.new) (K.last clock.new) }
     ensures left { left.new ≤ F.left front.new }
     ensures options { F.options front.new ≡ F.options front.old }

@@ -1,11 +1,11 @@
 //! One visit of a connection.
-ghost use Rattle.std.specs.Prelude.{◌≡◌, ◌≢◌, ◌<◌, ◌≤◌, ◌+◌, ◌++◌, true, false, [], length, take, drop, is_some, IfOk, IfSome, vec_len};
+ghost use Rattle.std.specs.Prelude.{◌≡◌, ◌≢◌, ◌<◌, ◌≤◌, ◌+◌, ◌++◌, true, false, [], length, take, drop, is_some, IfOk, IfSome, MatchResult, vec_len};
 ghost use Rattle.memcached_text.specs.declared.limits.TheConstants.{MAX_WAITING_LEN};
 ghost use Rattle.stream_fronts.specs.Clients.{IsClient};
 ghost use Rattle.stream_fronts.specs.Going.{GoesBy, GoesBySome};
-ghost use Rattle.stream_fronts.specs.Reached.{GoesOnTo, StandsAs, leaves, place_of};
-ghost use Rattle.stream_fronts.specs.Traffic.{OnHeld, ReadsTo, SendsFrom};
-ghost use Rattle.stream_fronts.specs.Held.{Looks, Visits, filled_bytes, leaves_by};
+ghost use Rattle.stream_fronts.specs.Reached.{GoesOnTo, SpokeBehind, StandsAs, leaves, place_of};
+ghost use Rattle.stream_fronts.specs.Traffic.{OnHeld, ReadsTo, SendsFrom, SendsSome};
+ghost use Rattle.stream_fronts.specs.Held.{Lacks, Looks, VisitLacks, Visits, filled_bytes, leaves_by};
 ghost use Rattle.stream_fronts.specs.Open.{IsOpen, Keeps, OnLogs};
 
 use crate::answer::Stand;
@@ -76,7 +76,8 @@ fn send_new<C: Connections>(
     ensures leaving { IfOk result (λ _. client.new.leaving ≡ client.old.leaving) }
     ensures asks { client.new.asks ≡ client.old.asks }
     ensures all { IfOk result (λ sent. IfOk sent (λ all. all ≡ true → client.new.unsent ≡ [])) }
-    ensures sends { IfOk result (λ sent. OnLogs (OnHeld number (SendsFrom replies.now client.new.unsent sent)) (C.log connections.old) (C.log connections.new)) }
+    ensures sends { MatchResult result (λ sent. OnLogs (OnHeld number (SendsFrom replies.now client.new.unsent sent)) (C.log connections.old) (C.log connections.new))
+        (λ _. OnLogs (OnHeld number (SendsSome replies.now)) (C.log connections.old) (C.log connections.new)) }
     ensures keeps { OnLogs Keeps (C.log connections.old) (C.log connections.new) }
     ensures told { is_some (C.log connections.new) ≡ is_some (C.log connections.old) }
     ensures ended { C.has_ended connections.new ≡ C.has_ended connections.old }
@@ -160,9 +161,10 @@ fn look_at_room<R: Threads + Wait + Sync, F: Changes, K: Clock>(
     ensures unsent { client.new.unsent ≡ client.old.unsent }
     ensures asks { client.new.asks ≡ client.old.asks }
     ensures talk { GoesBySome (F.options front.old) F.is_alone (F.sessions front.old) (K.last clock.old) (F.sessions front.new) (K.last clock.new)
-        (λ answers. IfOk result (λ stand. GoesOnTo (F.options front.old) numbering.base (place_of client.old) answers [] replies.new.items
+        (λ answers. MatchResult result (λ stand. GoesOnTo (F.options front.old) numbering.base (place_of client.old) answers [] replies.new.items
         (λ received given due. StandsAs (F.options front.old) numbering.base MAX_WAITING_LEN stand (place_of client.new)
-        (received ++ drop (length client.old.kept.items) bytes.now) given due))) }
+        (received ++ drop (length client.old.kept.items) bytes.now) given due))
+        (λ _. SpokeBehind (F.options front.old) numbering.base MAX_WAITING_LEN (place_of client.old) (drop (length client.old.kept.items) bytes.now) answers)) }
     ensures goes { GoesBy (F.options front.old) F.is_alone (F.sessions front.old) (K.last clock.old) (F.sessions front.new) (K.last clock.new) }
     ensures left { left.new ≤ F.left front.new }
     ensures options { F.options front.new ≡ F.options front.old }
@@ -205,8 +207,9 @@ fn answer_more<R: Threads + Wait + Sync, F: Changes, K: Clock, C: Connections>(
     ensures leaving { IfOk result (λ r. IfOk r (λ stood. client.new.leaving ≡ leaves stood.0)) }
     ensures unsent { IfOk result (λ _. client.new.unsent ≡ client.old.unsent) }
     ensures talk { GoesBySome (F.options front.old) F.is_alone (F.sessions front.old) (K.last clock.old) (F.sessions front.new) (K.last clock.new)
-        (λ answers. IfOk result (λ r. OnLogs (OnHeld number (Looks (F.options front.old) numbering.base client.old answers desk.new.replies.items client.new r))
-        (C.log connections.old) (C.log connections.new))) }
+        (λ answers. MatchResult result
+        (λ r. OnLogs (OnHeld number (Looks (F.options front.old) numbering.base client.old answers desk.new.replies.items client.new r)) (C.log connections.old) (C.log connections.new))
+        (λ _. OnLogs (OnHeld number (Lacks (F.options front.old) numbering.base client.old answers)) (C.log connections.old) (C.log connections.new))) }
     ensures open { IfSome (C.log connections.new) (IsOpen number client.new.asks) }
     ensures keeps { OnLogs Keeps (C.log connections.old) (C.log connections.new) }
     ensures told { is_some (C.log connections.new) ≡ is_some (C.log connections.old) }
@@ -291,8 +294,9 @@ pub fn visit_once<R: Threads + Wait + Sync, F: Changes, K: Clock, C: Connections
     ensures room { vec_len desk.new.room ≡ MAX_WAITING_LEN }
     ensures client { IfOk result (λ _. IsClient client.new) }
     ensures talks { GoesBySome (F.options front.old) F.is_alone (F.sessions front.old) (K.last clock.old) (F.sessions front.new) (K.last clock.new)
-        (λ answers. IfOk result (λ after. OnLogs (OnHeld number (Visits (F.options front.old) numbering.base client.old answers desk.new.replies.items client.new after))
-        (C.log connections.old) (C.log connections.new))) }
+        (λ answers. MatchResult result
+        (λ after. OnLogs (OnHeld number (Visits (F.options front.old) numbering.base client.old answers desk.new.replies.items client.new after)) (C.log connections.old) (C.log connections.new))
+        (λ _. OnLogs (OnHeld number (VisitLacks (F.options front.old) numbering.base client.old answers desk.new.replies.items)) (C.log connections.old) (C.log connections.new))) }
     ensures open { IfSome (C.log connections.new) (IsOpen number client.new.asks) }
     ensures keeps { OnLogs Keeps (C.log connections.old) (C.log connections.new) }
     ensures told { is_some (C.log connections.new) ≡ is_some (C.log connections.old) }

@@ -1,11 +1,12 @@
-use Rattle.std.proofs.Common.{rules, ◌≡◌, ◌≤◌, ◌+◌, ◌-◌, length, take, drop, [], ◌++◌, refl, inl, ◌∙◌, arith}
-use Rattle.std.proofs.lemmas.List.{take_rest}
+use Rattle.std.proofs.Common.{rules, ◌≡◌, ◌≤◌, ◌+◌, ◌-◌, length, take, drop, [], refl, inl, ◌∙◌, arith}
+use Rattle.std.proofs.lemmas.List.{take_rest, length-drop}
+use Rattle.std.proofs.lemmas.Result.{err_from_is_err_and}
 use Rattle.stream_fronts.specs.declared.answer.Said.TheVariants.{Nothing, Part, Whole, Last}
 use Rattle.stream_fronts.specs.declared.answer.Stand.TheVariants.{Needs, Enough, Leaves}
 use Rattle.stream_fronts.specs.Reached.{Reaches, ReachesAfter, StandsAs, place_at, place_in}
 use Rattle.stream_fronts.proofs.Going.{these_none, these_goes}
 use Rattle.stream_fronts.proofs.Reaching.{on_none}
-use Rattle.stream_fronts.proofs.Answering.{answers_then, on_said, some_as, stands_in, left_in, dropped_in, whole_in}
+use Rattle.stream_fronts.proofs.Answering.{answers_then, on_said, spoke_on, match_err, some_as, stands_in, left_in, dropped_in, whole_in}
 use Rattle.stream_fronts.proofs.answer.answer_bytes.Goals as goal
 
 pub loop-init : goal.loop-init
@@ -27,8 +28,14 @@ loop-init g c =
 pub returns-in_err-said-clause-talk : goal.returns-in_err-said-clause-talk
 returns-in_err-said-clause-talk g c =
     let inv = c.loop.invariant in
-    let one = c.in_err-said.ensures.talk in
-    (inv.2.0 ++ one.0, answers_then (g.F.Front.options c.args.front.now) g.F.Front.is_alone c.args.numbering.base inv.2.0 one.0 _ inv.4 inv.2.1 one.1, search rules)
+    let options = g.F.Front.options c.args.front.now in
+    let bytes = c.args.bytes.now in
+    let len = length-drop c.loop.taken bytes in
+    let spoke = spoke_on options g.F.Front.is_alone c.args.numbering.base (length bytes) (place_at bytes c.args.done) (drop c.loop.taken bytes)
+    (take (length bytes - c.loop.taken) (drop c.loop.taken bytes)) c.loop.done c.args.out.now.items c.loop.out.items (g.F.Front.options c.loop.front) (take_rest bytes c.loop.taken) inv.4
+    (omega (arith, len)) inv.2 c.in_err-said.ensures.talk in
+    let is = err_from_is_err_and c.from_residual.result c.from_residual.ensures.1 in
+    (spoke.0, spoke.1, match_err _ _ c.from_residual.result is.0 is.1 spoke.2)
 
 pub returns-in_err-said-clause-goes : goal.returns-in_err-said-clause-goes
 returns-in_err-said-clause-goes g c =

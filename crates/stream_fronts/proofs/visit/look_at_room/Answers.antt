@@ -1,9 +1,9 @@
 use Rattle.std.proofs.Common.{◌-◌, ◌++◌, length, take, drop, []}
 use Rattle.std.proofs.lemmas.List.{take_rest}
 use Rattle.memcached_text.specs.declared.limits.TheConstants.{MAX_WAITING_LEN}
-use Rattle.stream_fronts.specs.Reached.{GoesOnTo, StandsAs, place_of}
+use Rattle.stream_fronts.specs.Reached.{GoesOnTo, SpokeBehind, StandsAs, place_of}
 use Rattle.stream_fronts.proofs.Going.{these_none}
-use Rattle.stream_fronts.proofs.Looking.{looks_at, looks_at_none, if_ok}
+use Rattle.stream_fronts.proofs.Looking.{looks_at, looks_at_none, lacks_at, if_match}
 use Rattle.stream_fronts.proofs.visit.look_at_room.Goals as goal
 
 pub returns-then-client-bytes-clause-talk : goal.returns-then-client-bytes-clause-talk
@@ -26,9 +26,12 @@ returns-clause-talk g c =
     let r = c.look_at.ensures.talk in (
       r.0,
       r.1,
-      if_ok _
+      if_match _
           (λ stand. GoesOnTo options base (place_of client) r.0 [] c.look_at.new.replies.items
-          (λ received given due. StandsAs options base MAX_WAITING_LEN stand (place_of c.look_at.new.client) (received ++ more) given due)) c.look_at.result
+          (λ received given due. StandsAs options base MAX_WAITING_LEN stand (place_of c.look_at.new.client) (received ++ more) given due)) _
+          (λ _. SpokeBehind options base MAX_WAITING_LEN (place_of client) more r.0) c.look_at.result
           (λ stand goes. looks_at options base client bytes more c.requires.first c.requires.kept c.look_at.new.client stand r.0 c.look_at.new.replies.items
-          (take (length bytes - client.dropping) (drop client.dropping bytes)) c.if-client-bytes.false c.requires.short (take_rest bytes client.dropping) goes) r.2,
+          (take (length bytes - client.dropping) (drop client.dropping bytes)) c.if-client-bytes.false c.requires.short (take_rest bytes client.dropping) goes)
+          (λ e spoke. lacks_at options base client bytes more c.requires.first c.requires.kept r.0 (take (length bytes - client.dropping) (drop client.dropping bytes)) c.if-client-bytes.false
+          c.requires.short (take_rest bytes client.dropping) spoke) r.2,
     )
