@@ -7,13 +7,18 @@
 //! count of the port's faults rose, or where there was no memory to begin, and then nothing was done. It reads, writes and closes under a number only what is
 //! open there, and asks for a connection again no more often than its bytes allow.
 //!
-//! Of its parts: `visit_once` sends what waits, receives once and answers; `visit_on` goes on so until there is no more to do at once, or the connection may
-//! be asked for again. `look_at` keeps what is left of a connection's bytes, no more than the longest that waits. `answer_bytes` answers what bytes spell, one
-//! command after another, and says how far it went. What is held under a number is what was held there last.
+//! Of its parts: `answer_bytes` answers what bytes spell, one command after another, and says how far it went: whatever was said before, the talk goes on by
+//! just the answers that it gave, the front's sessions and the clock went on by these and no others, and the text that it appends is what is due to them
+//! (`specs/Reached`). `look_at` keeps what is left of a connection's bytes, no more than the longest that waits. The calls of a connection keep open what is
+//! open, ask for a connection again no more often than its bytes allow, and tell what was received and sent (`specs/Traffic`). `visit_once` sends what waits,
+//! receives once and answers; `visit_on` goes on so until there is no more to do at once, or the connection may be asked for again. What is held under a number
+//! is what was held there last.
 //!
-//! Which bytes a client gets is not yet said by any contract, but defined: `Talk` says what a front and one of its clients said to each other, `Closing` why a
-//! connection is closed and what one that is open waits for, `Moments` what is true at each moment of a port's log, and `Serving` what the front made of its
-//! port.
+//! Of one visit it is proved which bytes a client gets: where what is held of a client goes with its talk, and the front had talked with all clients before, at
+//! each moment of the log, both are so after `visit_once`; where the connection is over, there is a cause for its close (`specs/Held`). After want of memory
+//! the front had talked with all clients all the same, and this one is to be closed. Of the loop this is not yet said by any contract, but defined: `Talk` says
+//! what a front and one of its clients said to each other, `Closing` why a connection is closed and what one that is open waits for, `Moments` what is true at
+//! each moment of a port's log, and `Serving` what the front made of its port.
 #![tactic(auto)]
 
 mod answer;
