@@ -40,6 +40,9 @@ fault_in k answers all = all.found refl
 pub no_fault : (k : ℕ) (answers : List Answer) → length answers ≡ k → FaultTo k answers false → (f : ℕ) (fault : ServeFault) → slice_get answers f ≢ Some (Err fault)
 no_fault k answers whole all f fault at = all.none refl f fault (let low = slice_get_within answers f (Err fault) at in omega (arith, low, whole)) at
 
+abbrev as_ok : Totals → Result Totals ServeFault
+as_ok totals = Ok totals
+
 -- where all are counted, no front of datagrams lacks memory
 pub all_counted : (fronts : List (Result Totals ServeFault)) (totals : Totals) → SumsUp fronts (Ok totals) → (f : ℕ) → slice_get fronts f ≢ Some (Err NoMemory)
-all_counted fronts totals sums f at = let t = from_map (λ (t : Totals). Ok {E = ServeFault} t) sums.0 f (Err NoMemory) (ap (λ l. slice_get l f) (sym sums.1) ∙ at) in cc
+all_counted fronts totals sums f at = let t = from_map as_ok sums.0 f (Err NoMemory) (ap (λ l. slice_get l f) (sym sums.1) ∙ at) in let clash : as_ok t.0 ≡ Err NoMemory = t.2 in cc

@@ -252,7 +252,7 @@ module _ {C K D : Type 0} (plan : Plan) (some : 1 ≤ plan.options.partitions) (
     (batches : ℕ) (facts : D → EndFacts) (olds news : List (FrontTask D)) {lefts afters : List Owned}
     (streams : StreamsRan plan stream_facts last stream_olds stream_news) (ran : TasksRan plan batches facts (length stream_olds) olds news)
     (all : HaveRan plan (map stream_hand stream_olds ++ map hand_of olds) (map stream_hand stream_news ++ map hand_of news) lefts afters) where
-  own : List (List Answered)
+  abbrev own : List (List Answered)
   own = answers plan stream_facts last stream_olds stream_news streams
 
   own_many : length own ≡ length stream_olds
@@ -286,7 +286,7 @@ module _ {C K D : Type 0} (plan : Plan) (some : 1 ≤ plan.options.partitions) (
         shapes = shapes all;
         history = histories all;
         closed = λ p entry at.
-            let low = omega (arith, slice_get_within (kept all) p entry at, (shapes all).many) in
+            let low : p < plan.options.partitions = omega (arith, slice_get_within (kept all) p entry at, (shapes all).many) in
             omega (
               arith,
               closes all p entry at,

@@ -138,18 +138,16 @@ pub(crate) fn run_workers<
     ensures streams { StreamsRan J.plan (stream_facts C.port C.faults C.has_ended C.log) K.last streams.old.items streams.new.items }
     ensures fronts { TasksRan J.plan batches (end_facts D.port D.traffic D.faults D.has_ended D.script) first fronts.old.items fronts.new.items }
 {
-    join_mut(
-        rt,
-        &mut ||
-            requires { IsSync W.row × IsSync J.row × IsPossible options.now × (options.now ≡ J.plan.options) × (length locks.now ≡ options.now.partitions) × (J.plan.fronts ≤ 64)
-                × (length streams.now.items ≤ J.plan.fronts) × AreReadyStreams J.plan (stream_facts C.port C.faults C.has_ended C.log) K.last streams.now.items }
-        { run_streams(rt, alloc, options, base, locks, streams) },
-        &mut ||
-            requires { IsSync W.row × IsSync J.row × IsSync G.row × IsPossible options.now × (options.now ≡ J.plan.options) × (length locks.now ≡ options.now.partitions)
-                × (J.plan.fronts ≤ 64) × (first + length fronts.now.items ≡ J.plan.fronts)
-                × AreReadyTasks J.plan batches (end_facts D.port D.traffic D.faults D.has_ended D.script) first fronts.now.items }
-        { run_fronts(rt, alloc, options, batches, locks, gate, first, fronts) },
-    );
+    let mut serve_streams = ||
+        requires { IsSync W.row × IsSync J.row × IsPossible options.now × (options.now ≡ J.plan.options) × (length locks.now ≡ options.now.partitions) × (J.plan.fronts ≤ 64)
+            × (length streams.now.items ≤ J.plan.fronts) × AreReadyStreams J.plan (stream_facts C.port C.faults C.has_ended C.log) K.last streams.now.items }
+    { run_streams(rt, alloc, options, base, locks, streams) };
+    let mut serve_fronts = ||
+        requires { IsSync W.row × IsSync J.row × IsSync G.row × IsPossible options.now × (options.now ≡ J.plan.options) × (length locks.now ≡ options.now.partitions)
+            × (J.plan.fronts ≤ 64) × (first + length fronts.now.items ≡ J.plan.fronts)
+            × AreReadyTasks J.plan batches (end_facts D.port D.traffic D.faults D.has_ended D.script) first fronts.now.items }
+    { run_fronts(rt, alloc, options, batches, locks, gate, first, fronts) };
+    join_mut(rt, &mut serve_streams, &mut serve_fronts);
 }
 
 /// The fronts of datagrams with the ends of their places.

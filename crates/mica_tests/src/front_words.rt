@@ -97,24 +97,39 @@ fn expect_end(
     let mut files = MemFiles::new(alloc);
     files.set_free(0);
     let mut net = MemNet::new(alloc, &[])?;
-    let line = format!(in alloc; "--mode cache {words}")?;
-    let (ended, sink) = run_lasting(rt, alloc, &mut files, &mut net, line.as_str(), 100)?;
+    let (ended, sink) = run_lasting(rt, alloc, &mut files, &mut net, words, 100)?;
     assert!(rt; ended == status && sink.taken() == said);
     Ok(())
 }
 
 #[test]
 fn takes_fronts_of_both_kinds(rt: HostRuntime) -> Result<(), Fail> {
-    for words in &TAKEN {
-        expect_end(&rt, words, Status::NoMemory, b"")?;
+    for fronts in &TAKEN {
+        let words = format!(in rt.alloc(); "--mode store {fronts}")?;
+        expect_end(&rt, words.as_str(), Status::NoMemory, b"")?;
     }
     Ok(())
 }
 
 #[test]
 fn refuses_what_is_no_front(rt: HostRuntime) -> Result<(), Fail> {
-    for words in &REFUSED {
-        expect_end(&rt, words, Status::Usage, b"usage\n")?;
+    for fronts in &REFUSED {
+        let words = format!(in rt.alloc(); "--mode store {fronts}")?;
+        expect_end(&rt, words.as_str(), Status::Usage, b"usage\n")?;
     }
     Ok(())
+}
+
+// Beside a port for memcached's clients no mode is a cache, which no image fills.
+#[test]
+fn needs_a_mode_for_datagrams_alone(rt: HostRuntime) -> Result<(), Fail> {
+    expect_end(&rt, "--memcached 11211", Status::NoMemory, b"")?;
+    expect_end(&rt, "--port 9000 --memcached 11211", Status::NoMemory, b"")?;
+    expect_end(&rt, "--port 9000", Status::Usage, b"usage\n")?;
+    expect_end(
+        &rt,
+        "--memcached 11211 --image pairs",
+        Status::Usage,
+        b"usage\n",
+    )
 }

@@ -8,7 +8,7 @@ use Rattle.mica_fronts.proofs.InOrder.{answers_append}
 use Rattle.memcached_text.specs.declared.next.Next.{Next}
 use Rattle.memcached_fronts.specs.Going.{GoesOn}
 use Rattle.memcached_fronts.specs.Seconds.{second_in, seconds_of, ToldFrom}
-use Rattle.stream_fronts.specs.Going.{GoesBy}
+use Rattle.stream_fronts.specs.Going.{GoesBy, GoesByThese}
 
 seconds_append : (one two : List Answered) → seconds_of (one ++ two) ≡ seconds_of one ++ seconds_of two
 seconds_append one two = filter_map-append second_in one two
@@ -41,3 +41,24 @@ module _ (options : Options) (is_alone : Bool) where
       → GoesOn options is_alone base next done old told new tells answers → left ≤ left_after + count_of_writes answers
       → GoesBy options is_alone old left told new left_after tells
   by_answers old left told new left_after tells base next done answers goes few = record { answers = answers; in_order = goes.in_order; seconds = goes.seconds; few = few }
+
+  pub these_none : (old : Sessions) (left told : ℕ) → GoesByThese options is_alone old left told [] old left told
+  these_none old left told = record { in_order = λ q. refl; seconds = refl; few = omega arith }
+
+  pub these_then : {old between new : Sessions} {left then_left left_after told then_told tells : ℕ} {one two : List Answered}
+      → GoesByThese options is_alone old left told one between then_left then_told → GoesByThese options is_alone between then_left then_told two new left_after tells
+      → GoesByThese options is_alone old left told (one ++ two) new left_after tells
+  these_then {old} {between} {new} {told = told} {then_told = then_told} {tells = tells} {one = one} {two = two} first second = record {
+    in_order = answers_append options is_alone one two old between new first.in_order second.in_order;
+    seconds = subst (λ s. ToldFrom told s tells) (sym (seconds_append one two)) (told_append told (seconds_of one) then_told (seconds_of two) tells first.seconds second.seconds);
+    few = omega (arith, first.few, second.few, writes_append one two);
+  }
+
+  pub these_of : {old : Sessions} {left told : ℕ} {new : Sessions} {left_after tells : ℕ} {base : ℕ} {next : Next} {done : ℕ} {answers : List Answered}
+      → GoesOn options is_alone base next done old told new tells answers → left ≤ left_after + count_of_writes answers
+      → GoesByThese options is_alone old left told answers new left_after tells
+  these_of goes few = record { in_order = goes.in_order; seconds = goes.seconds; few = few }
+
+  pub these_goes : {old : Sessions} {left told : ℕ} {answers : List Answered} {new : Sessions} {left_after tells : ℕ}
+      → GoesByThese options is_alone old left told answers new left_after tells → GoesBy options is_alone old left told new left_after tells
+  these_goes {answers = answers} these = record { answers = answers; in_order = these.in_order; seconds = these.seconds; few = these.few }

@@ -3,3 +3,14 @@ pub mod Opening
 pub mod Going
 pub mod Few
 pub mod Holding
+pub mod Reaching
+pub mod Answering
+pub mod Looking
+pub mod Filling
+pub mod Traffic
+pub mod Talking
+pub mod Moments
+pub mod Drying
+pub mod Staying
+pub mod Visiting
+pub mod Visited

@@ -1,6 +1,6 @@
 -- What each call of connections keeps open.
 use Rattle.std.proofs.Common.{◌≡◌, ◌≢◌, ℕ, ◌+◌, ◌*◌, ◌<◌, ◌≤◌, List, [], ◌∷◌, length, refl, sym, ap, ◌∙◌, subst, arith}
-use Rattle.std.specs.Prelude.{slice_get, take, min, is_some, Option, Some, None, Result, Ok, Err, IfSome, option_map}
+use Rattle.std.specs.Prelude.{slice_get, take, min, is_some, Option, Some, None, Result, Ok, Err, IfSome}
 use Rattle.std.proofs.lemmas.Option.{same_Some}
 use Rattle.std.proofs.lemmas.Bool.{true≢false}
 use Rattle.std.proofs.lemmas.List.{length-take-le}
@@ -14,25 +14,21 @@ use Rattle.stream_io.specs.declared.connections.Input.TheVariants.{Bytes, Later,
 use Rattle.stream_io.specs.declared.connections.Broken.{Broken}
 use Rattle.stream_io.specs.Connection.{Connection, after_change, after_read, after_write}
 use Rattle.stream_io.specs.State.{State, Entry, held, state_after, after_report, after_meeting}
-use Rattle.stream_io.specs.Log.{Log, IsHeld, connections_of, state_of, with_entries, called, after_met, after_meeting_one}
+use Rattle.stream_io.specs.Log.{Log, IsHeld, connections_of, state_of, with_entries, after_met, after_meeting_one}
 use Rattle.stream_io.specs.Calls.{IsGiven, ReadGives, WriteTakes, MayAsk, Asks, Closes, ReportsNext, IsNext, gave, took, after_sending}
 use Rattle.stream_fronts.specs.Open.{asks_in, IsAt, IsOpen, IsOpenIn, Keeps, KeepsOthers, AsksOnce, OnLogs, IsOpened, gained}
 use Rattle.stream_fronts.proofs.Places.{KeepsOpen, changed_keeps, changed_here, there, asked_here, asked_others, closed_others, pushed, pushed_here}
 
-change_keeps : (change : Change) → KeepsOpen (after_change change)
+pub change_keeps : (change : Change) → KeepsOpen (after_change change)
 change_keeps change = record { number = λ x. refl; closed = λ x. refl; asks = λ x. omega arith }
 
-read_keeps : (count : ℕ) → KeepsOpen (after_read count)
+pub read_keeps : (count : ℕ) → KeepsOpen (after_read count)
 read_keeps count = record { number = λ x. refl; closed = λ x. refl; asks = λ x. omega arith }
 
-write_keeps : (count : ℕ) → KeepsOpen (after_write count)
+pub write_keeps : (count : ℕ) → KeepsOpen (after_write count)
 write_keeps count = record { number = λ x. refl; closed = λ x. refl; asks = λ x. omega arith }
 
--- each connection that is somewhere in one log is there in the other
-KeepsAt : Log → Log → Type 0
-KeepsAt old new = (n d a : ℕ) → IsAt n d a (connections_of old) → IsAt n d a (connections_of new)
-
-met_one : (schedule : List Step) (entries : List Entry) (later : List Step) → (state_after schedule entries).later ≡ later → (n d a : ℕ)
+pub met_one : (schedule : List Step) (entries : List Entry) (later : List Step) → (state_after schedule entries).later ≡ later → (n d a : ℕ)
     → IsAt n d a (state_after schedule entries).connections → IsAt n d a (state_after schedule (after_meeting_one later entries)).connections
 met_one schedule entries [] is n d a at = at
 met_one schedule entries (Opens window bytes ∷ later) is n d a at = at
@@ -41,11 +37,11 @@ met_one schedule entries (Happens c change ∷ later) is n d a at =
     let s = state_after schedule entries in
     subst (λ l. IsAt n d a (after_meeting s l).connections) (sym is) (changed_keeps (after_change change) (change_keeps change) c s.connections n d a at)
 
-met_at : (log : Log) (n d a : ℕ) → IsAt n d a (connections_of log) → IsAt n d a (connections_of (after_met log))
+pub met_at : (log : Log) (n d a : ℕ) → IsAt n d a (connections_of log) → IsAt n d a (connections_of (after_met log))
 met_at log n d a at = met_one log.schedule log.entries (state_of log).later refl n d a at
 
 -- the answer of a read is taken note of
-read_at : (number c asks most : ℕ) (x : Connection) (out : List ℕ) (answer : Result Input Broken) (met : Log) → slice_get (connections_of met) c ≡ Some x
+pub read_at : (number c asks most : ℕ) (x : Connection) (out : List ℕ) (answer : Result Input Broken) (met : Log) → slice_get (connections_of met) c ≡ Some x
     → IsAt number c asks (connections_of met) → IsGiven x most out answer
     → ((n d a : ℕ) → IsAt n d a (connections_of met) → IsAt n d a (connections_of (with_entries (gave c x answer) met)))
     × IsAt number c (asks + gained answer) (connections_of (with_entries (gave c x answer) met))
@@ -62,21 +58,21 @@ read_at number c asks most x out (Ok Later) met is at given = (λ n d a at. at, 
 read_at number c asks most x out (Ok Ended) met is at given = (λ n d a at. at, (at.0, omega (arith, at.1)))
 read_at number c asks most x out (Err broken) met is at given = (λ n d a at. at, (at.0, omega (arith, at.1)))
 
-sent_at : (c : ℕ) (bytes : List ℕ) (met : Log) (n d a : ℕ) → IsAt n d a (connections_of met) → IsAt n d a (connections_of (with_entries (after_sending c bytes) met))
+pub sent_at : (c : ℕ) (bytes : List ℕ) (met : Log) (n d a : ℕ) → IsAt n d a (connections_of met) → IsAt n d a (connections_of (with_entries (after_sending c bytes) met))
 sent_at c [] met n d a at = at
 sent_at c (byte ∷ bytes) met n d a at =
     changed_keeps (after_write (length (byte ∷ bytes))) (write_keeps (length (byte ∷ bytes))) c (connections_of met) n d a at
 
-took_at : (c : ℕ) (bytes : List ℕ) (answer : Result ℕ Broken) (met : Log) (n d a : ℕ) → IsAt n d a (connections_of met) → IsAt n d a (connections_of (with_entries (took c bytes answer) met))
+pub took_at : (c : ℕ) (bytes : List ℕ) (answer : Result ℕ Broken) (met : Log) (n d a : ℕ) → IsAt n d a (connections_of met) → IsAt n d a (connections_of (with_entries (took c bytes answer) met))
 took_at c bytes (Ok count) met n d a at = sent_at c (take count bytes) met n d a at
 took_at c bytes (Err broken) met n d a at = at
 
 -- of the connection under a number, by its place and what open there
-found : {X : Type 0} (P : X → Type 0) (o : Option X) (c : X) → o ≡ Some c → IfSome o P → P c
+pub found : {X : Type 0} (P : X → Type 0) (o : Option X) (c : X) → o ≡ Some c → IfSome o P → P c
 found P o c is p = subst (λ h. IfSome h P) is p
 
 -- what a call made of the log, where it was told
-told : (old : Log) (new : Option Log) (made : Log) (P : Log → Log → Type 0) → new ≡ Some made → P old made → OnLogs P (Some old) new
+pub told : (old : Log) (new : Option Log) (made : Log) (P : Log → Log → Type 0) → new ≡ Some made → P old made → OnLogs P (Some old) new
 told old new made P is p = subst (λ o. OnLogs P (Some old) o) (sym is) p
 
 -- a read keeps all open, and lets its connection be asked for again more often
@@ -174,10 +170,6 @@ next_told (Opened number) old new r =
 next_told (Ready number) old new r =
     told old new _ (Tells (Ready number)) r.result (λ n a o. (o.0, next_at (Ready number) (state_of old) (state_of old).later r.next n o.0 a o.1), tt)
 
-pub tells : (event : Event) (old new : Option Log) → IfSome old (λ l. ReportsNext l event new) → OnLogs (Tells event) old new
-tells event None new next = tt
-tells event (Some old) new next = next_told event old new next
-
 -- What goes on from one moment to another
 
 pub still_open : (number asks : ℕ) (old new : Option Log) → is_some new ≡ is_some old → OnLogs Keeps old new → IfSome old (IsOpen number asks) → IfSome new (IsOpen number asks)
@@ -237,8 +229,3 @@ tells_opened event (Some old) new told next = only new (next_told event old new 
     only : (new : Option Log) → OnLogs (Tells event) (Some old) new → IfSome new (IsOpened event)
     only None t = tt
     only (Some new) t = t.1
-
--- of a call that reports nothing
-pub called_keeps : (old new : Option Log) → new ≡ option_map called old → OnLogs Keeps old new
-called_keeps None new is = tt
-called_keeps (Some old) new is = told old new (called old) Keeps is (λ n a o. o)

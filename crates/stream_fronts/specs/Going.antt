@@ -11,3 +11,14 @@ pub record GoesBy (options : Options) (is_alone : Bool) (old : Sessions) (left t
   pub in_order : AnswersInOrder options is_alone old answers new
   pub seconds : ToldFrom told (seconds_of answers) tells
   pub few : left ≤ left_after + count_of_writes answers
+
+-- They went on by these answers.
+pub record GoesByThese (options : Options) (is_alone : Bool) (old : Sessions) (left told : ℕ) (answers : List Answered) (new : Sessions) (left_after tells : ℕ) : Type 0 where
+  pub in_order : AnswersInOrder options is_alone old answers new
+  pub seconds : ToldFrom told (seconds_of answers) tells
+  pub few : left ≤ left_after + count_of_writes answers
+
+-- and of these P holds
+abbrev pub GoesBySome : Options → Bool → Sessions → ℕ → ℕ → Sessions → ℕ → ℕ → (List Answered → Type 0) → Type 0
+GoesBySome options is_alone old left told new left_after tells P =
+    (answers : List Answered) × GoesByThese options is_alone old left told answers new left_after tells × P answers

@@ -1,10 +1,14 @@
 pub mod Given
 pub mod Talk
+pub mod Reached
 pub mod Closing
 pub mod Moments
 pub mod Serving
 pub mod Open
+pub mod Calls
 pub mod Going
+pub mod Traffic
 pub mod Parts
 pub mod Clients
+pub mod Held
 pub mod StreamPorts

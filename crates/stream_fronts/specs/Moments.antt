@@ -7,17 +7,24 @@ use Rattle.partition_model.specs.declared.options.Options.{Options}
 use Rattle.stream_io.specs.declared.schedule.Step.{Step}
 use Rattle.stream_io.specs.State.{Entry, closed, state_after}
 use Rattle.stream_io.specs.Log.{received_of, sent_of}
+use Rattle.mica_fronts.specs.Answered.{Answered}
 use Rattle.stream_fronts.specs.Given.{Given, given_to, ByThen}
-use Rattle.stream_fronts.specs.Talk.{TalksWith}
+use Rattle.stream_fronts.specs.Talk.{TalksKept, TalksWith}
 use Rattle.stream_fronts.specs.Closing.{MayClose}
-
--- With each client the front talked so, where calls did this, the last of them first, and all these answers were given.
-abbrev pub TalksWithAll : Options → ℕ → ℕ → List Entry → List Given → Type 0
-TalksWithAll options base most entries all = (c : ℕ) → TalksWith options base most (received_of c entries) (sent_of c entries) (given_to c all)
 
 -- a connection is one of these
 abbrev pub IsAmong : ℕ → List ℕ → Type 0
 IsAmong c all = (earlier later : List ℕ) × (all ≡ earlier ++ c ∷ later)
+
+-- With a client the front talked so. Of one that memory lacked for in the end, it is not said how much of what was due was not sent.
+abbrev pub TalksWithOne : Options → ℕ → ℕ → List ℕ → ℕ → List ℕ → List ℕ → List Answered → Type 0
+TalksWithOne options base most lacking c received sent answers =
+    TalksWith options base most received sent answers ⊎ (IsAmong c lacking × TalksKept options base received sent answers)
+
+-- With each client it talked so, where calls did this, the last of them first, and all these answers were given.
+abbrev pub TalksWithAll : Options → ℕ → ℕ → List ℕ → List Entry → List Given → Type 0
+TalksWithAll options base most lacking entries all =
+    (c : ℕ) → TalksWithOne options base most lacking c (received_of c entries) (sent_of c entries) (given_to c all)
 
 -- A close has a cause in what stood before it; or there was no memory for the connection.
 abbrev pub HasCause : Options → ℕ → List Step → List ℕ → Entry → List Entry → List Given → Type 0
@@ -30,8 +37,8 @@ HasCause options base schedule lacking _ entries all = ⊤
 -- At each moment the front had talked with each client, by answers that begin those of the next moment. So what was sent to one client is due to an answer
 -- that stands before the answers to all that was received later, from whichever client.
 abbrev pub TalksThrough : Options → ℕ → ℕ → List Step → List ℕ → List Entry → List Given → Type 0
-TalksThrough options base most schedule lacking [] all = TalksWithAll options base most [] all
+TalksThrough options base most schedule lacking [] all = TalksWithAll options base most lacking [] all
 TalksThrough options base most schedule lacking (entry ∷ entries) all =
-    TalksWithAll options base most (entry ∷ entries) all
+    TalksWithAll options base most lacking (entry ∷ entries) all
     × ((first : List Given) × ByThen first all × HasCause options base schedule lacking entry entries first
     × TalksThrough options base most schedule lacking entries first)

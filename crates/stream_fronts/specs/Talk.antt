@@ -44,6 +44,10 @@ pub record KeepsLittle (most : ℕ) (sent due rest : List ℕ) : Type 0 where
   pub kept : length rest ≤ MAX_WAITING_LEN
   pub unsent : length due ≤ length sent + most
 
+-- they talked so, and little is kept of what was received
+abbrev pub TalksKept : Options → ℕ → List ℕ → List ℕ → List Answered → Type 0
+TalksKept options base received sent answers = (talk : Talk options base received sent answers) × (length talk.rest ≤ MAX_WAITING_LEN)
+
 -- they talked so, and little is kept
 abbrev pub TalksWith : Options → ℕ → ℕ → List ℕ → List ℕ → List Answered → Type 0
 TalksWith options base most received sent answers = (talk : Talk options base received sent answers) × KeepsLittle most sent (due_in talk) talk.rest

@@ -2,6 +2,7 @@
 ghost use Rattle.std.specs.Prelude.{◌≡◌, ◌<◌, ◌≤◌, ◌+◌, ◌-◌, length, is_some, IfOk, IfSome};
 ghost use Rattle.stream_io.specs.Calls.{FitsRoom, ReadGives, Asks, Closes};
 ghost use Rattle.stream_fronts.specs.Open.{IsOpen, Keeps, KeepsOthers, AsksOnce, OnLogs, gained};
+ghost use Rattle.stream_fronts.specs.Traffic.{OnHeld, ReadsTo, SendsOf, bytes_in, why};
 
 use stream_io::{Broken, Connections, Input};
 
@@ -17,6 +18,7 @@ pub fn receive<C: Connections>(
     requires open { IfSome (C.log connections.old) (IsOpen number asks) }
     ensures fits { IfOk result (FitsRoom (length out.old)) }
     ensures read { IfSome (C.log connections.old) (λ l. ReadGives number (length out.old) out.new result l (C.log connections.new)) }
+    ensures reads { OnLogs (OnHeld number (ReadsTo why (bytes_in out.new result) result)) (C.log connections.old) (C.log connections.new) }
     ensures keeps { OnLogs Keeps (C.log connections.old) (C.log connections.new) }
     ensures open { IfSome (C.log connections.new) (IsOpen number (asks + gained result)) }
     ensures told { is_some (C.log connections.new) ≡ is_some (C.log connections.old) }
@@ -37,6 +39,7 @@ pub fn send<C: Connections>(
 ) -> Result<usize, Broken>
     requires open { IfSome (C.log connections.old) (IsOpen number asks) }
     ensures fits { IfOk result (λ n. n ≤ length text.now) }
+    ensures sends { OnLogs (OnHeld number (SendsOf text.now result)) (C.log connections.old) (C.log connections.new) }
     ensures keeps { OnLogs Keeps (C.log connections.old) (C.log connections.new) }
     ensures open { IfSome (C.log connections.new) (IsOpen number asks) }
     ensures told { is_some (C.log connections.new) ≡ is_some (C.log connections.old) }

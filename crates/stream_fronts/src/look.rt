@@ -1,10 +1,11 @@
 //! What is made of the bytes of a connection that lie there.
-ghost use Rattle.std.specs.Prelude.{◌≡◌, ◌≤◌, length, IfOk};
+ghost use Rattle.std.specs.Prelude.{◌≡◌, ◌≤◌, [], length, IfOk, MatchResult, OnOk};
 ghost use Rattle.memcached_text.specs.declared.limits.TheConstants.{MAX_WAITING_LEN};
 ghost use Rattle.memcached_text.specs.Next.{next_of};
 ghost use Rattle.memcached_fronts.specs.Exchange.{IsOpenAt};
 ghost use Rattle.stream_fronts.specs.Clients.{IsClient};
-ghost use Rattle.stream_fronts.specs.Going.{GoesBy};
+ghost use Rattle.stream_fronts.specs.Going.{GoesBy, GoesBySome};
+ghost use Rattle.stream_fronts.specs.Reached.{GoesOnTo, SpokeFrom, StandsAs, leaves, place_at, place_of};
 
 use crate::answer::{Stand, answer_bytes};
 use crate::client::Client;
@@ -22,6 +23,10 @@ impl Client {
         requires short { length bytes.now ≤ MAX_WAITING_LEN }
         requires open { IsOpenAt (next_of bytes.now) done }
         ensures client { IfOk result (λ _. IsClient self.new) }
+        ensures kept { OnOk result ((self.new.kept.items ≡ bytes.now) × (self.new.done ≡ done)) }
+        ensures dropping { self.new.dropping ≡ self.old.dropping }
+        ensures leaving { self.new.leaving ≡ self.old.leaving }
+        ensures unsent { self.new.unsent ≡ self.old.unsent }
         ensures asks { self.new.asks ≡ self.old.asks }
     {
         self.kept = if bytes.is_empty() {
@@ -53,7 +58,13 @@ pub fn look_at<R: Threads + Wait + Sync, F: Changes, K: Clock>(
     requires partitions { numbering.partitions ≡ (F.options front.old).partitions }
     requires left { left.old ≤ F.left front.old }
     ensures client { IfOk result (λ _. IsClient client.new) }
+    ensures leaving { IfOk result (λ stand. client.new.leaving ≡ leaves stand) }
+    ensures unsent { client.new.unsent ≡ client.old.unsent }
     ensures asks { client.new.asks ≡ client.old.asks }
+    ensures talk { GoesBySome (F.options front.old) F.is_alone (F.sessions front.old) (F.left front.old) (K.last clock.old) (F.sessions front.new) (F.left front.new) (K.last clock.new)
+        (λ answers. MatchResult result (λ stand. GoesOnTo (F.options front.old) numbering.base (place_at bytes.now done) answers [] replies.new.items
+        (StandsAs (F.options front.old) numbering.base (length bytes.now) stand (place_of client.new)))
+        (λ _. SpokeFrom (F.options front.old) numbering.base (length bytes.now) (place_at bytes.now done) answers)) }
     ensures goes { GoesBy (F.options front.old) F.is_alone (F.sessions front.old) (F.left front.old) (K.last clock.old) (F.sessions front.new) (F.left front.new) (K.last clock.new) }
     ensures left { left.new ≤ F.left front.new }
     ensures options { F.options front.new ≡ F.options front.old }

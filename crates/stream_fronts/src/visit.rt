@@ -1,8 +1,11 @@
 //! One visit of a connection.
-ghost use Rattle.std.specs.Prelude.{◌≡◌, ◌<◌, ◌≤◌, ◌+◌, length, is_some, IfOk, IfSome, vec_len};
+ghost use Rattle.std.specs.Prelude.{◌≡◌, ◌≢◌, ◌<◌, ◌≤◌, ◌+◌, ◌++◌, true, false, [], length, take, drop, is_some, IfOk, IfSome, MatchResult, vec_len};
 ghost use Rattle.memcached_text.specs.declared.limits.TheConstants.{MAX_WAITING_LEN};
 ghost use Rattle.stream_fronts.specs.Clients.{IsClient};
-ghost use Rattle.stream_fronts.specs.Going.{GoesBy};
+ghost use Rattle.stream_fronts.specs.Going.{GoesBy, GoesBySome};
+ghost use Rattle.stream_fronts.specs.Reached.{GoesOnTo, SpokeBehind, StandsAs, leaves, place_of};
+ghost use Rattle.stream_fronts.specs.Traffic.{OnHeld, ReadsTo, SendsFrom, SendsSome};
+ghost use Rattle.stream_fronts.specs.Held.{Lacks, Looks, VisitLacks, Visits, filled_bytes, leaves_by};
 ghost use Rattle.stream_fronts.specs.Open.{IsOpen, Keeps, OnLogs};
 
 use crate::answer::Stand;
@@ -41,7 +44,11 @@ fn send_unsent<C: Connections>(
     requires client { IsClient client.old }
     requires open { IfSome (C.log connections.old) (IsOpen number client.old.asks) }
     ensures client { IsClient client.new }
+    ensures place { place_of client.new ≡ place_of client.old }
+    ensures leaving { client.new.leaving ≡ client.old.leaving }
     ensures asks { client.new.asks ≡ client.old.asks }
+    ensures all { IfOk result (λ all. all ≡ true → client.new.unsent ≡ []) }
+    ensures sends { OnLogs (OnHeld number (SendsFrom client.old.unsent client.new.unsent result)) (C.log connections.old) (C.log connections.new) }
     ensures keeps { OnLogs Keeps (C.log connections.old) (C.log connections.new) }
     ensures told { is_some (C.log connections.new) ≡ is_some (C.log connections.old) }
     ensures ended { C.has_ended connections.new ≡ C.has_ended connections.old }
@@ -62,9 +69,15 @@ fn send_new<C: Connections>(
     replies: &[u8],
 ) -> Result<Result<bool, Broken>, NoMemory>
     requires client { IsClient client.old }
+    requires none { client.old.unsent ≡ [] }
     requires open { IfSome (C.log connections.old) (IsOpen number client.old.asks) }
     ensures client { IfOk result (λ _. IsClient client.new) }
+    ensures place { IfOk result (λ _. place_of client.new ≡ place_of client.old) }
+    ensures leaving { IfOk result (λ _. client.new.leaving ≡ client.old.leaving) }
     ensures asks { client.new.asks ≡ client.old.asks }
+    ensures all { IfOk result (λ sent. IfOk sent (λ all. all ≡ true → client.new.unsent ≡ [])) }
+    ensures sends { MatchResult result (λ sent. OnLogs (OnHeld number (SendsFrom replies.now client.new.unsent sent)) (C.log connections.old) (C.log connections.new))
+        (λ _. OnLogs (OnHeld number (SendsSome replies.now)) (C.log connections.old) (C.log connections.new)) }
     ensures keeps { OnLogs Keeps (C.log connections.old) (C.log connections.new) }
     ensures told { is_some (C.log connections.new) ≡ is_some (C.log connections.old) }
     ensures ended { C.has_ended connections.new ≡ C.has_ended connections.old }
@@ -95,7 +108,13 @@ fn fill<C: Connections>(
     requires open { IfSome (C.log connections.old) (IsOpen number client.old.asks) }
     ensures room { length room.new ≡ MAX_WAITING_LEN }
     ensures fits { IfOk result (λ filled. filled.0 ≤ MAX_WAITING_LEN) }
+    ensures kept { IfOk result (λ filled. take filled.0 room.new ≡ client.old.kept.items ++ drop (length client.old.kept.items) (take filled.0 room.new)) }
+    ensures reads { OnLogs (OnHeld number (ReadsTo (λ filled. filled.1) (filled_bytes (length client.old.kept.items) room.new result) result))
+        (C.log connections.old) (C.log connections.new) }
     ensures client { IsClient client.new }
+    ensures place { place_of client.new ≡ place_of client.old }
+    ensures leaving { client.new.leaving ≡ client.old.leaving }
+    ensures unsent { client.new.unsent ≡ client.old.unsent }
     ensures open { IfSome (C.log connections.new) (IsOpen number client.new.asks) }
     ensures keeps { OnLogs Keeps (C.log connections.old) (C.log connections.new) }
     ensures told { is_some (C.log connections.new) ≡ is_some (C.log connections.old) }
@@ -131,11 +150,21 @@ fn look_at_room<R: Threads + Wait + Sync, F: Changes, K: Clock>(
     replies: &mut Vec<u8>,
 ) -> Result<Stand, NoMemory>
     requires client { IsClient client.old }
+    requires first { client.old.done ≡ 0 }
+    requires reading { client.old.leaving ≡ false }
     requires short { length bytes.now ≤ MAX_WAITING_LEN }
+    requires kept { bytes.now ≡ client.old.kept.items ++ drop (length client.old.kept.items) bytes.now }
     requires partitions { numbering.partitions ≡ (F.options front.old).partitions }
     requires left { left.old ≤ F.left front.old }
     ensures client { IfOk result (λ _. IsClient client.new) }
+    ensures leaving { IfOk result (λ stand. client.new.leaving ≡ leaves stand) }
+    ensures unsent { client.new.unsent ≡ client.old.unsent }
     ensures asks { client.new.asks ≡ client.old.asks }
+    ensures talk { GoesBySome (F.options front.old) F.is_alone (F.sessions front.old) (F.left front.old) (K.last clock.old) (F.sessions front.new) (F.left front.new) (K.last clock.new)
+        (λ answers. MatchResult result (λ stand. GoesOnTo (F.options front.old) numbering.base (place_of client.old) answers [] replies.new.items
+        (λ received given due. StandsAs (F.options front.old) numbering.base MAX_WAITING_LEN stand (place_of client.new)
+        (received ++ drop (length client.old.kept.items) bytes.now) given due))
+        (λ _. SpokeBehind (F.options front.old) numbering.base MAX_WAITING_LEN (place_of client.old) (drop (length client.old.kept.items) bytes.now) answers)) }
     ensures goes { GoesBy (F.options front.old) F.is_alone (F.sessions front.old) (F.left front.old) (K.last clock.old) (F.sessions front.new) (F.left front.new) (K.last clock.new) }
     ensures left { left.new ≤ F.left front.new }
     ensures options { F.options front.new ≡ F.options front.old }
@@ -169,11 +198,18 @@ fn answer_more<R: Threads + Wait + Sync, F: Changes, K: Clock, C: Connections>(
 ) -> Result<Result<(Stand, Option<Input>), Broken>, NoMemory>
     requires room { vec_len desk.old.room ≡ MAX_WAITING_LEN }
     requires client { IsClient client.old }
+    requires reading { client.old.leaving ≡ false }
     requires open { IfSome (C.log connections.old) (IsOpen number client.old.asks) }
     requires partitions { numbering.partitions ≡ (F.options front.old).partitions }
     requires left { left.old ≤ F.left front.old }
     ensures room { vec_len desk.new.room ≡ MAX_WAITING_LEN }
     ensures client { IfOk result (λ _. IsClient client.new) }
+    ensures leaving { IfOk result (λ r. IfOk r (λ stood. client.new.leaving ≡ leaves stood.0)) }
+    ensures unsent { IfOk result (λ _. client.new.unsent ≡ client.old.unsent) }
+    ensures talk { GoesBySome (F.options front.old) F.is_alone (F.sessions front.old) (F.left front.old) (K.last clock.old) (F.sessions front.new) (F.left front.new) (K.last clock.new)
+        (λ answers. MatchResult result
+        (λ r. OnLogs (OnHeld number (Looks (F.options front.old) numbering.base client.old answers desk.new.replies.items client.new r)) (C.log connections.old) (C.log connections.new))
+        (λ _. OnLogs (OnHeld number (Lacks (F.options front.old) numbering.base client.old answers)) (C.log connections.old) (C.log connections.new))) }
     ensures open { IfSome (C.log connections.new) (IsOpen number client.new.asks) }
     ensures keeps { OnLogs Keeps (C.log connections.old) (C.log connections.new) }
     ensures told { is_some (C.log connections.new) ≡ is_some (C.log connections.old) }
@@ -211,6 +247,31 @@ fn answer_more<R: Threads + Wait + Sync, F: Changes, K: Clock, C: Connections>(
     Ok(Ok((stand, input)))
 }
 
+/// Whether no more is read of a connection: the client asked for the end; or it sends no more, and nothing whole is left.
+fn leaves_by(stand: Stand, input: Option<Input>) -> bool
+    ensures { result ≡ leaves_by stand input }
+{
+    match stand {
+        Stand::Leaves => true,
+        Stand::Needs => matches!(input, Some(Input::Ended)),
+        Stand::Enough => false,
+    }
+}
+
+/// What becomes of a connection once all replies were taken.
+fn after_all(leaving: bool, stand: Stand, input: Option<Input>) -> After
+    ensures over { leaving ≡ true → result ≡ After.Over }
+    ensures open { leaving ≡ false → result ≢ After.Over }
+{
+    if leaving {
+        return After::Over;
+    }
+    match (stand, input) {
+        (Stand::Needs, Some(Input::Later)) => After::Waits,
+        _ => After::Again,
+    }
+}
+
 /// Sends what waits; where all of it was taken, answers more, and sends the replies.
 #[tactic(auto, using(crate::proofs::Opening::still_open, crate::proofs::Opening::keeps_on, crate::proofs::Going::by_none))]
 pub fn visit_once<R: Threads + Wait + Sync, F: Changes, K: Clock, C: Connections>(
@@ -232,6 +293,10 @@ pub fn visit_once<R: Threads + Wait + Sync, F: Changes, K: Clock, C: Connections
     requires left { left.old ≤ F.left front.old }
     ensures room { vec_len desk.new.room ≡ MAX_WAITING_LEN }
     ensures client { IfOk result (λ _. IsClient client.new) }
+    ensures talks { GoesBySome (F.options front.old) F.is_alone (F.sessions front.old) (F.left front.old) (K.last clock.old) (F.sessions front.new) (F.left front.new) (K.last clock.new)
+        (λ answers. MatchResult result
+        (λ after. OnLogs (OnHeld number (Visits (F.options front.old) numbering.base client.old answers desk.new.replies.items client.new after)) (C.log connections.old) (C.log connections.new))
+        (λ _. OnLogs (OnHeld number (VisitLacks (F.options front.old) numbering.base client.old answers desk.new.replies.items)) (C.log connections.old) (C.log connections.new))) }
     ensures open { IfSome (C.log connections.new) (IsOpen number client.new.asks) }
     ensures keeps { OnLogs Keeps (C.log connections.old) (C.log connections.new) }
     ensures told { is_some (C.log connections.new) ≡ is_some (C.log connections.old) }
@@ -268,67 +333,10 @@ pub fn visit_once<R: Threads + Wait + Sync, F: Changes, K: Clock, C: Connections
         Ok(answered) => answered,
         Err(Broken) => return Ok(After::Over),
     };
-    let needs = stand == Stand::Needs;
-    client.leaving = client.leaving || needs && input == Some(Input::Ended);
+    client.leaving = leaves_by(stand, input);
     match send_new(connections, number, client, desk.replies.as_slice())? {
         Err(Broken) => Ok(After::Over),
         Ok(false) => Ok(After::Waits),
-        Ok(true) if client.leaving => Ok(After::Over),
-        Ok(true) if needs && input == Some(Input::Later) => Ok(After::Waits),
-        Ok(true) => Ok(After::Again),
+        Ok(true) => Ok(after_all(client.leaving, stand, input)),
     }
-}
-
-/// Visits until there is no more to do at once, or it may be asked for again.
-#[tactic(auto, using(crate::proofs::Opening::still_open, crate::proofs::Opening::keeps_on, crate::proofs::Opening::same_keeps, crate::proofs::Going::by_none, crate::proofs::Going::by_both))]
-pub fn visit_on<R: Threads + Wait + Sync, F: Changes, K: Clock, C: Connections>(
-    rt: &R,
-    alloc: Global,
-    front: &mut F,
-    clock: &mut K,
-    numbering: Numbering,
-    left: &mut u64,
-    connections: &mut C,
-    number: u32,
-    client: &mut Client,
-    desk: &mut Desk,
-) -> Result<After, NoMemory>
-    requires room { vec_len desk.old.room ≡ MAX_WAITING_LEN }
-    requires client { IsClient client.old }
-    requires open { IfSome (C.log connections.old) (IsOpen number client.old.asks) }
-    requires partitions { numbering.partitions ≡ (F.options front.old).partitions }
-    requires left { left.old ≤ F.left front.old }
-    ensures again { IfOk result (λ after. after ≡ After.Again → 0 < client.new.asks) }
-    ensures room { vec_len desk.new.room ≡ MAX_WAITING_LEN }
-    ensures client { IfOk result (λ _. IsClient client.new) }
-    ensures open { IfSome (C.log connections.new) (IsOpen number client.new.asks) }
-    ensures keeps { OnLogs Keeps (C.log connections.old) (C.log connections.new) }
-    ensures told { is_some (C.log connections.new) ≡ is_some (C.log connections.old) }
-    ensures ended { C.has_ended connections.new ≡ C.has_ended connections.old }
-    ensures faults { C.faults connections.new ≡ C.faults connections.old }
-    ensures port { C.port connections.new ≡ C.port connections.old }
-    ensures goes { GoesBy (F.options front.old) F.is_alone (F.sessions front.old) (F.left front.old) (K.last clock.old) (F.sessions front.new) (F.left front.new) (K.last clock.new) }
-    ensures left { left.new ≤ F.left front.new }
-    ensures options { F.options front.new ≡ F.options front.old }
-    ensures number { F.number front.new ≡ F.number front.old }
-    ensures stands { F.stands front.new ≡ F.stands front.old }
-{
-    for _ in rt.forever() {
-        let after = visit_once(
-            rt,
-            alloc,
-            front,
-            clock,
-            numbering,
-            left,
-            connections,
-            number,
-            client,
-            desk,
-        )?;
-        if after != After::Again || client.asks > 0 {
-            return Ok(after);
-        }
-    }
-    Ok(After::Over)
 }

@@ -36,10 +36,10 @@ abbrev ports_at : (g : given.Over) → g.row.N.Denot → g.row.L.Denot → PortF
 ports_at g net listeners = port_facts (net_at g net) (listens_at g listeners)
 
 pub serve_all-requires-clause-unserved : goal.serve_all-requires-clause-unserved
-serve_all-requires-clause-unserved g c i e is = let new = c.bind_all.ensures.new i e is in (new.unended, new.fresh)
+serve_all-requires-clause-unserved g c _ _ i e is = let new = c.bind_all.ensures.new i e is in (new.unended, new.fresh)
 
 pub serve_all-requires-clause-fresh : goal.serve_all-requires-clause-fresh
-serve_all-requires-clause-fresh g c k s is = (c.listen_all.ensures.new k s is).unended
+serve_all-requires-clause-fresh g c _ _ k s is = (c.listen_all.ensures.new k s is).unended
 
 pub ready-requires-clause-new : goal.ready-requires-clause-new
 ready-requires-clause-new g c =

@@ -38,6 +38,25 @@ view g part = left_view g.P.Partition.owner g.P.Partition.home part
 abbrev plan_of : given.Over → Plan
 plan_of g = g.J.ServerPlan.plan
 
+-- as many hands as before
+long : {C K D : Type 0} {olds news : List (StreamTask C K)} {fronts others : List (FrontTask D)} → length news ≡ length olds → length others ≡ length fronts
+    → length (map stream_hand news ++ map hand_of others) ≡ length (map stream_hand olds ++ map hand_of fronts)
+long {olds = olds} {news = news} {fronts = fronts} {others = others} one two =
+    omega (
+      arith,
+      one,
+      two,
+      length-append (map stream_hand news) (map hand_of others),
+      length-append (map stream_hand olds) (map hand_of fronts),
+      length-map news stream_hand,
+      length-map others hand_of,
+      length-map olds stream_hand,
+      length-map fronts hand_of,
+    )
+
+at_least : {n m k : ℕ} → n ≡ m → m ≡ k → 1 ≤ k → 1 ≤ n
+at_least one two some = omega (arith, one, two, some)
+
 -- the fronts with their ports
 module _ (g : given.Over) (c : After-pair_up g) where
   stream_hands : map (λ own. own.items) c.args.server.stream_hands.items ≡ map stream_hand c.pair_streams.new.tasks.items
@@ -79,12 +98,12 @@ pub run_workers-requires-clause-locks : goal.run_workers-requires-clause-locks
 run_workers-requires-clause-locks g c κs within = ap length c.as_slice.ensures.value ∙ c.requires.server.locked ∙ ap (λ (o : Options). o.partitions) (sym c.requires.named)
 
 pub run_workers-requires-clause-first : goal.run_workers-requires-clause-first
-run_workers-requires-clause-first g c κs within = omega (arith, c.len.ensures, c.pair_streams.new.tasks.ok)
+run_workers-requires-clause-first g c κs within = omega (arith, c.len-first.ensures, c.pair_streams.new.tasks.ok)
 
 pub run_workers-requires-clause-many : goal.run_workers-requires-clause-many
 run_workers-requires-clause-many g c κs within =
     let z = (goal.at.run_workers-requires-clause-many g c).After-pair_up in
-    omega (arith, streams_many g z, tasks_many g z, c.len.ensures, c.pair_streams.new.tasks.ok, c.requires.takers)
+    omega (arith, streams_many g z, tasks_many g z, c.len-first.ensures, c.pair_streams.new.tasks.ok, c.requires.takers)
 
 pub run_workers-requires-clause-ready_streams : goal.run_workers-requires-clause-ready_streams
 run_workers-requires-clause-ready_streams g c κs within =
@@ -95,7 +114,7 @@ run_workers-requires-clause-ready_streams g c κs within =
 pub run_workers-requires-clause-ready : goal.run_workers-requires-clause-ready
 run_workers-requires-clause-ready g c κs within =
     let z = (goal.at.run_workers-requires-clause-ready g c).After-pair_up in
-    subst (λ (n : ℕ). AreReadyTasks (plan_of g) c.args.batches (facts g) n c.pair_up.new.tasks.items) (omega (arith, streams_many g z, c.len.ensures, c.pair_streams.new.tasks.ok))
+    subst (λ (n : ℕ). AreReadyTasks (plan_of g) c.args.batches (facts g) n c.pair_up.new.tasks.items) (omega (arith, streams_many g z, c.len-first.ensures, c.pair_streams.new.tasks.ok))
     (ready (plan_of g) c.args.batches (facts g) c.requires.batches (length c.args.connections.items) (length c.args.ends.now.items) c.args.ends.now.items c.pair_up.new.tasks.items
     (opened g z) (own g z) c.requires.unserved)
 
@@ -131,24 +150,22 @@ take_all_back-requires-clause-few g c =
 pub take_all_back-requires-clause-room : goal.take_all_back-requires-clause-room
 take_all_back-requires-clause-room g c = omega (arith, c.requires.server.locked, c.args.server.locks.ok, c.requires.server.has_room.parts.1)
 
-module _ (g : given.Over) (z : After-pair_up g) (c : After-take_all_back g) where
+module _ (g : given.Over) (c : After-take_all_back g) where
   -- the fronts of datagrams come behind those of connections
   ran_fronts : TasksRan (plan_of g) c.args.batches (facts g) (length c.pair_streams.new.tasks.items) c.pair_up.new.tasks.items c.run_workers.new.fronts.items
   ran_fronts = subst (λ (n : ℕ). TasksRan (plan_of g) c.args.batches (facts g) n c.pair_up.new.tasks.items c.run_workers.new.fronts.items)
-      (omega (arith, c.len.ensures, c.pair_streams.new.tasks.ok)) c.run_workers.ensures.fronts
+      (omega (arith, c.len-first.ensures, c.pair_streams.new.tasks.ok)) c.run_workers.ensures.fronts
 
-  news : List (List LockedPart)
-  news = map stream_hand c.run_workers.new.streams.items ++ map hand_of c.run_workers.new.fronts.items
-
-  are : AreHands (plan_of g) news
+  are : AreHands (plan_of g) (map stream_hand c.run_workers.new.streams.items ++ map hand_of c.run_workers.new.fronts.items)
   are = both_are (plan_of g) (of_stream g) g.K.Clock.last c.pair_streams.new.tasks.items c.run_workers.new.streams.items c.args.batches (facts g) c.pair_up.new.tasks.items
       c.run_workers.new.fronts.items c.run_workers.ensures.streams ran_fronts
 
   lefts_many : length (map (view g) c.take_all_back.new.parts.items) ≡ (plan_of g).options.partitions
   lefts_many = length-map c.take_all_back.new.parts.items (view g) ∙ c.take_all_back.ensures.many ∙ c.requires.server.locked
 
-  may : MayTakeHands (map (view g) c.take_all_back.new.parts.items) news
-  may = may_take (plan_of g) news (map (view g) c.take_all_back.new.parts.items) are lefts_many c.take_all_back.ensures.each
+  may : MayTakeHands (map (view g) c.take_all_back.new.parts.items) (map stream_hand c.run_workers.new.streams.items ++ map hand_of c.run_workers.new.fronts.items)
+  may = may_take (plan_of g) (map stream_hand c.run_workers.new.streams.items ++ map hand_of c.run_workers.new.fronts.items) (map (view g) c.take_all_back.new.parts.items) are lefts_many
+      c.take_all_back.ensures.each
 
   stream_news : map (λ own. own.items) c.part_streams.new.hands.items ≡ map stream_hand c.run_workers.new.streams.items
   stream_news = ap (map (λ own. own.items)) c.part_streams.ensures.hands ∙ map-map (λ own. own.items) (λ (t : StreamTask g.row.C.Denot g.row.K.Denot). t.parts) c.run_workers.new.streams.items
@@ -158,14 +175,13 @@ module _ (g : given.Over) (z : After-pair_up g) (c : After-take_all_back g) wher
 
 pub take_hands-requires : goal.take_hands-requires
 take_hands-requires g c =
-    let at = goal.at.take_hands-requires g c in
-    let z = at.After-take_all_back in
-    subst (MayTakeHands (map (view g) c.take_all_back.new.parts.items)) (sym (stream_news g at.After-pair_up z))
-    (may_left (map (view g) c.take_all_back.new.parts.items) (map stream_hand c.run_workers.new.streams.items) (map hand_of c.run_workers.new.fronts.items) (may g at.After-pair_up z))
+    let z = (goal.at.take_hands-requires g c).After-take_all_back in
+    subst (MayTakeHands (map (view g) c.take_all_back.new.parts.items)) (sym (stream_news g z))
+    (may_left (map (view g) c.take_all_back.new.parts.items) (map stream_hand c.run_workers.new.streams.items) (map hand_of c.run_workers.new.fronts.items) (may g z))
 
-module _ (g : given.Over) (z : After-pair_up g) (b : After-take_all_back g) (c : After-take_hands g) where
+module _ (g : given.Over) (c : After-take_hands g) (news : map (λ own. own.items) c.part_streams.new.hands.items ≡ map stream_hand c.run_workers.new.streams.items) where
   took_streams : TakesHands (map (view g) c.take_all_back.new.parts.items) (map (view g) c.take_hands.new.parts.items) (map stream_hand c.run_workers.new.streams.items)
-  took_streams = subst (TakesHands (map (view g) c.take_all_back.new.parts.items) (map (view g) c.take_hands.new.parts.items)) (stream_news g z b) c.take_hands.ensures
+  took_streams = subst (TakesHands (map (view g) c.take_all_back.new.parts.items) (map (view g) c.take_hands.new.parts.items)) news c.take_hands.ensures
 
 pub take_hands-requires-2 : goal.take_hands-requires-2
 take_hands-requires-2 g c =
@@ -173,52 +189,40 @@ take_hands-requires-2 g c =
     let z = at.After-take_all_back in
     let lefts = map (view g) c.take_all_back.new.parts.items in
     let mids = map (view g) c.take_hands.new.parts.items in
-    subst (MayTakeHands mids) (sym (front_news g at.After-pair_up z))
-    (may_behind lefts mids (map stream_hand c.run_workers.new.streams.items) (map hand_of c.run_workers.new.fronts.items) (took_streams g at.After-pair_up z at.After-take_hands)
-    (may_right lefts (map stream_hand c.run_workers.new.streams.items) (map hand_of c.run_workers.new.fronts.items) (may g at.After-pair_up z)))
+    let streams = map stream_hand c.run_workers.new.streams.items in
+    let fronts = map hand_of c.run_workers.new.fronts.items in
+    subst (MayTakeHands mids) (sym (front_news g z))
+    (may_behind lefts mids streams fronts (took_streams g at.After-take_hands (stream_news g z)) (may_right lefts streams fronts (may g z)))
 
-module _ (g : given.Over) (z : After-pair_up g) (b : After-take_all_back g) (t : After-take_hands g) (c : After-take_hands-2 g) where
-  lefts : List Owned
-  lefts = map (view g) c.take_all_back.new.parts.items
+module _ (g : given.Over) (c : After-take_hands-2 g) (open_streams : AreNewHands (plan_of g) 0 (length c.args.connections.items) (map stream_hand c.pair_streams.new.tasks.items))
+    (open_fronts : AreNewHands (plan_of g) (length c.args.connections.items) (length c.args.ends.now.items) (map hand_of c.pair_up.new.tasks.items))
+    (hands_are : AreHands (plan_of g) (map stream_hand c.run_workers.new.streams.items ++ map hand_of c.run_workers.new.fronts.items))
+    (lefts_long : length (map (view g) c.take_all_back.new.parts.items) ≡ (plan_of g).options.partitions)
+    (took_first : TakesHands (map (view g) c.take_all_back.new.parts.items) (map (view g) c.take_hands.new.parts.items) (map stream_hand c.run_workers.new.streams.items))
+    (news : map (λ own. own.items) c.part_fronts.new.hands.items ≡ map hand_of c.run_workers.new.fronts.items) where
+  opens : AreNewHands (plan_of g) 0 (plan_of g).fronts (map stream_hand c.pair_streams.new.tasks.items ++ map hand_of c.pair_up.new.tasks.items)
+  opens =
+      subst (λ (n : ℕ). AreNewHands (plan_of g) 0 n (map stream_hand c.pair_streams.new.tasks.items ++ map hand_of c.pair_up.new.tasks.items)) (sym c.requires.takers)
+      (hands_both (plan_of g) (length c.args.connections.items) (length c.args.ends.now.items) (map stream_hand c.pair_streams.new.tasks.items) (map hand_of c.pair_up.new.tasks.items)
+      open_streams open_fronts)
 
-  afters : List Owned
-  afters = map (view g) c.take_hands-2.new.parts.items
+  news_long : length (map stream_hand c.run_workers.new.streams.items ++ map hand_of c.run_workers.new.fronts.items)
+      ≡ length (map stream_hand c.pair_streams.new.tasks.items ++ map hand_of c.pair_up.new.tasks.items)
+  news_long = long c.run_workers.ensures.streams.0 c.run_workers.ensures.fronts.0
 
-  olds : List (List LockedPart)
-  olds = map stream_hand c.pair_streams.new.tasks.items ++ map hand_of c.pair_up.new.tasks.items
-
-  olds_long : length olds ≡ (plan_of g).fronts
-  olds_long =
-      omega (arith, length-append (map stream_hand c.pair_streams.new.tasks.items) (map hand_of c.pair_up.new.tasks.items), length-map c.pair_streams.new.tasks.items stream_hand,
-        length-map c.pair_up.new.tasks.items hand_of, streams_many g z, tasks_many g z, c.requires.takers)
-
-  news_long : length (news g z b) ≡ length olds
-  news_long =
-      omega (
-        arith,
-        length-append (map stream_hand c.run_workers.new.streams.items) (map hand_of c.run_workers.new.fronts.items),
-        length-map c.run_workers.new.streams.items stream_hand,
-        length-map c.run_workers.new.fronts.items hand_of,
-        length-append (map stream_hand c.pair_streams.new.tasks.items) (map hand_of c.pair_up.new.tasks.items),
-        length-map c.pair_streams.new.tasks.items stream_hand,
-        length-map c.pair_up.new.tasks.items hand_of,
-        c.run_workers.ensures.streams.0,
-        c.run_workers.ensures.fronts.0,
-      )
-
-  all : HaveRan (plan_of g) olds (news g z b) lefts afters
+  all : HaveRan (plan_of g) (map stream_hand c.pair_streams.new.tasks.items ++ map hand_of c.pair_up.new.tasks.items)
+      (map stream_hand c.run_workers.new.streams.items ++ map hand_of c.run_workers.new.fronts.items) (map (view g) c.take_all_back.new.parts.items) (map (view g) c.take_hands-2.new.parts.items)
   all = record {
-    some = omega (arith, news_long, olds_long, c.requires.some);
+    some = at_least news_long opens.many c.requires.some;
     filled = subst (λ (o : Options). (p : ℕ) → p < o.partitions → IsHistory o ((plan_of g).begun p)) c.requires.named c.requires.filled;
-    opened = subst (λ (n : ℕ). AreNewHands (plan_of g) 0 n olds) (sym c.requires.takers)
-        (hands_both (plan_of g) (length c.args.connections.items) (length c.args.ends.now.items) (map stream_hand c.pair_streams.new.tasks.items) (map hand_of c.pair_up.new.tasks.items)
-        (opened_streams g z) (opened g z));
+    opened = opens;
     same = news_long;
-    are = are g z b;
-    many = lefts_many g z b;
+    are = hands_are;
+    many = lefts_long;
     back = c.take_all_back.ensures.each;
-    took = took_both lefts (map (view g) c.take_hands.new.parts.items) afters (map stream_hand c.run_workers.new.streams.items) (map hand_of c.run_workers.new.fronts.items)
-        (took_streams g z b t) (subst (TakesHands (map (view g) c.take_hands.new.parts.items) afters) (front_news g z b) c.take_hands-2.ensures);
+    took = took_both (map (view g) c.take_all_back.new.parts.items) (map (view g) c.take_hands.new.parts.items) (map (view g) c.take_hands-2.new.parts.items)
+        (map stream_hand c.run_workers.new.streams.items) (map hand_of c.run_workers.new.fronts.items) took_first
+        (subst (TakesHands (map (view g) c.take_hands.new.parts.items) (map (view g) c.take_hands-2.new.parts.items)) news c.take_hands-2.ensures);
   }
 
 pub returns-clause-ran : goal.returns-clause-ran
@@ -229,7 +233,9 @@ returns-clause-ran g c =
     let stream_olds = c.pair_streams.new.tasks.items in
     let some = subst (λ (o : Options). 1 ≤ o.partitions) c.requires.named c.requires.options.partitions.0 in
     let it = ran_beside plan some (of_stream g) g.K.Clock.last stream_olds streams c.args.batches (facts g) c.pair_up.new.tasks.items c.run_workers.new.fronts.items c.run_workers.ensures.streams
-    (ran_fronts g at.After-pair_up at.After-take_all_back) (all g at.After-pair_up at.After-take_all_back at.After-take_hands at.After-take_hands-2) in
+    (ran_fronts g at.After-take_all_back)
+    (all g at.After-take_hands-2 (opened_streams g at.After-pair_up) (opened g at.After-pair_up) (are g at.After-take_all_back) (lefts_many g at.After-take_all_back)
+    (took_streams g at.After-take_hands (stream_news g at.After-take_all_back)) (front_news g at.After-take_all_back)) in
     let kept = map (λ (left : Owned). kept_seat_in left.owner) (map (view g) c.take_hands-2.new.parts.items) in
     let clocks : map (λ (t : StreamTask g.row.C.Denot g.row.K.Denot). g.K.Clock.last t.clock) stream_olds ≡ map g.K.Clock.last c.args.clocks.items =
     sym (map-map g.K.Clock.last (λ (t : StreamTask g.row.C.Denot g.row.K.Denot). t.clock) stream_olds) ∙ ap (map g.K.Clock.last) c.pair_streams.ensures.clocks in
@@ -246,4 +252,5 @@ returns-clause-ran g c =
 pub returns-clause-idle : goal.returns-clause-idle
 returns-clause-idle g c =
     let at = goal.at.returns-clause-idle g c in
-    idle (all g at.After-pair_up at.After-take_all_back at.After-take_hands at.After-take_hands-2)
+    idle (all g at.After-take_hands-2 (opened_streams g at.After-pair_up) (opened g at.After-pair_up) (are g at.After-take_all_back) (lefts_many g at.After-take_all_back)
+    (took_streams g at.After-take_hands (stream_news g at.After-take_all_back)) (front_news g at.After-take_all_back))

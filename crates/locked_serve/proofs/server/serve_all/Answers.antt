@@ -37,7 +37,7 @@ sum_up_beside-requires-clause-few g c =
     omega (
       arith,
       ap (λ (l : List (Result Totals ServeFault)). length l) c.as_slice-2.ensures.value,
-      few_answers _ _ _ _ _ _ _ _ c.run_all.ensures.ran.ran,
+      few_answers _ _ _ _ _ _ _ _ c.run_all-parts.ensures.ran.ran,
       length-map c.args.ends.now.items (facts g),
       c.requires.takers,
       c.requires.few,
@@ -46,16 +46,16 @@ sum_up_beside-requires-clause-few g c =
 pub sum_up_beside-requires-clause-small : goal.sum_up_beside-requires-clause-small
 sum_up_beside-requires-clause-small g c =
     subst (λ (l : List (Result Totals ServeFault)). (f : ℕ) (totals : Totals) → slice_get l f ≡ Some (Ok totals) → IsUpTo MAX_BATCHES totals) (sym c.as_slice-2.ensures.value)
-    (small_answers _ _ _ _ _ _ _ _ c.run_all.ensures.ran.ran c.requires.batches)
+    (small_answers _ _ _ _ _ _ _ _ c.run_all-parts.ensures.ran.ran c.requires.batches)
 
 pub keep_all-requires-clause-room : goal.keep_all-requires-clause-room
 keep_all-requires-clause-room g c =
     omega (
       arith,
       ap (λ (l : List KeptSeat). length l) c.requires.tables,
-      length-map (map (view g) c.run_all.result.parts.items) entry,
-      length-map c.run_all.result.parts.items (view g),
-      c.run_all.ensures.ran.ran.taken.shapes.many,
+      length-map (map (view g) c.run_all-parts.result.parts.items) entry,
+      length-map c.run_all-parts.result.parts.items (view g),
+      c.run_all-parts.ensures.ran.ran.taken.shapes.many,
       c.requires.options.partitions.1,
     )
 
@@ -64,14 +64,14 @@ returns-in_err-totals g c =
     let is = err_from_is_err_and c.from_residual.result c.from_residual.ensures.1 in
     let same : c.from_residual.result ≡ Err c.in_err-totals.field-0.0 = is.1 ∙ ap Err is.2 in
     subst (λ (r : Result Totals ServeFault). ServesBeside c.args.options.now g.J.ServerPlan.plan.begun c.args.batches (map g.K.Clock.last c.args.clocks.items) r c.args.tables.now
-    (map (facts g) c.args.ends.now.items) (map (facts g) c.run_all.new.ends.items) (map (of_stream g) c.args.connections.items)) (sym same)
-    (serves_beside _ c.requires.options.partitions.0 _ _ _ _ _ _ _ _ _ c.run_all.ensures.ran c.args.tables.now (Err c.in_err-totals.field-0.0)
+    (map (facts g) c.args.ends.now.items) (map (facts g) c.run_all-parts.new.ends.items) (map (of_stream g) c.args.connections.items)) (sym same)
+    (serves_beside _ c.requires.options.partitions.0 _ _ _ _ _ _ _ _ _ c.run_all-parts.ensures.ran c.args.tables.now (Err c.in_err-totals.field-0.0)
     (subst (λ (y : List (Result ⊤ ServeFault) × List (Result Totals ServeFault)). SumsUpBeside y.0 y.1 (Err c.in_err-totals.field-0.0))
     (λ i. (c.as_slice.ensures.value i, c.as_slice-2.ensures.value i)) c.in_err-totals.ensures) c.requires.tables)
 
 pub returns : goal.returns
 returns g c =
-    serves_beside _ c.requires.options.partitions.0 _ _ _ _ _ _ _ _ _ c.run_all.ensures.ran c.keep_all.new.tables (Ok c.in_ok-totals.totals)
+    serves_beside _ c.requires.options.partitions.0 _ _ _ _ _ _ _ _ _ c.run_all-parts.ensures.ran c.keep_all.new.tables (Ok c.in_ok-totals.totals)
     (subst (λ (y : List (Result ⊤ ServeFault) × List (Result Totals ServeFault)). SumsUpBeside y.0 y.1 (Ok c.in_ok-totals.totals))
     (λ i. (c.as_slice.ensures.value i, c.as_slice-2.ensures.value i)) c.in_ok-totals.ensures)
-    (c.keep_all.ensures ∙ ap (λ (l : List KeptSeat). l ++ map entry (map (view g) c.run_all.result.parts.items)) c.requires.tables)
+    (c.keep_all.ensures ∙ ap (λ (l : List KeptSeat). l ++ map entry (map (view g) c.run_all-parts.result.parts.items)) c.requires.tables)

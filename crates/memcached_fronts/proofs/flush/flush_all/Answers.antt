@@ -34,8 +34,7 @@ returns-in_default-clause-flushed g c =
     let F = g.F.Front in
     let inv = c.loop-partition.invariant in
     let f = inv.flushed in
-    let same = c.in_default.ensures.err in
-    (
+    let same = c.in_default.ensures.err in (
       f.answers,
       subst (λ front. AnswersInOrder (F.options c.args.front.now) F.is_alone (F.sessions c.args.front.now) f.answers (F.sessions front)) (sym same) f.in_order,
       f.flushes,
@@ -48,8 +47,7 @@ pub returns-clause-flushed : goal.returns-clause-flushed
 returns-clause-flushed g c =
     let F = g.F.Front in
     let inv = c.loop-partition.invariant in
-    let f = inv.flushed in
-    (
+    let f = inv.flushed in (
       f.answers,
       f.in_order,
       f.flushes,

@@ -1,7 +1,13 @@
 use Rattle.std.proofs.Common.{length, ◌+◌}
 use Rattle.stream_fronts.specs.Open.{gained}
 use Rattle.stream_fronts.proofs.Opening.{receives, received_keeps, received_open}
+use Rattle.stream_fronts.proofs.Drying.{reads_told}
 use Rattle.stream_fronts.proofs.calls.receive.Goals as goal
+
+pub returns-clause-reads : goal.returns-clause-reads
+returns-clause-reads g c =
+    let log = g.C.Connections.log in
+    reads_told c.args.number c.args.asks (length c.args.out.now) c.read.new.out c.read.result (log c.args.connections.now) (log c.read.new.self) c.requires.«open» c.read.ensures.read
 
 pub returns-clause-keeps : goal.returns-clause-keeps
 returns-clause-keeps g c =

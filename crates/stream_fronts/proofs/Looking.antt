@@ -1,0 +1,129 @@
+-- One look at what is kept of a client, and at what was read behind it.
+use Rattle.std.proofs.Common.{◌≡◌, ℕ, ◌-◌, ◌≤◌, ◌<◌, inl, inr, List, [], ◌∷◌, ◌++◌, length, drop, sym, ap, ◌∙◌, subst, arith, length-drop}
+use Rattle.std.specs.Prelude.{Option, Some, None, IfSome, MatchResult, Result, Ok, Err}
+use Rattle.std.proofs.lemmas.List.{append-nil, drop_all}
+use Rattle.partition_model.specs.declared.options.Options.{Options}
+use Rattle.memcached_text.specs.declared.limits.TheConstants.{MAX_WAITING_LEN}
+use Rattle.memcached_text.specs.Next.{next_of}
+use Rattle.memcached_commands.specs.Asks.{asks_in}
+use Rattle.memcached_fronts.specs.Exchange.{IsOpenAt}
+use Rattle.memcached_fronts.specs.Spells.{taken_by}
+use Rattle.memcached_fronts.proofs.SpellsLaws.{rest_is}
+use Rattle.stream_io.specs.State.{held}
+use Rattle.stream_io.specs.Log.{Log, connections_of}
+use Rattle.mica_fronts.specs.Answered.{Answered}
+use Rattle.stream_fronts.specs.declared.answer.Stand.{Stand}
+use Rattle.stream_fronts.specs.declared.answer.Stand.TheVariants.{Needs}
+use Rattle.stream_fronts.specs.declared.client.Client.{Client}
+use Rattle.stream_fronts.specs.Open.{OnLogs}
+use Rattle.stream_fronts.specs.Traffic.{OnHeld}
+use Rattle.stream_fronts.specs.Reached.{Place, place_at, place_of, Reaches, GoesOnTo, SpokeFrom, SpokeBehind, StandsAs}
+use Rattle.stream_fronts.proofs.Reaching.{read_more, none_kept, stands_more, nothing_next}
+
+-- of a command that was answered in part, something is there
+some_there : (bytes : List ℕ) (done : ℕ) → IsOpenAt (next_of bytes) done → 0 < done → 0 < length bytes
+some_there [] done stands some =
+    let none : length (asks_in (next_of [])) ≡ 0 = ap (λ n. length (asks_in n)) nothing_next in
+    elim stands as (λ _. 0 < length {A = ℕ} []) [ inl first ↦ absurd (omega (arith, first, some)) | inr less ↦ absurd (omega (arith, less, none)) ]
+some_there (b ∷ bytes) done stands some = omega arith
+
+module _ (options : Options) (base : ℕ) where
+  -- so nothing of it is to be dropped
+  none_dropped : {place : Place} {received : List ℕ} {given : List Answered} {due : List ℕ} → Reaches options base place received given due → IsOpenAt (next_of place.bytes) place.done
+      → 0 < place.done → place.dropping ≡ 0
+  none_dropped {place} {received} r stands some =
+      let there = some_there place.bytes place.done stands some in
+      let kept = ap length (rest_is options base received r.whole place.bytes r.spells) ∙ length-drop (taken_by r.whole) received in
+      let m = r.missing in
+      omega (arith, there, kept, m)
+
+  -- A command that was answered in part is answered further.
+  pub looks_further : (client now : Client) (stand : Stand) (answers : List Answered) (replies : List ℕ) → IsOpenAt (next_of client.kept.items) client.done → 0 < client.done
+      → length client.kept.items ≤ MAX_WAITING_LEN
+      → GoesOnTo options base (place_at client.kept.items client.done) answers [] replies (StandsAs options base (length client.kept.items) stand (place_of now))
+      → GoesOnTo options base (place_of client) answers [] replies (StandsAs options base MAX_WAITING_LEN stand (place_of now))
+  looks_further client now stand answers replies stands some short goes = record {
+    text = goes.text;
+    appended = goes.appended;
+    on = λ received given due r.
+        let none : client.dropping ≡ 0 = none_dropped r stands some in
+        let at = subst (λ n. Reaches options base (record { bytes = client.kept.items; done = client.done; dropping = n }) received given due) none r in
+        stands_more options base stand (place_of now) (length client.kept.items) MAX_WAITING_LEN received (given ++ answers) (due ++ goes.text) short (goes.on received given due at);
+  }
+
+  pub lacks_further : (client : Client) (answers : List Answered) → IsOpenAt (next_of client.kept.items) client.done → 0 < client.done → length client.kept.items ≤ MAX_WAITING_LEN
+      → SpokeFrom options base (length client.kept.items) (place_at client.kept.items client.done) answers → SpokeFrom options base MAX_WAITING_LEN (place_of client) answers
+  lacks_further client answers stands some short spoke received given due r =
+      let none : client.dropping ≡ 0 = none_dropped r stands some in
+      let at = subst (λ n. Reaches options base (record { bytes = client.kept.items; done = client.done; dropping = n }) received given due) none r in
+      let s = spoke received given due at in
+      record { talk = s.talk; few = let f = s.few in omega (arith, f, short) }
+
+  -- Bytes were read, and what is to be dropped of them is left out.
+  module _ (client : Client) (bytes more : List ℕ) (first : client.done ≡ 0) (all : bytes ≡ client.kept.items ++ more) where
+    read_at : (rest : List ℕ) {received : List ℕ} {given : List Answered} {due : List ℕ} → client.dropping ≤ length bytes → rest ≡ drop client.dropping bytes
+        → Reaches options base (place_of client) received given due → Reaches options base (place_at rest 0) (received ++ more) given due
+    read_at rest {received} {given} {due} come rest_is_it r =
+        let same = ap length all in
+        let none : client.dropping - length (client.kept.items ++ more) ≡ 0 = omega (arith, come, same) in
+        let rest_all : drop client.dropping (client.kept.items ++ more) ≡ rest = ap (drop client.dropping) (sym all) ∙ sym rest_is_it in
+        subst (λ b. Reaches options base (place_at b 0) (received ++ more) given due) rest_all
+        (subst (λ n. Reaches options base (record { bytes = drop client.dropping (client.kept.items ++ more); done = 0; dropping = n }) (received ++ more) given due) none
+        (read_more options base r first more))
+
+    pub looks_at : (now : Client) (stand : Stand) (answers : List Answered) (replies rest : List ℕ) → client.dropping ≤ length bytes → length bytes ≤ MAX_WAITING_LEN → rest ≡ drop client.dropping bytes
+        → GoesOnTo options base (place_at rest 0) answers [] replies (StandsAs options base (length rest) stand (place_of now))
+        → GoesOnTo options base (place_of client) answers [] replies (λ received given due. StandsAs options base MAX_WAITING_LEN stand (place_of now) (received ++ more) given due)
+    looks_at now stand answers replies rest come short rest_is_it goes = record {
+      text = goes.text;
+      appended = goes.appended;
+      on = λ received given due r.
+          let at = read_at rest come rest_is_it r in
+          let fewer : length rest ≤ MAX_WAITING_LEN = let len = ap length rest_is_it ∙ length-drop client.dropping bytes in omega (arith, len, short) in
+          stands_more options base stand (place_of now) (length rest) MAX_WAITING_LEN (received ++ more) (given ++ answers) (due ++ goes.text) fewer (goes.on (received ++ more) given due at);
+    }
+
+    pub lacks_at : (answers : List Answered) (rest : List ℕ) → client.dropping ≤ length bytes → length bytes ≤ MAX_WAITING_LEN → rest ≡ drop client.dropping bytes
+        → SpokeFrom options base (length rest) (place_at rest 0) answers → SpokeBehind options base MAX_WAITING_LEN (place_of client) more answers
+    lacks_at answers rest come short rest_is_it spoke received given due r =
+        let s = spoke (received ++ more) given due (read_at rest come rest_is_it r) in
+        let len = ap length rest_is_it ∙ length-drop client.dropping bytes in
+        record { talk = s.talk; few = let f = s.few in omega (arith, f, short, len) }
+
+    -- All of them are left out.
+    pub looks_at_none : (after : List ℕ) → after ≡ [] → length bytes < client.dropping
+        → GoesOnTo options base (place_of client) [] [] after (λ received given due. StandsAs options base MAX_WAITING_LEN Needs
+        (record { bytes = client.kept.items; done = client.done; dropping = client.dropping - length bytes }) (received ++ more) given due)
+    looks_at_none after none some = record {
+      text = [];
+      appended = none;
+      on = λ received given due r.
+          let same = ap length all in
+          let less : length (client.kept.items ++ more) < client.dropping = omega (arith, some, same) in
+          let empty : client.kept.items ≡ [] = none_kept options base r first more less in
+          let place : record { bytes = drop client.dropping (client.kept.items ++ more); done = 0; dropping = client.dropping - length (client.kept.items ++ more) }
+          ≡ record { bytes = client.kept.items; done = client.done; dropping = client.dropping - length bytes } =
+          λ i. record {
+            bytes = (drop_all client.dropping (client.kept.items ++ more) (omega (arith, less)) ∙ sym empty) i;
+            done = sym first i;
+            dropping = client.dropping - sym same i;
+          } in
+          let at = subst (λ (p : Place). Reaches options base p (received ++ more) given due) place (read_more options base r first more) in (
+            subst (λ g. Reaches options base (record { bytes = client.kept.items; done = client.done; dropping = client.dropping - length bytes }) (received ++ more) g (due ++ [])) (sym (append-nil given))
+                (subst (λ d. Reaches options base (record { bytes = client.kept.items; done = client.done; dropping = client.dropping - length bytes }) (received ++ more) given d) (sym (append-nil due)) at),
+            ap next_of empty ∙ nothing_next,
+          );
+    }
+
+-- nothing was called
+pub on_same : (number : ℕ) (P : ℕ → Log → Log → Type 0) (log : Option Log) → ((c : ℕ) (a : Log) → P c a a) → OnLogs (OnHeld number P) log log
+on_same number P None is = tt
+on_same number P (Some a) is = by (held number (connections_of a))
+  where
+    by : (h : Option ℕ) → IfSome h (λ c. P c a a)
+    by None = tt
+    by (Some c) = is c a
+
+pub if_match : {T E : Type 0} (P Q : T → Type 0) (S U : E → Type 0) (r : Result T E) → ((t : T) → P t → Q t) → ((e : E) → S e → U e) → MatchResult r P S → MatchResult r Q U
+if_match P Q S U (Ok t) then or_else is = then t is
+if_match P Q S U (Err e) then or_else is = or_else e is

@@ -1,0 +1,68 @@
+-- Of the other connections nothing moves.
+use Rattle.std.proofs.Common.{◌≡◌, ℕ, ◌==◌, false, cond, List, [], ◌∷◌, ◌++◌, length, drop, refl, sym, ap, ◌∙◌, subst}
+use Rattle.std.specs.Prelude.{slice_get, IfSome}
+use Rattle.std.specs.List.{AllByRecursion}
+use Rattle.std.proofs.Math.Seq.{drop-nil}
+use Rattle.stream_io.specs.declared.schedule.Step.{Step}
+use Rattle.stream_io.specs.Connection.{Connection, after_read}
+use Rattle.stream_io.specs.State.{Entry, opened, reported, met, received, sent, asked, closed, state_after}
+use Rattle.stream_io.specs.Log.{Log, received_of, sent_of}
+use Rattle.stream_fronts.specs.Traffic.{IsSend, Sends, Reads, HasEnded, after_receiving}
+use Rattle.stream_fronts.specs.Held.{StaysAs}
+use Rattle.stream_fronts.proofs.Traffic.{sends_received, mets_sent, mets_received, mets_send}
+use Rattle.stream_fronts.proofs.Drying.{sends_ended, ended_sends, in_changed}
+
+pub stays_same : (d : ℕ) (log : Log) → StaysAs d log log
+stays_same d log = record { came = refl; went = refl; over = λ is. is }
+
+pub stays_then : {d : ℕ} {old between new : Log} → StaysAs d old between → StaysAs d between new → StaysAs d old new
+stays_then first second = record { came = second.came ∙ first.came; went = second.went ∙ first.went; over = λ is. second.over (first.over is) }
+
+-- Bytes that were sent
+
+sent_others : (c d : ℕ) → (c == d) ≡ false → (more entries : List Entry) → AllByRecursion (IsSend c) more → sent_of d (more ++ entries) ≡ sent_of d entries
+sent_others c d other [] entries each = refl
+sent_others c d other (met ∷ more) entries each = sent_others c d other more entries each.1
+sent_others c d other (sent e bytes ∷ more) entries each =
+    ap (λ t. cond t (sent_of d (more ++ entries) ++ bytes) (sent_of d (more ++ entries))) (ap (λ x. x == d) each.0 ∙ other) ∙ sent_others c d other more entries each.1
+sent_others c d other (opened n ∷ more) entries each = absurd each.0
+sent_others c d other (reported n ∷ more) entries each = absurd each.0
+sent_others c d other (received e bytes ∷ more) entries each = absurd each.0
+sent_others c d other (asked e ∷ more) entries each = absurd each.0
+sent_others c d other (closed e ∷ more) entries each = absurd each.0
+
+pub stays_sent : {c : ℕ} {text : List ℕ} {old new : Log} → Sends c text old new → (d : ℕ) → (c == d) ≡ false → StaysAs d old new
+stays_sent {c} {text} {old} {new} sends d other = record {
+  came = ap (received_of d) sends.entries ∙ sends_received c sends.more old.entries sends.each d;
+  went = ap (sent_of d) sends.entries ∙ sent_others c d other sends.more old.entries sends.each;
+  over = sends_ended sends d;
+}
+
+-- Bytes that were received
+
+receiving_others : (c d : ℕ) → (c == d) ≡ false → (bytes : List ℕ) (entries : List Entry) → received_of d (after_receiving c bytes entries) ≡ received_of d entries
+receiving_others c d other [] entries = refl
+receiving_others c d other (byte ∷ bytes) entries = ap (λ t. cond t (received_of d entries ++ byte ∷ bytes) (received_of d entries)) other
+
+receiving_sent : (c d : ℕ) (bytes : List ℕ) (entries : List Entry) → sent_of d (after_receiving c bytes entries) ≡ sent_of d entries
+receiving_sent c d [] entries = refl
+receiving_sent c d (byte ∷ bytes) entries = refl
+
+ended_read : (count : ℕ) (x : Connection) → HasEnded x → HasEnded (after_read count x)
+ended_read count x is = record { ended = is.ended; read = ap (drop count) is.read ∙ drop-nil count; none = is.none }
+
+ended_receiving : (c : ℕ) (schedule : List Step) (bytes : List ℕ) (entries : List Entry) (d : ℕ) → IfSome (slice_get (state_after schedule entries).connections d) HasEnded
+    → IfSome (slice_get (state_after schedule (after_receiving c bytes entries)).connections d) HasEnded
+ended_receiving c schedule [] entries d is = is
+ended_receiving c schedule (byte ∷ bytes) entries d is =
+    in_changed c (after_read (length (byte ∷ bytes))) (ended_read (length (byte ∷ bytes))) d (state_after schedule entries).connections is
+
+pub stays_read : {c : ℕ} {bytes : List ℕ} {old new : Log} → Reads c bytes old new → (d : ℕ) → (c == d) ≡ false → StaysAs d old new
+stays_read {c} {bytes} {old} {new} reads d other = record {
+  came = ap (received_of d) reads.entries ∙ receiving_others c d other bytes (reads.mets ++ old.entries) ∙ mets_received d reads.mets old.entries reads.each;
+  went = ap (sent_of d) reads.entries ∙ receiving_sent c d bytes (reads.mets ++ old.entries) ∙ mets_sent d reads.mets old.entries reads.each;
+  over = λ is.
+      subst (λ (e : List Entry). IfSome (slice_get (state_after new.schedule e).connections d) HasEnded) (sym reads.entries)
+      (subst (λ (s : List Step). IfSome (slice_get (state_after s (after_receiving c bytes (reads.mets ++ old.entries))).connections d) HasEnded) (sym reads.schedule)
+      (ended_receiving c old.schedule bytes (reads.mets ++ old.entries) d (ended_sends c old.schedule reads.mets old.entries (mets_send c reads.mets reads.each) d is)));
+}

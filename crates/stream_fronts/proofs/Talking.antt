@@ -1,0 +1,158 @@
+-- The talk that a front and a client had, from how far it came.
+use Rattle.std.proofs.Common.{◌≡◌, ◌≢◌, ℕ, suc, ◌<◌, ◌≤◌, inl, inr, Bool, true, false, cond, List, [], ◌∷◌, ◌++◌, length, drop, refl, sym, ap, ◌∙◌, arith, length-drop}
+use Rattle.std.proofs.lemmas.List.{append-nil}
+use Rattle.std.proofs.lemmas.Bool.{eqb-true}
+use Rattle.partition_model.specs.declared.options.Options.{Options}
+use Rattle.memcached_text.specs.declared.next.Next.{Next}
+use Rattle.memcached_text.specs.declared.next.Next.TheVariants.{More}
+use Rattle.memcached_text.specs.Next.{next_of}
+use Rattle.memcached_text.specs.Stream.{len_of}
+use Rattle.memcached_commands.specs.Asks.{asks_in}
+use Rattle.mica_fronts.specs.Answered.{Answered}
+use Rattle.memcached_fronts.specs.Exchange.{IsOpenAt, flushes_now, count_of_answers, is_answered, due_before}
+use Rattle.memcached_fronts.specs.Spells.{due_to_all, answers_to_all}
+use Rattle.memcached_fronts.proofs.ExchangeLaws.{no_asks}
+use Rattle.memcached_fronts.proofs.SpellsLaws.{spells_next, due_then, answers_then, nothing_before, due_still}
+use Rattle.stream_io.specs.Connection.{Connection}
+use Rattle.stream_fronts.specs.Talk.{IsBeginning, Talk, due_in}
+use Rattle.stream_fronts.specs.Closing.{MayClose, broke, left, ended}
+use Rattle.stream_fronts.specs.Traffic.{HasEnded}
+use Rattle.stream_fronts.specs.declared.answer.Stand.{Stand}
+use Rattle.stream_fronts.specs.declared.answer.Stand.TheVariants.{Needs, Enough, Leaves}
+use Rattle.stream_fronts.specs.Reached.{Place, begun, Reaches, Ends, GoesOnTo, StandsAs, Spoke, SpokeFrom}
+
+-- what was asked in part asks something
+asks_some : (next : Next) (done n : ℕ) → IsOpenAt next done → done ≡ suc n → done < length (asks_in next)
+asks_some next done n stands some = elim stands as (λ _. done < length (asks_in next)) [ inl none ↦ absurd (omega (arith, none, some)) | inr less ↦ less ]
+
+-- it is more than the beginning of something
+not_more : (next : Next) (done : ℕ) → done < length (asks_in next) → next ≢ More
+not_more next done less more = let none : length (asks_in next) ≡ 0 = ap (λ n. length (asks_in n)) more in omega (arith, less, none)
+
+module _ (options : Options) (base : ℕ) where
+  -- and not answered
+  not_yet : (next : Next) (part : List Answered) → length part < length (asks_in next) → is_answered options (record { next = next; answers = part }) ≡ false
+  not_yet next part less = go (flushes_now next) refl (is_answered options (record { next = next; answers = part })) refl
+    where
+      go : (f : Bool) → flushes_now next ≡ f → (t : Bool) → is_answered options (record { next = next; answers = part }) ≡ t → is_answered options (record { next = next; answers = part }) ≡ false
+      go true flushes t is = let none : length (asks_in next) ≡ 0 = ap length (no_asks next flushes) in absurd (omega (arith, less, none))
+      go false keyed false is = is
+      go false keyed true is =
+          let all : length part ≡ count_of_answers options next = eqb-true (length part) (count_of_answers options next) is in
+          let many : count_of_answers options next ≡ length (asks_in next) = ap (λ t. cond t options.partitions (length (asks_in next))) keyed in
+          absurd (omega (arith, less, all, many))
+
+  -- The talk that came to a place, what is due in it, and how many bytes are left
+
+  pub record Told (received sent : List ℕ) (given : List Answered) (due : List ℕ) (most : ℕ) : Type 0 where
+    pub talk : Talk options base received sent given
+    pub due_is : due_in talk ≡ due
+    pub few : length talk.rest ≤ most
+
+  begins_with : (went : List ℕ) {due other : List ℕ} → other ≡ due → IsBeginning went due → IsBeginning went other
+  begins_with went same begins = (begins.0, same ∙ begins.1)
+
+  module _ {place : Place} {received : List ℕ} {given : List Answered} {due : List ℕ} (r : Reaches options base place received given due) where
+    -- where nothing is answered in part
+    whole_due : r.part ≡ [] → due_to_all options base r.whole ≡ due
+    whole_due none =
+        sym (append-nil _) ∙ ap (λ t. due_to_all options base r.whole ++ t) (sym (nothing_before options base (next_of place.bytes)))
+        ∙ ap (λ p. due_to_all options base r.whole ++ due_before options base (begun place.bytes p)) (sym none) ∙ r.due_is
+
+    whole_answers : r.part ≡ [] → answers_to_all r.whole ≡ given
+    whole_answers none = sym (append-nil _) ∙ ap (λ p. answers_to_all r.whole ++ p) (sym none) ∙ r.answered
+
+    pub talk_at : IsOpenAt (next_of place.bytes) place.done → (sent : List ℕ) → IsBeginning sent due → Told received sent given due (length place.bytes)
+    talk_at stands sent begins = by r.part refl
+      where
+        by : (part : List Answered) → r.part ≡ part → Told received sent given due (length place.bytes)
+        by [] none =
+            record {
+              talk = record {
+                said = r.whole;
+                rest = place.bytes;
+                spells = r.spells;
+                answered = whole_answers none;
+                begins = begins_with sent (whole_due none) begins;
+              };
+              due_is = whole_due none;
+              few = omega arith;
+            }
+        by (a ∷ part) some =
+            let next = next_of place.bytes in
+            let e = begun place.bytes r.part in
+            let many : place.done ≡ suc (length part) = sym r.count ∙ ap length some in
+            let less : place.done < length (asks_in next) = asks_some next place.done (length part) stands many in
+            let going : is_answered options (begun place.bytes r.part) ≡ false = not_yet next r.part (let count = r.count in omega (arith, count, less)) in
+            let all : due_to_all options base (r.whole ++ begun place.bytes r.part ∷ []) ≡ due =
+            due_then options base r.whole (begun place.bytes r.part) ∙ ap (λ t. due_to_all options base r.whole ++ t) (sym (due_still options base (begun place.bytes r.part) going))
+            ∙ r.due_is in
+            record {
+              talk = record {
+                said = r.whole ++ begun place.bytes r.part ∷ [];
+                rest = drop (len_of next) place.bytes;
+                spells = spells_next options base received r.whole place.bytes (begun place.bytes r.part) r.spells r.follows
+                    (record { next = refl; some = not_more next place.done less; answers = r.begins });
+                answered = answers_then options base r.whole (begun place.bytes r.part) ∙ r.answered;
+                begins = begins_with sent all begins;
+              };
+              due_is = all;
+              few = let len = length-drop (len_of next) place.bytes in omega (arith, len);
+            }
+
+  module _ {most : ℕ} {received : List ℕ} {given : List Answered} {due : List ℕ} (r : Ends options base most received given due) where
+    pub talk_ends : (sent : List ℕ) → IsBeginning sent due → Told received sent given due most
+    talk_ends sent begins = record {
+      talk = record { said = r.said; rest = r.rest; spells = r.spells; answered = r.answered; begins = begins_with sent r.due_is begins };
+      due_is = r.due_is;
+      few = r.few;
+    }
+
+  -- Memory lacked behind an answer
+  pub spoke_stands : (stand : Stand) (place at : Place) (answers : List Answered) (before after : List ℕ) (most : ℕ) → IsOpenAt (next_of at.bytes) at.done → length at.bytes ≤ most
+      → GoesOnTo options base place answers before after (StandsAs options base most stand at) → SpokeFrom options base most place answers
+  spoke_stands stand place at answers before after most stands short goes received given due r = by stand (goes.on received given due r)
+    where
+      begins : IsBeginning due (due ++ goes.text)
+      begins = (goes.text, refl)
+
+      told : {few : ℕ} → few ≤ most → Told received due (given ++ answers) (due ++ goes.text) few → Spoke options base most received (given ++ answers) due
+      told less t = record { talk = t.talk; few = let f = t.few in omega (arith, f, less) }
+
+      by : (s : Stand) → StandsAs options base most s at received (given ++ answers) (due ++ goes.text) → Spoke options base most received (given ++ answers) due
+      by Needs is = told short (talk_at is.0 stands due begins)
+      by Enough is = told short (talk_at is stands due begins)
+      by Leaves is = told (omega arith) (talk_ends is due begins)
+
+  -- Causes of a close
+
+  pub may_break : {connection : Connection} {received sent : List ℕ} {given : List Answered} {due : List ℕ} {most : ℕ} → Told received sent given due most → connection.is_broken ≡ true
+      → MayClose options base connection received sent given
+  may_break told broken = (told.talk, broke broken)
+
+  pub may_leave : {connection : Connection} {received sent : List ℕ} {given : List Answered} {most : ℕ} → Ends options base most received given sent
+      → MayClose options base connection received sent given
+  may_leave {sent = sent} r = (
+    record { said = r.said; rest = r.rest; spells = r.spells; answered = r.answered; begins = ([], r.due_is ∙ sym (append-nil sent)) },
+    left (sym r.due_is) r.left,
+  )
+
+  pub may_end : {connection : Connection} {place : Place} {received sent : List ℕ} {given : List Answered} → Reaches options base place received given sent
+      → IsOpenAt (next_of place.bytes) place.done → next_of place.bytes ≡ More → HasEnded connection → MayClose options base connection received sent given
+  may_end {connection} {place} {received} {sent} {given} r stands more has_ended = by r.part refl
+    where
+      by : (part : List Answered) → r.part ≡ part → MayClose options base connection received sent given
+      by [] none =
+          let all : due_to_all options base r.whole ≡ sent = whole_due r none in (
+            record {
+              said = r.whole;
+              rest = place.bytes;
+              spells = r.spells;
+              answered = whole_answers r none;
+              begins = ([], all ∙ sym (append-nil sent));
+            },
+            ended (sym all) has_ended.ended has_ended.read (r.follows, more),
+          )
+      by (a ∷ part) some =
+          let many : place.done ≡ suc (length part) = sym r.count ∙ ap length some in
+          absurd (not_more (next_of place.bytes) place.done (asks_some (next_of place.bytes) place.done (length part) stands many) more)

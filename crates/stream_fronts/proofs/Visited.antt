@@ -1,0 +1,364 @@
+-- What a visit makes of a talk, by what each part of it did.
+use Rattle.std.proofs.Common.{◌≡◌, ◌≢◌, ℕ, ◌==◌, ◌≤◌, inl, inr, Bool, true, false, true≢false, List, [], ◌++◌, length, take, drop, refl, sym, ap, ◌∙◌, subst, arith, length-append}
+use Rattle.std.specs.Prelude.{slice_get, Option, Some, None, IfSome, Result, Ok, Err}
+use Rattle.std.proofs.lemmas.List.{append-nil, take-append-drop}
+use Rattle.partition_model.specs.declared.options.Options.{Options}
+use Rattle.memcached_text.specs.declared.limits.TheConstants.{MAX_WAITING_LEN}
+use Rattle.memcached_text.specs.Next.{next_of}
+use Rattle.stream_io.specs.declared.schedule.Step.{Step}
+use Rattle.stream_io.specs.declared.connections.Broken.{Broken}
+use Rattle.stream_io.specs.declared.connections.Input.{Input}
+use Rattle.stream_io.specs.declared.connections.Input.TheVariants.{Bytes, Later, Ended}
+use Rattle.stream_io.specs.State.{held}
+use Rattle.stream_io.specs.Log.{Log, connections_of, received_of, sent_of}
+use Rattle.mica_fronts.specs.Answered.{Answered}
+use Rattle.stream_fronts.specs.declared.answer.Stand.{Stand}
+use Rattle.stream_fronts.specs.declared.answer.Stand.TheVariants.{Needs, Enough, Leaves}
+use Rattle.stream_fronts.specs.declared.client.Client.{Client}
+use Rattle.stream_fronts.specs.declared.visit.After.{After}
+use Rattle.stream_fronts.specs.declared.visit.After.TheVariants.{Waits, Again, Over}
+use Rattle.stream_fronts.specs.Given.{Given, given_to}
+use Rattle.stream_fronts.specs.Reached.{Place, Reaches, Ends, StandsAs, Spoke, place_of}
+use Rattle.stream_fronts.specs.Closing.{MayClose}
+use Rattle.stream_fronts.specs.Moments.{TalksThrough}
+use Rattle.stream_fronts.specs.Clients.{IsClient}
+use Rattle.stream_fronts.specs.Traffic.{Sends, SendsFrom, Reads, IsIn, HasEnded, EndsBy}
+use Rattle.stream_fronts.specs.Held.{StaysAs, Holds, goes_on, left, ended, all_to, Becomes, Visits, leaves_by, Looks, Lacks, VisitLacks}
+use Rattle.stream_fronts.proofs.Talking.{may_leave, may_end}
+use Rattle.stream_fronts.proofs.Staying.{stays_same, stays_then, stays_sent, stays_read}
+use Rattle.stream_fronts.proofs.Traffic.{reads_held}
+use Rattle.stream_fronts.proofs.Drying.{sends_ended}
+use Rattle.stream_fronts.proofs.Moments.{given_more}
+use Rattle.stream_fronts.proofs.Visiting.{Stage, stage_held, stage_sent, due_same, received_same, stage_breaks, stage_read, received_now, sent_now, stage_answered, stage_lacking}
+
+for_any : {X : Type 0} {Q : X → Type 0} (o : Option X) → ((x : X) → Q x) → IfSome o Q
+for_any None then = tt
+for_any (Some x) then = then x
+
+if_in : {X : Type 0} {P Q : X → Type 0} (o : Option X) → ((x : X) → P x → Q x) → IfSome o P → IfSome o Q
+if_in None then is = tt
+if_in (Some x) then is = then x is
+
+pub looks_held : (options : Options) (base : ℕ) (client : Client) (answers : List Answered) (replies : List ℕ) (now : Client) (r : Result (Stand × Option Input) Broken) (c : ℕ) (old new : Log)
+    → Looks options base client answers replies now r c old new → (n d : ℕ) → held n (connections_of old) ≡ Some d → held n (connections_of new) ≡ Some d
+looks_held options base client answers replies now (Err broken) c old new looks n d is = reads_held looks.2 n d is
+looks_held options base client answers replies now (Ok r) c old new looks n d is = elim looks as (λ _. held n (connections_of new) ≡ Some d) [
+  | inl further ↦ ap (λ (l : Log). held n (connections_of l)) further.same ∙ is
+  | inr reads ↦ reads_held reads.reads n d is
+]
+
+-- an end that a read told stays
+ends_on : (input : Option Input) {c : ℕ} {text : List ℕ} {old new : Log} → Sends c text old new → EndsBy input c old → EndsBy input c new
+ends_on None sends is = tt
+ends_on (Some (Bytes count)) sends is = tt
+ends_on (Some Later) sends is = tt
+ends_on (Some Ended) {c} sends is = sends_ended sends c is
+
+module _ (options : Options) (base : ℕ) where
+  -- The same, of what is equal
+
+  reaches_as : {place p : Place} {received r : List ℕ} {given : List Answered} {due d : List ℕ} → p ≡ place → r ≡ received → d ≡ due → Reaches options base place received given due
+      → Reaches options base p r given d
+  reaches_as {place} {p} {received} {r} {given} {due} {d} p_is r_is d_is at =
+      subst (λ x. Reaches options base x r given d) (sym p_is) (subst (λ x. Reaches options base place x given d) (sym r_is)
+      (subst (λ x. Reaches options base place received given x) (sym d_is) at))
+
+  ends_as : {most : ℕ} {received r : List ℕ} {given : List Answered} {due d : List ℕ} → r ≡ received → d ≡ due → Ends options base most received given due → Ends options base most r given d
+  ends_as {most} {received} {r} {given} {due} {d} r_is d_is at =
+      subst (λ x. Ends options base most x given d) (sym r_is) (subst (λ x. Ends options base most received given x) (sym d_is) at)
+
+  stands_as : (stand : Stand) (given : List Answered) {place p : Place} {received r : List ℕ} {due d : List ℕ} → p ≡ place → r ≡ received → d ≡ due
+      → StandsAs options base MAX_WAITING_LEN stand place received given due → StandsAs options base MAX_WAITING_LEN stand p r given d
+  stands_as stand given {place} {p} {received} {r} {due} {d} p_is r_is d_is at =
+      subst (λ x. StandsAs options base MAX_WAITING_LEN stand x r given d) (sym p_is) (subst (λ x. StandsAs options base MAX_WAITING_LEN stand place x given d) (sym r_is)
+      (subst (λ x. StandsAs options base MAX_WAITING_LEN stand place received given x) (sym d_is) at))
+
+  module _ (most c : ℕ) where
+    -- What is held
+
+    -- more was sent of what is unsent
+    held_sent : {old new : Log} {given : List Answered} (client now : Client) → place_of now ≡ place_of client → now.leaving ≡ client.leaving → length now.unsent ≤ length client.unsent
+        → received_of c new.entries ≡ received_of c old.entries → sent_of c new.entries ++ now.unsent ≡ sent_of c old.entries ++ client.unsent
+        → (IsIn HasEnded c old → IsIn HasEnded c new) → Holds options base most c old given client → Holds options base most c new given now
+    held_sent {old} {new} {given} client now place leaving fewer received due over holds = elim holds as (λ _. Holds options base most c new given now) [
+      | goes_on stays few at ↦ goes_on (leaving ∙ stays) (omega (arith, few, fewer)) (reaches_as place received due at)
+      | left leaves few ends ↦ left (leaving ∙ leaves) (omega (arith, few, fewer)) (ends_as received due ends)
+      | ended leaves few at none is ↦ ended (leaving ∙ leaves) (omega (arith, few, fewer)) (reaches_as place received due at)
+          (ap (λ (p : Place). next_of p.bytes) place ∙ none) (over is)
+    ]
+
+    -- once all is sent, it may be closed where no more is read
+    pub held_over : (client : Client) → IsClient client → (log : Log) (given : List Answered) → client.leaving ≡ true → client.unsent ≡ [] → Holds options base most c log given client
+        → IfSome (slice_get (connections_of log) c) (λ x. MayClose options base x (received_of c log.entries) (sent_of c log.entries) given)
+    held_over client is log given leaving none holds = elim holds as (λ _. IfSome (slice_get (connections_of log) c) (λ x. MayClose options base x (received_of c log.entries) (sent_of c log.entries) given)) [
+      | goes_on stays few at ↦ absurd (true≢false (sym leaving ∙ stays))
+      | left leaves few ends ↦ for_any (slice_get (connections_of log) c) (λ x. may_leave options base (ends_as refl all_sent ends))
+      | ended leaves few at more over ↦ if_in (slice_get (connections_of log) c) (λ x e. may_end options base (reaches_as refl refl all_sent at) is.begun more e) over
+    ]
+      where
+        all_sent : sent_of c log.entries ≡ sent_of c log.entries ++ client.unsent
+        all_sent = sym (append-nil (sent_of c log.entries)) ∙ ap (λ u. sent_of c log.entries ++ u) (sym none)
+
+    -- what is held once it was looked at
+    pub holds_now : (stand : Stand) (input : Option Input) (client : Client) (log : Log) (given : List Answered) → client.leaving ≡ leaves_by stand input → EndsBy input c log
+        → length client.unsent ≤ most
+        → StandsAs options base MAX_WAITING_LEN stand (place_of client) (received_of c log.entries) given (sent_of c log.entries ++ client.unsent) → Holds options base most c log given client
+    holds_now Leaves input client log given leaving over few at = left leaving few at
+    holds_now Enough input client log given leaving over few at = goes_on leaving few at
+    holds_now Needs None client log given leaving over few at = goes_on leaving few at.0
+    holds_now Needs (Some (Bytes count)) client log given leaving over few at = goes_on leaving few at.0
+    holds_now Needs (Some Later) client log given leaving over few at = goes_on leaving few at.0
+    holds_now Needs (Some Ended) client log given leaving over few at = ended leaving few at.0 at.1 over
+
+    -- From moment to moment
+
+    module _ {schedule : List Step} (lacking : List ℕ) (all : List Given) {old mid : Log} (client : Client) (same : old.schedule ≡ schedule) (is : IsClient client)
+        (holds : Holds options base most c old (given_to c all) client) (through : TalksThrough options base most schedule lacking old.entries all) {text : List ℕ} (rest : List ℕ)
+        (sends : Sends c text old mid) (parts : client.unsent ≡ text ++ rest) where
+      before : Stage options base most c schedule lacking old all client.unsent
+      before = stage_held options base most c same is holds through
+
+      pub stage_unsent : Stage options base most c schedule lacking mid all rest
+      stage_unsent = stage_sent options base most c rest before sends parts
+
+      pub holds_unsent : (now : Client) → place_of now ≡ place_of client → now.leaving ≡ client.leaving → now.unsent ≡ rest → Holds options base most c mid (given_to c all) now
+      holds_unsent now place leaving rest_is =
+          held_sent client now place leaving (let len = ap length parts ∙ length-append text rest in let same = ap length rest_is in omega (arith, len, same))
+          (received_same options base most c rest before sends parts) (ap (λ r. sent_of c mid.entries ++ r) rest_is ∙ due_same options base most c rest before sends parts)
+          (sends_ended sends c) holds
+
+    -- where nothing waits and more may be read, it came to the place that is kept
+    held_reaches : {log : Log} {client : Client} {given : List Answered} → Holds options base most c log given client → client.leaving ≡ false → client.unsent ≡ []
+        → Reaches options base (place_of client) (received_of c log.entries) given (sent_of c log.entries ++ [])
+    held_reaches {log} {client} {given} holds reading none = elim holds as (λ _. Reaches options base (place_of client) (received_of c log.entries) given (sent_of c log.entries ++ [])) [
+      | goes_on stays few at ↦ reaches_as refl refl (ap (λ u. sent_of c log.entries ++ u) (sym none)) at
+      | left leaves few ends ↦ absurd (true≢false (sym leaves ∙ reading))
+      | ended leaves few at more over ↦ absurd (true≢false (sym leaves ∙ reading))
+    ]
+
+    -- A moment at which more was answered
+
+    pub record Looked (schedule : List Step) (lacking : List ℕ) (log : Log) (all : List Given) (answers : List Answered) (replies : List ℕ) (client : Client) (r : Stand × Option Input) : Type 0 where
+      pub stage : Stage options base most c schedule lacking log (all ++ all_to c answers) replies
+      pub stands : StandsAs options base MAX_WAITING_LEN r.0 (place_of client) (received_of c log.entries) (given_to c all ++ answers) (sent_of c log.entries ++ replies)
+      pub ends : EndsBy r.1 c log
+
+    module _ {schedule : List Step} {lacking : List ℕ} {all : List Given} {mid : Log} (client : Client) (stage : Stage options base most c schedule lacking mid all [])
+        (holds : Holds options base most c mid (given_to c all) client) (reading : client.leaving ≡ false) (none : client.unsent ≡ []) where
+      at : Reaches options base (place_of client) (received_of c mid.entries) (given_to c all) (sent_of c mid.entries ++ [])
+      at = held_reaches holds reading none
+
+      -- it was broken, and nothing was read
+      pub stage_unread : {log : Log} → client.done ≡ 0 → Reads c [] mid log → IsClient client → Stage options base most c schedule lacking log all []
+      stage_unread first reads is =
+          stage_read options base most c client stage reads at first (let len = ap length (append-nil client.kept.items) in let s = is.short in omega (arith, len, s))
+
+      module _ (log : Log) (answers : List Answered) (replies : List ℕ) {now : Client} (is_now : IsClient now) (few : length replies ≤ most) where
+        due_now : {text : List ℕ} → replies ≡ [] ++ text → sent_of c log.entries ≡ sent_of c mid.entries → sent_of c log.entries ++ replies ≡ (sent_of c mid.entries ++ []) ++ text
+        due_now {text} text_is sent = ap (λ s. s ++ replies) sent ∙ ap (λ t. sent_of c mid.entries ++ t) text_is ∙ ap (λ s. s ++ text) (sym (append-nil (sent_of c mid.entries)))
+
+        looked_by : (r : Stand × Option Input) → Stage options base most c schedule lacking log all [] → EndsBy r.1 c log
+            → StandsAs options base MAX_WAITING_LEN r.0 (place_of now) (received_of c log.entries) (given_to c all ++ answers) (sent_of c log.entries ++ replies)
+            → Looked schedule lacking log all answers replies now r
+        looked_by r here ends stands = record { stage = stage_answered options base most c r.0 answers here is_now few stands; stands = stands; ends = ends }
+
+        pub looked : (r : Stand × Option Input) → Looks options base client answers replies now (Ok r) c mid log → Looked schedule lacking log all answers replies now r
+        looked r looks = elim looks as (λ _. Looked schedule lacking log all answers replies now r) [
+          | inl further ↦ looked_by r (subst (λ (l : Log). Stage options base most c schedule lacking l all []) (sym further.same) stage) further.ends
+              (stands_as r.0 (given_to c all ++ answers) refl (ap (λ (l : Log). received_of c l.entries) further.same)
+              (due_now further.goes.appended (ap (λ (l : Log). sent_of c l.entries) further.same))
+              (further.goes.on (received_of c mid.entries) (given_to c all) (sent_of c mid.entries ++ []) at))
+          | inr reads ↦ looked_by r (stage_read options base most c client stage reads.reads at reads.first reads.short) reads.ends
+              (stands_as r.0 (given_to c all ++ answers) refl (received_now options base most c client stage reads.reads at reads.first reads.short)
+              (due_now reads.goes.appended (sent_now options base most c client stage reads.reads at reads.first reads.short))
+              (reads.goes.on (received_of c mid.entries) (given_to c all) (sent_of c mid.entries ++ []) at))
+        ]
+
+  -- Visits
+
+  module _ (c : ℕ) where
+    -- nothing was answered
+    still_through : (most : ℕ) (log : Log) (schedule : List Step) (lacking : List ℕ) (all : List Given) → TalksThrough options base most schedule lacking log.entries all
+        → TalksThrough options base most schedule lacking log.entries (all ++ all_to c [])
+    still_through most log schedule lacking all through = subst (λ l. TalksThrough options base most schedule lacking log.entries l) (sym (append-nil all)) through
+
+    still_becomes : (most : ℕ) (log : Log) (given : List Answered) (now : Client) (becomes : After) → Becomes options base most c log given now becomes
+        → Becomes options base most c log (given ++ []) now becomes
+    still_becomes most log given now becomes is = subst (λ g. Becomes options base most c log g now becomes) (sym (append-nil given)) is
+
+    module _ {old mid : Log} {client : Client} (is : IsClient client) where
+      -- replies that waited were not all sent
+      pub visit_breaks : (replies : List ℕ) (now : Client) (broken : Broken) → SendsFrom {X = Bool} client.unsent now.unsent (Err broken) c old mid
+          → Visits options base client [] replies now Over c old mid
+      visit_breaks replies now broken sends = record {
+        schedule = sends.0.1.schedule;
+        others = stays_sent sends.0.1;
+        talks = λ most lacking all few holds through.
+            let stage = stage_unsent most c lacking all client refl is holds through (drop sends.0.0 client.unsent) sends.0.1 (sym (take-append-drop sends.0.0 client.unsent)) in
+            (still_through most mid old.schedule lacking all stage.through, still_becomes most mid (given_to c all) now Over (stage_breaks options base most c stage sends.1));
+      }
+
+      module _ (now : Client) (place : place_of now ≡ place_of client) (leaving : now.leaving ≡ client.leaving) (all_sent : Bool)
+          (sends : SendsFrom client.unsent now.unsent (Ok all_sent) c old mid) where
+        module _ (most : ℕ) (lacking : List ℕ) (all : List Given) (holds : Holds options base most c old (given_to c all) client)
+            (through : TalksThrough options base most old.schedule lacking old.entries all) where
+          held_then : Holds options base most c mid (given_to c all) now
+          held_then = holds_unsent most c lacking all client refl is holds through now.unsent sends.1 sends.2 now place leaving refl
+
+          stage_then : Stage options base most c old.schedule lacking mid all now.unsent
+          stage_then = stage_unsent most c lacking all client refl is holds through now.unsent sends.1 sends.2
+
+        pub visit_waits : (replies : List ℕ) → Visits options base client [] replies now Waits c old mid
+        visit_waits replies = record {
+          schedule = sends.1.schedule;
+          others = stays_sent sends.1;
+          talks = λ most lacking all few holds through.
+              let stage = stage_then most lacking all holds through in
+              (still_through most mid old.schedule lacking all stage.through, still_becomes most mid (given_to c all) now Waits (held_then most lacking all holds through));
+        }
+
+        pub visit_leaves : (replies : List ℕ) → IsClient now → now.leaving ≡ true → now.unsent ≡ [] → Visits options base client [] replies now Over c old mid
+        visit_leaves replies is_now ends none = record {
+          schedule = sends.1.schedule;
+          others = stays_sent sends.1;
+          talks = λ most lacking all few holds through.
+              let stage = stage_then most lacking all holds through in (
+                still_through most mid old.schedule lacking all stage.through,
+                still_becomes most mid (given_to c all) now Over (held_over most c now is_now mid (given_to c all) ends none (held_then most lacking all holds through)),
+              );
+        }
+
+        module _ (is_now : IsClient now) (reading : now.leaving ≡ false) (none : now.unsent ≡ []) {log : Log} (then : Client) {answers : List Answered} {replies : List ℕ} where
+          -- it was broken as it was read
+          pub visit_unread : (broken : Broken) → Looks options base now answers replies then (Err broken) c mid log → Visits options base client answers replies then Over c old log
+          visit_unread broken looks =
+              let still : Visits options base client [] replies then Over c old log = record {
+                schedule = looks.2.schedule ∙ sends.1.schedule;
+                others = λ d other. stays_then (stays_sent sends.1 d other) (stays_read looks.2 d other);
+                talks = λ most lacking all few holds through.
+                    let before = subst (λ r. Stage options base most c old.schedule lacking mid all r) none (stage_then most lacking all holds through) in
+                    let stage = stage_unread most c now before (held_then most lacking all holds through) reading none looks.1 looks.2 is_now in
+                    (still_through most log old.schedule lacking all stage.through, still_becomes most log (given_to c all) then Over (stage_breaks options base most c stage looks.3));
+              } in
+              subst (λ a. Visits options base client a replies then Over c old log) (sym looks.0) still
+
+          -- memory lacked as it was looked at
+          pub visit_lacks : Lacks options base now answers c mid log → VisitLacks options base client answers replies c old log
+          visit_lacks lacks = elim lacks as (λ _. VisitLacks options base client answers replies c old log) [
+            | inl further ↦ record {
+              schedule = ap (λ (l : Log). l.schedule) further.same ∙ sends.1.schedule;
+              others = λ d other. stays_then (stays_sent sends.1 d other) (subst (λ (l : Log). StaysAs d mid l) (sym further.same) (stays_same d mid));
+              talks = λ most lacking all few among holds through.
+                  let before = subst (λ s. Stage options base most c old.schedule lacking mid all s) none (stage_then most lacking all holds through) in
+                  let at = held_reaches most c (held_then most lacking all holds through) reading none in
+                  let all_through = stage_lacking options base most c answers among before (further.spoke (received_of c mid.entries) (given_to c all) (sent_of c mid.entries ++ []) at) in
+                  subst (λ (l : Log). TalksThrough options base most old.schedule lacking l.entries (all ++ all_to c answers)) (sym further.same) all_through;
+            }
+            | inr read ↦ record {
+              schedule = read.reads.schedule ∙ sends.1.schedule;
+              others = λ d other. stays_then (stays_sent sends.1 d other) (stays_read read.reads d other);
+              talks = λ most lacking all few among holds through.
+                  let before = subst (λ s. Stage options base most c old.schedule lacking mid all s) none (stage_then most lacking all holds through) in
+                  let at = held_reaches most c (held_then most lacking all holds through) reading none in
+                  let here = stage_read options base most c now before read.reads at read.first read.short in
+                  let spoke = read.spoke (received_of c mid.entries) (given_to c all) (sent_of c mid.entries ++ []) at in
+                  stage_lacking options base most c answers among here (subst (λ r. Spoke options base MAX_WAITING_LEN r (given_to c all ++ answers) (sent_of c log.entries ++ []))
+                  (sym (received_now options base most c now before read.reads at read.first read.short))
+                  (subst (λ s. Spoke options base MAX_WAITING_LEN (received_of c mid.entries ++ read.bytes) (given_to c all ++ answers) (s ++ []))
+                  (sym (sent_now options base most c now before read.reads at read.first read.short)) spoke));
+            }
+          ]
+
+          -- it was looked at, and the replies were sent
+
+          module _ (r : Stand × Option Input) (looks : Looks options base now answers replies then (Ok r) c mid log) (is_then : IsClient then) where
+            module _ (most : ℕ) (lacking : List ℕ) (all : List Given) (few : length replies ≤ most) (holds : Holds options base most c old (given_to c all) client)
+                (through : TalksThrough options base most old.schedule lacking old.entries all) where
+              found : Looked most c old.schedule lacking log all answers replies then r
+              found =
+                  let before = subst (λ s. Stage options base most c old.schedule lacking mid all s) none (stage_then most lacking all holds through) in
+                  looked most c now before (held_then most lacking all holds through) reading none log answers replies is_then few r looks
+
+            looked_schedule : log.schedule ≡ old.schedule
+            looked_schedule = elim looks as (λ _. log.schedule ≡ old.schedule) [
+              | inl further ↦ ap (λ (l : Log). l.schedule) further.same ∙ sends.1.schedule
+              | inr reads ↦ reads.reads.schedule ∙ sends.1.schedule
+            ]
+
+            looked_others : (d : ℕ) → (c == d) ≡ false → StaysAs d old log
+            looked_others d other = stays_then (stays_sent sends.1 d other) (elim looks as (λ _. StaysAs d mid log) [
+              | inl further ↦ subst (λ (l : Log). StaysAs d mid l) (sym further.same) (stays_same d mid)
+              | inr reads ↦ stays_read reads.reads d other
+            ])
+
+            module _ {new : Log} (last : Client) where
+              -- memory lacked for those that were not taken
+              pub visit_keeps_none : (n : ℕ) → Sends c (take n replies) log new → VisitLacks options base client answers replies c old new
+              visit_keeps_none n then_sends = record {
+                schedule = then_sends.schedule ∙ looked_schedule;
+                others = λ d other. stays_then (looked_others d other) (stays_sent then_sends d other);
+                talks = λ most lacking all few among holds through.
+                    let f = found most lacking all few holds through in
+                    (stage_sent options base most c (drop n replies) f.stage then_sends (sym (take-append-drop n replies))).through;
+              }
+
+              pub visit_unsent : (broken : Broken) → SendsFrom {X = Bool} replies last.unsent (Err broken) c log new → Visits options base client answers replies last Over c old new
+              visit_unsent broken then_sends = record {
+                schedule = then_sends.0.1.schedule ∙ looked_schedule;
+                others = λ d other. stays_then (looked_others d other) (stays_sent then_sends.0.1 d other);
+                talks = λ most lacking all few holds through.
+                    let f = found most lacking all few holds through in
+                    let stage = stage_sent options base most c (drop then_sends.0.0 replies) f.stage then_sends.0.1 (sym (take-append-drop then_sends.0.0 replies)) in
+                    (stage.through, subst (λ g. Becomes options base most c new g last Over) (given_more c all answers) (stage_breaks options base most c stage then_sends.1));
+              }
+
+              module _ (place_is : place_of last ≡ place_of then) (leaves : last.leaving ≡ leaves_by r.0 r.1) (all_taken : Bool)
+                  (then_sends : SendsFrom replies last.unsent (Ok all_taken) c log new) where
+                module _ (most : ℕ) (lacking : List ℕ) (all : List Given) (few : length replies ≤ most) (holds : Holds options base most c old (given_to c all) client)
+                    (through : TalksThrough options base most old.schedule lacking old.entries all) where
+                  end : Looked most c old.schedule lacking log all answers replies then r
+                  end = found most lacking all few holds through
+
+                  stage_end : Stage options base most c old.schedule lacking new (all ++ all_to c answers) last.unsent
+                  stage_end = stage_sent options base most c last.unsent end.stage then_sends.1 then_sends.2
+
+                  held_end : Holds options base most c new (given_to c all ++ answers) last
+                  held_end =
+                      holds_now most c r.0 r.1 last new (given_to c all ++ answers) leaves (ends_on r.1 then_sends.1 end.ends) stage_end.few
+                      (stands_as r.0 (given_to c all ++ answers) place_is (received_same options base most c last.unsent end.stage then_sends.1 then_sends.2)
+                      (due_same options base most c last.unsent end.stage then_sends.1 then_sends.2) end.stands)
+
+                pub visit_goes_on : (becomes : After) → becomes ≢ Over → Visits options base client answers replies last becomes c old new
+                visit_goes_on Over other = absurd (other refl)
+                visit_goes_on Waits other = record {
+                  schedule = then_sends.1.schedule ∙ looked_schedule;
+                  others = λ d other. stays_then (looked_others d other) (stays_sent then_sends.1 d other);
+                  talks = λ most lacking all few holds through.
+                      let stage = stage_end most lacking all few holds through in (stage.through, held_end most lacking all few holds through);
+                }
+                visit_goes_on Again other = record {
+                  schedule = then_sends.1.schedule ∙ looked_schedule;
+                  others = λ d other. stays_then (looked_others d other) (stays_sent then_sends.1 d other);
+                  talks = λ most lacking all few holds through.
+                      let stage = stage_end most lacking all few holds through in (stage.through, held_end most lacking all few holds through);
+                }
+
+                pub visit_ends : IsClient last → last.leaving ≡ true → last.unsent ≡ [] → Visits options base client answers replies last Over c old new
+                visit_ends is_last over none_left = record {
+                  schedule = then_sends.1.schedule ∙ looked_schedule;
+                  others = λ d other. stays_then (looked_others d other) (stays_sent then_sends.1 d other);
+                  talks = λ most lacking all few holds through.
+                      let stage = stage_end most lacking all few holds through in
+                      (stage.through, held_over most c last is_last new (given_to c all ++ answers) over none_left (held_end most lacking all few holds through));
+                }
+
+                pub visit_after : (becomes : After) → (last.leaving ≡ true → becomes ≡ Over) → (last.leaving ≡ false → becomes ≢ Over) → IsClient last → last.unsent ≡ []
+                    → Visits options base client answers replies last becomes c old new
+                visit_after becomes over stays is_last none_left = by last.leaving refl
+                  where
+                    by : (b : Bool) → last.leaving ≡ b → Visits options base client answers replies last becomes c old new
+                    by true is_over = subst (λ (a : After). Visits options base client answers replies last a c old new) (sym (over is_over)) (visit_ends is_last is_over none_left)
+                    by false is_open = visit_goes_on becomes (stays is_open)
+
+pub waits_not_over : Waits ≢ Over
+waits_not_over is = cc

@@ -1,0 +1,26 @@
+use Rattle.std.proofs.Common.{length, arith}
+use Rattle.std.proofs.lemmas.List.{length-drop}
+use Rattle.std.proofs.lemmas.Result.{err_from_is_err_and}
+use Rattle.stream_fronts.specs.Reached.{place_at, place_in}
+use Rattle.stream_fronts.proofs.Answering.{match_err}
+use Rattle.stream_fronts.proofs.Talking.{spoke_stands}
+use Rattle.stream_fronts.proofs.look.look_at.Goals as goal
+
+pub returns-in_err-answered-clause-talk : goal.returns-in_err-answered-clause-talk
+returns-in_err-answered-clause-talk g c =
+    let r = c.in_err-answered.ensures.talk in
+    let is = err_from_is_err_and c.from_residual.result c.from_residual.ensures.1 in
+    (r.0, r.1, match_err _ _ c.from_residual.result is.0 is.1 r.2)
+
+pub returns-in_err-keep-clause-talk : goal.returns-in_err-keep-clause-talk
+returns-in_err-keep-clause-talk g c =
+    let r = c.in_ok-answered.ensures.talk in
+    let far = c.in_ok-answered.answered in
+    let bytes = c.args.bytes.now in
+    let len = length-drop far.taken bytes in
+    let is = err_from_is_err_and c.from_residual-in_err-keep.result c.from_residual-in_err-keep.ensures.1 in (
+      r.0,
+      r.1,
+      match_err _ _ c.from_residual-in_err-keep.result is.0 is.1 (spoke_stands (g.F.Front.options c.args.front.now) c.args.numbering.base far.stand (place_at bytes c.args.done)
+          (place_in bytes far) r.0 _ _ (length bytes) c.in_ok-answered.ensures.«open» (omega (arith, len)) r.2),
+    )

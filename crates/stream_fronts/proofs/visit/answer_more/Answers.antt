@@ -1,0 +1,110 @@
+use Rattle.std.proofs.Common.{◌≡◌, ◌≤◌, ◌++◌, length, take, drop, [], refl, sym, ap, ◌∙◌, subst, arith, inl, inr}
+use Rattle.std.specs.Prelude.{Ok, Err, None}
+use Rattle.std.proofs.lemmas.List.{length-take, take_at}
+use Rattle.std.proofs.lemmas.Result.{err_from_is_err_and}
+use Rattle.memcached_text.specs.declared.limits.TheConstants.{MAX_WAITING_LEN}
+use Rattle.stream_fronts.specs.Reached.{Place, GoesOnTo, SpokeFrom, SpokeBehind, StandsAs, place_at, place_of}
+use Rattle.stream_fronts.specs.Held.{Looks, Lacks}
+use Rattle.stream_fronts.proofs.Going.{these_none}
+use Rattle.stream_fronts.proofs.Traffic.{on_one}
+use Rattle.stream_fronts.proofs.Answering.{match_err}
+use Rattle.stream_fronts.proofs.Looking.{looks_further, lacks_further, on_same}
+use Rattle.stream_fronts.proofs.visit.answer_more.Goals as goal
+
+pub returns-then-client-gt0-clause-talk : goal.returns-then-client-gt0-clause-talk
+returns-then-client-gt0-clause-talk g c =
+    let options = g.F.Front.options c.args.front.now in
+    let base = c.args.numbering.base in
+    let client = c.args.client.now in
+    let now = c.look_at.new.client in
+    let stand = c.in_ok-stand.stand in
+    let replies = c.look_at.new.replies.items in
+    let r = c.in_ok-stand.ensures.talk in
+    let bytes_are : c.as_slice-bytes.result.now ≡ client.kept.items = c.as_slice-bytes.ensures.value ∙ ap (λ v. v.items) c.replace-kept.ensures.value in
+    let goes = subst (λ b. GoesOnTo options base (place_at b client.done) r.0 [] replies (StandsAs options base (length b) stand (place_of now))) bytes_are r.2 in (
+      r.0,
+      r.1,
+      on_same c.args.number (Looks options base client r.0 replies now (Ok (stand, None))) (g.C.Connections.log c.args.connections.now)
+          (λ d a. inl (record {
+            same = refl;
+            goes = looks_further options base client now stand r.0 replies c.requires.client.begun c.if-client-gt0.true c.requires.client.short goes;
+            ends = tt;
+          })),
+    )
+
+pub returns-clause-talk : goal.returns-clause-talk
+returns-clause-talk g c =
+    let options = g.F.Front.options c.args.front.now in
+    let base = c.args.numbering.base in
+    let client = c.args.client.now in
+    let between = c.fill.new.client in
+    let now = c.look_at_room.new.client in
+    let stand = c.in_ok-stand-2.stand in
+    let replies = c.look_at_room.new.replies.items in
+    let r = c.in_ok-stand-2.ensures.talk in
+    let filled = c.in-Ok.filled in
+    let room = c.fill.new.room in
+    let room_is : c.deref.result.now ≡ room =
+    c.deref.ensures.value ∙ take_at room (drop (length room) c.args.desk.now.room.items) c.args.desk.now.room.len (c.fill.ensures.room ∙ sym c.requires.room) in
+    let here = subst (λ x. GoesOnTo options base (place_of between) r.0 [] replies
+    (λ received given due. StandsAs options base MAX_WAITING_LEN stand (place_of now) (received ++ drop (length between.kept.items) (take filled.0 x)) given due)) room_is r.2 in
+    let goes = subst (λ (p : Place). GoesOnTo options base p r.0 [] replies
+    (λ received given due. StandsAs options base MAX_WAITING_LEN stand (place_of now) (received ++ drop (length p.bytes) (take filled.0 room)) given due)) c.in-Ok.ensures.place here in
+    let first : client.done ≡ 0 = let none = c.if-client-gt0.false in omega (arith, none) in
+    let short : length (client.kept.items ++ drop (length client.kept.items) (take filled.0 room)) ≤ MAX_WAITING_LEN =
+    let kept = ap length c.in-Ok.ensures.kept in let len = length-take filled.0 room in let fits = c.in-Ok.ensures.fits in omega (arith, kept, len, fits) in (
+      r.0,
+      r.1,
+      on_one c.args.number _ (Looks options base client r.0 replies now (Ok (stand, filled.1))) (g.C.Connections.log c.args.connections.now) (g.C.Connections.log c.fill.new.connections)
+          (λ d a b x. inr (record { first = first; bytes = drop (length client.kept.items) (take filled.0 room); short = short; reads = x.0; goes = goes; ends = x.1 })) c.in-Ok.ensures.reads,
+    )
+
+pub returns-in_err-stand-clause-talk : goal.returns-in_err-stand-clause-talk
+returns-in_err-stand-clause-talk g c =
+    let options = g.F.Front.options c.args.front.now in
+    let base = c.args.numbering.base in
+    let client = c.args.client.now in
+    let r = c.in_err-stand.ensures.talk in
+    let bytes_are : c.as_slice-bytes.result.now ≡ client.kept.items = c.as_slice-bytes.ensures.value ∙ ap (λ v. v.items) c.replace-kept.ensures.value in
+    let spoke = subst (λ b. SpokeFrom options base (length b) (place_at b client.done) r.0) bytes_are r.2 in
+    let is = err_from_is_err_and c.from_residual.result c.from_residual.ensures.1 in (
+      r.0,
+      r.1,
+      match_err _ _ c.from_residual.result is.0 is.1 (on_same c.args.number (Lacks options base client r.0) (g.C.Connections.log c.args.connections.now)
+          (λ d a. inl (record { same = refl; spoke = lacks_further options base client r.0 c.requires.client.begun c.if-client-gt0.true c.requires.client.short spoke }))),
+    )
+
+pub returns-in_err-stand-2-clause-talk : goal.returns-in_err-stand-2-clause-talk
+returns-in_err-stand-2-clause-talk g c =
+    let options = g.F.Front.options c.args.front.now in
+    let base = c.args.numbering.base in
+    let client = c.args.client.now in
+    let between = c.fill.new.client in
+    let r = c.in_err-stand-2.ensures.talk in
+    let filled = c.in-Ok.filled in
+    let room = c.fill.new.room in
+    let room_is : c.deref.result.now ≡ room =
+    c.deref.ensures.value ∙ take_at room (drop (length room) c.args.desk.now.room.items) c.args.desk.now.room.len (c.fill.ensures.room ∙ sym c.requires.room) in
+    let here = subst (λ x. SpokeBehind options base MAX_WAITING_LEN (place_of between) (drop (length between.kept.items) (take filled.0 x)) r.0) room_is r.2 in
+    let spoke = subst (λ (p : Place). SpokeBehind options base MAX_WAITING_LEN p (drop (length p.bytes) (take filled.0 room)) r.0) c.in-Ok.ensures.place here in
+    let first : client.done ≡ 0 = let none = c.if-client-gt0.false in omega (arith, none) in
+    let short : length (client.kept.items ++ drop (length client.kept.items) (take filled.0 room)) ≤ MAX_WAITING_LEN =
+    let kept = ap length c.in-Ok.ensures.kept in let len = length-take filled.0 room in let fits = c.in-Ok.ensures.fits in omega (arith, kept, len, fits) in
+    let is = err_from_is_err_and c.from_residual-in_err-stand-2.result c.from_residual-in_err-stand-2.ensures.1 in (
+      r.0,
+      r.1,
+      match_err _ _ c.from_residual-in_err-stand-2.result is.0 is.1
+          (on_one c.args.number _ (Lacks options base client r.0) (g.C.Connections.log c.args.connections.now) (g.C.Connections.log c.fill.new.connections)
+          (λ d a b x. inr (record { first = first; bytes = drop (length client.kept.items) (take filled.0 room); short = short; reads = x.0; spoke = spoke })) c.in-Ok.ensures.reads),
+    )
+
+pub returns-in-Err-clause-talk : goal.returns-in-Err-clause-talk
+returns-in-Err-clause-talk g c =
+    let options = g.F.Front.options c.args.front.now in
+    let client = c.args.client.now in
+    let first : client.done ≡ 0 = let none = c.if-client-gt0.false in omega (arith, none) in (
+      [],
+      these_none options g.F.Front.is_alone (g.F.Front.sessions c.args.front.now) (g.F.Front.left c.args.front.now) (g.K.Clock.last c.args.clock.now),
+      on_one c.args.number _ (Looks options c.args.numbering.base client [] c.args.desk.now.replies.items c.fill.new.client (Err c.in-Err.field-0)) (g.C.Connections.log c.args.connections.now)
+          (g.C.Connections.log c.fill.new.connections) (λ d a b x. (refl, first, x.0, x.1)) c.in-Err.ensures.reads,
+    )

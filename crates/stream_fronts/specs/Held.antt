@@ -1,0 +1,120 @@
+-- What is held of a client beside its talk, and what a visit makes of both.
+use Rattle.std.specs.Prelude.{◌≡◌, ◌⊎◌, ℕ, ◌==◌, ◌≤◌, Bool, true, false, List, [], ◌++◌, length, map, take, drop, slice_get, Option, Some, IfSome, Result, Ok, Err}
+use Rattle.partition_model.specs.declared.options.Options.{Options}
+use Rattle.memcached_text.specs.declared.next.Next.TheVariants.{More}
+use Rattle.memcached_text.specs.declared.limits.TheConstants.{MAX_WAITING_LEN}
+use Rattle.memcached_text.specs.Next.{next_of}
+use Rattle.stream_io.specs.declared.connections.Broken.{Broken}
+use Rattle.stream_io.specs.declared.connections.Input.{Input}
+use Rattle.stream_io.specs.declared.connections.Input.TheVariants.{Ended}
+use Rattle.stream_io.specs.Log.{Log, connections_of, received_of, sent_of}
+use Rattle.mica_fronts.specs.Answered.{Answered}
+use Rattle.stream_fronts.specs.declared.answer.Stand.{Stand}
+use Rattle.stream_fronts.specs.declared.answer.Stand.TheVariants.{Needs, Leaves}
+use Rattle.stream_fronts.specs.declared.client.Client.{Client}
+use Rattle.stream_fronts.specs.declared.visit.After.{After}
+use Rattle.stream_fronts.specs.declared.visit.After.TheVariants.{Over}
+use Rattle.stream_fronts.specs.Given.{Given, given_to}
+use Rattle.stream_fronts.specs.Reached.{Reaches, Ends, GoesOnTo, SpokeFrom, SpokeBehind, StandsAs, place_of}
+use Rattle.stream_fronts.specs.Closing.{MayClose}
+use Rattle.stream_fronts.specs.Moments.{IsAmong, TalksThrough}
+use Rattle.stream_fronts.specs.Traffic.{Reads, IsIn, IsBroken, HasEnded, EndsBy}
+
+-- What is held of the client of the c-th connection goes with their talk, where these answers were given. What is unsent is the end of what is due, so many
+-- bytes at most. More of it is read, from the place that is kept; or it asked for the end; or it sends no more, and nothing whole is left of what it said.
+pub data Holds (options : Options) (base most c : ℕ) (log : Log) (answers : List Answered) (client : Client) : Type 0 where
+  goes_on : client.leaving ≡ false → length client.unsent ≤ most
+      → Reaches options base (place_of client) (received_of c log.entries) answers (sent_of c log.entries ++ client.unsent) → Holds options base most c log answers client
+  left : client.leaving ≡ true → length client.unsent ≤ most
+      → Ends options base MAX_WAITING_LEN (received_of c log.entries) answers (sent_of c log.entries ++ client.unsent) → Holds options base most c log answers client
+  ended : client.leaving ≡ true → length client.unsent ≤ most
+      → Reaches options base (place_of client) (received_of c log.entries) answers (sent_of c log.entries ++ client.unsent) → next_of client.kept.items ≡ More
+      → IsIn HasEnded c log → Holds options base most c log answers client
+
+-- these were given to the c-th connection
+abbrev pub all_to : ℕ → List Answered → List Given
+all_to c answers = map (λ a. record { to = c; answered = a }) answers
+
+-- What became of it: it may be closed; or what is held of it goes with the talk.
+abbrev pub Becomes : Options → ℕ → ℕ → ℕ → Log → List Answered → Client → After → Type 0
+Becomes options base most c log answers client Over =
+    IfSome (slice_get (connections_of log) c) (λ connection. MayClose options base connection (received_of c log.entries) (sent_of c log.entries) answers)
+Becomes options base most c log answers client _ = Holds options base most c log answers client
+
+-- nothing moved of the d-th connection, and where it had ended it has
+pub record StaysAs (d : ℕ) (old new : Log) : Type 0 where
+  pub came : received_of d new.entries ≡ received_of d old.entries
+  pub went : sent_of d new.entries ≡ sent_of d old.entries
+  pub over : IsIn HasEnded d old → IsIn HasEnded d new
+
+-- The c-th connection was visited, where this was held of its client. Where the front had talked with all clients before, at each moment, it has with these
+-- answers to this one.
+pub record Visits (options : Options) (base : ℕ) (client : Client) (answers : List Answered) (replies : List ℕ) (now : Client) (becomes : After) (c : ℕ) (old new : Log) : Type 0 where
+  pub schedule : new.schedule ≡ old.schedule
+  pub others : (d : ℕ) → (c == d) ≡ false → StaysAs d old new
+  pub talks : (most : ℕ) (lacking : List ℕ) (all : List Given) → length replies ≤ most → Holds options base most c old (given_to c all) client
+      → TalksThrough options base most old.schedule lacking old.entries all
+      → TalksThrough options base most old.schedule lacking new.entries (all ++ all_to c answers) × Becomes options base most c new (given_to c all ++ answers) now becomes
+
+-- One look at a connection
+
+-- no more is read of it: the client asked for the end; or it sends no more, and nothing whole is left
+abbrev pub leaves_by : Stand → Option Input → Bool
+leaves_by Leaves input = true
+leaves_by Needs (Some Ended) = true
+leaves_by _ _ = false
+
+-- A command that was answered in part was answered further.
+pub record GoesFurther (options : Options) (base : ℕ) (client : Client) (answers : List Answered) (replies : List ℕ) (now : Client) (r : Stand × Option Input) (c : ℕ) (old new : Log)
+    : Type 0 where
+  pub same : new ≡ old
+  pub goes : GoesOnTo options base (place_of client) answers [] replies (StandsAs options base MAX_WAITING_LEN r.0 (place_of now))
+  pub ends : EndsBy r.1 c new
+
+-- The connection was read once, and what had come was answered.
+pub record ReadsOn (options : Options) (base : ℕ) (client : Client) (answers : List Answered) (replies : List ℕ) (now : Client) (r : Stand × Option Input) (c : ℕ) (old new : Log)
+    : Type 0 where
+  pub first : client.done ≡ 0
+  pub bytes : List ℕ
+  pub short : length (client.kept.items ++ bytes) ≤ MAX_WAITING_LEN
+  pub reads : Reads c bytes old new
+  pub goes : GoesOnTo options base (place_of client) answers [] replies
+      (λ received given due. StandsAs options base MAX_WAITING_LEN r.0 (place_of now) (received ++ bytes) given due)
+  pub ends : EndsBy r.1 c new
+
+-- Either; or the connection is broken, and nothing was answered.
+abbrev pub Looks : Options → ℕ → Client → List Answered → List ℕ → Client → Result (Stand × Option Input) Broken → ℕ → Log → Log → Type 0
+Looks options base client answers replies now (Ok r) c old new =
+    GoesFurther options base client answers replies now r c old new ⊎ ReadsOn options base client answers replies now r c old new
+Looks options base client answers replies now (Err broken) c old new =
+    (answers ≡ []) × (client.done ≡ 0) × Reads c [] old new × IsIn IsBroken c new
+
+-- Memory lacked at a look
+
+-- A command that was answered in part may have been answered further.
+pub record LacksFurther (options : Options) (base : ℕ) (client : Client) (answers : List Answered) (old new : Log) : Type 0 where
+  pub same : new ≡ old
+  pub spoke : SpokeFrom options base MAX_WAITING_LEN (place_of client) answers
+
+-- The connection was read once, and what had come may have been answered.
+pub record LacksRead (options : Options) (base : ℕ) (client : Client) (answers : List Answered) (c : ℕ) (old new : Log) : Type 0 where
+  pub first : client.done ≡ 0
+  pub bytes : List ℕ
+  pub short : length (client.kept.items ++ bytes) ≤ MAX_WAITING_LEN
+  pub reads : Reads c bytes old new
+  pub spoke : SpokeBehind options base MAX_WAITING_LEN (place_of client) bytes answers
+
+abbrev pub Lacks : Options → ℕ → Client → List Answered → ℕ → Log → Log → Type 0
+Lacks options base client answers c old new = LacksFurther options base client answers old new ⊎ LacksRead options base client answers c old new
+
+-- The c-th connection was visited, and memory lacked for it. At each moment the front had talked with all clients all the same.
+pub record VisitLacks (options : Options) (base : ℕ) (client : Client) (answers : List Answered) (replies : List ℕ) (c : ℕ) (old new : Log) : Type 0 where
+  pub schedule : new.schedule ≡ old.schedule
+  pub others : (d : ℕ) → (c == d) ≡ false → StaysAs d old new
+  pub talks : (most : ℕ) (lacking : List ℕ) (all : List Given) → length replies ≤ most → IsAmong c lacking → Holds options base most c old (given_to c all) client
+      → TalksThrough options base most old.schedule lacking old.entries all → TalksThrough options base most old.schedule lacking new.entries (all ++ all_to c answers)
+
+-- so many bytes were kept, and these were read behind them
+abbrev pub filled_bytes : ℕ → List ℕ → Result (ℕ × Option Input) Broken → List ℕ
+filled_bytes had room (Ok filled) = drop had (take filled.0 room)
+filled_bytes had room (Err broken) = []
