@@ -66,11 +66,9 @@ pub let_go : (one : ℕ) (old new : List (Option Client)) (before after : Option
 let_go one old new before after are others gone moves =
     all_but_one one old new before after are others moves (λ client is. absurd (none-some client (sym gone ∙ is)))
 
--- nothing of it changed but the log
-pub all_kept : (old new : List (Option Client)) (before after : Option Log) → AreOpen old before → ((n : ℕ) → at new n ≡ at old n) → is_some after ≡ is_some before
-    → OnLogs Keeps before after → AreOpen new after
-all_kept old new before after are same told keeps =
-    λ n client is. let k = are n client (sym (same n) ∙ is) in (k.0, still_open n client.asks before after told keeps k.1)
+-- nothing changed but the log
+pub all_kept : (all : List (Option Client)) (before after : Option Log) → AreOpen all before → is_some after ≡ is_some before → OnLogs Keeps before after → AreOpen all after
+all_kept all before after are told keeps = λ n client is. let k = are n client is in (k.0, still_open n client.asks before after told keeps k.1)
 
 pub none_held : (log : Option Log) → AreOpen [] log
 none_held log = λ n client is. absurd (none-some client is)

@@ -1,6 +1,6 @@
 -- What each call of connections keeps open.
 use Rattle.std.proofs.Common.{◌≡◌, ◌≢◌, ℕ, ◌+◌, ◌*◌, ◌<◌, ◌≤◌, List, [], ◌∷◌, length, refl, sym, ap, ◌∙◌, subst, arith}
-use Rattle.std.specs.Prelude.{slice_get, take, min, is_some, Option, Some, None, Result, Ok, Err, IfSome, option_map}
+use Rattle.std.specs.Prelude.{slice_get, take, min, is_some, Option, Some, None, Result, Ok, Err, IfSome}
 use Rattle.std.proofs.lemmas.Option.{same_Some}
 use Rattle.std.proofs.lemmas.Bool.{true≢false}
 use Rattle.std.proofs.lemmas.List.{length-take-le}
@@ -14,7 +14,7 @@ use Rattle.stream_io.specs.declared.connections.Input.TheVariants.{Bytes, Later,
 use Rattle.stream_io.specs.declared.connections.Broken.{Broken}
 use Rattle.stream_io.specs.Connection.{Connection, after_change, after_read, after_write}
 use Rattle.stream_io.specs.State.{State, Entry, held, state_after, after_report, after_meeting}
-use Rattle.stream_io.specs.Log.{Log, IsHeld, connections_of, state_of, with_entries, called, after_met, after_meeting_one}
+use Rattle.stream_io.specs.Log.{Log, IsHeld, connections_of, state_of, with_entries, after_met, after_meeting_one}
 use Rattle.stream_io.specs.Calls.{IsGiven, ReadGives, WriteTakes, MayAsk, Asks, Closes, ReportsNext, IsNext, gave, took, after_sending}
 use Rattle.stream_fronts.specs.Open.{asks_in, IsAt, IsOpen, IsOpenIn, Keeps, KeepsOthers, AsksOnce, OnLogs, IsOpened, gained}
 use Rattle.stream_fronts.proofs.Places.{KeepsOpen, changed_keeps, changed_here, there, asked_here, asked_others, closed_others, pushed, pushed_here}
@@ -27,10 +27,6 @@ read_keeps count = record { number = λ x. refl; closed = λ x. refl; asks = λ 
 
 write_keeps : (count : ℕ) → KeepsOpen (after_write count)
 write_keeps count = record { number = λ x. refl; closed = λ x. refl; asks = λ x. omega arith }
-
--- each connection that is somewhere in one log is there in the other
-KeepsAt : Log → Log → Type 0
-KeepsAt old new = (n d a : ℕ) → IsAt n d a (connections_of old) → IsAt n d a (connections_of new)
 
 met_one : (schedule : List Step) (entries : List Entry) (later : List Step) → (state_after schedule entries).later ≡ later → (n d a : ℕ)
     → IsAt n d a (state_after schedule entries).connections → IsAt n d a (state_after schedule (after_meeting_one later entries)).connections
@@ -174,10 +170,6 @@ next_told (Opened number) old new r =
 next_told (Ready number) old new r =
     told old new _ (Tells (Ready number)) r.result (λ n a o. (o.0, next_at (Ready number) (state_of old) (state_of old).later r.next n o.0 a o.1), tt)
 
-pub tells : (event : Event) (old new : Option Log) → IfSome old (λ l. ReportsNext l event new) → OnLogs (Tells event) old new
-tells event None new next = tt
-tells event (Some old) new next = next_told event old new next
-
 -- What goes on from one moment to another
 
 pub still_open : (number asks : ℕ) (old new : Option Log) → is_some new ≡ is_some old → OnLogs Keeps old new → IfSome old (IsOpen number asks) → IfSome new (IsOpen number asks)
@@ -237,8 +229,3 @@ tells_opened event (Some old) new told next = only new (next_told event old new 
     only : (new : Option Log) → OnLogs (Tells event) (Some old) new → IfSome new (IsOpened event)
     only None t = tt
     only (Some new) t = t.1
-
--- of a call that reports nothing
-pub called_keeps : (old new : Option Log) → new ≡ option_map called old → OnLogs Keeps old new
-called_keeps None new is = tt
-called_keeps (Some old) new is = told old new (called old) Keeps is (λ n a o. o)

@@ -4,6 +4,7 @@ pub mod Closing
 pub mod Moments
 pub mod Serving
 pub mod Open
+pub mod Calls
 pub mod Going
 pub mod Parts
 pub mod Clients

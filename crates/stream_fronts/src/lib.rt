@@ -1,11 +1,11 @@
 //! A front behind a port of connections: commands that bytes spell are answered in order, what is left of them is kept of each connection, and bytes are
 //! received and sent.
 //!
-//! The layer above may rely on this. `serve_connections` serves a port to its end, or until nearly all writes that it may give are given. The front's
-//! sessions and the clock go on by some answers, in order, and by no others, whatever clients say and whenever they break off; the front keeps its options,
-//! its number and its stand, and the port is the same. It fails only where the count of the port's faults rose, or memory lacks at its begin: a connection
-//! that there is no memory for is closed, and the others go on. It reads, writes and closes under a number only what is open there, and asks for a
-//! connection again no more often than its bytes allow.
+//! `serve_connections` serves a port to its end, or until nearly all writes that it may give are given. A connection that there is no memory for is closed,
+//! and the others go on. The layer above may rely on this: the front's sessions and the clock go on by some answers, in order, and by no others, whatever
+//! clients say and whenever they break off. The front keeps its options, its number and its stands, and the port is the same. The call fails only where the
+//! count of the port's faults rose, or where there was no memory to begin, and then nothing was done. It reads, writes and closes under a number only what is
+//! open there, and asks for a connection again no more often than its bytes allow.
 //!
 //! Of its parts: `visit_once` sends what waits, receives once and answers; `visit_on` goes on so until there is no more to do at once, or the connection may
 //! be asked for again. `look_at` keeps what is left of a connection's bytes, no more than the longest that waits. `answer_bytes` answers what bytes spell, one
@@ -27,6 +27,7 @@ mod ports;
 mod serve;
 mod unsent;
 mod visit;
+mod visits;
 
 pub use answer::{Answered, LIMITS, MOST_COMMANDS, Stand, answer_bytes};
 pub use calls::{ask_again, close, receive, send};
@@ -37,4 +38,5 @@ pub use look::look_at;
 pub use ports::{MOST_STREAM_FRONTS, StreamPorts};
 pub use serve::serve_connections;
 pub use unsent::Unsent;
-pub use visit::{After, visit_on, visit_once};
+pub use visit::{After, visit_once};
+pub use visits::visit_on;

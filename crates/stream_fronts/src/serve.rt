@@ -2,6 +2,7 @@
 ghost use Rattle.std.specs.Prelude.{◌≡◌, ◌<◌, ◌≤◌, false, length, is_some, IfOk, IfSome, IsErrOf, vec_len};
 ghost use Rattle.mica_io.specs.Faults.{Rose};
 ghost use Rattle.memcached_text.specs.declared.limits.TheConstants.{MAX_WAITING_LEN};
+ghost use Rattle.stream_fronts.specs.Calls.{LeavesPort, MovesFront};
 ghost use Rattle.stream_fronts.specs.Clients.{AreOpen};
 ghost use Rattle.stream_fronts.specs.Going.{GoesBy};
 ghost use Rattle.stream_fronts.specs.Open.{IsOpen, IsOpened};
@@ -11,7 +12,8 @@ use crate::calls::{ask_again, close};
 use crate::client::Client;
 use crate::clients::Clients;
 use crate::desk::Desk;
-use crate::visit::{After, visit_on};
+use crate::visit::After;
+use crate::visits::visit_on;
 use memcached_fronts::Numbering;
 use mica_clock::Clock;
 use mica_fronts::{Changes, ServeFault};
@@ -22,7 +24,7 @@ use std::thread::Threads;
 use stream_io::{Connections, Event};
 
 /// Visits the connection under a number, where one is held.
-#[tactic(auto, using(crate::proofs::Holding::put_back, crate::proofs::Holding::let_go, crate::proofs::Holding::all_kept, crate::proofs::Holding::moves_keeps, crate::proofs::Holding::moves_then, crate::proofs::Holding::others_of_asked, crate::proofs::Holding::asked_open, crate::proofs::Opening::still_open, crate::proofs::Opening::same_keeps, crate::proofs::Going::by_none))]
+#[tactic(auto, using(crate::proofs::Going::by_none))]
 fn visit_held<R: Threads + Wait + Sync, F: Changes, K: Clock, C: Connections>(
     rt: &R,
     alloc: Global,
@@ -41,15 +43,9 @@ fn visit_held<R: Threads + Wait + Sync, F: Changes, K: Clock, C: Connections>(
     requires left { left.old ≤ F.left front.old }
     ensures room { vec_len desk.new.room ≡ MAX_WAITING_LEN }
     ensures clients { AreOpen clients.new.held.items (C.log connections.new) }
-    ensures told { is_some (C.log connections.new) ≡ is_some (C.log connections.old) }
-    ensures ended { C.has_ended connections.new ≡ C.has_ended connections.old }
-    ensures faults { C.faults connections.new ≡ C.faults connections.old }
-    ensures port { C.port connections.new ≡ C.port connections.old }
-    ensures goes { GoesBy (F.options front.old) F.is_alone (F.sessions front.old) (F.left front.old) (K.last clock.old) (F.sessions front.new) (F.left front.new) (K.last clock.new) }
+    ensures port { LeavesPort C.log C.has_ended C.faults C.port connections.old connections.new }
+    ensures front { MovesFront F.options F.number F.stands F.is_alone F.sessions F.left K.last front.old clock.old front.new clock.new }
     ensures left { left.new ≤ F.left front.new }
-    ensures options { F.options front.new ≡ F.options front.old }
-    ensures number { F.number front.new ≡ F.number front.old }
-    ensures stands { F.stands front.new ≡ F.stands front.old }
 {
     let Some(mut client) = clients.take(number) else {
         return;
@@ -79,15 +75,11 @@ fn visit_held<R: Threads + Wait + Sync, F: Changes, K: Clock, C: Connections>(
 }
 
 /// Holds a new connection. Where there is no memory for it, it is closed.
-#[tactic(auto, using(crate::proofs::Holding::put_back, crate::proofs::Holding::let_go, crate::proofs::Holding::moves_keeps, crate::proofs::Holding::moves_then, crate::proofs::Opening::same_keeps))]
 fn take_in<C: Connections>(alloc: Global, connections: &mut C, number: u32, clients: &mut Clients)
     requires clients { AreOpen clients.old.held.items (C.log connections.old) }
     requires open { IfSome (C.log connections.old) (IsOpen number 0) }
     ensures clients { AreOpen clients.new.held.items (C.log connections.new) }
-    ensures told { is_some (C.log connections.new) ≡ is_some (C.log connections.old) }
-    ensures ended { C.has_ended connections.new ≡ C.has_ended connections.old }
-    ensures faults { C.faults connections.new ≡ C.faults connections.old }
-    ensures port { C.port connections.new ≡ C.port connections.old }
+    ensures port { LeavesPort C.log C.has_ended C.faults C.port connections.old connections.new }
 {
     match clients.make_room(number) {
         Ok(()) => clients.put(number, Client::new(alloc)),
@@ -99,7 +91,7 @@ fn take_in<C: Connections>(alloc: Global, connections: &mut C, number: u32, clie
 }
 
 /// Serves what is reported.
-#[tactic(auto, using(crate::proofs::Holding::all_kept, crate::proofs::Opening::same_keeps, crate::proofs::Going::by_none))]
+#[tactic(auto, using(crate::proofs::Going::by_none))]
 fn serve_event<R: Threads + Wait + Sync, F: Changes, K: Clock, C: Connections>(
     rt: &R,
     alloc: Global,
@@ -119,15 +111,9 @@ fn serve_event<R: Threads + Wait + Sync, F: Changes, K: Clock, C: Connections>(
     requires left { left.old ≤ F.left front.old }
     ensures room { vec_len desk.new.room ≡ MAX_WAITING_LEN }
     ensures clients { AreOpen clients.new.held.items (C.log connections.new) }
-    ensures told { is_some (C.log connections.new) ≡ is_some (C.log connections.old) }
-    ensures ended { C.has_ended connections.new ≡ C.has_ended connections.old }
-    ensures faults { C.faults connections.new ≡ C.faults connections.old }
-    ensures port { C.port connections.new ≡ C.port connections.old }
-    ensures goes { GoesBy (F.options front.old) F.is_alone (F.sessions front.old) (F.left front.old) (K.last clock.old) (F.sessions front.new) (F.left front.new) (K.last clock.new) }
+    ensures port { LeavesPort C.log C.has_ended C.faults C.port connections.old connections.new }
+    ensures front { MovesFront F.options F.number F.stands F.is_alone F.sessions F.left K.last front.old clock.old front.new clock.new }
     ensures left { left.new ≤ F.left front.new }
-    ensures options { F.options front.new ≡ F.options front.old }
-    ensures number { F.number front.new ≡ F.number front.old }
-    ensures stands { F.stands front.new ≡ F.stands front.old }
 {
     match event {
         Event::Opened(number) => take_in(alloc, connections, number, clients),
@@ -147,7 +133,7 @@ fn serve_event<R: Threads + Wait + Sync, F: Changes, K: Clock, C: Connections>(
 }
 
 /// Serves the connections of a port, to its end, or until nearly so many writes were given to the front. A connection that there is no memory for is closed.
-#[tactic(auto, using(crate::proofs::Holding::none_held, crate::proofs::Holding::all_kept, crate::proofs::Going::by_none, crate::proofs::Going::by_both, crate::proofs::Opening::tells_keeps, crate::proofs::Opening::tells_opened, crate::proofs::Opening::called_keeps))]
+#[tactic(auto, using(crate::proofs::Holding::none_held, crate::proofs::Going::by_none, crate::proofs::Going::by_both))]
 pub fn serve_connections<R: Threads + Wait + Sync, F: Changes, K: Clock, C: Connections>(
     rt: &R,
     alloc: Global,
@@ -162,6 +148,7 @@ pub fn serve_connections<R: Threads + Wait + Sync, F: Changes, K: Clock, C: Conn
     requires left { most ≤ F.left front.old }
     ensures goes { GoesBy (F.options front.old) F.is_alone (F.sessions front.old) (F.left front.old) (K.last clock.old) (F.sessions front.new) (F.left front.new) (K.last clock.new) }
     ensures cause { IsErrOf result ServeFault.Net → Rose (C.faults connections.old) (C.faults connections.new) }
+    ensures none_served { IsErrOf result ServeFault.NoMemory → (front.new ≡ front.old) × (connections.new ≡ connections.old) }
     ensures never_fall { C.faults connections.old ≤ C.faults connections.new }
     ensures told { is_some (C.log connections.new) ≡ is_some (C.log connections.old) }
     ensures port { C.port connections.new ≡ C.port connections.old }

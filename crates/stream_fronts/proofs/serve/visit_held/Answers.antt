@@ -21,7 +21,7 @@ close-requires g c =
     let before = log c.args.connections.now in
     let held = found_held c.args.number c.args.clients.now.held.items c.take.result c.in-Some.client before c.requires.clients c.take.ensures.taken c.in-Some.is in
     let visit = c.visit_on-after in
-    record { «open» = still_open c.args.number c.in-Some.client.asks before (log visit.new.connections) visit.ensures.told visit.ensures.keeps held.1 }
+    record { «open» = still_open c.args.number c.in-Some.client.asks before (log visit.new.connections) visit.ensures.port.told visit.ensures.keeps held.1 }
 
 pub returns-in-Ok-Waits-clause-clients : goal.returns-in-Ok-Waits-clause-clients
 returns-in-Ok-Waits-clause-clients g c =
@@ -30,7 +30,7 @@ returns-in-Ok-Waits-clause-clients g c =
     let before = log c.args.connections.now in
     let fit = subst (λ r. IfOk r (λ _. IsClient visit.new.client)) c.in-Ok-Waits.is visit.ensures.client in
     put_back c.args.number c.args.clients.now.held.items c.take.new.self.held.items c.put.new.self.held.items before (log visit.new.connections) visit.new.client c.requires.clients
-    c.take.ensures.others c.put.ensures.others c.put.ensures.here (moves_keeps c.args.number before (log visit.new.connections) visit.ensures.told visit.ensures.keeps) fit
+    c.take.ensures.others c.put.ensures.others c.put.ensures.here (moves_keeps c.args.number before (log visit.new.connections) visit.ensures.port.told visit.ensures.keeps) fit
     visit.ensures.«open»
 
 pub returns-in-Ok-Again-clause-clients : goal.returns-in-Ok-Again-clause-clients
@@ -42,7 +42,7 @@ returns-in-Ok-Again-clause-clients g c =
     let after = log c.ask_again.new.connections in
     let asks = visit.new.client.asks in
     let fit = subst (λ r. IfOk r (λ _. IsClient visit.new.client)) c.in-Ok-Again.is visit.ensures.client in
-    let moves = moves_then c.args.number before between after (moves_keeps c.args.number before between visit.ensures.told visit.ensures.keeps) c.ask_again.ensures.told
+    let moves = moves_then c.args.number before between after (moves_keeps c.args.number before between visit.ensures.port.told visit.ensures.keeps) c.ask_again.ensures.told
     (others_of_asked c.args.number asks between after c.ask_again.ensures.asked) in
     put_back c.args.number c.args.clients.now.held.items c.take.new.self.held.items c.put-in-Ok-Again.new.self.held.items before after _ c.requires.clients c.take.ensures.others
     c.put-in-Ok-Again.ensures.others c.put-in-Ok-Again.ensures.here moves (record { short = fit.short; begun = fit.begun })
@@ -56,4 +56,4 @@ returns-in-Ok-Over-clause-clients g c =
     let between = log visit.new.connections in
     let after = log c.close.new.connections in
     let_go c.args.number c.args.clients.now.held.items c.take.new.self.held.items before after c.requires.clients c.take.ensures.others c.take.ensures.gone
-    (moves_then c.args.number before between after (moves_keeps c.args.number before between visit.ensures.told visit.ensures.keeps) c.close.ensures.told c.close.ensures.others)
+    (moves_then c.args.number before between after (moves_keeps c.args.number before between visit.ensures.port.told visit.ensures.keeps) c.close.ensures.told c.close.ensures.others)

@@ -2,7 +2,7 @@ use Rattle.std.proofs.Common.{◌∙◌, subst}
 use Rattle.stream_fronts.specs.Going.{GoesBy}
 use Rattle.stream_fronts.proofs.Going.{by_both}
 use Rattle.stream_fronts.proofs.Opening.{keeps_on}
-use Rattle.stream_fronts.proofs.visit.visit_on.Goals as goal
+use Rattle.stream_fronts.proofs.visits.visit_on.Goals as goal
 
 pub returns-in_err-after-clause-keeps : goal.returns-in_err-after-clause-keeps
 returns-in_err-after-clause-keeps g c =

@@ -4,7 +4,7 @@ use Rattle.memcached_text.specs.declared.limits.TheConstants.{MAX_WAITING_LEN}
 use Rattle.stream_fronts.specs.Clients.{IsClient}
 use Rattle.stream_fronts.specs.Going.{GoesBy}
 use Rattle.stream_fronts.specs.Open.{IsOpen, Keeps, OnLogs}
-use Rattle.stream_fronts.proofs.visit.visit_on.Given as goal
+use Rattle.stream_fronts.proofs.visits.visit_on.Given as goal
 
 abbrev pub invariant-loop : goal.invariant-loop
 invariant-loop g l =

@@ -1,0 +1,66 @@
+//! Visits of a connection, one after another.
+ghost use Rattle.std.specs.Prelude.{◌≡◌, ◌<◌, ◌≤◌, IfOk, IfSome, vec_len};
+ghost use Rattle.memcached_text.specs.declared.limits.TheConstants.{MAX_WAITING_LEN};
+ghost use Rattle.stream_fronts.specs.Calls.{LeavesPort, MovesFront};
+ghost use Rattle.stream_fronts.specs.Clients.{IsClient};
+ghost use Rattle.stream_fronts.specs.Open.{IsOpen, Keeps, OnLogs};
+
+use crate::client::Client;
+use crate::desk::Desk;
+use crate::visit::{After, visit_once};
+use memcached_fronts::Numbering;
+use mica_clock::Clock;
+use mica_fronts::Changes;
+use mica_io::NoMemory;
+use std::alloc::Global;
+use std::sync::Wait;
+use std::thread::Threads;
+use stream_io::Connections;
+
+/// Visits until there is no more to do at once, or it may be asked for again.
+#[tactic(auto, using(crate::proofs::Opening::same_keeps, crate::proofs::Going::by_none, crate::proofs::Going::by_both))]
+pub fn visit_on<R: Threads + Wait + Sync, F: Changes, K: Clock, C: Connections>(
+    rt: &R,
+    alloc: Global,
+    front: &mut F,
+    clock: &mut K,
+    numbering: Numbering,
+    left: &mut u64,
+    connections: &mut C,
+    number: u32,
+    client: &mut Client,
+    desk: &mut Desk,
+) -> Result<After, NoMemory>
+    requires room { vec_len desk.old.room ≡ MAX_WAITING_LEN }
+    requires client { IsClient client.old }
+    requires open { IfSome (C.log connections.old) (IsOpen number client.old.asks) }
+    requires partitions { numbering.partitions ≡ (F.options front.old).partitions }
+    requires left { left.old ≤ F.left front.old }
+    ensures again { IfOk result (λ after. after ≡ After.Again → 0 < client.new.asks) }
+    ensures room { vec_len desk.new.room ≡ MAX_WAITING_LEN }
+    ensures client { IfOk result (λ _. IsClient client.new) }
+    ensures open { IfSome (C.log connections.new) (IsOpen number client.new.asks) }
+    ensures keeps { OnLogs Keeps (C.log connections.old) (C.log connections.new) }
+    ensures port { LeavesPort C.log C.has_ended C.faults C.port connections.old connections.new }
+    ensures front { MovesFront F.options F.number F.stands F.is_alone F.sessions F.left K.last front.old clock.old front.new clock.new }
+    ensures left { left.new ≤ F.left front.new }
+{
+    for _ in rt.forever() {
+        let after = visit_once(
+            rt,
+            alloc,
+            front,
+            clock,
+            numbering,
+            left,
+            connections,
+            number,
+            client,
+            desk,
+        )?;
+        if after != After::Again || client.asks > 0 {
+            return Ok(after);
+        }
+    }
+    Ok(After::Over)
+}
