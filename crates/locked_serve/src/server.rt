@@ -212,7 +212,7 @@ fn run_all<
     pair_streams(stream_hands, connections, clocks, &mut stream_tasks);
     pair_up(hands, ends_before, &mut tasks);
     let first = stream_tasks.len() as u32;
-    run_workers(
+    let (stream_tasks, tasks) = run_workers(
         rt,
         alloc,
         options,
@@ -221,8 +221,8 @@ fn run_all<
         locks.as_slice(),
         gate,
         first,
-        &mut stream_tasks,
-        &mut tasks,
+        stream_tasks,
+        tasks,
     );
     let mut stream_hands = streams.hands;
     let mut stream_answers = streams.answers;

@@ -17,7 +17,7 @@ use partition_table::{Note, ReaderSeat};
 use std::alloc::Global;
 use std::mem;
 use std::sync::{Mutex, Wait};
-use std::thread::{Threads, for_each_mut, join_mut};
+use std::thread::{Threads, for_each_mut, join};
 use stream_io::Connections;
 
 /// What a front has in hand, and the end of its port of datagrams.
@@ -106,6 +106,63 @@ fn run_fronts<
     );
 }
 
+// The same of fronts that are given by value.
+fn serve_streams<
+    W: Threads + Wait + Sync,
+    J: ServerPlan + Send + Sync,
+    P: LendPartition<Reader = ReaderSeat, Note = Note> + Drop + Send,
+    C: Connections + Send,
+    K: Clock + Drop + Send,
+>(
+    rt: &W,
+    alloc: Global,
+    options: &Options,
+    base: u64,
+    locks: &[Mutex<OwnedPartition<J, P>>],
+    streams: Vec<StreamTask<C, K>>,
+) -> Vec<StreamTask<C, K>>
+    requires valid { IsPossible options.now }
+    requires options { options.now ≡ J.plan.options }
+    requires locks { length locks.now ≡ options.now.partitions }
+    requires few { J.plan.fronts ≤ 64 }
+    requires many { length streams.items ≤ J.plan.fronts }
+    requires ready { AreReadyStreams J.plan (stream_facts C.port C.faults C.has_ended C.log) K.last streams.items }
+    ensures { StreamsRan J.plan (stream_facts C.port C.faults C.has_ended C.log) K.last streams.items result.items }
+{
+    let mut tasks = streams;
+    run_streams(rt, alloc, options, base, locks, &mut tasks);
+    tasks
+}
+
+fn serve_fronts<
+    W: Threads + Wait + Sync,
+    J: ServerPlan + Send + Sync,
+    P: LendPartition<Reader = ReaderSeat, Note = Note> + Drop + Send,
+    D: Datagrams + Drop + Send,
+    G: Gate,
+>(
+    rt: &W,
+    alloc: Global,
+    options: &Options,
+    batches: u64,
+    locks: &[Mutex<OwnedPartition<J, P>>],
+    gate: &G,
+    first: u32,
+    fronts: Vec<FrontTask<D>>,
+) -> Vec<FrontTask<D>>
+    requires valid { IsPossible options.now }
+    requires options { options.now ≡ J.plan.options }
+    requires locks { length locks.now ≡ options.now.partitions }
+    requires few { J.plan.fronts ≤ 64 }
+    requires many { first + length fronts.items ≡ J.plan.fronts }
+    requires ready { AreReadyTasks J.plan batches (end_facts D.port D.traffic D.faults D.has_ended D.script) first fronts.items }
+    ensures { TasksRan J.plan batches (end_facts D.port D.traffic D.faults D.has_ended D.script) first fronts.items result.items }
+{
+    let mut tasks = fronts;
+    run_fronts(rt, alloc, options, batches, locks, gate, first, &mut tasks);
+    tasks
+}
+
 /// Runs all fronts side by side. Those of datagrams have the numbers from the first one on.
 pub(crate) fn run_workers<
     W: Threads + Wait + Sync,
@@ -124,30 +181,32 @@ pub(crate) fn run_workers<
     locks: &[Mutex<OwnedPartition<J, P>>],
     gate: &G,
     first: u32,
-    streams: &mut Vec<StreamTask<C, K>>,
-    fronts: &mut Vec<FrontTask<D>>,
-)
+    streams: Vec<StreamTask<C, K>>,
+    fronts: Vec<FrontTask<D>>,
+) -> (Vec<StreamTask<C, K>>, Vec<FrontTask<D>>)
     requires valid { IsPossible options.now }
     requires options { options.now ≡ J.plan.options }
     requires locks { length locks.now ≡ options.now.partitions }
     requires few { J.plan.fronts ≤ 64 }
-    requires first { length streams.old.items ≤ first }
-    requires many { first + length fronts.old.items ≡ J.plan.fronts }
-    requires ready_streams { AreReadyStreams J.plan (stream_facts C.port C.faults C.has_ended C.log) K.last streams.old.items }
-    requires ready { AreReadyTasks J.plan batches (end_facts D.port D.traffic D.faults D.has_ended D.script) first fronts.old.items }
-    ensures streams { StreamsRan J.plan (stream_facts C.port C.faults C.has_ended C.log) K.last streams.old.items streams.new.items }
-    ensures fronts { TasksRan J.plan batches (end_facts D.port D.traffic D.faults D.has_ended D.script) first fronts.old.items fronts.new.items }
+    requires first { length streams.items ≤ first }
+    requires many { first + length fronts.items ≡ J.plan.fronts }
+    requires ready_streams { AreReadyStreams J.plan (stream_facts C.port C.faults C.has_ended C.log) K.last streams.items }
+    requires ready { AreReadyTasks J.plan batches (end_facts D.port D.traffic D.faults D.has_ended D.script) first fronts.items }
+    ensures streams { StreamsRan J.plan (stream_facts C.port C.faults C.has_ended C.log) K.last streams.items result.0.items }
+    ensures fronts { TasksRan J.plan batches (end_facts D.port D.traffic D.faults D.has_ended D.script) first fronts.items result.1.items }
 {
-    let mut serve_streams = ||
-        requires { IsSync W.row × IsSync J.row × IsPossible options.now × (options.now ≡ J.plan.options) × (length locks.now ≡ options.now.partitions) × (J.plan.fronts ≤ 64)
-            × (length streams.now.items ≤ J.plan.fronts) × AreReadyStreams J.plan (stream_facts C.port C.faults C.has_ended C.log) K.last streams.now.items }
-    { run_streams(rt, alloc, options, base, locks, streams) };
-    let mut serve_fronts = ||
-        requires { IsSync W.row × IsSync J.row × IsSync G.row × IsPossible options.now × (options.now ≡ J.plan.options) × (length locks.now ≡ options.now.partitions)
-            × (J.plan.fronts ≤ 64) × (first + length fronts.now.items ≡ J.plan.fronts)
-            × AreReadyTasks J.plan batches (end_facts D.port D.traffic D.faults D.has_ended D.script) first fronts.now.items }
-    { run_fronts(rt, alloc, options, batches, locks, gate, first, fronts) };
-    join_mut(rt, &mut serve_streams, &mut serve_fronts);
+    join(
+        rt,
+        move ||
+            requires { IsSync W.row × IsSync J.row × IsPossible options.now × (options.now ≡ J.plan.options) × (length locks.now ≡ options.now.partitions) × (J.plan.fronts ≤ 64)
+                × (length streams.items ≤ J.plan.fronts) × AreReadyStreams J.plan (stream_facts C.port C.faults C.has_ended C.log) K.last streams.items }
+        { serve_streams(rt, alloc, options, base, locks, streams) },
+        move ||
+            requires { IsSync W.row × IsSync J.row × IsSync G.row × IsPossible options.now × (options.now ≡ J.plan.options) × (length locks.now ≡ options.now.partitions)
+                × (J.plan.fronts ≤ 64) × (first + length fronts.items ≡ J.plan.fronts)
+                × AreReadyTasks J.plan batches (end_facts D.port D.traffic D.faults D.has_ended D.script) first fronts.items }
+        { serve_fronts(rt, alloc, options, batches, locks, gate, first, fronts) },
+    )
 }
 
 /// The fronts of datagrams with the ends of their places.

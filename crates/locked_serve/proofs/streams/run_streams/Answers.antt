@@ -1,4 +1,5 @@
 use Rattle.std.proofs.Common.{rules, ◌≡◌, ◌<◌, ◌++◌, ℕ, List, length, take, drop, get_or, sym, ap, ◌∙◌, subst, arith}
+use Rattle.std.proofs.iter.Serving.{serving}
 use Rattle.std.proofs.lemmas.List.{append-nil, drop_all, take_all}
 use Rattle.locked_serve.specs.declared.streams.StreamTask.{StreamTask}
 use Rattle.locked_serve.specs.Streams.{StreamFacts, stream_facts}
@@ -20,7 +21,7 @@ for_each_mut-requires-clause-accepts g c κs within i p low is =
         c.requires.locks,
         subst (IsReadyStream g.J.ServerPlan.plan facts g.K.Clock.last i) (sym here) (c.requires.ready i p.now fits),
       ),
-      (c.type_bounds.send-J, c.type_bounds.send-P, c.type_bounds.send-C, c.type_bounds.send-K, c.type_bounds.sync-W, c.type_bounds.sync-J),
+      grind serving,
     )
 
 pub returns : goal.returns
