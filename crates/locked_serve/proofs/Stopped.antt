@@ -36,12 +36,12 @@ still_told (Err Unannounced) says fails before mid after old new refused faults 
 still_told (Err (Fault Net)) says fails before mid after old new refused faults told =
     elim told as (λ _. (LacksPort before after × (new ≡ old)) ⊎ (HasPorts before after × says old new)) [
       | inl h ↦ inl (
-          elim h.0 as (λ _. LacksPort before after) [
-            | inl unbound ↦ inl (omega (arith, unbound, refused))
-            | inr rose ↦ inr (subst (Rose before.listens.faults) (sym faults) rose)
-          ],
-          h.1,
-        )
+        elim h.0 as (λ _. LacksPort before after) [
+          | inl unbound ↦ inl (omega (arith, unbound, refused))
+          | inr rose ↦ inr (subst (Rose before.listens.faults) (sym faults) rose)
+        ],
+        h.1,
+      )
       | inr h ↦ inr ((refused ∙ h.0.0, faults ∙ h.0.1), h.1)
     ]
 still_told (Err (Fault NoMemory)) says fails before mid after old new refused faults told = told

@@ -197,14 +197,16 @@ pub(crate) fn run_workers<
 {
     join(
         rt,
-        move ||
+        move || -> Vec<StreamTask<C, K>>
             requires { IsSync W.row × IsSync J.row × IsPossible options.now × (options.now ≡ J.plan.options) × (length locks.now ≡ options.now.partitions) × (J.plan.fronts ≤ 64)
                 × (length streams.items ≤ J.plan.fronts) × AreReadyStreams J.plan (stream_facts C.port C.faults C.has_ended C.log) K.last streams.items }
+            ensures { StreamsRan J.plan (stream_facts C.port C.faults C.has_ended C.log) K.last streams.items result.items }
         { serve_streams(rt, alloc, options, base, locks, streams) },
-        move ||
+        move || -> Vec<FrontTask<D>>
             requires { IsSync W.row × IsSync J.row × IsSync G.row × IsPossible options.now × (options.now ≡ J.plan.options) × (length locks.now ≡ options.now.partitions)
                 × (J.plan.fronts ≤ 64) × (first + length fronts.items ≡ J.plan.fronts)
                 × AreReadyTasks J.plan batches (end_facts D.port D.traffic D.faults D.has_ended D.script) first fronts.items }
+            ensures { TasksRan J.plan batches (end_facts D.port D.traffic D.faults D.has_ended D.script) first fronts.items result.items }
         { serve_fronts(rt, alloc, options, batches, locks, gate, first, fronts) },
     )
 }

@@ -11,8 +11,7 @@ for_each_mut-requires-clause-accepts g c κs within i p low is =
     let value = c.as_mut_slice.ensures.value in
     let fits : i < length c.args.streams.now.items = omega (arith, low, ap length value) in
     let here : p.now ≡ get_or c.args.streams.now.items i p.now = is ∙ ap (λ (l : List (StreamTask g.row.C.Denot g.row.K.Denot)). get_or l i p.now) value in
-    let facts = stream_facts g.C.Connections.port g.C.Connections.faults g.C.Connections.has_ended g.C.Connections.log in
-    (
+    let facts = stream_facts g.C.Connections.port g.C.Connections.faults g.C.Connections.has_ended g.C.Connections.log in (
       (
         omega (arith, fits, c.requires.many),
         c.requires.few,
@@ -21,7 +20,7 @@ for_each_mut-requires-clause-accepts g c κs within i p low is =
         c.requires.locks,
         subst (IsReadyStream g.J.ServerPlan.plan facts g.K.Clock.last i) (sym here) (c.requires.ready i p.now fits),
       ),
-      grind serving,
+      grind serving steps 40000000,
     )
 
 pub returns : goal.returns
@@ -33,8 +32,7 @@ returns g c =
     let many : length new ≡ length items = search rules in
     let whole : take c.args.streams.now.len (new ++ drop (length new) items) ≡ new =
     ap (λ (l : List (StreamTask g.row.C.Denot g.row.K.Denot)). take c.args.streams.now.len (new ++ l)) (drop_all (length new) items (omega (arith, many)))
-    ∙ ap (take c.args.streams.now.len) (append-nil new) ∙ take_all c.args.streams.now.len new (omega (arith, many, c.args.streams.now.ok.0)) in
-    (
+    ∙ ap (take c.args.streams.now.len) (append-nil new) ∙ take_all c.args.streams.now.len new (omega (arith, many, c.args.streams.now.ok.0)) in (
       ap length whole ∙ many,
       λ k d low.
           let each = (c.for_each_mut.ensures k d (omega (arith, low, ap length value))).1 in
