@@ -17,7 +17,7 @@ use Rattle.stream_fronts.specs.Moments.{TalksWithOne, TalksWithAll, HasCause, Ta
 use Rattle.stream_fronts.specs.Traffic.{IsSend}
 use Rattle.stream_fronts.specs.Held.{all_to}
 use Rattle.stream_fronts.proofs.Talking.{Told}
-use Rattle.stream_fronts.proofs.Traffic.{sends_received}
+use Rattle.stream_fronts.proofs.Traffic.{sent_here, sends_received}
 
 -- To whom answers were given
 
@@ -94,15 +94,12 @@ module _ (options : Options) (base most : ℕ) where
       other_entry : (d e : ℕ) (bytes : List ℕ) (now : List Entry) → e ≡ c → (c == d) ≡ false → sent_of d (sent e bytes ∷ now) ≡ sent_of d now
       other_entry d e bytes now is other = ap (λ t. cond t (sent_of d now ++ bytes) (sent_of d now)) (ap (λ x. x == d) is ∙ other)
 
-      own_entry : (e : ℕ) (bytes : List ℕ) (now : List Entry) → e ≡ c → sent_of c (sent e bytes ∷ now) ≡ sent_of c now ++ bytes
-      own_entry e bytes now is = ap (λ t. cond t (sent_of c now ++ bytes) (sent_of c now)) (eq-eqb e c is)
-
       longer : (more : List Entry) → AllByRecursion (IsSend c) more → length (sent_of c entries) ≤ length (sent_of c (more ++ entries))
       longer [] each = omega arith
       longer (met ∷ more) each = longer more each.1
       longer (sent e bytes ∷ more) each =
           let rest = longer more each.1 in
-          let own = ap length (own_entry e bytes (more ++ entries) each.0) ∙ length-append (sent_of c (more ++ entries)) bytes in
+          let own = ap length (sent_here c e bytes (more ++ entries) each.0) ∙ length-append (sent_of c (more ++ entries)) bytes in
           omega (arith, rest, own)
       longer (opened n ∷ more) each = absurd each.0
       longer (reported n ∷ more) each = absurd each.0
@@ -120,7 +117,7 @@ module _ (options : Options) (base most : ℕ) where
           through_entry met (more ++ entries) all (last_moment (more ++ entries) all through) tt through
       through_sends (sent e bytes ∷ more) each due few told begins =
           let now = more ++ entries in
-          let own = own_entry e bytes now each.0 in
+          let own = sent_here c e bytes now each.0 in
           let earlier : IsBeginning (sent_of c now) due =
           (bytes ++ begins.0, begins.1 ∙ ap (λ s. s ++ begins.0) own ∙ append_assoc (sent_of c now) bytes begins.0) in
           let through = through_sends more each.1 due few told earlier in

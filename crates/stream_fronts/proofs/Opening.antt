@@ -41,7 +41,7 @@ pub met_at : (log : Log) (n d a : ℕ) → IsAt n d a (connections_of log) → I
 met_at log n d a at = met_one log.schedule log.entries (state_of log).later refl n d a at
 
 -- the answer of a read is taken note of
-pub read_at : (number c asks most : ℕ) (x : Connection) (out : List ℕ) (answer : Result Input Broken) (met : Log) → slice_get (connections_of met) c ≡ Some x
+read_at : (number c asks most : ℕ) (x : Connection) (out : List ℕ) (answer : Result Input Broken) (met : Log) → slice_get (connections_of met) c ≡ Some x
     → IsAt number c asks (connections_of met) → IsGiven x most out answer
     → ((n d a : ℕ) → IsAt n d a (connections_of met) → IsAt n d a (connections_of (with_entries (gave c x answer) met)))
     × IsAt number c (asks + gained answer) (connections_of (with_entries (gave c x answer) met))
@@ -58,12 +58,12 @@ read_at number c asks most x out (Ok Later) met is at given = (λ n d a at. at, 
 read_at number c asks most x out (Ok Ended) met is at given = (λ n d a at. at, (at.0, omega (arith, at.1)))
 read_at number c asks most x out (Err broken) met is at given = (λ n d a at. at, (at.0, omega (arith, at.1)))
 
-pub sent_at : (c : ℕ) (bytes : List ℕ) (met : Log) (n d a : ℕ) → IsAt n d a (connections_of met) → IsAt n d a (connections_of (with_entries (after_sending c bytes) met))
+sent_at : (c : ℕ) (bytes : List ℕ) (met : Log) (n d a : ℕ) → IsAt n d a (connections_of met) → IsAt n d a (connections_of (with_entries (after_sending c bytes) met))
 sent_at c [] met n d a at = at
 sent_at c (byte ∷ bytes) met n d a at =
     changed_keeps (after_write (length (byte ∷ bytes))) (write_keeps (length (byte ∷ bytes))) c (connections_of met) n d a at
 
-pub took_at : (c : ℕ) (bytes : List ℕ) (answer : Result ℕ Broken) (met : Log) (n d a : ℕ) → IsAt n d a (connections_of met) → IsAt n d a (connections_of (with_entries (took c bytes answer) met))
+took_at : (c : ℕ) (bytes : List ℕ) (answer : Result ℕ Broken) (met : Log) (n d a : ℕ) → IsAt n d a (connections_of met) → IsAt n d a (connections_of (with_entries (took c bytes answer) met))
 took_at c bytes (Ok count) met n d a at = sent_at c (take count bytes) met n d a at
 took_at c bytes (Err broken) met n d a at = at
 
@@ -72,7 +72,7 @@ pub found : {X : Type 0} (P : X → Type 0) (o : Option X) (c : X) → o ≡ Som
 found P o c is p = subst (λ h. IfSome h P) is p
 
 -- what a call made of the log, where it was told
-pub told : (old : Log) (new : Option Log) (made : Log) (P : Log → Log → Type 0) → new ≡ Some made → P old made → OnLogs P (Some old) new
+told : (old : Log) (new : Option Log) (made : Log) (P : Log → Log → Type 0) → new ≡ Some made → P old made → OnLogs P (Some old) new
 told old new made P is p = subst (λ o. OnLogs P (Some old) o) (sym is) p
 
 -- a read keeps all open, and lets its connection be asked for again more often

@@ -40,11 +40,11 @@ stays_sent {c} {text} {old} {new} sends d other = record {
 
 -- Bytes that were received
 
-receiving_others : (c d : ℕ) → (c == d) ≡ false → (bytes : List ℕ) (entries : List Entry) → received_of d (after_receiving c bytes entries) ≡ received_of d entries
+pub receiving_others : (c d : ℕ) → (c == d) ≡ false → (bytes : List ℕ) (entries : List Entry) → received_of d (after_receiving c bytes entries) ≡ received_of d entries
 receiving_others c d other [] entries = refl
 receiving_others c d other (byte ∷ bytes) entries = ap (λ t. cond t (received_of d entries ++ byte ∷ bytes) (received_of d entries)) other
 
-receiving_sent : (c d : ℕ) (bytes : List ℕ) (entries : List Entry) → sent_of d (after_receiving c bytes entries) ≡ sent_of d entries
+pub receiving_sent : (c d : ℕ) (bytes : List ℕ) (entries : List Entry) → sent_of d (after_receiving c bytes entries) ≡ sent_of d entries
 receiving_sent c d [] entries = refl
 receiving_sent c d (byte ∷ bytes) entries = refl
 

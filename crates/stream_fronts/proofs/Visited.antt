@@ -15,6 +15,7 @@ use Rattle.mica_fronts.specs.Answered.{Answered}
 use Rattle.stream_fronts.specs.declared.answer.Stand.{Stand}
 use Rattle.stream_fronts.specs.declared.answer.Stand.TheVariants.{Needs, Enough, Leaves}
 use Rattle.stream_fronts.specs.declared.client.Client.{Client}
+use Rattle.stream_fronts.specs.declared.desk.TheConstants.{MOST_UNSENT}
 use Rattle.stream_fronts.specs.declared.visit.After.{After}
 use Rattle.stream_fronts.specs.declared.visit.After.TheVariants.{Waits, Again, Over}
 use Rattle.stream_fronts.specs.Given.{Given, given_to}
@@ -29,15 +30,11 @@ use Rattle.stream_fronts.proofs.Staying.{stays_same, stays_then, stays_sent, sta
 use Rattle.stream_fronts.proofs.Traffic.{reads_held}
 use Rattle.stream_fronts.proofs.Drying.{sends_ended}
 use Rattle.stream_fronts.proofs.Moments.{given_more}
-use Rattle.stream_fronts.proofs.Visiting.{Stage, stage_held, stage_sent, due_same, received_same, stage_breaks, stage_read, received_now, sent_now, stage_answered, stage_lacking}
+use Rattle.stream_fronts.proofs.Visiting.{if_some, Stage, stage_held, stage_sent, due_same, received_same, stage_breaks, stage_read, received_now, sent_now, stage_answered, stage_lacking}
 
 for_any : {X : Type 0} {Q : X → Type 0} (o : Option X) → ((x : X) → Q x) → IfSome o Q
 for_any None then = tt
 for_any (Some x) then = then x
-
-if_in : {X : Type 0} {P Q : X → Type 0} (o : Option X) → ((x : X) → P x → Q x) → IfSome o P → IfSome o Q
-if_in None then is = tt
-if_in (Some x) then is = then x is
 
 pub looks_held : (options : Options) (base : ℕ) (client : Client) (answers : List Answered) (replies : List ℕ) (now : Client) (r : Result (Stand × Option Input) Broken) (c : ℕ) (old new : Log)
     → Looks options base client answers replies now r c old new → (n d : ℕ) → held n (connections_of old) ≡ Some d → held n (connections_of new) ≡ Some d
@@ -93,7 +90,7 @@ module _ (options : Options) (base : ℕ) where
     held_over client is log given leaving none holds = elim holds as (λ _. IfSome (slice_get (connections_of log) c) (λ x. MayClose options base x (received_of c log.entries) (sent_of c log.entries) given)) [
       | goes_on stays few at ↦ absurd (true≢false (sym leaving ∙ stays))
       | left leaves few ends ↦ for_any (slice_get (connections_of log) c) (λ x. may_leave options base (ends_as refl all_sent ends))
-      | ended leaves few at more over ↦ if_in (slice_get (connections_of log) c) (λ x e. may_end options base (reaches_as refl refl all_sent at) is.begun more e) over
+      | ended leaves few at more over ↦ if_some (slice_get (connections_of log) c) (λ x e. may_end options base (reaches_as refl refl all_sent at) is.begun more e) over
     ]
       where
         all_sent : sent_of c log.entries ≡ sent_of c log.entries ++ client.unsent
@@ -188,12 +185,13 @@ module _ (options : Options) (base : ℕ) where
 
     module _ {old mid : Log} {client : Client} (is : IsClient client) where
       -- replies that waited were not all sent
-      pub visit_breaks : (replies : List ℕ) (now : Client) (broken : Broken) → SendsFrom {X = Bool} client.unsent now.unsent (Err broken) c old mid
-          → Visits options base client [] replies now Over c old mid
-      visit_breaks replies now broken sends = record {
+      pub visit_breaks : (now : Client) (broken : Broken) → SendsFrom {X = Bool} client.unsent now.unsent (Err broken) c old mid
+          → Visits options base client [] now Over c old mid
+      visit_breaks now broken sends = record {
         schedule = sends.0.1.schedule;
         others = stays_sent sends.0.1;
-        talks = λ most lacking all few holds through.
+        talks = λ lacking all holds through.
+            let most = MOST_UNSENT in
             let stage = stage_unsent most c lacking all client refl is holds through (drop sends.0.0 client.unsent) sends.0.1 (sym (take-append-drop sends.0.0 client.unsent)) in
             (still_through most mid old.schedule lacking all stage.through, still_becomes most mid (given_to c all) now Over (stage_breaks options base most c stage sends.1));
       }
@@ -208,47 +206,51 @@ module _ (options : Options) (base : ℕ) where
           stage_then : Stage options base most c old.schedule lacking mid all now.unsent
           stage_then = stage_unsent most c lacking all client refl is holds through now.unsent sends.1 sends.2
 
-        pub visit_waits : (replies : List ℕ) → Visits options base client [] replies now Waits c old mid
-        visit_waits replies = record {
+        pub visit_waits : Visits options base client [] now Waits c old mid
+        visit_waits = record {
           schedule = sends.1.schedule;
           others = stays_sent sends.1;
-          talks = λ most lacking all few holds through.
+          talks = λ lacking all holds through.
+              let most = MOST_UNSENT in
               let stage = stage_then most lacking all holds through in
               (still_through most mid old.schedule lacking all stage.through, still_becomes most mid (given_to c all) now Waits (held_then most lacking all holds through));
         }
 
-        pub visit_leaves : (replies : List ℕ) → IsClient now → now.leaving ≡ true → now.unsent ≡ [] → Visits options base client [] replies now Over c old mid
-        visit_leaves replies is_now ends none = record {
+        pub visit_leaves : IsClient now → now.leaving ≡ true → now.unsent ≡ [] → Visits options base client [] now Over c old mid
+        visit_leaves is_now ends none = record {
           schedule = sends.1.schedule;
           others = stays_sent sends.1;
-          talks = λ most lacking all few holds through.
+          talks = λ lacking all holds through.
+              let most = MOST_UNSENT in
               let stage = stage_then most lacking all holds through in (
                 still_through most mid old.schedule lacking all stage.through,
                 still_becomes most mid (given_to c all) now Over (held_over most c now is_now mid (given_to c all) ends none (held_then most lacking all holds through)),
               );
         }
 
-        module _ (is_now : IsClient now) (reading : now.leaving ≡ false) (none : now.unsent ≡ []) {log : Log} (then : Client) {answers : List Answered} {replies : List ℕ} where
+        module _ (is_now : IsClient now) (reading : now.leaving ≡ false) (none : now.unsent ≡ []) {log : Log} (then : Client) (replies : List ℕ) {answers : List Answered} where
           -- it was broken as it was read
-          pub visit_unread : (broken : Broken) → Looks options base now answers replies then (Err broken) c mid log → Visits options base client answers replies then Over c old log
+          pub visit_unread : (broken : Broken) → Looks options base now answers replies then (Err broken) c mid log → Visits options base client answers then Over c old log
           visit_unread broken looks =
-              let still : Visits options base client [] replies then Over c old log = record {
+              let still : Visits options base client [] then Over c old log = record {
                 schedule = looks.2.schedule ∙ sends.1.schedule;
                 others = λ d other. stays_then (stays_sent sends.1 d other) (stays_read looks.2 d other);
-                talks = λ most lacking all few holds through.
+                talks = λ lacking all holds through.
+                    let most = MOST_UNSENT in
                     let before = subst (λ r. Stage options base most c old.schedule lacking mid all r) none (stage_then most lacking all holds through) in
                     let stage = stage_unread most c now before (held_then most lacking all holds through) reading none looks.1 looks.2 is_now in
                     (still_through most log old.schedule lacking all stage.through, still_becomes most log (given_to c all) then Over (stage_breaks options base most c stage looks.3));
               } in
-              subst (λ a. Visits options base client a replies then Over c old log) (sym looks.0) still
+              subst (λ a. Visits options base client a then Over c old log) (sym looks.0) still
 
           -- memory lacked as it was looked at
-          pub visit_lacks : Lacks options base now answers c mid log → VisitLacks options base client answers replies c old log
-          visit_lacks lacks = elim lacks as (λ _. VisitLacks options base client answers replies c old log) [
+          pub visit_lacks : Lacks options base now answers c mid log → VisitLacks options base client answers c old log
+          visit_lacks lacks = elim lacks as (λ _. VisitLacks options base client answers c old log) [
             | inl further ↦ record {
               schedule = ap (λ (l : Log). l.schedule) further.same ∙ sends.1.schedule;
               others = λ d other. stays_then (stays_sent sends.1 d other) (subst (λ (l : Log). StaysAs d mid l) (sym further.same) (stays_same d mid));
-              talks = λ most lacking all few among holds through.
+              talks = λ lacking all among holds through.
+                  let most = MOST_UNSENT in
                   let before = subst (λ s. Stage options base most c old.schedule lacking mid all s) none (stage_then most lacking all holds through) in
                   let at = held_reaches most c (held_then most lacking all holds through) reading none in
                   let all_through = stage_lacking options base most c answers among before (further.spoke (received_of c mid.entries) (given_to c all) (sent_of c mid.entries ++ []) at) in
@@ -257,7 +259,8 @@ module _ (options : Options) (base : ℕ) where
             | inr read ↦ record {
               schedule = read.reads.schedule ∙ sends.1.schedule;
               others = λ d other. stays_then (stays_sent sends.1 d other) (stays_read read.reads d other);
-              talks = λ most lacking all few among holds through.
+              talks = λ lacking all among holds through.
+                  let most = MOST_UNSENT in
                   let before = subst (λ s. Stage options base most c old.schedule lacking mid all s) none (stage_then most lacking all holds through) in
                   let at = held_reaches most c (held_then most lacking all holds through) reading none in
                   let here = stage_read options base most c now before read.reads at read.first read.short in
@@ -279,6 +282,9 @@ module _ (options : Options) (base : ℕ) where
                   let before = subst (λ s. Stage options base most c old.schedule lacking mid all s) none (stage_then most lacking all holds through) in
                   looked most c now before (held_then most lacking all holds through) reading none log answers replies is_then few r looks
 
+            looks_few : length replies ≤ MOST_UNSENT
+            looks_few = elim looks as (λ _. length replies ≤ MOST_UNSENT) [ inl further ↦ further.few | inr reads ↦ reads.few ]
+
             looked_schedule : log.schedule ≡ old.schedule
             looked_schedule = elim looks as (λ _. log.schedule ≡ old.schedule) [
               | inl further ↦ ap (λ (l : Log). l.schedule) further.same ∙ sends.1.schedule
@@ -293,21 +299,23 @@ module _ (options : Options) (base : ℕ) where
 
             module _ {new : Log} (last : Client) where
               -- memory lacked for those that were not taken
-              pub visit_keeps_none : (n : ℕ) → Sends c (take n replies) log new → VisitLacks options base client answers replies c old new
+              pub visit_keeps_none : (n : ℕ) → Sends c (take n replies) log new → VisitLacks options base client answers c old new
               visit_keeps_none n then_sends = record {
                 schedule = then_sends.schedule ∙ looked_schedule;
                 others = λ d other. stays_then (looked_others d other) (stays_sent then_sends d other);
-                talks = λ most lacking all few among holds through.
-                    let f = found most lacking all few holds through in
+                talks = λ lacking all among holds through.
+                    let most = MOST_UNSENT in
+                    let f = found most lacking all looks_few holds through in
                     (stage_sent options base most c (drop n replies) f.stage then_sends (sym (take-append-drop n replies))).through;
               }
 
-              pub visit_unsent : (broken : Broken) → SendsFrom {X = Bool} replies last.unsent (Err broken) c log new → Visits options base client answers replies last Over c old new
+              pub visit_unsent : (broken : Broken) → SendsFrom {X = Bool} replies last.unsent (Err broken) c log new → Visits options base client answers last Over c old new
               visit_unsent broken then_sends = record {
                 schedule = then_sends.0.1.schedule ∙ looked_schedule;
                 others = λ d other. stays_then (looked_others d other) (stays_sent then_sends.0.1 d other);
-                talks = λ most lacking all few holds through.
-                    let f = found most lacking all few holds through in
+                talks = λ lacking all holds through.
+                    let most = MOST_UNSENT in
+                    let f = found most lacking all looks_few holds through in
                     let stage = stage_sent options base most c (drop then_sends.0.0 replies) f.stage then_sends.0.1 (sym (take-append-drop then_sends.0.0 replies)) in
                     (stage.through, subst (λ g. Becomes options base most c new g last Over) (given_more c all answers) (stage_breaks options base most c stage then_sends.1));
               }
@@ -328,36 +336,39 @@ module _ (options : Options) (base : ℕ) where
                       (stands_as r.0 (given_to c all ++ answers) place_is (received_same options base most c last.unsent end.stage then_sends.1 then_sends.2)
                       (due_same options base most c last.unsent end.stage then_sends.1 then_sends.2) end.stands)
 
-                pub visit_goes_on : (becomes : After) → becomes ≢ Over → Visits options base client answers replies last becomes c old new
+                pub visit_goes_on : (becomes : After) → becomes ≢ Over → Visits options base client answers last becomes c old new
                 visit_goes_on Over other = absurd (other refl)
                 visit_goes_on Waits other = record {
                   schedule = then_sends.1.schedule ∙ looked_schedule;
                   others = λ d other. stays_then (looked_others d other) (stays_sent then_sends.1 d other);
-                  talks = λ most lacking all few holds through.
-                      let stage = stage_end most lacking all few holds through in (stage.through, held_end most lacking all few holds through);
+                  talks = λ lacking all holds through.
+                      let most = MOST_UNSENT in
+                      let stage = stage_end most lacking all looks_few holds through in (stage.through, held_end most lacking all looks_few holds through);
                 }
                 visit_goes_on Again other = record {
                   schedule = then_sends.1.schedule ∙ looked_schedule;
                   others = λ d other. stays_then (looked_others d other) (stays_sent then_sends.1 d other);
-                  talks = λ most lacking all few holds through.
-                      let stage = stage_end most lacking all few holds through in (stage.through, held_end most lacking all few holds through);
+                  talks = λ lacking all holds through.
+                      let most = MOST_UNSENT in
+                      let stage = stage_end most lacking all looks_few holds through in (stage.through, held_end most lacking all looks_few holds through);
                 }
 
-                pub visit_ends : IsClient last → last.leaving ≡ true → last.unsent ≡ [] → Visits options base client answers replies last Over c old new
+                pub visit_ends : IsClient last → last.leaving ≡ true → last.unsent ≡ [] → Visits options base client answers last Over c old new
                 visit_ends is_last over none_left = record {
                   schedule = then_sends.1.schedule ∙ looked_schedule;
                   others = λ d other. stays_then (looked_others d other) (stays_sent then_sends.1 d other);
-                  talks = λ most lacking all few holds through.
-                      let stage = stage_end most lacking all few holds through in
-                      (stage.through, held_over most c last is_last new (given_to c all ++ answers) over none_left (held_end most lacking all few holds through));
+                  talks = λ lacking all holds through.
+                      let most = MOST_UNSENT in
+                      let stage = stage_end most lacking all looks_few holds through in
+                      (stage.through, held_over most c last is_last new (given_to c all ++ answers) over none_left (held_end most lacking all looks_few holds through));
                 }
 
                 pub visit_after : (becomes : After) → (last.leaving ≡ true → becomes ≡ Over) → (last.leaving ≡ false → becomes ≢ Over) → IsClient last → last.unsent ≡ []
-                    → Visits options base client answers replies last becomes c old new
+                    → Visits options base client answers last becomes c old new
                 visit_after becomes over stays is_last none_left = by last.leaving refl
                   where
-                    by : (b : Bool) → last.leaving ≡ b → Visits options base client answers replies last becomes c old new
-                    by true is_over = subst (λ (a : After). Visits options base client answers replies last a c old new) (sym (over is_over)) (visit_ends is_last is_over none_left)
+                    by : (b : Bool) → last.leaving ≡ b → Visits options base client answers last becomes c old new
+                    by true is_over = subst (λ (a : After). Visits options base client answers last a c old new) (sym (over is_over)) (visit_ends is_last is_over none_left)
                     by false is_open = visit_goes_on becomes (stays is_open)
 
 pub waits_not_over : Waits ≢ Over

@@ -1,5 +1,5 @@
 -- One visit of a connection, from moment to moment.
-use Rattle.std.proofs.Common.{◌≡◌, ℕ, ◌+◌, ◌-◌, ◌==◌, ◌≤◌, inl, inr, false, cond, List, [], ◌∷◌, ◌++◌, length, drop, refl, sym, ap, ◌∙◌, subst, arith, append_assoc, length-append, length-drop}
+use Rattle.std.proofs.Common.{◌≡◌, ℕ, ◌+◌, ◌-◌, ◌≤◌, inl, inr, cond, List, [], ◌∷◌, ◌++◌, length, drop, refl, sym, ap, ◌∙◌, subst, arith, append_assoc, length-append, length-drop}
 use Rattle.std.specs.Prelude.{slice_get, Option, Some, None, IfSome}
 use Rattle.std.proofs.lemmas.List.{append-nil}
 use Rattle.std.proofs.lemmas.Bool.{eq-eqb}
@@ -23,19 +23,17 @@ use Rattle.stream_fronts.specs.Traffic.{Sends, Reads, IsIn, IsBroken, after_rece
 use Rattle.stream_fronts.specs.Held.{Holds, goes_on, left, ended, all_to}
 use Rattle.stream_fronts.proofs.Reaching.{read_more}
 use Rattle.stream_fronts.proofs.Talking.{Told, talk_at, talk_ends, may_break}
+use Rattle.stream_fronts.proofs.Staying.{receiving_others, receiving_sent}
 use Rattle.stream_fronts.proofs.Traffic.{sends_received, mets_received, mets_sent, mets_send}
 use Rattle.stream_fronts.proofs.Moments.{with_all, last_moment, through_entry, through_answers, through_sends, given_more, given_others}
 
-if_some : {X : Type 0} {P Q : X → Type 0} (o : Option X) → ((x : X) → P x → Q x) → IfSome o P → IfSome o Q
+pub if_some : {X : Type 0} {P Q : X → Type 0} (o : Option X) → ((x : X) → P x → Q x) → IfSome o P → IfSome o Q
 if_some None then is = tt
 if_some (Some x) then is = then x is
 
 -- a connection has its own bytes
 own_received : (c : ℕ) (bytes : List ℕ) (entries : List Entry) → received_of c (entry.received c bytes ∷ entries) ≡ received_of c entries ++ bytes
 own_received c bytes entries = ap (λ t. cond t (received_of c entries ++ bytes) (received_of c entries)) (eq-eqb c c refl)
-
-other_received : (c d : ℕ) (bytes : List ℕ) (entries : List Entry) → (c == d) ≡ false → received_of d (entry.received c bytes ∷ entries) ≡ received_of d entries
-other_received c d bytes entries other = ap (λ t. cond t (received_of d entries ++ bytes) (received_of d entries)) other
 
 module _ (options : Options) (base most c : ℕ) where
   told_few : {received sent : List ℕ} {given : List Answered} {due : List ℕ} {few : ℕ} → few ≤ MAX_WAITING_LEN → Told options base received sent given due few
@@ -129,16 +127,12 @@ module _ (options : Options) (base most c : ℕ) where
       entries_received [] entries = sym (append-nil (received_of c entries))
       entries_received (byte ∷ b) entries = own_received c (byte ∷ b) entries
 
-      entries_sent : (d : ℕ) (b : List ℕ) (entries : List Entry) → sent_of d (after_receiving c b entries) ≡ sent_of d entries
-      entries_sent d [] entries = refl
-      entries_sent d (byte ∷ b) entries = refl
-
       pub received_now : received_of c new.entries ≡ received_of c old.entries ++ bytes
       received_now =
           ap (received_of c) reads.entries ∙ entries_received bytes (reads.mets ++ old.entries) ∙ ap (λ r. r ++ bytes) (mets_received c reads.mets old.entries reads.each)
 
       pub sent_now : sent_of c new.entries ≡ sent_of c old.entries
-      sent_now = ap (sent_of c) reads.entries ∙ entries_sent c bytes (reads.mets ++ old.entries) ∙ mets_sent c reads.mets old.entries reads.each
+      sent_now = ap (sent_of c) reads.entries ∙ receiving_sent c c bytes (reads.mets ++ old.entries) ∙ mets_sent c reads.mets old.entries reads.each
 
       reached : Reaches options base (record { bytes = drop client.dropping (client.kept.items ++ bytes); done = 0; dropping = client.dropping - length (client.kept.items ++ bytes) })
           (received_of c old.entries ++ bytes) (given_to c all) (sent_of c old.entries ++ [])
@@ -165,7 +159,7 @@ module _ (options : Options) (base most c : ℕ) where
           (t.talk, record { kept = t.few; unsent = let all_due = ap length (t.due_is ∙ append-nil (sent_of c old.entries) ∙ sym sent_same) in omega (arith, all_due) }) in
           through_entry options base most schedule lacking (entry.received c (byte ∷ b)) entries all
           (with_all options base most lacking c entries (entry.received c (byte ∷ b) ∷ entries) all all
-          (λ d other. record { came = other_received c d (byte ∷ b) entries other; went = refl; given = refl })
+          (λ d other. record { came = receiving_others c d other (byte ∷ b) entries; went = refl; given = refl })
           (inl (subst (λ r. TalksWith options base most r (sent_of c entries) (given_to c all)) (sym received_is) here)) (last_moment options base most schedule lacking entries all met_through))
           tt met_through
 

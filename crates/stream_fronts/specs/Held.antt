@@ -12,6 +12,7 @@ use Rattle.mica_fronts.specs.Answered.{Answered}
 use Rattle.stream_fronts.specs.declared.answer.Stand.{Stand}
 use Rattle.stream_fronts.specs.declared.answer.Stand.TheVariants.{Needs, Leaves}
 use Rattle.stream_fronts.specs.declared.client.Client.{Client}
+use Rattle.stream_fronts.specs.declared.desk.TheConstants.{MOST_UNSENT}
 use Rattle.stream_fronts.specs.declared.visit.After.{After}
 use Rattle.stream_fronts.specs.declared.visit.After.TheVariants.{Over}
 use Rattle.stream_fronts.specs.Given.{Given, given_to}
@@ -49,12 +50,13 @@ pub record StaysAs (d : ℕ) (old new : Log) : Type 0 where
 
 -- The c-th connection was visited, where this was held of its client. Where the front had talked with all clients before, at each moment, it has with these
 -- answers to this one.
-pub record Visits (options : Options) (base : ℕ) (client : Client) (answers : List Answered) (replies : List ℕ) (now : Client) (becomes : After) (c : ℕ) (old new : Log) : Type 0 where
+pub record Visits (options : Options) (base : ℕ) (client : Client) (answers : List Answered) (now : Client) (becomes : After) (c : ℕ) (old new : Log) : Type 0 where
   pub schedule : new.schedule ≡ old.schedule
   pub others : (d : ℕ) → (c == d) ≡ false → StaysAs d old new
-  pub talks : (most : ℕ) (lacking : List ℕ) (all : List Given) → length replies ≤ most → Holds options base most c old (given_to c all) client
-      → TalksThrough options base most old.schedule lacking old.entries all
-      → TalksThrough options base most old.schedule lacking new.entries (all ++ all_to c answers) × Becomes options base most c new (given_to c all ++ answers) now becomes
+  pub talks : (lacking : List ℕ) (all : List Given) → Holds options base MOST_UNSENT c old (given_to c all) client
+      → TalksThrough options base MOST_UNSENT old.schedule lacking old.entries all
+      → TalksThrough options base MOST_UNSENT old.schedule lacking new.entries (all ++ all_to c answers)
+      × Becomes options base MOST_UNSENT c new (given_to c all ++ answers) now becomes
 
 -- One look at a connection
 
@@ -69,6 +71,7 @@ pub record GoesFurther (options : Options) (base : ℕ) (client : Client) (answe
     : Type 0 where
   pub same : new ≡ old
   pub goes : GoesOnTo options base (place_of client) answers [] replies (StandsAs options base MAX_WAITING_LEN r.0 (place_of now))
+  pub few : length replies ≤ MOST_UNSENT
   pub ends : EndsBy r.1 c new
 
 -- The connection was read once, and what had come was answered.
@@ -80,6 +83,7 @@ pub record ReadsOn (options : Options) (base : ℕ) (client : Client) (answers :
   pub reads : Reads c bytes old new
   pub goes : GoesOnTo options base (place_of client) answers [] replies
       (λ received given due. StandsAs options base MAX_WAITING_LEN r.0 (place_of now) (received ++ bytes) given due)
+  pub few : length replies ≤ MOST_UNSENT
   pub ends : EndsBy r.1 c new
 
 -- Either; or the connection is broken, and nothing was answered.
@@ -108,11 +112,12 @@ abbrev pub Lacks : Options → ℕ → Client → List Answered → ℕ → Log 
 Lacks options base client answers c old new = LacksFurther options base client answers old new ⊎ LacksRead options base client answers c old new
 
 -- The c-th connection was visited, and memory lacked for it. At each moment the front had talked with all clients all the same.
-pub record VisitLacks (options : Options) (base : ℕ) (client : Client) (answers : List Answered) (replies : List ℕ) (c : ℕ) (old new : Log) : Type 0 where
+pub record VisitLacks (options : Options) (base : ℕ) (client : Client) (answers : List Answered) (c : ℕ) (old new : Log) : Type 0 where
   pub schedule : new.schedule ≡ old.schedule
   pub others : (d : ℕ) → (c == d) ≡ false → StaysAs d old new
-  pub talks : (most : ℕ) (lacking : List ℕ) (all : List Given) → length replies ≤ most → IsAmong c lacking → Holds options base most c old (given_to c all) client
-      → TalksThrough options base most old.schedule lacking old.entries all → TalksThrough options base most old.schedule lacking new.entries (all ++ all_to c answers)
+  pub talks : (lacking : List ℕ) (all : List Given) → IsAmong c lacking → Holds options base MOST_UNSENT c old (given_to c all) client
+      → TalksThrough options base MOST_UNSENT old.schedule lacking old.entries all
+      → TalksThrough options base MOST_UNSENT old.schedule lacking new.entries (all ++ all_to c answers)
 
 -- so many bytes were kept, and these were read behind them
 abbrev pub filled_bytes : ℕ → List ℕ → Result (ℕ × Option Input) Broken → List ℕ

@@ -11,6 +11,9 @@ use std::alloc::Global;
 /// The longest reply to one command or one key.
 pub const LONGEST_REPLY: usize = 8_704;
 
+/// The most bytes of replies that are kept of one client, until it takes them.
+pub const MOST_UNSENT: usize = LIMITS.bytes + LONGEST_REPLY;
+
 /// Room for what is looked at of a connection, for replies, and for values.
 #[derive(Drop)]
 pub struct Desk {
@@ -25,7 +28,7 @@ impl Desk {
     {
         Ok(Desk {
             room: Vec::from_elem(alloc, 0, MAX_WAITING_LEN)?,
-            replies: Vec::with_capacity(alloc, LIMITS.bytes + LONGEST_REPLY)?,
+            replies: Vec::with_capacity(alloc, MOST_UNSENT)?,
             buffers: Buffers::new(alloc)?,
         })
     }

@@ -3,12 +3,14 @@ ghost use Rattle.std.specs.Prelude.{◌≡◌, ◌≤◌, [], length, IfOk, Matc
 ghost use Rattle.memcached_text.specs.declared.limits.TheConstants.{MAX_WAITING_LEN};
 ghost use Rattle.memcached_text.specs.Next.{next_of};
 ghost use Rattle.memcached_fronts.specs.Exchange.{IsOpenAt};
+ghost use Rattle.stream_fronts.specs.declared.desk.TheConstants.{MOST_UNSENT};
 ghost use Rattle.stream_fronts.specs.Clients.{IsClient};
 ghost use Rattle.stream_fronts.specs.Going.{GoesBy, GoesBySome};
 ghost use Rattle.stream_fronts.specs.Reached.{GoesOnTo, SpokeFrom, StandsAs, leaves, place_at, place_of};
 
 use crate::answer::{Stand, answer_bytes};
 use crate::client::Client;
+use crate::desk::MOST_UNSENT;
 use memcached_fronts::{Buffers, Numbering};
 use mica_clock::Clock;
 use mica_fronts::Changes;
@@ -39,7 +41,8 @@ impl Client {
     }
 }
 
-/// Answers what the bytes spell, where so many answers were given to their first command, and keeps what is left of them.
+/// Answers what the bytes spell, where so many answers were given to their first command, and keeps what is left of them. If the replies were more than may be
+/// kept, it would be as if memory lacked; none are that long.
 pub fn look_at<R: Threads + Wait + Sync, F: Changes, K: Clock>(
     rt: &R,
     alloc: Global,
@@ -59,6 +62,7 @@ pub fn look_at<R: Threads + Wait + Sync, F: Changes, K: Clock>(
     requires left { left.old ≤ F.left front.old }
     ensures client { IfOk result (λ _. IsClient client.new) }
     ensures leaving { IfOk result (λ stand. client.new.leaving ≡ leaves stand) }
+    ensures few { IfOk result (λ _. length replies.new.items ≤ MOST_UNSENT) }
     ensures unsent { client.new.unsent ≡ client.old.unsent }
     ensures asks { client.new.asks ≡ client.old.asks }
     ensures talk { GoesBySome (F.options front.old) F.is_alone (F.sessions front.old) (F.left front.old) (K.last clock.old) (F.sessions front.new) (F.left front.new) (K.last clock.new)
@@ -75,6 +79,9 @@ pub fn look_at<R: Threads + Wait + Sync, F: Changes, K: Clock>(
     let answered = answer_bytes(
         rt, alloc, front, clock, numbering, left, buffers, bytes, done, replies,
     )?;
+    if replies.len() > MOST_UNSENT {
+        return Err(NoMemory);
+    }
     client.dropping = answered.dropping;
     client.leaving = answered.stand == Stand::Leaves;
     client.keep(alloc, &bytes[answered.taken..], answered.done)?;

@@ -28,6 +28,7 @@ returns-then-client-gt0-clause-talk g c =
           (λ d a. inl (record {
             same = refl;
             goes = looks_further options base client now stand r.0 replies c.requires.client.begun c.if-client-gt0.true c.requires.client.short goes;
+            few = c.in_ok-stand.ensures.few;
             ends = tt;
           })),
     )
@@ -56,7 +57,7 @@ returns-clause-talk g c =
       r.0,
       r.1,
       on_one c.args.number _ (Looks options base client r.0 replies now (Ok (stand, filled.1))) (g.C.Connections.log c.args.connections.now) (g.C.Connections.log c.fill.new.connections)
-          (λ d a b x. inr (record { first = first; bytes = drop (length client.kept.items) (take filled.0 room); short = short; reads = x.0; goes = goes; ends = x.1 })) c.in-Ok.ensures.reads,
+          (λ d a b x. inr (record { first = first; bytes = drop (length client.kept.items) (take filled.0 room); short = short; reads = x.0; goes = goes; few = c.in_ok-stand-2.ensures.few; ends = x.1 })) c.in-Ok.ensures.reads,
     )
 
 pub returns-in_err-stand-clause-talk : goal.returns-in_err-stand-clause-talk

@@ -65,9 +65,8 @@ returns-in-Ok-false-clause-talks g c =
     let now = c.send_unsent.new.client in (
       [],
       these_none options g.F.Front.is_alone (g.F.Front.sessions c.args.front.now) (g.F.Front.left c.args.front.now) (g.K.Clock.last c.args.clock.now),
-      on_one c.args.number (SendsFrom client.unsent now.unsent (Ok c.in-Ok-false.field-0)) (Visits options base client [] c.args.desk.now.replies.items now Waits) (log c.args.connections.now)
-          (log c.send_unsent.new.connections) (λ d a b sends. visit_waits options base d c.requires.client now c.in-Ok-false.ensures.place c.in-Ok-false.ensures.leaving c.in-Ok-false.field-0 sends
-          c.args.desk.now.replies.items) c.in-Ok-false.ensures.sends,
+      on_one c.args.number (SendsFrom client.unsent now.unsent (Ok c.in-Ok-false.field-0)) (Visits options base client [] now Waits) (log c.args.connections.now)
+          (log c.send_unsent.new.connections) (λ d a b sends. visit_waits options base d c.requires.client now c.in-Ok-false.ensures.place c.in-Ok-false.ensures.leaving c.in-Ok-false.field-0 sends) c.in-Ok-false.ensures.sends,
     )
 
 pub returns-in-Err-clause-talks : goal.returns-in-Err-clause-talks
@@ -79,8 +78,8 @@ returns-in-Err-clause-talks g c =
     let now = c.send_unsent.new.client in (
       [],
       these_none options g.F.Front.is_alone (g.F.Front.sessions c.args.front.now) (g.F.Front.left c.args.front.now) (g.K.Clock.last c.args.clock.now),
-      on_one c.args.number (SendsFrom {X = Bool} client.unsent now.unsent (Err c.in-Err.field-0)) (Visits options base client [] c.args.desk.now.replies.items now Over) (log c.args.connections.now)
-          (log c.send_unsent.new.connections) (λ d a b sends. visit_breaks options base d c.requires.client c.args.desk.now.replies.items now c.in-Err.field-0 sends) c.in-Err.ensures.sends,
+      on_one c.args.number (SendsFrom {X = Bool} client.unsent now.unsent (Err c.in-Err.field-0)) (Visits options base client [] now Over) (log c.args.connections.now)
+          (log c.send_unsent.new.connections) (λ d a b sends. visit_breaks options base d c.requires.client now c.in-Err.field-0 sends) c.in-Err.ensures.sends,
     )
 
 pub returns-then-client-clause-talks : goal.returns-then-client-clause-talks
@@ -93,9 +92,9 @@ returns-then-client-clause-talks g c =
     let none = c.in-Ok-true.ensures.all c.in-Ok-true.field-0-test in (
       [],
       these_none options g.F.Front.is_alone (g.F.Front.sessions c.args.front.now) (g.F.Front.left c.args.front.now) (g.K.Clock.last c.args.clock.now),
-      on_one c.args.number (SendsFrom client.unsent now.unsent (Ok c.in-Ok-true.field-0)) (Visits options base client [] c.args.desk.now.replies.items now Over) (log c.args.connections.now)
+      on_one c.args.number (SendsFrom client.unsent now.unsent (Ok c.in-Ok-true.field-0)) (Visits options base client [] now Over) (log c.args.connections.now)
           (log c.send_unsent.new.connections) (λ d a b sends. visit_leaves options base d c.requires.client now c.in-Ok-true.ensures.place c.in-Ok-true.ensures.leaving c.in-Ok-true.field-0 sends
-          c.args.desk.now.replies.items c.in-Ok-true.ensures.client c.if-client.true none) c.in-Ok-true.ensures.sends,
+          c.in-Ok-true.ensures.client c.if-client.true none) c.in-Ok-true.ensures.sends,
     )
 
 pub returns-in_err-answered-clause-talks : goal.returns-in_err-answered-clause-talks
@@ -112,10 +111,10 @@ returns-in_err-answered-clause-talks g c =
       r.0,
       r.1,
       match_err _ _ c.from_residual.result is.0 is.1 (on_two c.args.number (SendsFrom client.unsent now.unsent (Ok c.in-Ok-true.field-0)) (Lacks options base now r.0)
-          (VisitLacks options base client r.0 replies) (log c.args.connections.now) (log c.send_unsent.new.connections) (log c.answer_more.new.connections)
+          (VisitLacks options base client r.0) (log c.args.connections.now) (log c.send_unsent.new.connections) (log c.answer_more.new.connections)
           (λ d x y is one. from_held client.unsent now.unsent d x y (Ok c.in-Ok-true.field-0) one c.args.number d is)
           (λ d x y z one two. visit_lacks options base d c.requires.client now c.in-Ok-true.ensures.place c.in-Ok-true.ensures.leaving c.in-Ok-true.field-0 one c.in-Ok-true.ensures.client
-          c.if-client.false none c.answer_more.new.client two) c.in-Ok-true.ensures.sends r.2),
+          c.if-client.false none c.answer_more.new.client replies two) c.in-Ok-true.ensures.sends r.2),
     )
 
 pub returns-in_err-send_new-clause-talks : goal.returns-in_err-send_new-clause-talks
@@ -136,12 +135,12 @@ returns-in_err-send_new-clause-talks g c =
       r.0,
       r.1,
       match_err _ _ c.from_residual-in_err-send_new.result is.0 is.1 (on_three c.args.number (SendsFrom client.unsent now.unsent (Ok c.in-Ok-true.field-0))
-          (Looks options base now r.0 replies then (Ok c.in-Ok.answered)) (SendsSome replies) (VisitLacks options base client r.0 replies) (log c.args.connections.now)
+          (Looks options base now r.0 replies then (Ok c.in-Ok.answered)) (SendsSome replies) (VisitLacks options base client r.0) (log c.args.connections.now)
           (log c.send_unsent.new.connections) (log c.answer_more.new.connections) (log c.send_new.new.connections)
           (λ d x y is one. from_held client.unsent now.unsent d x y (Ok c.in-Ok-true.field-0) one c.args.number d is)
           (λ d x y is two. looks_held options base now r.0 replies then (Ok c.in-Ok.answered) d x y two c.args.number d is)
           (λ d w x y z one two three. visit_keeps_none options base d c.requires.client now c.in-Ok-true.ensures.place c.in-Ok-true.ensures.leaving c.in-Ok-true.field-0 one c.in-Ok-true.ensures.client
-          c.if-client.false none then c.in-Ok.answered two c.in_ok-answered.ensures.client c.send_new.new.client three.0 three.1) c.in-Ok-true.ensures.sends looks sends),
+          c.if-client.false none then replies c.in-Ok.answered two c.in_ok-answered.ensures.client c.send_new.new.client three.0 three.1) c.in-Ok-true.ensures.sends looks sends),
     )
 
 pub returns-in-Err-answered-clause-talks : goal.returns-in-Err-answered-clause-talks
@@ -160,10 +159,10 @@ returns-in-Err-answered-clause-talks g c =
       r.0,
       r.1,
       on_two c.args.number (SendsFrom client.unsent now.unsent (Ok c.in-Ok-true.field-0)) (Looks options base now r.0 replies then (Err broken))
-          (Visits options base client r.0 replies then Over) (log c.args.connections.now) (log c.send_unsent.new.connections) (log c.answer_more.new.connections)
+          (Visits options base client r.0 then Over) (log c.args.connections.now) (log c.send_unsent.new.connections) (log c.answer_more.new.connections)
           (λ d x y is one. from_held client.unsent now.unsent d x y (Ok c.in-Ok-true.field-0) one c.args.number d is)
           (λ d x y z one two. visit_unread options base d c.requires.client now c.in-Ok-true.ensures.place c.in-Ok-true.ensures.leaving c.in-Ok-true.field-0 one c.in-Ok-true.ensures.client
-          c.if-client.false none then broken two) c.in-Ok-true.ensures.sends looks,
+          c.if-client.false none then replies broken two) c.in-Ok-true.ensures.sends looks,
     )
 
 pub returns-in-Err-2-clause-talks : goal.returns-in-Err-2-clause-talks
@@ -185,12 +184,12 @@ returns-in-Err-2-clause-talks g c =
       r.0,
       r.1,
       on_three c.args.number (SendsFrom client.unsent now.unsent (Ok c.in-Ok-true.field-0)) (Looks options base now r.0 replies then (Ok c.in-Ok.answered))
-          (SendsFrom {X = Bool} replies last.unsent (Err c.in-Err-2.field-0)) (Visits options base client r.0 replies last Over) (log c.args.connections.now) (log c.send_unsent.new.connections)
+          (SendsFrom {X = Bool} replies last.unsent (Err c.in-Err-2.field-0)) (Visits options base client r.0 last Over) (log c.args.connections.now) (log c.send_unsent.new.connections)
           (log c.answer_more.new.connections) (log c.send_new.new.connections)
           (λ d x y is one. from_held client.unsent now.unsent d x y (Ok c.in-Ok-true.field-0) one c.args.number d is)
           (λ d x y is two. looks_held options base now r.0 replies then (Ok c.in-Ok.answered) d x y two c.args.number d is)
           (λ d w x y z one two three. visit_unsent options base d c.requires.client now c.in-Ok-true.ensures.place c.in-Ok-true.ensures.leaving c.in-Ok-true.field-0 one c.in-Ok-true.ensures.client
-          c.if-client.false none then c.in-Ok.answered two c.in_ok-answered.ensures.client last c.in-Err-2.field-0 three) c.in-Ok-true.ensures.sends looks sends,
+          c.if-client.false none then replies c.in-Ok.answered two c.in_ok-answered.ensures.client last c.in-Err-2.field-0 three) c.in-Ok-true.ensures.sends looks sends,
     )
 
 pub returns-in-Ok-false-2-clause-talks : goal.returns-in-Ok-false-2-clause-talks
@@ -212,12 +211,12 @@ returns-in-Ok-false-2-clause-talks g c =
       r.0,
       r.1,
       on_three c.args.number (SendsFrom client.unsent now.unsent (Ok c.in-Ok-true.field-0)) (Looks options base now r.0 replies then (Ok c.in-Ok.answered))
-          (SendsFrom replies last.unsent (Ok c.in-Ok-false-2.field-0)) (Visits options base client r.0 replies last Waits) (log c.args.connections.now) (log c.send_unsent.new.connections)
+          (SendsFrom replies last.unsent (Ok c.in-Ok-false-2.field-0)) (Visits options base client r.0 last Waits) (log c.args.connections.now) (log c.send_unsent.new.connections)
           (log c.answer_more.new.connections) (log c.send_new.new.connections)
           (λ d x y is one. from_held client.unsent now.unsent d x y (Ok c.in-Ok-true.field-0) one c.args.number d is)
           (λ d x y is two. looks_held options base now r.0 replies then (Ok c.in-Ok.answered) d x y two c.args.number d is)
           (λ d w x y z one two three. visit_goes_on options base d c.requires.client now c.in-Ok-true.ensures.place c.in-Ok-true.ensures.leaving c.in-Ok-true.field-0 one c.in-Ok-true.ensures.client
-          c.if-client.false none then c.in-Ok.answered two c.in_ok-answered.ensures.client last c.in_ok-send_new.ensures.place (c.in_ok-send_new.ensures.leaving ∙ c.leaves_by-client.ensures) c.in-Ok-false-2.field-0 three Waits waits_not_over) c.in-Ok-true.ensures.sends looks sends,
+          c.if-client.false none then replies c.in-Ok.answered two c.in_ok-answered.ensures.client last c.in_ok-send_new.ensures.place (c.in_ok-send_new.ensures.leaving ∙ c.leaves_by-client.ensures) c.in-Ok-false-2.field-0 three Waits waits_not_over) c.in-Ok-true.ensures.sends looks sends,
     )
 
 pub returns-in-Ok-true-2-clause-talks : goal.returns-in-Ok-true-2-clause-talks
@@ -240,11 +239,11 @@ returns-in-Ok-true-2-clause-talks g c =
       r.0,
       r.1,
       on_three c.args.number (SendsFrom client.unsent now.unsent (Ok c.in-Ok-true.field-0)) (Looks options base now r.0 replies then (Ok c.in-Ok.answered))
-          (SendsFrom replies last.unsent (Ok c.in-Ok-true-2.field-0)) (Visits options base client r.0 replies last c.after_all.result) (log c.args.connections.now) (log c.send_unsent.new.connections)
+          (SendsFrom replies last.unsent (Ok c.in-Ok-true-2.field-0)) (Visits options base client r.0 last c.after_all.result) (log c.args.connections.now) (log c.send_unsent.new.connections)
           (log c.answer_more.new.connections) (log c.send_new.new.connections)
           (λ d x y is one. from_held client.unsent now.unsent d x y (Ok c.in-Ok-true.field-0) one c.args.number d is)
           (λ d x y is two. looks_held options base now r.0 replies then (Ok c.in-Ok.answered) d x y two c.args.number d is)
           (λ d w x y z one two three. visit_after options base d c.requires.client now c.in-Ok-true.ensures.place c.in-Ok-true.ensures.leaving c.in-Ok-true.field-0 one c.in-Ok-true.ensures.client
-          c.if-client.false none then c.in-Ok.answered two c.in_ok-answered.ensures.client last c.in_ok-send_new.ensures.place (c.in_ok-send_new.ensures.leaving ∙ c.leaves_by-client.ensures) c.in-Ok-true-2.field-0 three c.after_all.result
+          c.if-client.false none then replies c.in-Ok.answered two c.in_ok-answered.ensures.client last c.in_ok-send_new.ensures.place (c.in_ok-send_new.ensures.leaving ∙ c.leaves_by-client.ensures) c.in-Ok-true-2.field-0 three c.after_all.result
           c.after_all.ensures.over c.after_all.ensures.«open» c.in_ok-send_new.ensures.client all_sent) c.in-Ok-true.ensures.sends looks sends,
     )
