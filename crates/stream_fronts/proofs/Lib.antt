@@ -14,3 +14,4 @@ pub mod Drying
 pub mod Staying
 pub mod Visiting
 pub mod Visited
+pub mod Revisiting
