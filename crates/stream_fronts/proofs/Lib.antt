@@ -15,3 +15,4 @@ pub mod Staying
 pub mod Visiting
 pub mod Visited
 pub mod Revisiting
+pub mod GoingOn
