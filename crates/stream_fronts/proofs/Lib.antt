@@ -14,3 +14,5 @@ pub mod Drying
 pub mod Staying
 pub mod Visiting
 pub mod Visited
+pub mod Revisiting
+pub mod GoingOn

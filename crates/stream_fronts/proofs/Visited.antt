@@ -27,7 +27,7 @@ use Rattle.stream_fronts.specs.Traffic.{Sends, SendsFrom, Reads, IsIn, HasEnded,
 use Rattle.stream_fronts.specs.Held.{StaysAs, Holds, goes_on, left, ended, all_to, Becomes, Visits, leaves_by, Looks, Lacks, VisitLacks}
 use Rattle.stream_fronts.proofs.Talking.{may_leave, may_end}
 use Rattle.stream_fronts.proofs.Staying.{stays_same, stays_then, stays_sent, stays_read}
-use Rattle.stream_fronts.proofs.Traffic.{reads_held}
+use Rattle.stream_fronts.proofs.Traffic.{reads_held, sends_held}
 use Rattle.stream_fronts.proofs.Drying.{sends_ended}
 use Rattle.stream_fronts.proofs.Moments.{given_more}
 use Rattle.stream_fronts.proofs.Visiting.{if_some, Stage, stage_held, stage_sent, due_same, received_same, stage_breaks, stage_read, received_now, sent_now, stage_answered, stage_lacking}
@@ -189,6 +189,7 @@ module _ (options : Options) (base : ℕ) where
           → Visits options base client [] now Over c old mid
       visit_breaks now broken sends = record {
         schedule = sends.0.1.schedule;
+        under = sends_held sends.0.1;
         others = stays_sent sends.0.1;
         talks = λ lacking all holds through.
             let most = MOST_UNSENT in
@@ -209,6 +210,7 @@ module _ (options : Options) (base : ℕ) where
         pub visit_waits : Visits options base client [] now Waits c old mid
         visit_waits = record {
           schedule = sends.1.schedule;
+          under = sends_held sends.1;
           others = stays_sent sends.1;
           talks = λ lacking all holds through.
               let most = MOST_UNSENT in
@@ -219,6 +221,7 @@ module _ (options : Options) (base : ℕ) where
         pub visit_leaves : IsClient now → now.leaving ≡ true → now.unsent ≡ [] → Visits options base client [] now Over c old mid
         visit_leaves is_now ends none = record {
           schedule = sends.1.schedule;
+          under = sends_held sends.1;
           others = stays_sent sends.1;
           talks = λ lacking all holds through.
               let most = MOST_UNSENT in
@@ -234,6 +237,7 @@ module _ (options : Options) (base : ℕ) where
           visit_unread broken looks =
               let still : Visits options base client [] then Over c old log = record {
                 schedule = looks.2.schedule ∙ sends.1.schedule;
+                under = λ n d is. reads_held looks.2 n d (sends_held sends.1 n d is);
                 others = λ d other. stays_then (stays_sent sends.1 d other) (stays_read looks.2 d other);
                 talks = λ lacking all holds through.
                     let most = MOST_UNSENT in
@@ -248,6 +252,7 @@ module _ (options : Options) (base : ℕ) where
           visit_lacks lacks = elim lacks as (λ _. VisitLacks options base client answers c old log) [
             | inl further ↦ record {
               schedule = ap (λ (l : Log). l.schedule) further.same ∙ sends.1.schedule;
+              under = λ n d is. ap (λ (l : Log). held n (connections_of l)) further.same ∙ sends_held sends.1 n d is;
               others = λ d other. stays_then (stays_sent sends.1 d other) (subst (λ (l : Log). StaysAs d mid l) (sym further.same) (stays_same d mid));
               talks = λ lacking all among holds through.
                   let most = MOST_UNSENT in
@@ -258,6 +263,7 @@ module _ (options : Options) (base : ℕ) where
             }
             | inr read ↦ record {
               schedule = read.reads.schedule ∙ sends.1.schedule;
+              under = λ n d is. reads_held read.reads n d (sends_held sends.1 n d is);
               others = λ d other. stays_then (stays_sent sends.1 d other) (stays_read read.reads d other);
               talks = λ lacking all among holds through.
                   let most = MOST_UNSENT in
@@ -291,6 +297,9 @@ module _ (options : Options) (base : ℕ) where
               | inr reads ↦ reads.reads.schedule ∙ sends.1.schedule
             ]
 
+            looked_held : (n d : ℕ) → held n (connections_of old) ≡ Some d → held n (connections_of log) ≡ Some d
+            looked_held n d is = looks_held options base now answers replies then (Ok r) c mid log looks n d (sends_held sends.1 n d is)
+
             looked_others : (d : ℕ) → (c == d) ≡ false → StaysAs d old log
             looked_others d other = stays_then (stays_sent sends.1 d other) (elim looks as (λ _. StaysAs d mid log) [
               | inl further ↦ subst (λ (l : Log). StaysAs d mid l) (sym further.same) (stays_same d mid)
@@ -302,6 +311,7 @@ module _ (options : Options) (base : ℕ) where
               pub visit_keeps_none : (n : ℕ) → Sends c (take n replies) log new → VisitLacks options base client answers c old new
               visit_keeps_none n then_sends = record {
                 schedule = then_sends.schedule ∙ looked_schedule;
+                under = λ n d is. sends_held then_sends n d (looked_held n d is);
                 others = λ d other. stays_then (looked_others d other) (stays_sent then_sends d other);
                 talks = λ lacking all among holds through.
                     let most = MOST_UNSENT in
@@ -312,6 +322,7 @@ module _ (options : Options) (base : ℕ) where
               pub visit_unsent : (broken : Broken) → SendsFrom {X = Bool} replies last.unsent (Err broken) c log new → Visits options base client answers last Over c old new
               visit_unsent broken then_sends = record {
                 schedule = then_sends.0.1.schedule ∙ looked_schedule;
+                under = λ n d is. sends_held then_sends.0.1 n d (looked_held n d is);
                 others = λ d other. stays_then (looked_others d other) (stays_sent then_sends.0.1 d other);
                 talks = λ lacking all holds through.
                     let most = MOST_UNSENT in
@@ -340,6 +351,7 @@ module _ (options : Options) (base : ℕ) where
                 visit_goes_on Over other = absurd (other refl)
                 visit_goes_on Waits other = record {
                   schedule = then_sends.1.schedule ∙ looked_schedule;
+                  under = λ n d is. sends_held then_sends.1 n d (looked_held n d is);
                   others = λ d other. stays_then (looked_others d other) (stays_sent then_sends.1 d other);
                   talks = λ lacking all holds through.
                       let most = MOST_UNSENT in
@@ -347,6 +359,7 @@ module _ (options : Options) (base : ℕ) where
                 }
                 visit_goes_on Again other = record {
                   schedule = then_sends.1.schedule ∙ looked_schedule;
+                  under = λ n d is. sends_held then_sends.1 n d (looked_held n d is);
                   others = λ d other. stays_then (looked_others d other) (stays_sent then_sends.1 d other);
                   talks = λ lacking all holds through.
                       let most = MOST_UNSENT in
@@ -356,6 +369,7 @@ module _ (options : Options) (base : ℕ) where
                 pub visit_ends : IsClient last → last.leaving ≡ true → last.unsent ≡ [] → Visits options base client answers last Over c old new
                 visit_ends is_last over none_left = record {
                   schedule = then_sends.1.schedule ∙ looked_schedule;
+                  under = λ n d is. sends_held then_sends.1 n d (looked_held n d is);
                   others = λ d other. stays_then (looked_others d other) (stays_sent then_sends.1 d other);
                   talks = λ lacking all holds through.
                       let most = MOST_UNSENT in

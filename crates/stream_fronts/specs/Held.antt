@@ -7,6 +7,7 @@ use Rattle.memcached_text.specs.Next.{next_of}
 use Rattle.stream_io.specs.declared.connections.Broken.{Broken}
 use Rattle.stream_io.specs.declared.connections.Input.{Input}
 use Rattle.stream_io.specs.declared.connections.Input.TheVariants.{Ended}
+use Rattle.stream_io.specs.State.{held}
 use Rattle.stream_io.specs.Log.{Log, connections_of, received_of, sent_of}
 use Rattle.mica_fronts.specs.Answered.{Answered}
 use Rattle.stream_fronts.specs.declared.answer.Stand.{Stand}
@@ -52,6 +53,7 @@ pub record StaysAs (d : ℕ) (old new : Log) : Type 0 where
 -- answers to this one.
 pub record Visits (options : Options) (base : ℕ) (client : Client) (answers : List Answered) (now : Client) (becomes : After) (c : ℕ) (old new : Log) : Type 0 where
   pub schedule : new.schedule ≡ old.schedule
+  pub under : (n d : ℕ) → held n (connections_of old) ≡ Some d → held n (connections_of new) ≡ Some d
   pub others : (d : ℕ) → (c == d) ≡ false → StaysAs d old new
   pub talks : (lacking : List ℕ) (all : List Given) → Holds options base MOST_UNSENT c old (given_to c all) client
       → TalksThrough options base MOST_UNSENT old.schedule lacking old.entries all
@@ -114,6 +116,7 @@ Lacks options base client answers c old new = LacksFurther options base client a
 -- The c-th connection was visited, and memory lacked for it. At each moment the front had talked with all clients all the same.
 pub record VisitLacks (options : Options) (base : ℕ) (client : Client) (answers : List Answered) (c : ℕ) (old new : Log) : Type 0 where
   pub schedule : new.schedule ≡ old.schedule
+  pub under : (n d : ℕ) → held n (connections_of old) ≡ Some d → held n (connections_of new) ≡ Some d
   pub others : (d : ℕ) → (c == d) ≡ false → StaysAs d old new
   pub talks : (lacking : List ℕ) (all : List Given) → IsAmong c lacking → Holds options base MOST_UNSENT c old (given_to c all) client
       → TalksThrough options base MOST_UNSENT old.schedule lacking old.entries all

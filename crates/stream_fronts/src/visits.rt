@@ -1,9 +1,12 @@
 //! Visits of a connection, one after another.
-ghost use Rattle.std.specs.Prelude.{◌≡◌, ◌<◌, ◌≤◌, IfOk, IfSome, vec_len};
+ghost use Rattle.std.specs.Prelude.{◌≡◌, ◌<◌, ◌≤◌, IfOk, IfSome, MatchResult, vec_len};
 ghost use Rattle.memcached_text.specs.declared.limits.TheConstants.{MAX_WAITING_LEN};
 ghost use Rattle.stream_fronts.specs.Calls.{LeavesPort, MovesFront};
 ghost use Rattle.stream_fronts.specs.Clients.{IsClient};
+ghost use Rattle.stream_fronts.specs.Going.{GoesBySome};
+ghost use Rattle.stream_fronts.specs.Held.{VisitLacks, Visits};
 ghost use Rattle.stream_fronts.specs.Open.{IsOpen, Keeps, OnLogs};
+ghost use Rattle.stream_fronts.specs.Traffic.{OnHeld};
 
 use crate::client::Client;
 use crate::desk::Desk;
@@ -39,6 +42,10 @@ pub fn visit_on<R: Threads + Wait + Sync, F: Changes, K: Clock, C: Connections>(
     ensures again { IfOk result (λ after. after ≡ After.Again → 0 < client.new.asks) }
     ensures room { vec_len desk.new.room ≡ MAX_WAITING_LEN }
     ensures client { IfOk result (λ _. IsClient client.new) }
+    ensures talks { GoesBySome (F.options front.old) F.is_alone (F.sessions front.old) (F.left front.old) (K.last clock.old) (F.sessions front.new) (F.left front.new) (K.last clock.new)
+        (λ answers. MatchResult result
+        (λ after. OnLogs (OnHeld number (Visits (F.options front.old) numbering.base client.old answers client.new after)) (C.log connections.old) (C.log connections.new))
+        (λ _. OnLogs (OnHeld number (VisitLacks (F.options front.old) numbering.base client.old answers)) (C.log connections.old) (C.log connections.new))) }
     ensures open { IfSome (C.log connections.new) (IsOpen number client.new.asks) }
     ensures keeps { OnLogs Keeps (C.log connections.old) (C.log connections.new) }
     ensures port { LeavesPort C.log C.has_ended C.faults C.port connections.old connections.new }
