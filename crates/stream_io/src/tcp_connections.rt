@@ -67,6 +67,8 @@ pub struct TcpConnections<'a> {
     queue: VecDeque<u32>,
     /// How many of these are reported before the system is asked again.
     turns: usize,
+    /// Whether this round may still end with a connection that waits to be accepted.
+    may_open: bool,
     faults: u64,
 }
 
@@ -181,6 +183,7 @@ impl<'a> TcpConnections<'a> {
             slots: Slab::new(alloc),
             queue: VecDeque::new(alloc),
             turns: 0,
+            may_open: false,
             faults: 0,
         })
     }
@@ -290,21 +293,20 @@ impl<'a> TcpConnections<'a> {
     fn report(&mut self) -> io::Result<Event>
         ensures { (self.new.port ≡ self.old.port) × (self.new.faults ≡ self.old.faults) }
     {
-        let mut asked = false;
         for _ in 0..u64::MAX {
             if self.turns > 0 {
                 self.turns -= 1;
                 if let Some(number) = self.take_ready() {
                     return Ok(Event::Ready(number));
                 }
-            } else if asked {
-                asked = false;
+            } else if self.may_open {
+                self.may_open = false;
                 if let Some(number) = self.accept() {
                     return Ok(Event::Opened(number));
                 }
             } else {
                 self.ask()?;
-                asked = true;
+                self.may_open = true;
             }
         }
         Err(ErrorKind::TimedOut.into())
