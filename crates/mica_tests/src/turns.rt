@@ -114,10 +114,10 @@ fn expect_goes_on(
     let mut net = MemNet::new(alloc, &[])?;
     net.add_port(alloc, 9_000, 200, row.recv_fails, row.reply_fails)?;
     net.add_port(alloc, 9_001, 200, &[], &[])?;
-    for port in 9_000..9_002 {
-        net.add_datagram(alloc, port, BATCH)?;
-        net.add_datagram(alloc, port, BATCH)?;
-    }
+    net.add_datagram(alloc, 9_000, BATCH)?;
+    net.add_datagram(alloc, 9_000, BATCH)?;
+    net.add_datagram(alloc, 9_001, BATCH)?;
+    net.add_datagram(alloc, 9_001, BATCH)?;
     let (status, sink) = run_two(rt, mode, &mut net, &FreeGate)?;
     assert!(rt; status == Status::NetFault);
     assert!(rt; sink.taken() == b"ready 9000 to 9001\nnet fault\n".as_slice());
