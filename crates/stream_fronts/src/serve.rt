@@ -5,7 +5,8 @@ ghost use Rattle.memcached_text.specs.declared.limits.TheConstants.{MAX_WAITING_
 ghost use Rattle.stream_fronts.specs.Calls.{LeavesPort, MovesFront};
 ghost use Rattle.stream_fronts.specs.Clients.{AreOpen};
 ghost use Rattle.stream_fronts.specs.Going.{GoesBy};
-ghost use Rattle.stream_fronts.specs.Open.{IsOpen, IsOpened};
+ghost use Rattle.stream_fronts.specs.Open.{IsOpen, IsOpened, OnLogs};
+ghost use Rattle.stream_fronts.specs.Standing.{GoesByGiven, StandsOn};
 
 use crate::answer::LIMITS;
 use crate::calls::{ask_again, close};
@@ -45,13 +46,15 @@ fn visit_held<R: Threads + Wait + Sync, F: Changes, K: Clock, C: Connections>(
     ensures clients { AreOpen clients.new.held.items (C.log connections.new) }
     ensures port { LeavesPort C.log C.has_ended C.faults C.port connections.old connections.new }
     ensures front { MovesFront F.options F.number F.stands F.is_alone F.sessions F.left K.last front.old clock.old front.new clock.new }
+    ensures serves { GoesByGiven (F.options front.old) F.is_alone (F.sessions front.old) (F.left front.old) (K.last clock.old) (F.sessions front.new) (F.left front.new) (K.last clock.new)
+        (λ given. OnLogs (StandsOn (F.options front.old) numbering.base (Event.Ready number) clients.old.held.items given clients.new.held.items) (C.log connections.old) (C.log connections.new)) }
     ensures left { left.new ≤ F.left front.new }
 {
     let Some(mut client) = clients.take(number) else {
         return;
     };
     let asks = client.asks;
-    let after = visit_on(
+    let visited = visit_on(
         rt,
         alloc,
         front,
@@ -63,14 +66,18 @@ fn visit_held<R: Threads + Wait + Sync, F: Changes, K: Clock, C: Connections>(
         &mut client,
         desk,
     );
+    let after = match visited {
+        Ok(after) => after,
+        Err(NoMemory) => return close(connections, number, asks),
+    };
     match after {
-        Ok(After::Waits) => clients.put(number, client),
-        Ok(After::Again) => {
+        After::Waits => clients.put(number, client),
+        After::Again => {
             ask_again(connections, number, client.asks);
             client.asks -= 1;
             clients.put(number, client);
         }
-        Ok(After::Over) | Err(NoMemory) => close(connections, number, asks),
+        After::Over => close(connections, number, asks),
     }
 }
 
