@@ -19,3 +19,6 @@ pub mod Revisiting
 pub mod GoingOn
 pub mod Standing
 pub mod Served
+pub mod TakenIn
+pub mod Reported
+pub mod Since

@@ -76,12 +76,14 @@ module _ (options : Options) (base : ℕ) where
           schedule = visit.schedule;
           on = λ lacking all is_new stands.
               let t = visit.talks lacking all (holds_at options base c here (stands.holds number client is_held)) stands.through in
-              let s = stands_visited options base lacking {old = a} {new = b} all clients taken number c here others gone visit.schedule visit.under visit.others answers t.0 stands in
-              ([], stands_put options base lacking number now others_put put (record {
-                place = c;
-                under = visit.under number c here;
-                holds = subst (λ g. Holds options base MOST_UNSENT c b g now) (sym (given_more c all answers)) t.1;
-              }) s);
+              let s = stands_visited options base lacking {old = a} {new = b} all clients taken number c here others gone visit.schedule visit.under visit.others answers t.0 stands in (
+                [],
+                stands_put options base lacking number now others_put put (record {
+                  place = c;
+                  under = visit.under number c here;
+                  holds = subst (λ g. Holds options base MOST_UNSENT c b g now) (sym (given_more c all answers)) t.1;
+                }) s,
+              );
         }
 
         pub serves_waits : (before after : Option Log) → at new number ≡ Some now → IfSome before (IsOpen number asks) → OnLogs (OnHeld number (Visits options base client answers now Waits)) before after
@@ -104,12 +106,14 @@ module _ (options : Options) (base : ℕ) where
                 let s = stands_visited options base lacking {old = a} {new = b} all clients taken number c here others gone visit.schedule visit.under visit.others answers t.0 stands in
                 let stays = stays_asked c b c in
                 let held_last = held_sent options base MOST_UNSENT c {old = b} {new = logged (asked c) b} now last place leaving (let same = ap length unsent in omega (arith, same)) stays.came
-                (ap (λ u. sent_of c b.entries ++ u) unsent) stays.over t.1 in
-                ([], stands_put options base lacking number last others_put put (record {
-                  place = c;
-                  under = under_asked c number c b (visit.under number c here);
-                  holds = subst (λ g. Holds options base MOST_UNSENT c (logged (asked c) b) g last) (sym (given_more c all answers)) held_last;
-                }) (stands_asked options base lacking c s));
+                (ap (λ u. sent_of c b.entries ++ u) unsent) stays.over t.1 in (
+                  [],
+                  stands_put options base lacking number last others_put put (record {
+                    place = c;
+                    under = under_asked c number c b (visit.under number c here);
+                    holds = subst (λ g. Holds options base MOST_UNSENT c (logged (asked c) b) g last) (sym (given_more c all answers)) held_last;
+                  }) (stands_asked options base lacking c s),
+                );
           }
 
           pub serves_again : (before between after : Option Log) → at new number ≡ Some last → IfSome before (IsOpen number asks)

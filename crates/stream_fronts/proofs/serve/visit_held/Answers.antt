@@ -154,8 +154,7 @@ returns-in-Err-clause-serves g c =
     let visit = c.visit_on-visited in
     let is_held = sym c.take.ensures.taken ∙ c.in-Some.is in
     let held = found_held number clients c.take.result c.in-Some.client before c.requires.clients c.take.ensures.taken c.in-Some.is in
-    let r = c.in-Err.ensures.talks in
-    (
+    let r = c.in-Err.ensures.talks in (
       given_by number before r.0,
       these_given options g.F.Front.is_alone r.0 (given_by number before r.0) (answers_by number before r.0) r.1,
       serves_lacks options base number clients c.take.new.self.held.items c.take.ensures.others c.take.ensures.gone c.in-Some.client is_held r.0 c.in-Some.client.asks before
