@@ -88,7 +88,7 @@ read_none : (breaks : Option ℕ) → readable breaks [] ≡ []
 read_none None = refl
 read_none (Some count) = take_none count
 
-ended_change : (change : Change) (x : Connection) → HasEnded x → HasEnded (after_change change x)
+pub ended_change : (change : Change) (x : Connection) → HasEnded x → HasEnded (after_change change x)
 ended_change change x is = record {
   ended = ap (λ t. t || change.ends) is.ended;
   read =

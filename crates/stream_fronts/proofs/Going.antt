@@ -8,6 +8,7 @@ use Rattle.mica_fronts.proofs.InOrder.{answers_append}
 use Rattle.memcached_text.specs.declared.next.Next.{Next}
 use Rattle.memcached_fronts.specs.Going.{GoesOn}
 use Rattle.memcached_fronts.specs.Seconds.{second_in, seconds_of, ToldFrom}
+use Rattle.stream_fronts.specs.Given.{Given, answers_in}
 use Rattle.stream_fronts.specs.Going.{GoesBy, GoesByThese}
 
 seconds_append : (one two : List Answered) → seconds_of (one ++ two) ≡ seconds_of one ++ seconds_of two
@@ -62,3 +63,9 @@ module _ (options : Options) (is_alone : Bool) where
   pub these_goes : {old : Sessions} {left told : ℕ} {answers : List Answered} {new : Sessions} {left_after tells : ℕ}
       → GoesByThese options is_alone old left told answers new left_after tells → GoesBy options is_alone old left told new left_after tells
   these_goes {answers = answers} these = record { answers = answers; in_order = these.in_order; seconds = these.seconds; few = these.few }
+
+  -- by the same answers, of which more is known
+  pub these_given : {old : Sessions} {left told : ℕ} {new : Sessions} {left_after tells : ℕ} (answers : List Answered) (given : List Given) → answers_in given ≡ answers
+      → GoesByThese options is_alone old left told answers new left_after tells → GoesByThese options is_alone old left told (answers_in given) new left_after tells
+  these_given {old} {left} {told} {new} {left_after} {tells} answers given same these =
+      subst (λ a. GoesByThese options is_alone old left told a new left_after tells) (sym same) these

@@ -11,8 +11,14 @@ pub mod Traffic
 pub mod Talking
 pub mod Moments
 pub mod Drying
+pub mod Making
 pub mod Staying
 pub mod Visiting
 pub mod Visited
 pub mod Revisiting
 pub mod GoingOn
+pub mod Standing
+pub mod Served
+pub mod TakenIn
+pub mod Reported
+pub mod Since

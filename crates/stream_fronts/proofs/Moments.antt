@@ -1,5 +1,5 @@
 -- What is true at each moment of a log stays so as calls add to it, and as more is answered.
-use Rattle.std.proofs.Common.{◌≡◌, ℕ, ◌+◌, ◌==◌, ◌≤◌, inl, Bool, true, false, cond, List, [], ◌∷◌, ◌++◌, length, map, refl, sym, ap, ◌∙◌, subst, arith, append_assoc, length-append}
+use Rattle.std.proofs.Common.{◌≡◌, ℕ, ◌+◌, ◌==◌, ◌≤◌, inl, inr, Bool, true, false, cond, List, [], ◌∷◌, ◌++◌, length, map, refl, sym, ap, ◌∙◌, subst, arith, append_assoc, length-append}
 use Rattle.std.specs.Prelude.{filter}
 use Rattle.std.specs.List.{AllByRecursion}
 use Rattle.std.proofs.lemmas.List.{append-nil, map-append}
@@ -13,7 +13,7 @@ use Rattle.stream_io.specs.Log.{received_of, sent_of}
 use Rattle.mica_fronts.specs.Answered.{Answered}
 use Rattle.stream_fronts.specs.Given.{Given, given_to}
 use Rattle.stream_fronts.specs.Talk.{IsBeginning, TalksWith}
-use Rattle.stream_fronts.specs.Moments.{TalksWithOne, TalksWithAll, HasCause, TalksThrough}
+use Rattle.stream_fronts.specs.Moments.{IsAmong, TalksWithOne, TalksWithAll, HasCause, TalksThrough}
 use Rattle.stream_fronts.specs.Traffic.{IsSend}
 use Rattle.stream_fronts.specs.Held.{all_to}
 use Rattle.stream_fronts.proofs.Talking.{Told}
@@ -42,6 +42,9 @@ given_more c all answers = given_both c all (all_to c answers) ∙ ap (λ l. giv
 pub given_others : (c d : ℕ) (all : List Given) (answers : List Answered) → (c == d) ≡ false → given_to d (all ++ all_to c answers) ≡ given_to d all
 given_others c d all answers other =
     given_both d all (all_to c answers) ∙ ap (λ l. given_to d all ++ l) (to_others c d answers other) ∙ append-nil (given_to d all)
+
+among_more : (x c : ℕ) (all : List ℕ) → IsAmong c all → IsAmong c (x ∷ all)
+among_more x c all among = (x ∷ among.0, among.1, ap (λ l. x ∷ l) among.2)
 
 module _ (options : Options) (base most : ℕ) where
   -- One connection, and the others
@@ -72,6 +75,34 @@ module _ (options : Options) (base most : ℕ) where
     pub last_moment : (entries : List Entry) (all : List Given) → TalksThrough options base most schedule lacking entries all → TalksWithAll options base most lacking entries all
     last_moment [] all through = through
     last_moment (e ∷ entries) all through = through.0
+
+    -- Memory lacked for one more
+
+    talks_lacking : (x c : ℕ) (came went : List ℕ) (answers : List Answered) → TalksWithOne options base most lacking c came went answers → TalksWithOne options base most (x ∷ lacking) c came went answers
+    talks_lacking x c came went answers talks = elim talks as (λ _. TalksWithOne options base most (x ∷ lacking) c came went answers) [
+      | inl t ↦ inl t
+      | inr kept ↦ inr (among_more x c lacking kept.0, kept.1)
+    ]
+
+    cause_lacking : (x : ℕ) (entry : Entry) (entries : List Entry) (all : List Given) → HasCause options base schedule lacking entry entries all → HasCause options base schedule (x ∷ lacking) entry entries all
+    cause_lacking x (closed c) entries all cause = elim cause as (λ _. HasCause options base schedule (x ∷ lacking) (closed c) entries all) [
+      | inl among ↦ inl (among_more x c lacking among)
+      | inr may ↦ inr may
+    ]
+    cause_lacking x (opened n) entries all cause = tt
+    cause_lacking x (reported n) entries all cause = tt
+    cause_lacking x met entries all cause = tt
+    cause_lacking x (received e bytes) entries all cause = tt
+    cause_lacking x (sent e bytes) entries all cause = tt
+    cause_lacking x (asked e) entries all cause = tt
+
+    pub through_lacking : (x : ℕ) (entries : List Entry) (all : List Given) → TalksThrough options base most schedule lacking entries all
+        → TalksThrough options base most schedule (x ∷ lacking) entries all
+    through_lacking x [] all through = λ c. talks_lacking x c [] [] (given_to c all) (through c)
+    through_lacking x (e ∷ entries) all through = (
+      λ c. talks_lacking x c (received_of c (e ∷ entries)) (sent_of c (e ∷ entries)) (given_to c all) (through.0 c),
+      (through.1.0, through.1.1, cause_lacking x e entries through.1.0 through.1.2, through_lacking x entries through.1.0 through.1.3),
+    )
 
     -- one entry more
     pub through_entry : (entry : Entry) (entries : List Entry) (all : List Given) → TalksWithAll options base most lacking (entry ∷ entries) all

@@ -146,7 +146,7 @@ abbrev number_in : Event → ℕ
 number_in (Opened number) = number
 number_in (Ready number) = number
 
-next_at : (event : Event) (s : State) (later : List Step) → IsNext event s.connections later → (n d a : ℕ) → IsAt n d a s.connections
+pub next_at : (event : Event) (s : State) (later : List Step) → IsNext event s.connections later → (n d a : ℕ) → IsAt n d a s.connections
     → IsAt n d a (after_report (number_in event) s later).connections
 next_at (Opened number) s [] is n d a at = absurd is
 next_at (Opened number) s (Opens window bytes ∷ later) is n d a at = pushed n d a s.connections _ at

@@ -30,7 +30,7 @@ same_place n c f [] same = refl
 same_place n zero f (x ∷ all) same = let e = same x refl in grind (arith, common_steps)
 same_place n (suc c) f (x ∷ all) same = let rest = same_place n c f all same in grind (arith, common_steps)
 
-same_held : (n c : ℕ) (f : Connection → Connection) (all : List Connection) → ((x : Connection) → slice_get all c ≡ Some x → is_under n (f x) ≡ is_under n x) → held n (changed c f all) ≡ held n all
+pub same_held : (n c : ℕ) (f : Connection → Connection) (all : List Connection) → ((x : Connection) → slice_get all c ≡ Some x → is_under n (f x) ≡ is_under n x) → held n (changed c f all) ≡ held n all
 same_held n c f all same =
     ap (λ p. cond (ltb p (length (changed c f all))) (Some p) None) (same_place n c f all same)
     ∙ ap (λ k. cond (ltb (position_or_len (is_under n) all) k) (Some (position_or_len (is_under n) all)) None) (length_changed c f all)
@@ -94,7 +94,7 @@ asked_others n c m d a all other here at = (
 )
 
 -- a number that a connection is not under is not that of the same, closed
-closed_other : (n m : ℕ) (x : Connection) → m ≢ n → is_under n x ≡ true → is_under m (after_close x) ≡ is_under m x
+pub closed_other : (n m : ℕ) (x : Connection) → m ≢ n → is_under n x ≡ true → is_under m (after_close x) ≡ is_under m x
 closed_other n m x other here = by (is_under m x) refl
   where
     gone : (b : Bool) → b && false ≡ false

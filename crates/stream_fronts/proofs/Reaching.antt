@@ -226,6 +226,20 @@ module _ (options : Options) (base : ℕ) where
       subst (λ g. Spoke options base most received g due) (append_assoc given one two)
       (spoke_less due first.text less (then received (given ++ one) (due ++ first.text) (first.on received given due r)))
 
+  -- nothing was said yet
+  pub begins_none : Reaches options base (place_at [] 0) [] [] []
+  begins_none = record {
+    whole = [];
+    part = [];
+    spells = refl;
+    follows = tt;
+    begins = no_answers (next_of []);
+    count = refl;
+    answered = refl;
+    due_is = nothing_before options base (next_of []);
+    missing = omega arith;
+  }
+
   -- One after another
 
   pub on_none : (place : Place) (old : List ℕ) → GoesOnTo options base place [] old old (Reaches options base place)

@@ -68,12 +68,3 @@ module _ (options : Options) (base c : ℕ) where
       talks = λ lacking all among holds through.
           through_both two new lacking all (second.talks lacking (all ++ all_to c one) among (held_between lacking all holds through) (through_between lacking all holds through));
     }
-
-  -- or as if it had
-  pub visits_stop : {client now : Client} {answers : List Answered} {old new : Log} → Visits options base client answers now Again c old new → VisitLacks options base client answers c old new
-  visits_stop visits = record {
-    schedule = visits.schedule;
-    under = visits.under;
-    others = visits.others;
-    talks = λ lacking all among holds through. (visits.talks lacking all holds through).0;
-  }

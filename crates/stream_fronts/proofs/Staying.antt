@@ -11,12 +11,18 @@ use Rattle.stream_fronts.specs.Traffic.{IsSend, Sends, Reads, HasEnded, after_re
 use Rattle.stream_fronts.specs.Held.{StaysAs}
 use Rattle.stream_fronts.proofs.Traffic.{sends_received, mets_sent, mets_received, mets_send}
 use Rattle.stream_fronts.proofs.Drying.{sends_ended, ended_sends, in_changed}
+use Rattle.stream_fronts.proofs.Making.{made_sends, made_reads}
 
 pub stays_same : (d : ℕ) (log : Log) → StaysAs d log log
-stays_same d log = record { came = refl; went = refl; over = λ is. is }
+stays_same d log = record { came = refl; went = refl; over = λ is. is; made = λ none. none }
 
 pub stays_then : {d : ℕ} {old between new : Log} → StaysAs d old between → StaysAs d between new → StaysAs d old new
-stays_then first second = record { came = second.came ∙ first.came; went = second.went ∙ first.went; over = λ is. second.over (first.over is) }
+stays_then first second = record {
+  came = second.came ∙ first.came;
+  went = second.went ∙ first.went;
+  over = λ is. second.over (first.over is);
+  made = λ none. first.made (second.made none);
+}
 
 -- Bytes that were sent
 
@@ -36,6 +42,7 @@ stays_sent {c} {text} {old} {new} sends d other = record {
   came = ap (received_of d) sends.entries ∙ sends_received c sends.more old.entries sends.each d;
   went = ap (sent_of d) sends.entries ∙ sent_others c d other sends.more old.entries sends.each;
   over = sends_ended sends d;
+  made = made_sends sends d;
 }
 
 -- Bytes that were received
@@ -65,4 +72,5 @@ stays_read {c} {bytes} {old} {new} reads d other = record {
       subst (λ (e : List Entry). IfSome (slice_get (state_after new.schedule e).connections d) HasEnded) (sym reads.entries)
       (subst (λ (s : List Step). IfSome (slice_get (state_after s (after_receiving c bytes (reads.mets ++ old.entries))).connections d) HasEnded) (sym reads.schedule)
       (ended_receiving c old.schedule bytes (reads.mets ++ old.entries) d (ended_sends c old.schedule reads.mets old.entries (mets_send c reads.mets reads.each) d is)));
+  made = made_reads reads d;
 }

@@ -74,7 +74,7 @@ module _ (options : Options) (base : ℕ) where
     -- What is held
 
     -- more was sent of what is unsent
-    held_sent : {old new : Log} {given : List Answered} (client now : Client) → place_of now ≡ place_of client → now.leaving ≡ client.leaving → length now.unsent ≤ length client.unsent
+    pub held_sent : {old new : Log} {given : List Answered} (client now : Client) → place_of now ≡ place_of client → now.leaving ≡ client.leaving → length now.unsent ≤ length client.unsent
         → received_of c new.entries ≡ received_of c old.entries → sent_of c new.entries ++ now.unsent ≡ sent_of c old.entries ++ client.unsent
         → (IsIn HasEnded c old → IsIn HasEnded c new) → Holds options base most c old given client → Holds options base most c new given now
     held_sent {old} {new} {given} client now place leaving fewer received due over holds = elim holds as (λ _. Holds options base most c new given now) [

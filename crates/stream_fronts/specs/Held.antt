@@ -1,5 +1,5 @@
 -- What is held of a client beside its talk, and what a visit makes of both.
-use Rattle.std.specs.Prelude.{◌≡◌, ◌⊎◌, ℕ, ◌==◌, ◌≤◌, Bool, true, false, List, [], ◌++◌, length, map, take, drop, slice_get, Option, Some, IfSome, Result, Ok, Err}
+use Rattle.std.specs.Prelude.{◌≡◌, ◌⊎◌, ℕ, ◌==◌, ◌≤◌, Bool, true, false, List, [], ◌++◌, length, map, take, drop, slice_get, Option, None, Some, IfSome, Result, Ok, Err}
 use Rattle.partition_model.specs.declared.options.Options.{Options}
 use Rattle.memcached_text.specs.declared.next.Next.TheVariants.{More}
 use Rattle.memcached_text.specs.declared.limits.TheConstants.{MAX_WAITING_LEN}
@@ -43,11 +43,12 @@ Becomes options base most c log answers client Over =
     IfSome (slice_get (connections_of log) c) (λ connection. MayClose options base connection (received_of c log.entries) (sent_of c log.entries) answers)
 Becomes options base most c log answers client _ = Holds options base most c log answers client
 
--- nothing moved of the d-th connection, and where it had ended it has
+-- nothing moved of the d-th connection; where it had ended it has, and where it is not made it was not
 pub record StaysAs (d : ℕ) (old new : Log) : Type 0 where
   pub came : received_of d new.entries ≡ received_of d old.entries
   pub went : sent_of d new.entries ≡ sent_of d old.entries
   pub over : IsIn HasEnded d old → IsIn HasEnded d new
+  pub made : slice_get (connections_of new) d ≡ None → slice_get (connections_of old) d ≡ None
 
 -- The c-th connection was visited, where this was held of its client. Where the front had talked with all clients before, at each moment, it has with these
 -- answers to this one.

@@ -11,4 +11,5 @@ pub mod Traffic
 pub mod Parts
 pub mod Clients
 pub mod Held
+pub mod Standing
 pub mod StreamPorts

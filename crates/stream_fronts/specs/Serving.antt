@@ -1,5 +1,5 @@
 -- What a front made of the connections at its port.
-use Rattle.std.specs.Prelude.{◌≡◌, ℕ, Bool, true, List, [], length, slice_get, IfSome}
+use Rattle.std.specs.Prelude.{◌≡◌, ℕ, Bool, true, List, [], slice_get, IfSome}
 use Rattle.partition_model.specs.declared.options.Options.{Options}
 use Rattle.stream_io.specs.Log.{Log, state_of, connections_of, received_of, sent_of}
 use Rattle.mica_fronts.specs.Session.{Sessions, AnswersInOrder}
@@ -14,13 +14,22 @@ pub record FrontAt : Type 0 where
   pub second : ℕ
 
 -- All answers of the front are one list: its sessions went on by them in this order, and the clock told their seconds. At each moment of the log they are what
--- it talked with its clients. For so many connections there was no memory.
-pub record Serves (options : Options) (is_alone : Bool) (base most : ℕ) (old new : FrontAt) (lacks : ℕ) (log : Log) (all : List Given) : Type 0 where
+-- it talked with its clients. For some connections there was no memory.
+pub record Serves (options : Options) (is_alone : Bool) (base most : ℕ) (old new : FrontAt) (log : Log) (all : List Given) : Type 0 where
   pub in_order : AnswersInOrder options is_alone old.sessions (answers_in all) new.sessions
   pub seconds : ToldFrom old.second (seconds_of (answers_in all)) new.second
   pub lacking : List ℕ
-  pub counted : length lacking ≡ lacks
   pub through : TalksThrough options base most log.schedule lacking log.entries all
+
+-- The log goes on, and the front served what it tells.
+pub record ServesLog (options : Options) (is_alone : Bool) (base most : ℕ) (old new : FrontAt) (before after : Log) : Type 0 where
+  pub same : after.schedule ≡ before.schedule
+  pub all : List Given
+  pub serves : Serves options is_alone base most old new after all
+
+-- so, from where nothing had been done
+abbrev pub ServesFromNone : Options → Bool → ℕ → ℕ → FrontAt → FrontAt → Log → Log → Type 0
+ServesFromNone options is_alone base most old new before after = before.entries ≡ [] → ServesLog options is_alone base most old new before after
 
 -- Nothing is left to be reported, and each connection is settled.
 pub record IsDone (options : Options) (base : ℕ) (log : Log) (all : List Given) : Type 0 where
@@ -28,9 +37,7 @@ pub record IsDone (options : Options) (base : ℕ) (log : Log) (all : List Given
   pub settled : (c : ℕ) → IfSome (slice_get (connections_of log) c)
       (λ connection. IsSettled options base connection (received_of c log.entries) (sent_of c log.entries) (given_to c all))
 
--- The log goes on from where nothing had been done, and the front served what it tells; where the end came, to the end.
-pub record ServesAll (options : Options) (is_alone : Bool) (base most : ℕ) (old new : FrontAt) (lacks : ℕ) (has_ended : Bool) (before after : Log) : Type 0 where
-  pub same : after.schedule ≡ before.schedule
-  pub all : List Given
-  pub serves : Serves options is_alone base most old new lacks after all
-  pub done : has_ended ≡ true → IsDone options base after all
+-- The front served what the log tells; where the end came, to the end.
+pub record ServesAll (options : Options) (is_alone : Bool) (base most : ℕ) (old new : FrontAt) (has_ended : Bool) (before after : Log) : Type 0 where
+  pub serves : ServesLog options is_alone base most old new before after
+  pub done : has_ended ≡ true → IsDone options base after serves.all

@@ -1,6 +1,8 @@
 //! What a front holds of one connection.
-ghost use Rattle.std.specs.Prelude.{◌≡◌};
+ghost use Rattle.std.specs.Prelude.{◌≡◌, ℕ, false, []};
+ghost use Rattle.partition_model.specs.declared.options.Options.{Options};
 ghost use Rattle.stream_fronts.specs.Clients.{IsClient};
+ghost use Rattle.stream_fronts.specs.Reached.{Reaches, place_of};
 
 use crate::unsent::Unsent;
 use std::alloc::Global;
@@ -22,9 +24,13 @@ pub struct Client {
 }
 
 impl Client {
+    /// One that said nothing yet.
     pub fn new(alloc: Global) -> Client
         ensures client { IsClient result }
         ensures asks { result.asks ≡ 0 }
+        ensures reading { result.leaving ≡ false }
+        ensures unsent { result.unsent ≡ [] }
+        ensures talk { (options : Options) (base : ℕ) → Reaches options base (place_of result) [] [] [] }
     {
         Client {
             kept: Vec::new(alloc),

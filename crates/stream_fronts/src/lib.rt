@@ -14,11 +14,12 @@
 //! receives once and answers; `visit_on` goes on so until there is no more to do at once, or the connection may be asked for again. What is held under a number
 //! is what was held there last.
 //!
-//! Of one visit it is proved which bytes a client gets: where what is held of a client goes with its talk, and the front had talked with all clients before, at
-//! each moment of the log, both are so after `visit_once`; where the connection is over, there is a cause for its close (`specs/Held`). After want of memory
-//! the front had talked with all clients all the same, and this one is to be closed. Of the loop this is not yet said by any contract, but defined: `Talk` says
-//! what a front and one of its clients said to each other, `Closing` why a connection is closed and what one that is open waits for, `Moments` what is true at
-//! each moment of a port's log, and `Serving` what the front made of its port.
+//! Which bytes a client gets is proved, too (`specs/Serving`). Where nothing had been done with the port before, all answers of the front are one list, each
+//! given to one client; and at each moment of the port's log the front had talked with each client by those that were given then: what was received spells
+//! what was answered, and what was sent is a beginning of what is due to that (`specs/Talk`, `specs/Moments`). A connection is closed where there is a cause
+//! for it, or no memory (`specs/Closing`). Of one visit this says `specs/Held`, and of what is held of all clients between visits `specs/Standing`.
+//!
+//! What one that is open waits for at the end is defined (`IsDone`), and not yet said by any contract.
 #![tactic(auto)]
 
 mod answer;

@@ -1,11 +1,15 @@
 //! One front behind its port.
-ghost use Rattle.std.specs.Prelude.{◌≡◌, ◌<◌, ◌≤◌, false, length, is_some, IfOk, IfSome, IsErrOf, vec_len};
+ghost use Rattle.std.specs.Prelude.{◌≡◌, ◌<◌, ◌≤◌, ℕ, false, [], length, is_some, IfOk, IfSome, IsErrOf, vec_len};
+ghost use Rattle.partition_model.specs.declared.options.Options.{Options};
 ghost use Rattle.mica_io.specs.Faults.{Rose};
 ghost use Rattle.memcached_text.specs.declared.limits.TheConstants.{MAX_WAITING_LEN};
+ghost use Rattle.stream_fronts.specs.declared.desk.TheConstants.{MOST_UNSENT};
 ghost use Rattle.stream_fronts.specs.Calls.{LeavesPort, MovesFront};
 ghost use Rattle.stream_fronts.specs.Clients.{AreOpen};
 ghost use Rattle.stream_fronts.specs.Going.{GoesBy};
-ghost use Rattle.stream_fronts.specs.Open.{IsOpen, IsOpened};
+ghost use Rattle.stream_fronts.specs.Open.{IsOpen, IsOpened, OnLogs};
+ghost use Rattle.stream_fronts.specs.Serving.{ServesFromNone};
+ghost use Rattle.stream_fronts.specs.Standing.{GoesByGiven, StandsOn};
 
 use crate::answer::LIMITS;
 use crate::calls::{ask_again, close};
@@ -45,13 +49,15 @@ fn visit_held<R: Threads + Wait + Sync, F: Changes, K: Clock, C: Connections>(
     ensures clients { AreOpen clients.new.held.items (C.log connections.new) }
     ensures port { LeavesPort C.log C.has_ended C.faults C.port connections.old connections.new }
     ensures front { MovesFront F.options F.number F.stands F.is_alone F.sessions F.left K.last front.old clock.old front.new clock.new }
+    ensures serves { GoesByGiven (F.options front.old) F.is_alone (F.sessions front.old) (F.left front.old) (K.last clock.old) (F.sessions front.new) (F.left front.new) (K.last clock.new)
+        (λ given. OnLogs (StandsOn (F.options front.old) numbering.base (Event.Ready number) clients.old.held.items given clients.new.held.items) (C.log connections.old) (C.log connections.new)) }
     ensures left { left.new ≤ F.left front.new }
 {
     let Some(mut client) = clients.take(number) else {
         return;
     };
     let asks = client.asks;
-    let after = visit_on(
+    let visited = visit_on(
         rt,
         alloc,
         front,
@@ -63,14 +69,18 @@ fn visit_held<R: Threads + Wait + Sync, F: Changes, K: Clock, C: Connections>(
         &mut client,
         desk,
     );
+    let after = match visited {
+        Ok(after) => after,
+        Err(NoMemory) => return close(connections, number, asks),
+    };
     match after {
-        Ok(After::Waits) => clients.put(number, client),
-        Ok(After::Again) => {
+        After::Waits => clients.put(number, client),
+        After::Again => {
             ask_again(connections, number, client.asks);
             client.asks -= 1;
             clients.put(number, client);
         }
-        Ok(After::Over) | Err(NoMemory) => close(connections, number, asks),
+        After::Over => close(connections, number, asks),
     }
 }
 
@@ -80,6 +90,8 @@ fn take_in<C: Connections>(alloc: Global, connections: &mut C, number: u32, clie
     requires open { IfSome (C.log connections.old) (IsOpen number 0) }
     ensures clients { AreOpen clients.new.held.items (C.log connections.new) }
     ensures port { LeavesPort C.log C.has_ended C.faults C.port connections.old connections.new }
+    ensures serves { (options : Options) (base : ℕ)
+        → OnLogs (StandsOn options base (Event.Opened number) clients.old.held.items [] clients.new.held.items) (C.log connections.old) (C.log connections.new) }
 {
     match clients.make_room(number) {
         Ok(()) => clients.put(number, Client::new(alloc)),
@@ -113,6 +125,8 @@ fn serve_event<R: Threads + Wait + Sync, F: Changes, K: Clock, C: Connections>(
     ensures clients { AreOpen clients.new.held.items (C.log connections.new) }
     ensures port { LeavesPort C.log C.has_ended C.faults C.port connections.old connections.new }
     ensures front { MovesFront F.options F.number F.stands F.is_alone F.sessions F.left K.last front.old clock.old front.new clock.new }
+    ensures serves { GoesByGiven (F.options front.old) F.is_alone (F.sessions front.old) (F.left front.old) (K.last clock.old) (F.sessions front.new) (F.left front.new) (K.last clock.new)
+        (λ given. OnLogs (StandsOn (F.options front.old) numbering.base event clients.old.held.items given clients.new.held.items) (C.log connections.old) (C.log connections.new)) }
     ensures left { left.new ≤ F.left front.new }
 {
     match event {
@@ -133,7 +147,7 @@ fn serve_event<R: Threads + Wait + Sync, F: Changes, K: Clock, C: Connections>(
 }
 
 /// Serves the connections of a port, to its end, or until nearly so many writes were given to the front. A connection that there is no memory for is closed.
-#[tactic(auto, using(crate::proofs::Holding::none_held, crate::proofs::Going::by_none, crate::proofs::Going::by_both))]
+#[tactic(auto, using(crate::proofs::Going::by_none))]
 pub fn serve_connections<R: Threads + Wait + Sync, F: Changes, K: Clock, C: Connections>(
     rt: &R,
     alloc: Global,
@@ -147,6 +161,8 @@ pub fn serve_connections<R: Threads + Wait + Sync, F: Changes, K: Clock, C: Conn
     requires partitions { numbering.partitions ≡ (F.options front.old).partitions }
     requires left { most ≤ F.left front.old }
     ensures goes { GoesBy (F.options front.old) F.is_alone (F.sessions front.old) (F.left front.old) (K.last clock.old) (F.sessions front.new) (F.left front.new) (K.last clock.new) }
+    ensures serves { OnLogs (ServesFromNone (F.options front.old) F.is_alone numbering.base MOST_UNSENT (record { sessions = F.sessions front.old; second = K.last clock.old })
+        (record { sessions = F.sessions front.new; second = K.last clock.new })) (C.log connections.old) (C.log connections.new) }
     ensures cause { IsErrOf result ServeFault.Net → Rose (C.faults connections.old) (C.faults connections.new) }
     ensures none_served { IsErrOf result ServeFault.NoMemory → (front.new ≡ front.old) × (connections.new ≡ connections.old) }
     ensures never_fall { C.faults connections.old ≤ C.faults connections.new }

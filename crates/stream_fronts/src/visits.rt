@@ -21,7 +21,6 @@ use std::thread::Threads;
 use stream_io::Connections;
 
 /// Visits until there is no more to do at once, or it may be asked for again.
-#[tactic(auto, using(crate::proofs::Opening::same_keeps, crate::proofs::Going::by_none, crate::proofs::Going::by_both))]
 pub fn visit_on<R: Threads + Wait + Sync, F: Changes, K: Clock, C: Connections>(
     rt: &R,
     alloc: Global,

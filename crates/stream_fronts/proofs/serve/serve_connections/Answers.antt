@@ -1,9 +1,18 @@
-use Rattle.std.proofs.Common.{subst}
-use Rattle.std.specs.Prelude.{IfSome}
-use Rattle.stream_io.specs.Calls.{ReportsNext}
+use Rattle.std.proofs.Common.{◌≡◌, [], refl, sym, ◌∙◌, subst, arith}
+use Rattle.std.specs.Prelude.{is_none, IfSome, IfNone}
+use Rattle.partition_model.specs.declared.options.Options.{Options}
+use Rattle.stream_io.specs.Calls.{ReportsNext, IsOver}
+use Rattle.stream_fronts.specs.declared.desk.TheConstants.{MOST_UNSENT}
+use Rattle.stream_fronts.specs.Clients.{AreOpen}
+use Rattle.stream_fronts.specs.Going.{GoesBy}
+use Rattle.stream_fronts.specs.Open.{OnLogs}
+use Rattle.stream_fronts.specs.Serving.{ServesFromNone}
+use Rattle.stream_fronts.proofs.Going.{by_none, by_both}
 use Rattle.stream_fronts.proofs.Opening.{tells_keeps, tells_opened}
-use Rattle.stream_fronts.proofs.Holding.{all_kept}
+use Rattle.stream_fronts.proofs.Holding.{all_kept, none_held}
+use Rattle.stream_fronts.proofs.Since.{since_none, since_then, since_serves, since_called, over_called}
 use Rattle.stream_fronts.proofs.serve.serve_connections.Goals as goal
+use Rattle.stream_fronts.proofs.serve.serve_connections.Goals.{in-None, in-Some+then-left-least, in-Some+else-left-least+in_ok-event+in_default}
 
 pub serve_event-requires-clause-clients : goal.serve_event-requires-clause-clients
 serve_event-requires-clause-clients g c κs within =
@@ -18,3 +27,93 @@ serve_event-requires-clause-event g c κs within =
     let after = g.C.Connections.log c.next-in-loop.new.self in
     let reports = subst (λ got. IfSome got (λ event. IfSome before (λ l. ReportsNext l event after))) c.in-Some-2.is c.in_ok-event.ensures.next in
     tells_opened c.in-Some-2.event before after c.in_ok-event.ensures.told reports
+
+pub loop-init : goal.loop-init
+loop-init g c =
+    let log = g.C.Connections.log c.args.connections.now in
+    let options = g.F.Front.options c.args.front.now in (
+      c.in_ok-desk.ensures,
+      subst (λ held. AreOpen held log) (sym c.new-clients.ensures) (none_held log),
+      c.requires.«open»,
+      by_none options g.F.Front.is_alone (g.F.Front.sessions c.args.front.now) (g.F.Front.left c.args.front.now) (g.K.Clock.last c.args.clock.now),
+      c.requires.left,
+      omega arith,
+      refl,
+      refl,
+      refl,
+      refl,
+      refl,
+      since_none options g.F.Front.is_alone c.args.numbering.base (g.F.Front.sessions c.args.front.now) (g.F.Front.left c.args.front.now) (g.K.Clock.last c.args.clock.now)
+          c.new-clients.result.held.items c.new-clients.ensures log,
+    )
+
+pub loop-preserved : goal.loop-preserved
+loop-preserved g c =
+    let log = g.C.Connections.log in
+    let options = g.F.Front.options c.args.front.now in
+    let inv = c.loop.invariant in
+    let before = log c.loop.connections in
+    let after = log c.next-in-loop.new.self in
+    let next = c.in_ok-event.ensures in
+    let served = c.serve_event.ensures in
+    let reports = subst (λ got. IfSome got (λ event. IfSome before (λ l. ReportsNext l event after))) c.in-Some-2.is next.next in
+    let on = subst (λ got. g.C.Connections.has_ended c.next-in-loop.new.self ≡ is_none got) c.in-Some-2.is next.ended in
+    let more = subst
+    (λ (o : Options). GoesBy o g.F.Front.is_alone (g.F.Front.sessions c.loop.front) (g.F.Front.left c.loop.front) (g.K.Clock.last c.loop.clock) (g.F.Front.sessions c.serve_event.new.front)
+    (g.F.Front.left c.serve_event.new.front) (g.K.Clock.last c.serve_event.new.clock)) inv.7 served.front.goes in (
+      served.room,
+      served.clients,
+      served.port.ended ∙ on,
+      by_both options g.F.Front.is_alone (g.F.Front.sessions c.args.front.now) (g.F.Front.sessions c.loop.front) (g.F.Front.sessions c.serve_event.new.front) (g.F.Front.left c.args.front.now)
+          (g.F.Front.left c.loop.front) (g.F.Front.left c.serve_event.new.front) (g.K.Clock.last c.args.clock.now) (g.K.Clock.last c.loop.clock) (g.K.Clock.last c.serve_event.new.clock) inv.3 more,
+      served.left,
+      (let first = inv.5 in let second = next.never_fall in let third = served.port.no_fault in omega (arith, first, second, third)),
+      served.port.same_port ∙ next.port ∙ inv.6,
+      served.front.same_options ∙ inv.7,
+      served.front.same_number ∙ inv.8,
+      served.front.same_stands ∙ inv.9,
+      served.port.told ∙ next.told ∙ inv.10,
+      since_then options g.F.Front.is_alone c.args.numbering.base (g.F.Front.sessions c.args.front.now) (g.F.Front.left c.args.front.now) (g.K.Clock.last c.args.clock.now)
+          c.loop.clients.held.items c.serve_event.new.clients.held.items c.in-Some-2.event (log c.args.connections.now) before after (log c.serve_event.new.connections) inv.11 next.told reports
+          (g.F.Front.options c.loop.front) inv.7 served.serves,
+    )
+
+pub returns-in_err-desk-clause-serves : goal.returns-in_err-desk-clause-serves
+returns-in_err-desk-clause-serves g c =
+    let log = g.C.Connections.log c.args.connections.now in
+    let options = g.F.Front.options c.args.front.now in
+    let sessions = g.F.Front.sessions c.args.front.now in
+    let left = g.F.Front.left c.args.front.now in
+    let told = g.K.Clock.last c.args.clock.now in
+    since_serves options g.F.Front.is_alone c.args.numbering.base sessions left told sessions left told [] log log
+    (since_none options g.F.Front.is_alone c.args.numbering.base sessions left told [] refl log)
+
+pub returns-in_err-event-clause-serves : goal.returns-in_err-event-clause-serves
+returns-in_err-event-clause-serves g c =
+    let log = g.C.Connections.log in
+    since_called (g.F.Front.options c.args.front.now) g.F.Front.is_alone c.args.numbering.base (g.F.Front.sessions c.args.front.now) (g.F.Front.left c.args.front.now) (g.K.Clock.last c.args.clock.now)
+    (g.F.Front.sessions c.loop.front) (g.F.Front.left c.loop.front) (g.K.Clock.last c.loop.clock) c.loop.clients.held.items (log c.args.connections.now) (log c.loop.connections)
+    (log c.next-in-loop.new.self) c.loop.invariant.11 c.in_err-event.ensures.unmoved
+
+pub returns-clause-serves : goal.returns-clause-serves
+returns-clause-serves g c =
+    let log = g.C.Connections.log in
+    let options = g.F.Front.options c.args.front.now in
+    let here = since_serves options g.F.Front.is_alone c.args.numbering.base (g.F.Front.sessions c.args.front.now) (g.F.Front.left c.args.front.now) (g.K.Clock.last c.args.clock.now)
+    (g.F.Front.sessions c.loop.front) (g.F.Front.left c.loop.front) (g.K.Clock.last c.loop.clock) c.loop.clients.held.items (log c.args.connections.now) (log c.loop.connections) c.loop.invariant.11 in
+    elim c.match-next.branch [
+      | in-None w ↦ subst (λ x. OnLogs (ServesFromNone options g.F.Front.is_alone c.args.numbering.base MOST_UNSENT
+          (record { sessions = g.F.Front.sessions c.args.front.now; second = g.K.Clock.last c.args.clock.now }) (record { sessions = g.F.Front.sessions c.loop.front; second = g.K.Clock.last c.loop.clock }))
+          (log c.args.connections.now) (log x)) (sym w.connections-is) here
+      | in-Some+then-left-least w ↦ subst (λ x. OnLogs (ServesFromNone options g.F.Front.is_alone c.args.numbering.base MOST_UNSENT
+          (record { sessions = g.F.Front.sessions c.args.front.now; second = g.K.Clock.last c.args.clock.now }) (record { sessions = g.F.Front.sessions c.loop.front; second = g.K.Clock.last c.loop.clock }))
+          (log c.args.connections.now) (log x)) (sym w.connections-is) here
+      | in-Some+else-left-least+in_ok-event+in_default w ↦ subst (λ x. OnLogs (ServesFromNone options g.F.Front.is_alone c.args.numbering.base MOST_UNSENT
+          (record { sessions = g.F.Front.sessions c.args.front.now; second = g.K.Clock.last c.args.clock.now }) (record { sessions = g.F.Front.sessions c.loop.front; second = g.K.Clock.last c.loop.clock }))
+          (log c.args.connections.now) (log x)) (sym w.connections-is)
+          (since_called options g.F.Front.is_alone c.args.numbering.base (g.F.Front.sessions c.args.front.now) (g.F.Front.left c.args.front.now) (g.K.Clock.last c.args.clock.now)
+          (g.F.Front.sessions c.loop.front) (g.F.Front.left c.loop.front) (g.K.Clock.last c.loop.clock) c.loop.clients.held.items (log c.args.connections.now) (log c.loop.connections)
+          (log w.next-in-loop.new.self) c.loop.invariant.11
+          (over_called (log c.loop.connections) (log w.next-in-loop.new.self) w.in_ok-event.ensures.told
+          (subst (λ got. IfNone got (IfSome (log c.loop.connections) (λ l. IsOver l (log w.next-in-loop.new.self)))) w.in_default.is w.in_ok-event.ensures.end)))
+    ]

@@ -3,6 +3,8 @@ use Rattle.std.specs.Prelude.{false, is_some, vec_len}
 use Rattle.memcached_text.specs.declared.limits.TheConstants.{MAX_WAITING_LEN}
 use Rattle.stream_fronts.specs.Clients.{AreOpen}
 use Rattle.stream_fronts.specs.Going.{GoesBy}
+use Rattle.stream_fronts.specs.Open.{OnLogs}
+use Rattle.stream_fronts.proofs.Since.{StandsSince}
 use Rattle.stream_fronts.proofs.serve.serve_connections.Given as goal
 
 abbrev pub invariant-loop : goal.invariant-loop
@@ -18,3 +20,5 @@ invariant-loop g l =
     × (g.F.Front.number l.front ≡ g.F.Front.number l.initial.front)
     × (g.F.Front.stands l.front ≡ g.F.Front.stands l.initial.front)
     × (is_some (g.C.Connections.log l.connections) ≡ is_some (g.C.Connections.log l.initial.connections))
+    × OnLogs (StandsSince (g.F.Front.options l.initial.front) g.F.Front.is_alone l.numbering.base (g.F.Front.sessions l.initial.front) (g.F.Front.left l.initial.front) (g.K.Clock.last l.initial.clock)
+    (g.F.Front.sessions l.front) (g.F.Front.left l.front) (g.K.Clock.last l.clock) l.clients.held.items) (g.C.Connections.log l.initial.connections) (g.C.Connections.log l.connections)

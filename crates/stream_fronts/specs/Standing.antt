@@ -1,0 +1,54 @@
+-- What stands between a front and all its clients at one moment, and what a report makes of that.
+use Rattle.std.specs.Prelude.{◌≡◌, ⊤, ℕ, Bool, List, [], ◌++◌, slice_get, Option, None, Some}
+use Rattle.partition_model.specs.declared.options.Options.{Options}
+use Rattle.stream_io.specs.declared.connections.Event.{Event}
+use Rattle.stream_io.specs.declared.connections.Event.TheVariants.{Opened, Ready}
+use Rattle.stream_io.specs.State.{Entry, held}
+use Rattle.stream_io.specs.Log.{Log, connections_of, received_of, sent_of}
+use Rattle.mica_fronts.specs.Session.{Sessions}
+use Rattle.stream_fronts.specs.declared.client.Client.{Client}
+use Rattle.stream_fronts.specs.declared.desk.TheConstants.{MOST_UNSENT}
+use Rattle.stream_fronts.specs.Given.{Given, answers_in, given_to}
+use Rattle.stream_fronts.specs.Clients.{at}
+use Rattle.stream_fronts.specs.Going.{GoesByThese}
+use Rattle.stream_fronts.specs.Moments.{TalksThrough}
+use Rattle.stream_fronts.specs.Held.{Holds}
+
+-- nothing was done with the c-th connection yet
+pub record IsUntouched (c : ℕ) (entries : List Entry) (all : List Given) : Type 0 where
+  pub came : received_of c entries ≡ []
+  pub went : sent_of c entries ≡ []
+  pub given : given_to c all ≡ []
+
+-- what is held under a number goes with the talk of the connection that is there
+pub record HoldsUnder (options : Options) (base : ℕ) (log : Log) (all : List Given) (number : ℕ) (client : Client) : Type 0 where
+  pub place : ℕ
+  pub under : held number (connections_of log) ≡ Some place
+  pub holds : Holds options base MOST_UNSENT place log (given_to place all) client
+
+-- The front had talked with all clients, at each moment of the log, by these answers; what is held of each goes with its talk; and nothing was done with
+-- connections that are not made yet.
+pub record Stands (options : Options) (base : ℕ) (lacking : List ℕ) (log : Log) (all : List Given) (clients : List (Option Client)) : Type 0 where
+  pub through : TalksThrough options base MOST_UNSENT log.schedule lacking log.entries all
+  pub holds : (n : ℕ) (client : Client) → at clients n ≡ Some client → HoldsUnder options base log all n client
+  pub to_come : (c : ℕ) → slice_get (connections_of log) c ≡ None → IsUntouched c log.entries all
+
+-- and memory lacked for more than these, if need be
+abbrev pub StandsBut : Options → ℕ → List ℕ → Log → List Given → List (Option Client) → Type 0
+StandsBut options base lacking log all clients = (more : List ℕ) × Stands options base (more ++ lacking) log all clients
+
+-- nothing was done yet with a connection that is reported as new
+abbrev pub IsNew : Event → Log → List Given → Type 0
+IsNew (Opened number) log all = (c : ℕ) → held number (connections_of log) ≡ Some c → IsUntouched c log.entries all
+IsNew (Ready number) log all = ⊤
+
+-- Whatever stood as this was reported, stands after it was served, with these answers more.
+pub record StandsOn (options : Options) (base : ℕ) (event : Event) (clients : List (Option Client)) (given : List Given) (now : List (Option Client)) (old new : Log) : Type 0 where
+  pub schedule : new.schedule ≡ old.schedule
+  pub on : (lacking : List ℕ) (all : List Given) → IsNew event old all → Stands options base lacking old all clients
+      → StandsBut options base lacking new (all ++ given) now
+
+-- They went on by some answers, of which it is told to whom they were given, and of these P holds.
+abbrev pub GoesByGiven : Options → Bool → Sessions → ℕ → ℕ → Sessions → ℕ → ℕ → (List Given → Type 0) → Type 0
+GoesByGiven options is_alone old left told new left_after tells P =
+    (given : List Given) × GoesByThese options is_alone old left told (answers_in given) new left_after tells × P given
