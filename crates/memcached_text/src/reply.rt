@@ -45,7 +45,7 @@ pub fn reply_line(reply: Reply) -> &'static [u8]
         Reply::NotFound => b"NOT_FOUND\r\n",
         Reply::Touched => b"TOUCHED\r\n",
         Reply::End => b"END\r\n",
-        Reply::Version => b"VERSION 1.5.16-mica\r\n",
+        Reply::Version => b"VERSION 1.6.0-mica\r\n",
         Reply::Done => b"OK\r\n",
         Reply::Noop => b"MN\r\n",
         Reply::LongLine => b"CLIENT_ERROR line too long\r\n",
