@@ -18,7 +18,7 @@ use Rattle.batch_packets.specs.declared.batch.Request.{Request}
 use Rattle.batch_packets.specs.declared.batch.Batch.{Batch}
 use Rattle.batch_packets.specs.BatchGrammar.{IsRequest, SpellsBatch}
 use Rattle.batch_packets.specs.declared.replies.Reply.{Reply}
-use Rattle.batch_packets.specs.ReplyGrammar.{replies_text, IsReply}
+use Rattle.batch_packets.specs.ReplyGrammar.{replies_text, IsReply, status_byte}
 use Rattle.batch_packets.specs.Splitting.{SplitsInto}
 use Rattle.mica_fronts.specs.Answered.{wrote, got}
 use Rattle.mica_fronts.specs.Turn.{write_in, get_reply}
@@ -34,6 +34,7 @@ err_anyway (Err e) x = x
 
 -- a reply to a get is of its version
 lawful_get : (version ticket stamp : ℕ) (value : Option (List ℕ)) → IfSome value ValueFits → IsReply version (get_reply version ticket stamp value)
+unfolding status_byte
 lawful_get version ticket stamp None fits = record { status = refl; value = omega arith }
 lawful_get version ticket stamp (Some v) fits = by (eqb version 1) (ltb MAX_VALUE_LEN_V1 (length v)) refl refl
   where
