@@ -64,7 +64,3 @@ pub stays_one : (options : Options) (is_alone : Bool) (old : Sessions) (left : �
 stays_one options is_alone old left None b same = tt
 stays_one options is_alone old left (Some a) b same =
     subst (λ (t : Option Traffic). OnTraffic (StopsOne options is_alone old left old left) (Some a) t) (sym same) (inl (refl, refl, refl))
-
-pub at_end : (a b : Option Traffic) → IfSome a (λ t. t.left ≡ []) → b ≡ a → OnTraffic IsAtEnd a b
-at_end None b none same = tt
-at_end (Some a) b none same = subst (λ (t : Option Traffic). OnTraffic IsAtEnd (Some a) t) (sym same) (refl, none)

@@ -108,19 +108,3 @@ refuses options is_alone sessions left bytes replies none is = record {
 -- no request of any datagram was answered
 pub none_dealt : (options : Options) (is_alone : Bool) (sessions : Sessions) (left : ℕ) (bytes : List ℕ) → DealsInPart options is_alone sessions left bytes sessions left
 none_dealt options is_alone sessions left bytes = record { requests = []; of = inl refl; first = first_none options is_alone sessions left [] }
-
--- all requests of a batch were answered
-pub answered : (options : Options) (is_alone : Bool) (old new : Sessions) (left left_after : ℕ) (bytes : List ℕ) (batch : Batch) (replies : List Reply) (datagrams : List (List ℕ))
-    → SpellsBatch bytes batch → (all : AnswersAll options is_alone batch.version old left batch.requests new left_after replies) → SplitsInto batch.version batch.number replies datagrams
-    → DealsWith options is_alone old left (record { datagram = bytes; turns = all.turns; replies = datagrams }) new left_after
-answered options is_alone old new left left_after bytes batch replies datagrams spelled all split = record {
-  is = inl (record {
-    batch = batch;
-    spelled = spelled;
-    requests = all.asked;
-    each = all.each;
-    split = subst (λ (r : List Reply). SplitsInto batch.version batch.number r datagrams) (sym all.replied) split;
-  });
-  answers = all.answers;
-  few = all.few;
-}

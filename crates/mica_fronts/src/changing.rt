@@ -6,7 +6,7 @@ ghost use Rattle.mica_fronts.specs.Session.{ChangesOnly};
 ghost use Rattle.mica_fronts.specs.Changing.{Becoming, IsChange, ComesTo, count_of};
 
 use crate::front::Front;
-use partition_model::{Answer, ItemBuf, Outcome};
+use partition_model::{Answer, Change, ItemBuf, Outcome};
 use std::sync::Wait;
 use std::thread::Threads;
 
@@ -19,15 +19,6 @@ pub struct When {
     pub written: u64,
     /// How many it had accepted up to its last flush, with that one; 0 where there was none.
     pub flushed: u64,
-}
-
-/// What is to become of a value.
-#[derive(Clone, Copy, Debug, PartialEq, Eq)]
-pub enum Change {
-    Stay,
-    /// It is to be what the buffer has.
-    Become,
-    Go,
 }
 
 /// A decision, which has no effects: it can neither wait nor take memory.

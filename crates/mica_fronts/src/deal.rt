@@ -48,7 +48,7 @@ fn status_of(outcome: Outcome) -> Status
 }
 
 /// Does a write, and adds its reply.
-fn written<R: Threads + Wait + Sync, F: Front>(
+fn reply_to_write<R: Threads + Wait + Sync, F: Front>(
     rt: &R,
     alloc: Global,
     front: &mut F,
@@ -87,7 +87,7 @@ fn get_reply(version: u8, answer: Answer, value: &[u8]) -> (Status, &[u8])
 }
 
 /// Gets, and adds the reply.
-fn got<R: Threads + Wait + Sync, F: Front>(
+fn reply_to_get<R: Threads + Wait + Sync, F: Front>(
     rt: &R,
     front: &mut F,
     version: u8,
@@ -133,11 +133,11 @@ fn reply_to<R: Threads + Wait + Sync, F: Front>(
     ensures stands { F.stands front.new ≡ F.stands front.old }
 {
     match request.want() {
-        Want::Get => got(rt, front, version, request, replies, out),
-        Want::Put => written(rt, alloc, front, Op::Put, request, replies),
-        Want::Del => written(rt, alloc, front, Op::Del, request, replies),
-        Want::Add => written(rt, alloc, front, Op::Add, request, replies),
-        Want::Touch => written(rt, alloc, front, Op::Touch, request, replies),
+        Want::Get => reply_to_get(rt, front, version, request, replies, out),
+        Want::Put => reply_to_write(rt, alloc, front, Op::Put, request, replies),
+        Want::Del => reply_to_write(rt, alloc, front, Op::Del, request, replies),
+        Want::Add => reply_to_write(rt, alloc, front, Op::Add, request, replies),
+        Want::Touch => reply_to_write(rt, alloc, front, Op::Touch, request, replies),
     }
 }
 
