@@ -7,7 +7,7 @@ ghost use Rattle.memcached_commands.specs.Asks.{asks_in};
 ghost use Rattle.memcached_commands.specs.Fit.{IsFitAsked};
 ghost use Rattle.mica_fronts.specs.Answered.{Answered, accepts, count_of_writes};
 ghost use Rattle.mica_fronts.specs.Session.{AnswersInOrder};
-ghost use Rattle.memcached_fronts.specs.Exchange.{IsOpenAt, flush_due, flush_text, is_flush_all};
+ghost use Rattle.memcached_fronts.specs.Exchange.{IsOpenAt, flush_due, flush_text, flushes_now};
 ghost use Rattle.memcached_fronts.specs.FlushAnswers.{FlushesFrom, flush_at};
 ghost use Rattle.memcached_fronts.specs.Seconds.{ToldFrom, seconds_of};
 ghost use Rattle.memcached_fronts.specs.Going.{AnswersFirst, RepliesFirst, GoesOn, Replies};
@@ -50,7 +50,7 @@ pub struct Progress {
 
 // When a flush of all partitions is to take place, where it is one.
 fn flush_due(next: &Next) -> Option<Due>
-    ensures { MatchOption result (is_flush_all next.now ≡ false) (λ due. (is_flush_all next.now ≡ true) × (due ≡ flush_due next.now)) }
+    ensures { MatchOption result (flushes_now next.now ≡ false) (λ due. (flushes_now next.now ≡ true) × (due ≡ flush_due next.now)) }
 {
     match next {
         Next::Command {
