@@ -18,7 +18,8 @@ use Rattle.mica_fronts.specs.Flushes.{begins_with_feed, flush_in}
 use Rattle.mica_fronts.specs.Session.{Sessions, Answers, AnswersInOrder, ChangesOnly, Writes}
 use Rattle.mica_fronts.proofs.InOrder.{answers_append}
 use Rattle.memcached_fronts.specs.Seconds.{second_asked, second_in, seconds_of, ToldFrom}
-use Rattle.memcached_fronts.specs.FlushAnswers.{FlushesOne, FlushesFrom}
+use Rattle.memcached_text.specs.declared.lifetime.Due.{Due}
+use Rattle.memcached_fronts.specs.FlushAnswers.{FlushesOne, FlushesFrom, flush_at}
 
 -- so many partitions were flushed, and each took it or not
 pub record Flushed (options : Options) (flush : Flush) (is_alone : Bool) (old new : Sessions) (count : ℕ) (took : Bool) : Type 0 where
@@ -95,6 +96,19 @@ module _ (options : Options) (flush : Flush) where
 pub told_then : (told second : ℕ) → told ≤ second → ToldFrom told (option_to_list (cond (nat_lt 0 second) (Some second) None)) second
 told_then told zero falls = omega (arith, falls)
 told_then told (suc n) falls = (falls, refl)
+
+-- all partitions tell the second at which they were asked, where there are any
+pub all_told : (options : Options) (flush : Flush) (answers : List Answered) (told tells partitions : ℕ) (due : Due) → length answers ≡ partitions
+    → FlushesFrom options flush 0 answers → (0 < partitions → (second : ℕ) × (flush ≡ flush_at second due)) → (partitions ≡ 0 → tells ≡ told)
+    → ToldFrom told (option_to_list (second_asked flush)) tells
+    → ToldFrom told (seconds_of answers) tells × ((second : ℕ) × FlushesFrom options (flush_at second due) 0 answers)
+all_told options flush [] told tells partitions due many is asked none at = (none (sym many), 0, tt)
+all_told options flush (a ∷ answers) told tells partitions due many is asked none at =
+    let here = asked (omega (arith, many)) in (
+      flush_told options flush (a ∷ answers) told tells (omega arith) is at,
+      here.0,
+      subst (λ f. FlushesFrom options f 0 (a ∷ answers)) here.1 is,
+    )
 
 -- Writes
 

@@ -1,5 +1,5 @@
 //! What a client said, answered.
-ghost use Rattle.std.specs.Prelude.{◌≡◌, ◌<◌, ◌≤◌, ◌+◌, ◌^◌, ◌++◌, ℕ, true, false, List, length, drop, IfOk, OnErr, MatchOption};
+ghost use Rattle.std.specs.Prelude.{◌≡◌, ◌<◌, ◌≤◌, ◌+◌, ◌^◌, ◌++◌, ℕ, true, List, length, drop, IfOk, OnErr};
 ghost use Rattle.std.specs.List.{AllByRecursion, list_all};
 ghost use Rattle.memcached_text.specs.Fit.{IsFitNext};
 ghost use Rattle.memcached_commands.specs.Answers.{unless_quiet};
@@ -48,16 +48,28 @@ pub struct Progress {
     pub is_whole: bool,
 }
 
-// When a flush of all partitions is to take place, where it is one.
-fn flush_due(next: &Next) -> Option<Due>
-    ensures { MatchOption result (flushes_now next.now ≡ false) (λ due. (flushes_now next.now ≡ true) × (due ≡ flush_due next.now)) }
+fn is_flush(next: &Next) -> bool
+    ensures { result ≡ flushes_now next.now }
+{
+    match next {
+        Next::Command {
+            command: Command::Flush { .. },
+            ..
+        } => true,
+        _ => false,
+    }
+}
+
+// When a flush is to take place.
+fn flush_due(next: &Next) -> Due
+    ensures { result ≡ flush_due next.now }
 {
     match next {
         Next::Command {
             command: Command::Flush { due, .. },
             ..
-        } => Some(*due),
-        _ => None,
+        } => *due,
+        _ => Due::Now,
     }
 }
 
@@ -72,7 +84,7 @@ fn flush_line(took: bool) -> &'static [u8]
     }
 }
 
-// Flushes all partitions, and appends the line that is due to it. Where there is none, the clock is not read.
+// Flushes all partitions, and appends the line that is due to it.
 fn answer_flush<R: Threads + Wait + Sync, F: Changes, C: Clock>(
     rt: &R,
     front: &mut F,
@@ -97,8 +109,7 @@ fn answer_flush<R: Threads + Wait + Sync, F: Changes, C: Clock>(
     ensures number { F.number front.new ≡ F.number front.old }
     ensures stands { F.stands front.new ≡ F.stands front.old }
 {
-    let due = if partitions > 0 { due } else { Due::Now };
-    let flush = ask_flush(clock, due);
+    let flush = ask_flush(clock, partitions, due);
     let took = flush_all(rt, front, partitions, flush, key);
     let Ok(()) = put_line(out, quiet, flush_line(took)) else {
         return Err(NoMemory);
@@ -186,15 +197,14 @@ pub fn answer_next<'a, R: Threads + Wait + Sync, F: Changes, C: Clock>(
     ensures stands { F.stands front.new ≡ F.stands front.old }
 {
     let style = style_of(&next);
-    if let Some(due) = flush_due(&next) {
-        let key = &mut buffers.next;
+    if is_flush(&next) {
         return answer_flush(
             rt,
             front,
             clock,
             numbering.partitions,
-            due,
-            key,
+            flush_due(&next),
+            &mut buffers.next,
             style.quiet,
             out,
         );

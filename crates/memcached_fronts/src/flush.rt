@@ -17,11 +17,15 @@ use partition_model::ItemBuf;
 use std::sync::Wait;
 use std::thread::Threads;
 
-/// The flush that is asked for now. The clock is read unless it is to take place at once.
-pub fn ask_flush<C: Clock>(clock: &mut C, due: Due) -> Flush
-    ensures asked { (second : ℕ) × (result ≡ flush_at second due) }
+/// The flush that is asked for now. The clock is read unless it is to take place at once, and not where there is no partition to tell its second.
+pub fn ask_flush<C: Clock>(clock: &mut C, partitions: u32, due: Due) -> Flush
+    ensures asked { 0 < partitions → (second : ℕ) × (result ≡ flush_at second due) }
     ensures told { ToldFrom (C.last clock.old) (option_to_list (second_asked result)) (C.last clock.new) }
+    ensures none { partitions ≡ 0 → C.last clock.new ≡ C.last clock.old }
 {
+    if partitions == 0 {
+        return Flush { due: 0, asked: 0 };
+    }
     match due {
         Due::Now => Flush { due: 0, asked: 0 },
         Due::After(seconds) => {
