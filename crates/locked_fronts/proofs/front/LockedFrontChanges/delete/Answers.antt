@@ -14,7 +14,7 @@ finds g c =
     c.key_hash.ensures c.partition_of-number.ensures c.index_mut.ensures.value
 
 pub write-requires-clause-own : goal.write-requires-clause-own
-write-requires-clause-own g c = is_part (finds g c)
+write-requires-clause-own g c = is_part (finds g (goal.at.write-requires-clause-own g c).After-index_mut)
 
 pub invariant_of-self : goal.invariant_of-self
 invariant_of-self g c = (law_by_write (finds g (goal.at.invariant_of-self g c).After-index_mut) c.write.new.self c.write.ensures c.requires.left, c.self.invariant.1)
