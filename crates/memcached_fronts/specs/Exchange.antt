@@ -18,7 +18,7 @@ use Rattle.memcached_commands.specs.Answers.{unless_quiet}
 use Rattle.mica_fronts.specs.Answered.{Answered, accepts}
 use Rattle.memcached_fronts.specs.AskAnswers.{AnswersAsks, asks_text}
 use Rattle.memcached_fronts.specs.FlushAnswers.{FlushesFrom}
-use Rattle.memcached_fronts.specs.Stats.{Told, stats_text}
+use Rattle.memcached_stats.specs.Stats.{Told, stats_text}
 
 -- what a client said, what partitions answered to it so far, in order, and what the server tells of itself where that is what the client wants to know
 pub record Exchange : Type 0 where
@@ -50,6 +50,15 @@ abbrev pub is_answered : Options → Exchange → Bool
 is_answered options e = length e.answers == count_of_answers options e.next
 
 -- Texts
+
+-- a client wants to know what the server counts
+abbrev pub is_command_stats : Command → Bool
+is_command_stats (commands.Stats Server) = true
+is_command_stats _ = false
+
+abbrev pub asks_stats : Next → Bool
+asks_stats (nexts.Command command len) = is_command_stats command
+asks_stats _ = false
 
 -- whether no reply is wanted
 abbrev pub is_quiet : Next → Bool

@@ -14,7 +14,7 @@ use Rattle.memcached_fronts.specs.declared.answer.Limits.{Limits}
 use Rattle.memcached_fronts.specs.declared.answer.Progress.{Progress}
 use Rattle.memcached_fronts.specs.Seconds.{second_in, seconds_of, ToldFrom}
 use Rattle.memcached_fronts.specs.AskAnswers.{AnswersAsk, AnswersAsks, shown_text, asks_text}
-use Rattle.memcached_fronts.specs.Stats.{Told}
+use Rattle.memcached_stats.specs.Stats.{Told}
 use Rattle.memcached_fronts.specs.Exchange.{Exchange, AnswersNext, IsOpenAt, count_of_answers, due_before, due_to, longer}
 
 -- One ask

@@ -1,8 +1,6 @@
 pub mod Seconds
 pub mod AskAnswers
 pub mod FlushAnswers
-pub mod Counted
-pub mod Stats
 pub mod Exchange
 pub mod Spells
 pub mod Going

@@ -7,7 +7,8 @@ ghost use Rattle.memcached_commands.specs.Asks.{asks_in};
 ghost use Rattle.memcached_commands.specs.Fit.{IsFitAsked};
 ghost use Rattle.mica_fronts.specs.Answered.{Answered, accepts, count_of_writes};
 ghost use Rattle.mica_fronts.specs.Session.{AnswersInOrder};
-ghost use Rattle.memcached_fronts.specs.Exchange.{IsOpenAt, flush_text, flushes_now};
+ghost use Rattle.memcached_stats.specs.Stats.{Told, stats_text};
+ghost use Rattle.memcached_fronts.specs.Exchange.{IsOpenAt, asks_stats, flush_text, flushes_now};
 ghost use Rattle.memcached_fronts.specs.FlushAnswers.{FlushesFrom};
 ghost use Rattle.memcached_fronts.specs.Going.{AnswersFirst, RepliesFirst, GoesOn, Replies};
 
@@ -16,7 +17,8 @@ use crate::buffers::Buffers;
 use crate::flush::flush_all;
 use crate::plain::{Style, plain_line, put_line, style_of};
 use memcached_commands::Asks;
-use memcached_text::{Command, Due, Next, Reply, reply_line};
+use memcached_stats::{Board, Tally, counter_by};
+use memcached_text::{Command, Due, Next, Reply, Topic, reply_line};
 use mica_clock::Clock;
 use mica_fronts::{Changes, Front};
 use mica_io::NoMemory;
@@ -24,12 +26,15 @@ use std::alloc::Global;
 use std::sync::Wait;
 use std::thread::Threads;
 
-/// The partitions of a server, as commands see them.
+/// The partitions of a server, as commands see them, and where its fronts show what they count.
 #[derive(Clone, Copy)]
-pub struct Numbering {
+pub struct Numbering<'a> {
     pub partitions: u32,
     /// The unique number of the first value that a partition accepts.
     pub base: u64,
+    /// Which of those that count this front is.
+    pub front: u32,
+    pub board: &'a Board,
 }
 
 /// How much one call answers: at most so many asks, and none once the text has so many bytes.
@@ -45,6 +50,39 @@ pub struct Progress {
     /// How many answers were given.
     pub done: usize,
     pub is_whole: bool,
+}
+
+fn is_stats(next: &Next) -> bool
+    ensures { result ≡ asks_stats next.now }
+{
+    match next {
+        Next::Command {
+            command: Command::Stats { topic },
+            ..
+        } => *topic == Topic::Server,
+        _ => false,
+    }
+}
+
+// Tells what the server counts. After want of memory nothing is appended.
+fn answer_stats<C: Clock>(
+    clock: &C,
+    numbering: Numbering,
+    tally: &Tally,
+    done: usize,
+    out: &mut Vec<u8>,
+) -> Result<Progress, NoMemory>
+    ensures told { IfOk result (λ progress. (progress ≡ record { done = done; is_whole = true })
+        × ((told : Told) × (out.new.items ≡ out.old.items ++ stats_text numbering.partitions told))) }
+    ensures err { OnErr result (out.new.items ≡ out.old.items) }
+{
+    let board = numbering.board;
+    board.show(numbering.front, tally);
+    board.put_stats(clock.present(), numbering.partitions, out)?;
+    Ok(Progress {
+        done,
+        is_whole: true,
+    })
 }
 
 fn is_flush(next: &Next) -> bool
@@ -120,6 +158,7 @@ fn answer_asks<'a, R: Threads + Wait + Sync, F: Changes, C: Clock>(
     front: &mut F,
     clock: &mut C,
     base: u64,
+    partitions: u32,
     buffers: &mut Buffers,
     style: Style,
     asks: &mut Asks<'a>,
@@ -144,7 +183,7 @@ fn answer_asks<'a, R: Threads + Wait + Sync, F: Changes, C: Clock>(
             return Ok(count);
         };
         let is_last = asks.is_empty();
-        let Ok(()) = answer_ask(rt, front, clock, base, buffers, style, &asked, is_last, out) else {
+        let Ok(()) = answer_ask(rt, front, clock, base, partitions, buffers, style, &asked, is_last, out) else {
             return Err(NoMemory);
         };
         count += 1;
@@ -182,8 +221,12 @@ pub fn answer_next<'a, R: Threads + Wait + Sync, F: Changes, C: Clock>(
     ensures stands { F.stands front.new ≡ F.stands front.old }
 {
     let style = style_of(&next);
+    buffers.tally.count(counter_by(&next));
     if is_flush(&next) {
         return answer_flush(rt, alloc, front, numbering.partitions, style.quiet, out);
+    }
+    if is_stats(&next) {
+        return answer_stats(clock, numbering, &buffers.tally, done, out);
     }
     let line = plain_line(&next);
     let mut asks = Asks::by(next);
@@ -203,6 +246,7 @@ pub fn answer_next<'a, R: Threads + Wait + Sync, F: Changes, C: Clock>(
         front,
         clock,
         numbering.base,
+        numbering.partitions,
         buffers,
         style,
         &mut asks,

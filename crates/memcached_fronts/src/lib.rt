@@ -7,15 +7,11 @@
 
 mod answer;
 mod ask;
-mod board;
 mod buffers;
-mod counter;
 mod flush;
 mod laws;
 mod plain;
 
 pub use answer::{Limits, Numbering, Progress, answer_next};
-pub use board::{About, Wear};
 pub use buffers::Buffers;
-pub use counter::{COUNTERS, Counter, counter_by, counter_of};
 pub use laws::spells_on;

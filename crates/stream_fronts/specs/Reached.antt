@@ -4,7 +4,7 @@ use Rattle.partition_model.specs.declared.options.Options.{Options}
 use Rattle.memcached_text.specs.declared.next.Next.TheVariants.{More}
 use Rattle.memcached_text.specs.Next.{next_of}
 use Rattle.mica_fronts.specs.Answered.{Answered}
-use Rattle.memcached_fronts.specs.Stats.{Told}
+use Rattle.memcached_stats.specs.Stats.{Told}
 use Rattle.memcached_fronts.specs.Exchange.{Exchange, AnswersNext, due_before}
 use Rattle.memcached_fronts.specs.Spells.{Spells, MayGoOn, taken_by, due_to_all, answers_to_all}
 use Rattle.stream_fronts.specs.declared.answer.Answered.{Answered as HowFar}

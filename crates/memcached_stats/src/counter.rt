@@ -1,7 +1,7 @@
 //! What a front counts.
 ghost use Rattle.std.specs.Prelude.{◌≡◌, ℕ, List};
 ghost use Rattle.memcached_text.specs.declared.lifetime.Lifetime.{Lifetime};
-ghost use Rattle.memcached_fronts.specs.Counted.{counter_by, counter_of};
+ghost use Rattle.memcached_stats.specs.Counted.{counter_by, counter_of};
 
 use memcached_commands::{Ask, Says};
 use memcached_text::{Command, Direction, Fault, Next, Reply, Wants};
@@ -83,10 +83,12 @@ fn delete_counter(says: &Says) -> Option<Counter>
     }
 }
 
-// By a store that wants the item of a number.
-fn numbered_counter(says: &Says) -> Option<Counter>
-    ensures { (unique flags : ℕ) (lifetime : Lifetime) (value : List ℕ) → result ≡ counter_of (Ask.Store (Wants.Numbered unique) flags lifetime value) says.now }
+fn store_counter(wants: Wants, says: &Says) -> Option<Counter>
+    ensures { (flags : ℕ) (lifetime : Lifetime) (value : List ℕ) → result ≡ counter_of (Ask.Store wants flags lifetime value) says.now }
 {
+    if !matches!(wants, Wants::Numbered(_)) {
+        return Some(Counter::Sets);
+    }
     match says {
         Says::Line(Reply::Stored) => Some(Counter::CasHits),
         Says::Line(Reply::NotFound) => Some(Counter::CasMisses),
@@ -118,11 +120,8 @@ pub fn counter_of(ask: &Ask, says: &Says) -> Option<Counter>
         Ask::GetTouch(_) => get_touch_counter(says),
         Ask::Touch(_) => touch_counter(says),
         Ask::Delete => delete_counter(says),
-        Ask::Store {
-            wants: Wants::Numbered(_),
-            ..
-        } => numbered_counter(says),
-        Ask::Store { .. } | Ask::Join { .. } => Some(Counter::Sets),
+        Ask::Store { wants, .. } => store_counter(*wants, says),
+        Ask::Join { .. } => Some(Counter::Sets),
         Ask::Count { direction, .. } => count_counter(*direction, says),
         Ask::Spoil => None,
     }

@@ -11,8 +11,8 @@ use Rattle.memcached_commands.specs.declared.ask.Ask.{Ask}
 use Rattle.memcached_commands.specs.declared.ask.Ask.TheVariants.{Get, GetTouch, Store, Join, Count, Touch, Delete}
 use Rattle.memcached_commands.specs.declared.ask.Says.{Says}
 use Rattle.memcached_commands.specs.declared.ask.Says.TheVariants.{Line, Number, Shows, Nothing}
-use Rattle.memcached_fronts.specs.declared.counter.Counter.{Counter}
-use Rattle.memcached_fronts.specs.declared.counter.Counter.TheVariants as counters
+use Rattle.memcached_stats.specs.declared.counter.Counter.{Counter}
+use Rattle.memcached_stats.specs.declared.counter.Counter.TheVariants as counters
 
 -- A get that touches is counted as a touch. A store or a join is counted whatever came of it; one that wants an item's number is counted by what was found.
 abbrev pub counter_of : Ask → Says → Option Counter

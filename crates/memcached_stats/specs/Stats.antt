@@ -5,10 +5,10 @@
 use Rattle.std.specs.Prelude.{ℕ, zero, suc, ◌+◌, ◌-◌, List, [], ◌∷◌, ◌++◌, codes, decimal, drop, flat_map}
 use Rattle.memcached_text.specs.declared.reply.Reply.TheVariants.{End, Version}
 use Rattle.memcached_text.specs.Replies.{reply_text, stat_text}
-use Rattle.memcached_fronts.specs.declared.board.About.{About}
-use Rattle.memcached_fronts.specs.declared.board.Wear.{Wear}
-use Rattle.memcached_fronts.specs.declared.counter.Counter.{Counter}
-use Rattle.memcached_fronts.specs.declared.counter.Counter.TheVariants.{Sets, CasHits, CasMisses, CasBadval, GetHits, GetMisses, TouchHits, TouchMisses, DeleteHits, DeleteMisses, IncrHits, IncrMisses, DecrHits, DecrMisses, Flushes, Opened, Closed, Rejected, Lacked, Received, Sent}
+use Rattle.memcached_stats.specs.declared.figures.About.{About}
+use Rattle.memcached_stats.specs.declared.figures.Wear.{Wear}
+use Rattle.memcached_stats.specs.declared.counter.Counter.{Counter}
+use Rattle.memcached_stats.specs.declared.counter.Counter.TheVariants.{Sets, CasHits, CasMisses, CasBadval, GetHits, GetMisses, TouchHits, TouchMisses, DeleteHits, DeleteMisses, IncrHits, IncrMisses, DecrHits, DecrMisses, Flushes, Opened, Closed, Rejected, Lacked, Received, Sent}
 
 -- what was told: of the server, how often each counter was raised, and of each partition
 pub record Told : Type 0 where
