@@ -56,8 +56,8 @@ module _ (options : Options) (base : ℕ) where
     -- where nothing is answered in part
     whole_due : r.part ≡ [] → due_to_all options base r.whole ≡ due
     whole_due none =
-        sym (append-nil _) ∙ ap (λ t. due_to_all options base r.whole ++ t) (sym (nothing_before options base (next_of place.bytes)))
-        ∙ ap (λ p. due_to_all options base r.whole ++ due_before options base (begun place.bytes p)) (sym none) ∙ r.due_is
+        sym (append-nil _) ∙ ap (λ t. due_to_all options base r.whole ++ t) (sym (nothing_before options base (next_of place.bytes) r.told))
+        ∙ ap (λ p. due_to_all options base r.whole ++ due_before options base (begun place.bytes p r.told)) (sym none) ∙ r.due_is
 
     whole_answers : r.part ≡ [] → answers_to_all r.whole ≡ given
     whole_answers none = sym (append-nil _) ∙ ap (λ p. answers_to_all r.whole ++ p) (sym none) ∙ r.answered
@@ -80,20 +80,20 @@ module _ (options : Options) (base : ℕ) where
             }
         by (a ∷ part) some =
             let next = next_of place.bytes in
-            let e = begun place.bytes r.part in
+            let e = begun place.bytes r.part r.told in
             let many : place.done ≡ suc (length part) = sym r.count ∙ ap length some in
             let less : place.done < length (asks_in next) = asks_some next place.done (length part) stands many in
-            let going : is_answered options (begun place.bytes r.part) ≡ false = not_yet next r.part (let count = r.count in omega (arith, count, less)) in
-            let all : due_to_all options base (r.whole ++ begun place.bytes r.part ∷ []) ≡ due =
-            due_then options base r.whole (begun place.bytes r.part) ∙ ap (λ t. due_to_all options base r.whole ++ t) (sym (due_still options base (begun place.bytes r.part) going))
+            let going : is_answered options (begun place.bytes r.part r.told) ≡ false = not_yet next r.part (let count = r.count in omega (arith, count, less)) in
+            let all : due_to_all options base (r.whole ++ begun place.bytes r.part r.told ∷ []) ≡ due =
+            due_then options base r.whole (begun place.bytes r.part r.told) ∙ ap (λ t. due_to_all options base r.whole ++ t) (sym (due_still options base (begun place.bytes r.part r.told) going))
             ∙ r.due_is in
             record {
               talk = record {
-                said = r.whole ++ begun place.bytes r.part ∷ [];
+                said = r.whole ++ begun place.bytes r.part r.told ∷ [];
                 rest = drop (len_of next) place.bytes;
-                spells = spells_next options base received r.whole place.bytes (begun place.bytes r.part) r.spells r.follows
+                spells = spells_next options base received r.whole place.bytes (begun place.bytes r.part r.told) r.spells r.follows
                     (record { next = refl; some = not_more next place.done less; answers = r.begins });
-                answered = answers_then options base r.whole (begun place.bytes r.part) ∙ r.answered;
+                answered = answers_then options base r.whole (begun place.bytes r.part r.told) ∙ r.answered;
                 begins = begins_with sent all begins;
               };
               due_is = all;

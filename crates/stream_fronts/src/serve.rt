@@ -19,6 +19,7 @@ use crate::desk::Desk;
 use crate::visit::After;
 use crate::visits::visit_on;
 use memcached_fronts::Numbering;
+use memcached_stats::{Counter, Tally};
 use mica_clock::Clock;
 use mica_fronts::{Changes, ServeFault};
 use mica_io::NoMemory;
@@ -88,10 +89,23 @@ fn visit_held<R: Threads + Wait + Sync, F: Changes, K: Clock, C: Connections>(
             0
         }
         After::Over => {
+            desk.buffers.tally.raise(Counter::Closed, 1);
             close(connections, number, asks);
             0
         }
     }
+}
+
+/// Counts what was reported, and for how many connections there was no memory, which are closed.
+fn count_event(event: Event, lacked: u64, tally: &mut Tally) {
+    match event {
+        Event::Opened(_) => {
+            tally.raise(Counter::Opened, 1);
+            tally.raise(Counter::Rejected, lacked);
+        }
+        Event::Ready(_) => tally.raise(Counter::Lacked, lacked),
+    }
+    tally.raise(Counter::Closed, lacked);
 }
 
 /// Holds a new connection. Where there is no memory for it, it is closed. Says for how many there was none.
@@ -219,6 +233,8 @@ pub fn serve_connections<R: Threads + Wait + Sync, F: Changes, K: Clock, C: Conn
             &mut desk,
         );
         *lacked = lacked.saturating_add(count);
+        count_event(event, count, &mut desk.buffers.tally);
+        numbering.board.show(numbering.front, &desk.buffers.tally);
     }
     Ok(())
 }

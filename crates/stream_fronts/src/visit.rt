@@ -15,6 +15,7 @@ use crate::client::Client;
 use crate::desk::Desk;
 use crate::look::look_at;
 use memcached_fronts::{Buffers, Numbering};
+use memcached_stats::{Counter, Tally};
 use mica_clock::Clock;
 use mica_fronts::Changes;
 use mica_io::NoMemory;
@@ -41,6 +42,7 @@ fn send_unsent<C: Connections>(
     connections: &mut C,
     number: u32,
     client: &mut Client,
+    tally: &mut Tally,
 ) -> Result<bool, Broken>
     requires client { IsClient client.old }
     requires open { IfSome (C.log connections.old) (IsOpen number client.old.asks) }
@@ -58,6 +60,7 @@ fn send_unsent<C: Connections>(
     ensures port { C.port connections.new ≡ C.port connections.old }
 {
     let sent = send(connections, number, client.asks, client.unsent.bytes())?;
+    tally.raise(Counter::Sent, sent as u64);
     client.unsent.drop_front(sent);
     Ok(client.unsent.bytes().is_empty())
 }
@@ -69,6 +72,7 @@ fn send_new<C: Connections>(
     number: u32,
     client: &mut Client,
     replies: &[u8],
+    tally: &mut Tally,
 ) -> Result<Result<bool, Broken>, NoMemory>
     requires client { IsClient client.old }
     requires none { client.old.unsent ≡ [] }
@@ -91,11 +95,19 @@ fn send_new<C: Connections>(
         Ok(sent) => sent,
         Err(Broken) => return Ok(Err(Broken)),
     };
+    tally.raise(Counter::Sent, sent as u64);
     if sent < replies.len() {
         client.unsent.keep(&replies[sent..])?;
         return Ok(Ok(false));
     }
     Ok(Ok(true))
+}
+
+/// Counts the bytes that a read gave.
+fn count_input(input: Option<Input>, tally: &mut Tally) {
+    if let Some(Input::Bytes(count)) = input {
+        tally.raise(Counter::Received, count as u64);
+    }
 }
 
 /// Reads once behind what was kept, into the room. Says how many bytes lie there, and what the read gave, where there was room for it.
@@ -244,6 +256,7 @@ fn answer_more<R: Threads + Wait + Sync, F: Changes, K: Clock, C: Connections>(
         Ok(filled) => filled,
         Err(Broken) => return Ok(Err(Broken)),
     };
+    count_input(input, &mut buffers.tally);
     let bytes = &room[..len];
     let stand = look_at_room(
         rt, alloc, front, clock, numbering, left, client, bytes, buffers, replies,
@@ -314,7 +327,7 @@ pub fn visit_once<R: Threads + Wait + Sync, F: Changes, K: Clock, C: Connections
     ensures number { F.number front.new ≡ F.number front.old }
     ensures stands { F.stands front.new ≡ F.stands front.old }
 {
-    match send_unsent(connections, number, client) {
+    match send_unsent(connections, number, client, &mut desk.buffers.tally) {
         Ok(true) => {}
         Ok(false) => return Ok(After::Waits),
         Err(Broken) => return Ok(After::Over),
@@ -339,7 +352,9 @@ pub fn visit_once<R: Threads + Wait + Sync, F: Changes, K: Clock, C: Connections
         Err(Broken) => return Ok(After::Over),
     };
     client.leaving = leaves_by(stand, input);
-    match send_new(connections, number, client, desk.replies.as_slice())? {
+    let replies = desk.replies.as_slice();
+    let tally = &mut desk.buffers.tally;
+    match send_new(connections, number, client, replies, tally)? {
         Err(Broken) => Ok(After::Over),
         Ok(false) => Ok(After::Waits),
         Ok(true) => Ok(after_all(client.leaving, stand, input)),
