@@ -17,7 +17,7 @@ use crate::buffers::Buffers;
 use crate::flush::flush_all;
 use crate::plain::{Style, plain_line, put_line, style_of};
 use memcached_commands::Asks;
-use memcached_stats::{Board, Tally, counter_by};
+use memcached_stats::counter_by;
 use memcached_text::{Command, Due, Next, Reply, Topic, reply_line};
 use mica_clock::Clock;
 use mica_fronts::{Changes, Front};
@@ -26,15 +26,12 @@ use std::alloc::Global;
 use std::sync::Wait;
 use std::thread::Threads;
 
-/// The partitions of a server, as commands see them, and where its fronts show what they count.
+/// The partitions of a server, as commands see them.
 #[derive(Clone, Copy)]
-pub struct Numbering<'a> {
+pub struct Numbering {
     pub partitions: u32,
     /// The unique number of the first value that a partition accepts.
     pub base: u64,
-    /// Which of those that count this front is.
-    pub front: u32,
-    pub board: &'a Board,
 }
 
 /// How much one call answers: at most so many asks, and none once the text has so many bytes.
@@ -67,18 +64,19 @@ fn is_stats(next: &Next) -> bool
 // Tells what the server counts. After want of memory nothing is appended.
 fn answer_stats<C: Clock>(
     clock: &C,
-    numbering: Numbering,
-    tally: &Tally,
+    partitions: u32,
+    buffers: &Buffers,
     done: usize,
     out: &mut Vec<u8>,
 ) -> Result<Progress, NoMemory>
     ensures told { IfOk result (λ progress. (progress ≡ record { done = done; is_whole = true })
-        × ((told : Told) × (out.new.items ≡ out.old.items ++ stats_text numbering.partitions told))) }
+        × ((told : Told) × (out.new.items ≡ out.old.items ++ stats_text partitions told))) }
     ensures err { OnErr result (out.new.items ≡ out.old.items) }
 {
-    let board = numbering.board;
-    board.show(numbering.front, tally);
-    board.put_stats(clock.present(), numbering.partitions, out)?;
+    buffers.show();
+    buffers
+        .board
+        .put_stats(clock.present(), partitions, out)?;
     Ok(Progress {
         done,
         is_whole: true,
@@ -226,7 +224,7 @@ pub fn answer_next<'a, R: Threads + Wait + Sync, F: Changes, C: Clock>(
         return answer_flush(rt, alloc, front, numbering.partitions, style.quiet, out);
     }
     if is_stats(&next) {
-        return answer_stats(clock, numbering, &buffers.tally, done, out);
+        return answer_stats(clock, numbering.partitions, buffers, done, out);
     }
     let line = plain_line(&next);
     let mut asks = Asks::by(next);

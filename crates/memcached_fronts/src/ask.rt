@@ -88,7 +88,9 @@ pub fn answer_ask<R: Threads + Wait + Sync, F: Changes, C: Clock>(
     ensures number { F.number front.new ≡ F.number front.old }
     ensures stands { F.stands front.new ≡ F.stands front.old }
 {
-    let Buffers { found, next, tally } = buffers;
+    let Buffers {
+        found, next, tally, ..
+    } = buffers;
     let second = clock.second();
     let order = CommandOrder::new(&asked.ask, base);
     let key = asked.key.bytes();

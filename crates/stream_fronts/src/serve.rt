@@ -19,7 +19,7 @@ use crate::desk::Desk;
 use crate::visit::After;
 use crate::visits::visit_on;
 use memcached_fronts::Numbering;
-use memcached_stats::{Counter, Tally};
+use memcached_stats::{Board, Counter, Tally};
 use mica_clock::Clock;
 use mica_fronts::{Changes, ServeFault};
 use mica_io::NoMemory;
@@ -180,7 +180,7 @@ fn serve_event<R: Threads + Wait + Sync, F: Changes, K: Clock, C: Connections>(
 }
 
 /// Serves the connections of a port, to its end, or until nearly so many writes were given to the front. A connection that there is no memory for is closed,
-/// and `lacked` counts it.
+/// and `lacked` counts it. What the front counts is shown in this place of the board.
 #[tactic(auto, using(crate::proofs::Going::by_none))]
 pub fn serve_connections<R: Threads + Wait + Sync, F: Changes, K: Clock, C: Connections>(
     rt: &R,
@@ -188,6 +188,8 @@ pub fn serve_connections<R: Threads + Wait + Sync, F: Changes, K: Clock, C: Conn
     front: &mut F,
     clock: &mut K,
     numbering: Numbering,
+    board: &Board,
+    place: u32,
     most: u64,
     connections: &mut C,
     lacked: &mut u64,
@@ -209,7 +211,7 @@ pub fn serve_connections<R: Threads + Wait + Sync, F: Changes, K: Clock, C: Conn
     ensures number { F.number front.new ≡ F.number front.old }
     ensures stands { F.stands front.new ≡ F.stands front.old }
 {
-    let mut desk = Desk::new(alloc)?;
+    let mut desk = Desk::new(alloc, board, place)?;
     let mut clients = Clients::new(alloc);
     let mut left = most;
     let least = LIMITS.asks as u64 + u64::from(numbering.partitions);
@@ -234,7 +236,7 @@ pub fn serve_connections<R: Threads + Wait + Sync, F: Changes, K: Clock, C: Conn
         );
         *lacked = lacked.saturating_add(count);
         count_event(event, count, &mut desk.buffers.tally);
-        numbering.board.show(numbering.front, &desk.buffers.tally);
+        desk.buffers.show();
     }
     Ok(())
 }
