@@ -57,9 +57,9 @@ moves_then {c} {old} {between} {new} first second = record {
   there = λ n d. second.there n d ∙ first.there n d;
   same = λ n. second.same n ∙ first.same n;
   to_come = λ d is. second.to_come d (first.to_come d is);
-  others = λ d other. elim first.others d other as (λ _. IsToCome d new.later ⊎ (slice_get new.connections d ≡ slice_get old.connections d)) [
+  others = λ d other. elim (first.others d other) as (λ _. IsToCome d new.later ⊎ (slice_get new.connections d ≡ slice_get old.connections d)) [
     | inl come ↦ inl (second.to_come d come)
-    | inr same ↦ elim second.others d other as (λ _. IsToCome d new.later ⊎ (slice_get new.connections d ≡ slice_get old.connections d)) [ inl come ↦ inl come | inr still ↦ inr (still ∙ same) ]
+    | inr same ↦ elim (second.others d other) as (λ _. IsToCome d new.later ⊎ (slice_get new.connections d ≡ slice_get old.connections d)) [ inl come ↦ inl come | inr still ↦ inr (still ∙ same) ]
   ];
   own = elim first.own as (λ _. IsToCome c new.later ⊎ (IfSome (slice_get old.connections c) IsSilent → IfSome (slice_get new.connections c) IsSilent)) [
     | inl come ↦ inl (second.to_come c come)
@@ -87,15 +87,15 @@ moves_owed : (c e : ℕ) (f : Connection → Connection) → KeepsThere f → (s
 moves_owed c e f keeps s later come = record {
   there = there_changed f keeps e s.connections;
   same = held_changed f keeps e s.connections;
-  to_come = λ d is. elim come d is as (λ _. IsToCome d (later ++ Reports e nothing ∷ [])) [
+  to_come = λ d is. elim (come d is) as (λ _. IsToCome d (later ++ Reports e nothing ∷ [])) [
     | inl same ↦ come_back d e same later
     | inr still ↦ come_front d later (Reports e nothing ∷ []) still
   ];
-  others = λ d other. elim cases_eq e d as (λ _. IsToCome d (later ++ Reports e nothing ∷ []) ⊎ (slice_get (changed e f s.connections) d ≡ slice_get s.connections d)) [
+  others = λ d other. elim (cases_eq e d) as (λ _. IsToCome d (later ++ Reports e nothing ∷ []) ⊎ (slice_get (changed e f s.connections) d ≡ slice_get s.connections d)) [
     | inl same ↦ inl (come_back d e same later)
     | inr apart ↦ inr (elsewhere e d f s.connections apart)
   ];
-  own = elim cases_eq e c as (λ _. IsToCome c (later ++ Reports e nothing ∷ []) ⊎ (IfSome (slice_get s.connections c) IsSilent → IfSome (slice_get (changed e f s.connections) c) IsSilent)) [
+  own = elim (cases_eq e c) as (λ _. IsToCome c (later ++ Reports e nothing ∷ []) ⊎ (IfSome (slice_get s.connections c) IsSilent → IfSome (slice_get (changed e f s.connections) c) IsSilent)) [
     | inl same ↦ inl (come_back c e same later)
     | inr apart ↦ inr (λ is. subst (λ o. IfSome o IsSilent) (sym (elsewhere e c f s.connections apart)) is)
   ];

@@ -96,8 +96,10 @@ module _ (options : Options) (is_alone : Bool) (base : ℕ) (old : Sessions) (le
         )
 
   module _ (opened ended : Bool) (new : Sessions) (left_after tells lacked : ℕ) (clients : List (Option Client)) where
-    first last : FrontAt
+    first : FrontAt
     first = record { sessions = old; second = told; lacked = had; has_ended = opened }
+
+    last : FrontAt
     last = record { sessions = new; second = tells; lacked = lacked; has_ended = ended }
 
     -- what the front served, by what stands

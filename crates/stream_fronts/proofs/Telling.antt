@@ -67,7 +67,7 @@ module _ (piece : ℕ) (clients : List (Option Client)) (s : State) (tends : Ten
     which [] x zero y is = inr (refl, sym (same_Some x y is))
     which [] x (suc d) y is = absurd (none-some y is)
     which (z ∷ xs) x zero y is = inl is
-    which (z ∷ xs) x (suc d) y is = elim which xs x d y is as (λ _. (slice_get xs d ≡ Some y) ⊎ ((suc d ≡ suc (length xs)) × (y ≡ x))) [ inl in ↦ inl in | inr last ↦ inr (ap suc last.0, last.1) ]
+    which (z ∷ xs) x (suc d) y is = elim (which xs x d y is) as (λ _. (slice_get xs d ≡ Some y) ⊎ ((suc d ≡ suc (length xs)) × (y ≡ x))) [ inl found ↦ inl found | inr last ↦ inr (ap suc last.0, last.1) ]
 
     held_new : held number all ≡ Some (length s.connections)
     held_new = (pushed_here number window bytes s.connections free).0
@@ -80,8 +80,8 @@ module _ (piece : ℕ) (clients : List (Option Client)) (s : State) (tends : Ten
       where
         by : (o : Option Connection) → slice_get all d ≡ o → is_there n o ≡ true → held n all ≡ Some d
         by None none here = absurd (true≢false (sym here))
-        by (Some y) some here = elim which s.connections one d y some as (λ _. held n all ≡ Some d) [
-          | inl in ↦ held_old n d (tends.apart n d (ap (is_there n) in ∙ here))
+        by (Some y) some here = elim (which s.connections one d y some) as (λ _. held n all ≡ Some d) [
+          | inl found ↦ held_old n d (tends.apart n d (ap (is_there n) found ∙ here))
           | inr last ↦
             let own : number ≡ n = own_number n one (subst (λ (z : Connection). is_under n z ≡ true) last.1 here) in
             ap (λ m. held m all) (sym own) ∙ held_new ∙ ap Some (sym last.0)
@@ -91,8 +91,8 @@ module _ (piece : ℕ) (clients : List (Option Client)) (s : State) (tends : Ten
     held_other : (n d : ℕ) → n ≢ number → held n all ≡ Some d → held n s.connections ≡ Some d
     held_other n d other here =
         let x = there n d all here in
-        elim which s.connections one d x.0 x.1 as (λ _. held n s.connections ≡ Some d) [
-          | inl in ↦ tends.apart n d (ap (is_there n) in ∙ x.2)
+        elim (which s.connections one d x.0 x.1) as (λ _. held n s.connections ≡ Some d) [
+          | inl found ↦ tends.apart n d (ap (is_there n) found ∙ x.2)
           | inr last ↦ absurd (other (sym (own_number n one (subst (λ (z : Connection). is_under n z ≡ true) last.1 x.2))))
         ]
 
@@ -111,8 +111,8 @@ module _ (piece : ℕ) (clients : List (Option Client)) (s : State) (tends : Ten
           };
       told = λ d here.
           let x = there number d all here in
-          elim which s.connections one d x.0 x.1 as (λ _. IfSome (slice_get all d) IsSilent) [
-            | inl in ↦ absurd (none-some d (sym free ∙ tends.apart number d (ap (is_there number) in ∙ x.2)))
+          elim (which s.connections one d x.0 x.1) as (λ _. IfSome (slice_get all d) IsSilent) [
+            | inl found ↦ absurd (none-some d (sym free ∙ tends.apart number d (ap (is_there number) found ∙ x.2)))
             | inr last ↦ subst (λ o. IfSome o IsSilent) (sym x.1) (subst IsSilent (sym last.1) (record { read = refl; whole = refl; goes_on = refl }))
           ];
     }
@@ -121,7 +121,7 @@ module _ (piece : ℕ) (clients : List (Option Client)) (s : State) (tends : Ten
 pub tells : (event : Event) (piece : ℕ) (clients : List (Option Client)) (s : State) (later : List Step) → s.later ≡ later → IsNext event s.connections later → Tends piece s clients
     → TendsBut event piece (after_report (number_in event) s later) clients
 tells (Opened number) piece clients s [] is next tends = absurd next
-tells (Opened number) piece clients s (Opens window bytes ∷ later) is next tends = tells_opened piece clients s tends number window _ later (λ d come. subst (IsToCome d) is come) next
+tells (Opened number) piece clients s (Opens window bytes ∷ later) is next tends = tells_opened piece clients s tends number window bytes later (λ d come. subst (IsToCome d) is come) next
 tells (Opened number) piece clients s (Reports c change ∷ later) is next tends = absurd next
 tells (Opened number) piece clients s (Happens c change ∷ later) is next tends = absurd next
 tells (Ready number) piece clients s [] is next tends = absurd next

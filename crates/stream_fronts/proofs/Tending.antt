@@ -15,7 +15,7 @@ use Rattle.stream_fronts.proofs.Moving.{apart_as}
 rests_on : {client : Client} {c d piece : ℕ} {old new : State} → Moves c old new → (c == d) ≡ false → Rests client d piece old → Rests client d piece new
 rests_on {client} {c} {d} {piece} {old} {new} moves other rests = elim rests as (λ _. Rests client d piece new) [
   | inl come ↦ inl (moves.to_come d come)
-  | inr waits ↦ elim moves.others d other as (λ _. Rests client d piece new) [
+  | inr waits ↦ elim (moves.others d other) as (λ _. Rests client d piece new) [
     | inl come ↦ inl come
     | inr same ↦ inr (λ moving. subst (λ o. IfSome o (IsAtRest client)) (sym same) (waits moving))
   ]
@@ -35,7 +35,7 @@ module _ (piece number c : ℕ) {old new : State} (clients now : List (Option Cl
   pub tends_served : Tended piece number c new now → Tends piece new now
   tends_served mine = record {
     apart = apart_as old.connections new.connections moves.there moves.same apart;
-    each = λ n d is. elim cases_eq n number as (λ _. Tended piece n d new now) [
+    each = λ n d is. elim (cases_eq n number) as (λ _. Tended piece n d new now) [
       | inl same ↦
         let place = same_Some c d (sym here ∙ sym (moves.same number) ∙ ap (λ m. held m new.connections) (sym same) ∙ is) in
         subst (λ m. Tended piece m d new now) (sym same) (subst (λ e. Tended piece number e new now) place mine)
