@@ -9,6 +9,7 @@ use Rattle.memcached_text.specs.Next.{next_of}
 use Rattle.memcached_text.specs.Stream.{len_of}
 use Rattle.memcached_commands.specs.Asks.{asks_in}
 use Rattle.mica_fronts.specs.Answered.{Answered}
+use Rattle.memcached_stats.specs.Stats as stats
 use Rattle.memcached_fronts.specs.Exchange.{IsOpenAt, flushes_now, count_of_answers, is_answered, due_before}
 use Rattle.memcached_fronts.specs.Spells.{due_to_all, answers_to_all}
 use Rattle.memcached_fronts.proofs.ExchangeLaws.{no_asks}
@@ -31,10 +32,10 @@ not_more next done less more = let none : length (asks_in next) ≡ 0 = ap (λ n
 
 module _ (options : Options) (base : ℕ) where
   -- and not answered
-  not_yet : (next : Next) (part : List Answered) → length part < length (asks_in next) → is_answered options (record { next = next; answers = part }) ≡ false
-  not_yet next part less = go (flushes_now next) refl (is_answered options (record { next = next; answers = part })) refl
+  not_yet : (next : Next) (part : List Answered) (told : stats.Told) → length part < length (asks_in next) → is_answered options (record { next = next; answers = part; told = told }) ≡ false
+  not_yet next part told less = go (flushes_now next) refl (is_answered options (record { next = next; answers = part; told = told })) refl
     where
-      go : (f : Bool) → flushes_now next ≡ f → (t : Bool) → is_answered options (record { next = next; answers = part }) ≡ t → is_answered options (record { next = next; answers = part }) ≡ false
+      go : (f : Bool) → flushes_now next ≡ f → (t : Bool) → is_answered options (record { next = next; answers = part; told = told }) ≡ t → is_answered options (record { next = next; answers = part; told = told }) ≡ false
       go true flushes t is = let none : length (asks_in next) ≡ 0 = ap length (no_asks next flushes) in absurd (omega (arith, less, none))
       go false keyed false is = is
       go false keyed true is =
@@ -83,7 +84,7 @@ module _ (options : Options) (base : ℕ) where
             let e = begun place.bytes r.part r.told in
             let many : place.done ≡ suc (length part) = sym r.count ∙ ap length some in
             let less : place.done < length (asks_in next) = asks_some next place.done (length part) stands many in
-            let going : is_answered options (begun place.bytes r.part r.told) ≡ false = not_yet next r.part (let count = r.count in omega (arith, count, less)) in
+            let going : is_answered options (begun place.bytes r.part r.told) ≡ false = not_yet next r.part r.told (let count = r.count in omega (arith, count, less)) in
             let all : due_to_all options base (r.whole ++ begun place.bytes r.part r.told ∷ []) ≡ due =
             due_then options base r.whole (begun place.bytes r.part r.told) ∙ ap (λ t. due_to_all options base r.whole ++ t) (sym (due_still options base (begun place.bytes r.part r.told) going))
             ∙ r.due_is in
