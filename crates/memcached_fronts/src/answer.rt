@@ -7,7 +7,8 @@ ghost use Rattle.memcached_commands.specs.Asks.{asks_in};
 ghost use Rattle.memcached_commands.specs.Fit.{IsFitAsked};
 ghost use Rattle.mica_fronts.specs.Answered.{Answered, accepts, count_of_writes};
 ghost use Rattle.mica_fronts.specs.Session.{AnswersInOrder};
-ghost use Rattle.memcached_fronts.specs.Exchange.{IsOpenAt, flush_due, flush_text, flushes_now};
+ghost use Rattle.memcached_stats.specs.Stats.{Told, stats_text};
+ghost use Rattle.memcached_fronts.specs.Exchange.{IsOpenAt, asks_stats, flush_due, flush_text, flushes_now};
 ghost use Rattle.memcached_fronts.specs.FlushAnswers.{FlushesFrom, flush_at};
 ghost use Rattle.memcached_fronts.specs.Seconds.{ToldFrom, seconds_of};
 ghost use Rattle.memcached_fronts.specs.Going.{AnswersFirst, RepliesFirst, GoesOn, Replies};
@@ -17,7 +18,8 @@ use crate::buffers::Buffers;
 use crate::flush::{ask_flush, flush_all};
 use crate::plain::{Style, plain_line, put_line, style_of};
 use memcached_commands::Asks;
-use memcached_text::{Command, Due, Next, Reply, reply_line};
+use memcached_stats::counter_by;
+use memcached_text::{Command, Due, Next, Reply, Topic, reply_line};
 use mica_clock::Clock;
 use mica_fronts::Changes;
 use mica_io::NoMemory;
@@ -46,6 +48,40 @@ pub struct Progress {
     /// How many answers were given.
     pub done: usize,
     pub is_whole: bool,
+}
+
+fn is_stats(next: &Next) -> bool
+    ensures { result ≡ asks_stats next.now }
+{
+    match next {
+        Next::Command {
+            command: Command::Stats { topic },
+            ..
+        } => *topic == Topic::Server,
+        _ => false,
+    }
+}
+
+// Tells what the server counts. After want of memory nothing is appended.
+fn answer_stats<C: Clock>(
+    clock: &C,
+    partitions: u32,
+    buffers: &Buffers,
+    done: usize,
+    out: &mut Vec<u8>,
+) -> Result<Progress, NoMemory>
+    ensures told { IfOk result (λ progress. (progress ≡ record { done = done; is_whole = true })
+        × ((told : Told) × (out.new.items ≡ out.old.items ++ stats_text partitions told))) }
+    ensures err { OnErr result (out.new.items ≡ out.old.items) }
+{
+    buffers.show();
+    buffers
+        .board
+        .put_stats(clock.present(), partitions, out)?;
+    Ok(Progress {
+        done,
+        is_whole: true,
+    })
 }
 
 fn is_flush(next: &Next) -> bool
@@ -136,6 +172,7 @@ fn answer_asks<'a, R: Threads + Wait + Sync, F: Changes, C: Clock>(
     front: &mut F,
     clock: &mut C,
     base: u64,
+    partitions: u32,
     buffers: &mut Buffers,
     style: Style,
     asks: &mut Asks<'a>,
@@ -160,7 +197,7 @@ fn answer_asks<'a, R: Threads + Wait + Sync, F: Changes, C: Clock>(
             return Ok(count);
         };
         let is_last = asks.is_empty();
-        let Ok(()) = answer_ask(rt, front, clock, base, buffers, style, &asked, is_last, out) else {
+        let Ok(()) = answer_ask(rt, front, clock, base, partitions, buffers, style, &asked, is_last, out) else {
             return Err(NoMemory);
         };
         count += 1;
@@ -197,6 +234,7 @@ pub fn answer_next<'a, R: Threads + Wait + Sync, F: Changes, C: Clock>(
     ensures stands { F.stands front.new ≡ F.stands front.old }
 {
     let style = style_of(&next);
+    buffers.tally.count(counter_by(&next));
     if is_flush(&next) {
         return answer_flush(
             rt,
@@ -208,6 +246,9 @@ pub fn answer_next<'a, R: Threads + Wait + Sync, F: Changes, C: Clock>(
             style.quiet,
             out,
         );
+    }
+    if is_stats(&next) {
+        return answer_stats(clock, numbering.partitions, buffers, done, out);
     }
     let line = plain_line(&next);
     let mut asks = Asks::by(next);
@@ -227,6 +268,7 @@ pub fn answer_next<'a, R: Threads + Wait + Sync, F: Changes, C: Clock>(
         front,
         clock,
         numbering.base,
+        numbering.partitions,
         buffers,
         style,
         &mut asks,

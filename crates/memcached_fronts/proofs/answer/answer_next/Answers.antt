@@ -14,7 +14,9 @@ use Rattle.memcached_fronts.specs.FlushAnswers.{FlushesFrom, flush_at}
 use Rattle.memcached_fronts.specs.Exchange.{IsOpenAt, flush_due, flush_text, flushes_now, wants_numbers}
 use Rattle.memcached_fronts.specs.Going.{AnswersFirst, RepliesFirst, Replies}
 use Rattle.memcached_fronts.proofs.AskLaws.{none_left, some_left, few_answers}
-use Rattle.memcached_fronts.proofs.ExchangeLaws.{flush_goes, flush_replies, plain_goes, plain_replies, asks_go, asks_reply, is_below}
+use Rattle.memcached_stats.specs.Stats.{stats_text}
+use Rattle.memcached_stats.proofs.Untold.{untold}
+use Rattle.memcached_fronts.proofs.ExchangeLaws.{of_stats, flush_goes, flush_replies, plain_goes, plain_replies, asks_go, asks_reply, is_below}
 use Rattle.memcached_fronts.proofs.answer.answer_next.Goals as goal
 
 if_ok : {T E : Type 0} (P Q : T → Type 0) (r : Result T E) → ((t : T) → P t → Q t) → IfOk r P → IfOk r Q
@@ -46,6 +48,26 @@ returns-then-is_flush-clause-answered g c =
       r.6,
     )
 
+pub returns-then-is_stats-clause-answered : goal.returns-then-is_stats-clause-answered
+returns-then-is_stats-clause-answered g c =
+    let F = g.F.Front in
+    let options = F.options c.args.front.now in
+    let old = F.sessions c.args.front.now in
+    let last = g.C.Clock.last c.args.clock.now in
+    let next = c.args.next in
+    let is = of_stats next (sym c.is_stats.ensures ∙ c.if-is_stats.true) in
+    let before = c.args.out.now.items in
+    let after = c.answer_stats.new.out.items in (
+      [],
+      plain_goes options F.is_alone c.args.numbering.base next c.args.done c.requires.open old old last last is.keyed is.none,
+      if_ok _ (Replies options c.args.numbering.base next c.args.done c.args.limits [] before after) c.answer_stats.result
+          (λ progress all. subst (Replies options c.args.numbering.base next c.args.done c.args.limits [] before after) (sym all.0)
+          (plain_replies options F.is_alone c.args.numbering.base next c.args.done c.requires.open old old last last is.keyed is.none all.1.0 c.args.limits before after
+          (all.1.1 ∙ ap (λ n. before ++ stats_text n all.1.0) c.requires.partitions ∙ ap (λ text. before ++ text) (sym (is.due options.partitions all.1.0)))))
+          c.answer_stats.ensures.told,
+      omega arith,
+    )
+
 pub returns-then-is_empty-clause-answered : goal.returns-then-is_empty-clause-answered
 returns-then-is_empty-clause-answered g c =
     let F = g.F.Front in
@@ -55,10 +77,12 @@ returns-then-is_empty-clause-answered g c =
     let next = c.args.next in
     let keyed : flushes_now next ≡ false = sym c.is_flush.ensures ∙ c.if-is_flush.false in
     let none : asks_in next ≡ [] = sym c.by-asks.ensures.asks ∙ none_left c.by-asks.result (sym c.is_empty.ensures ∙ c.if-is_empty.true) in
-    let text = c.in-Ok.ensures.ok ∙ (λ i. c.args.out.now.items ++ unless_quiet (c.style_of-style.ensures.quiet i) (c.plain_line-line.ensures i)) in (
+    let text = c.in-Ok.ensures.ok ∙ (λ i. c.args.out.now.items ++ unless_quiet (c.style_of-style.ensures.quiet i)
+    (c.plain_line-line.ensures (sym c.is_stats.ensures ∙ c.if-is_stats.false) options.partitions untold i)) in (
       [],
       plain_goes options F.is_alone c.args.numbering.base next c.args.done c.requires.open old old told told keyed none,
-      plain_replies options F.is_alone c.args.numbering.base next c.args.done c.requires.open old old told told keyed none c.args.limits c.args.out.now.items c.put_line.new.out.items text,
+      plain_replies options F.is_alone c.args.numbering.base next c.args.done c.requires.open old old told told keyed none untold c.args.limits c.args.out.now.items c.put_line.new.out.items
+          text,
       omega arith,
     )
 
