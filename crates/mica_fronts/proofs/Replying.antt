@@ -15,8 +15,7 @@ use Rattle.partition_model.specs.Write.{is_accepted}
 use Rattle.partition_model.specs.Answer.{IsAnswer}
 use Rattle.batch_packets.specs.declared.header.TheConstants.{MAX_VALUE_LEN_V1}
 use Rattle.batch_packets.specs.declared.batch.Request.{Request}
-use Rattle.batch_packets.specs.declared.batch.Batch.{Batch}
-use Rattle.batch_packets.specs.BatchGrammar.{IsRequest, SpellsBatch}
+use Rattle.batch_packets.specs.BatchGrammar.{IsRequest}
 use Rattle.batch_packets.specs.declared.replies.Reply.{Reply}
 use Rattle.batch_packets.specs.ReplyGrammar.{replies_text, IsReply, status_byte}
 use Rattle.batch_packets.specs.Splitting.{SplitsInto}
@@ -24,7 +23,7 @@ use Rattle.mica_fronts.specs.Answered.{wrote, got}
 use Rattle.mica_fronts.specs.Turn.{write_in, get_reply}
 use Rattle.mica_fronts.specs.Session.{Sessions, Writes, Reads, ChangesOnly}
 use Rattle.mica_fronts.specs.Dealing.{IsNoBatch, bad_batch_text}
-use Rattle.mica_fronts.specs.Answering.{RepliesTo, AnswersAll, DealsWith, DealsInPart}
+use Rattle.mica_fronts.specs.Answering.{RepliesTo, DealsWith, DealsInPart}
 use Rattle.mica_fronts.proofs.InOrder.{first_none}
 use Rattle.mica_fronts.proofs.Statuses.{replied_status}
 

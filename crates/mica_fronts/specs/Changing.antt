@@ -1,5 +1,5 @@
 -- What becomes of a value that is looked at and written under one hold.
-use Rattle.std.specs.Prelude.{◌≡◌, ℕ, Bool, true, false, List, [], Option, Some, None, ⊤}
+use Rattle.std.specs.Prelude.{◌≡◌, ℕ, Bool, false, List, [], Option, Some, None, ⊤}
 use Rattle.partition_model.specs.declared.options.Options.{Options}
 use Rattle.partition_model.specs.declared.write.Op.TheVariants.{Put, Del}
 use Rattle.partition_model.specs.declared.write.Write.{Write}

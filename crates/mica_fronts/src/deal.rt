@@ -176,6 +176,7 @@ fn reply_to_all<R: Threads + Wait + Sync, F: Front, G: Gate>(
 }
 
 /// The one datagram that is due to bytes that are no batch.
+#[tactic(auto, unfolding(batch_packets::specs::ReplyGrammar::status_byte))]
 fn bad_batch(alloc: Global) -> Result<Vec<Datagram>, NoMemory>
     ensures { IfOk result (λ datagrams. datagrams.items ≡ bad_batch_text ∷ []) }
 {
