@@ -138,16 +138,16 @@ moves_receiving c schedule (byte ∷ bytes) entries =
     moves_changed c c (after_read (length (byte ∷ bytes))) (λ n x. refl) (silent_read (length (byte ∷ bytes))) refl (state_after schedule entries)
 
 -- of what a log tells, by its parts
-moves_to : {c : ℕ} {old : State} {new : Log} (schedule : List Step) (entries : List Entry) → new.schedule ≡ schedule → new.entries ≡ entries → Moves c old (state_after schedule entries)
+moves_to : {c : ℕ} {old : State} (new : Log) (schedule : List Step) (entries : List Entry) → new.schedule ≡ schedule → new.entries ≡ entries → Moves c old (state_after schedule entries)
     → Moves c old (state_of new)
-moves_to {c} {old} {new} schedule entries schedule_is entries_is moves =
+moves_to {c} {old} new schedule entries schedule_is entries_is moves =
     subst (λ (e : List Entry). Moves c old (state_after new.schedule e)) (sym entries_is) (subst (λ (s : List Step). Moves c old (state_after s entries)) (sym schedule_is) moves)
 
 pub moves_sends : {c : ℕ} {text : List ℕ} {old new : Log} → Sends c text old new → Moves c (state_of old) (state_of new)
 moves_sends {c} {text} {old} {new} sends =
-    moves_to {new = new} old.schedule (sends.more ++ old.entries) sends.schedule sends.entries (moves_more c old.schedule sends.more old.entries sends.each)
+    moves_to new old.schedule (sends.more ++ old.entries) sends.schedule sends.entries (moves_more c old.schedule sends.more old.entries sends.each)
 
 pub moves_reads : {c : ℕ} {bytes : List ℕ} {old new : Log} → Reads c bytes old new → Moves c (state_of old) (state_of new)
 moves_reads {c} {bytes} {old} {new} reads =
-    moves_to {new = new} old.schedule (after_receiving c bytes (reads.mets ++ old.entries)) reads.schedule reads.entries
+    moves_to new old.schedule (after_receiving c bytes (reads.mets ++ old.entries)) reads.schedule reads.entries
     (moves_then (moves_more c old.schedule reads.mets old.entries (mets_send c reads.mets reads.each)) (moves_receiving c old.schedule bytes (reads.mets ++ old.entries)))

@@ -67,7 +67,7 @@ module _ (options : Options) (base : ℕ) where
       tends = λ lacking all stands but. record {
         apart = but.apart;
         each = λ n c is.
-            let other = λ same. true≢false (sym (but.told c (subst (λ m. held m (connections_of log) ≡ Some c) same is)) ∙ ap is_some none) in
+            let other : n ≢ number = λ same. true≢false (sym (but.told c (subst (λ m. held m (connections_of log) ≡ Some c) same is)) ∙ ap is_some none) in
             let t = but.each n c other is in record { client = t.client; is_held = others n other ∙ t.is_held; rests = t.rests };
       };
     }

@@ -27,10 +27,10 @@ use Rattle.stream_fronts.proofs.Visited.{held_reaches}
 
 module _ (options : Options) (base : ℕ) where
   module _ (c : ℕ) (log : Log) (given : List Answered) (client : Client) (is : IsClient client) (x : Connection) (holds : Holds options base MOST_UNSENT c log given client) where
-    came : List ℕ
+    abbrev came : List ℕ
     came = received_of c log.entries
 
-    went : List ℕ
+    abbrev went : List ℕ
     went = sent_of c log.entries
 
     some_due : {most : ℕ} → client.unsent ≢ [] → IsShut x → Told options base came went given (went ++ client.unsent) most → IsSettled options base x came went given

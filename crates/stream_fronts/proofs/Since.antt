@@ -28,7 +28,7 @@ use Rattle.stream_fronts.proofs.Settling.{done_all}
 pub record StandsBy (options : Options) (base had lacked : ℕ) (clients : List (Option Client)) (before now : Log) (given : List Given) : Type 0 where
   pub schedule : now.schedule ≡ before.schedule
   pub lacking : List ℕ
-  pub counted : lacked ≡ min (had + length lacking) LAST_COUNT
+  pub counted : min lacked LAST_COUNT ≡ min (had + length lacking) LAST_COUNT
   pub stands : Stands options base lacking now given clients
   pub tends : Tends now.script.piece (state_of now) clients
 
@@ -54,29 +54,29 @@ module _ (options : Options) (is_alone : Bool) (base : ℕ) (old : Sessions) (le
       (record { apart = λ n c is. absurd (true≢false (sym is)); each = λ n c is. absurd (none-some c is) })
 
   -- nothing was served yet
-  pub since_none : had ≤ LAST_COUNT → (clients : List (Option Client)) → clients ≡ [] → (log : Option Log)
+  pub since_none : (clients : List (Option Client)) → clients ≡ [] → (log : Option Log)
       → OnLogs (StandsSince options is_alone base old left told had old left told had clients) log log
-  since_none low clients empty None = tt
-  since_none low clients empty (Some log) = λ none. ([], these_none options is_alone old left told, record {
+  since_none clients empty None = tt
+  since_none clients empty (Some log) = λ none. ([], these_none options is_alone old left told, record {
     schedule = refl;
     lacking = [];
-    counted = omega (arith, low);
+    counted = omega arith;
     stands = begun_stands log clients empty none;
     tends = begun_tends log.script.piece log.schedule log.entries clients none;
   })
 
-  module _ {between new : Sessions} {then_left left_after then_told tells then_lacked lacked : ℕ} (clients now : List (Option Client)) where
+  module _ {between new : Sessions} {then_left left_after then_told tells : ℕ} (clients now : List (Option Client)) where
     -- one report more was served
-    pub since_then : (event : Event) (count : ℕ) → lacked ≡ min (then_lacked + count) LAST_COUNT → (before a b d : Option Log)
+    pub since_then : (event : Event) (then_lacked count lacked : ℕ) → lacked ≡ min (then_lacked + count) LAST_COUNT → (before a b d : Option Log)
         → OnLogs (StandsSince options is_alone base old left told had between then_left then_told then_lacked clients) before a
         → is_some b ≡ is_some a → IfSome a (λ l. ReportsNext l event b) → (o : Options) → o ≡ options
         → GoesByGiven o is_alone between then_left then_told new left_after tells (λ given. OnLogs (StandsOn o base event clients count given now) b d)
         → OnLogs (StandsSince options is_alone base old left told had new left_after tells lacked now) before d
-    since_then event count more_lacked None a b d first same reports o is more = tt
-    since_then event count more_lacked (Some x) None b d first same reports o is more = absurd first
-    since_then event count more_lacked (Some x) (Some y) None d first same reports o is more = absurd (true≢false (sym same))
-    since_then event count more_lacked (Some x) (Some y) (Some z) None first same reports o is more = absurd more.2
-    since_then event count more_lacked (Some x) (Some y) (Some z) (Some w) first same reports o is more = λ none.
+    since_then event then_lacked count lacked more_lacked None a b d first same reports o is more = tt
+    since_then event then_lacked count lacked more_lacked (Some x) None b d first same reports o is more = absurd first
+    since_then event then_lacked count lacked more_lacked (Some x) (Some y) None d first same reports o is more = absurd (true≢false (sym same))
+    since_then event then_lacked count lacked more_lacked (Some x) (Some y) (Some z) None first same reports o is more = absurd more.2
+    since_then event then_lacked count lacked more_lacked (Some x) (Some y) (Some z) (Some w) first same reports o is more = λ none.
         let f = first none in
         let by = f.2 in
         let second = subst (λ (p : Options). GoesByGiven p is_alone between then_left then_told new left_after tells (λ given. StandsOn p base event clients count given now z w)) is more in
@@ -96,10 +96,10 @@ module _ (options : Options) (is_alone : Bool) (base : ℕ) (old : Sessions) (le
         )
 
   module _ (opened ended : Bool) (new : Sessions) (left_after tells lacked : ℕ) (clients : List (Option Client)) where
-    first : FrontAt
+    abbrev pub first : FrontAt
     first = record { sessions = old; second = told; lacked = had; has_ended = opened }
 
-    last : FrontAt
+    abbrev pub last : FrontAt
     last = record { sessions = new; second = tells; lacked = lacked; has_ended = ended }
 
     -- what the front served, by what stands

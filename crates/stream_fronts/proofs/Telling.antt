@@ -56,10 +56,10 @@ module _ (piece : ℕ) (clients : List (Option Client)) (s : State) (tends : Ten
   -- Another is made
 
   module _ (number window : ℕ) (bytes : List ℕ) (later : List Step) (come : (d : ℕ) → IsToCome d s.later → IsToCome d later) (free : held number s.connections ≡ None) where
-    one : Connection
+    abbrev one : Connection
     one = new_connection number window bytes
 
-    all : List Connection
+    abbrev all : List Connection
     all = s.connections ++ one ∷ []
 
     -- a place of those that are there now

@@ -12,8 +12,8 @@ use Rattle.stream_fronts.proofs.Places.{there, two_places, elsewhere, changed_he
 use Rattle.stream_fronts.proofs.Moving.{apart_as}
 
 -- of another nothing happened, or a report is to come
-rests_on : {client : Client} {c d piece : ℕ} {old new : State} → Moves c old new → (c == d) ≡ false → Rests client d piece old → Rests client d piece new
-rests_on {client} {c} {d} {piece} {old} {new} moves other rests = elim rests as (λ _. Rests client d piece new) [
+rests_on : (client : Client) {c : ℕ} (d piece : ℕ) {old new : State} → Moves c old new → (c == d) ≡ false → Rests client d piece old → Rests client d piece new
+rests_on client {c} d piece {old} {new} moves other rests = elim rests as (λ _. Rests client d piece new) [
   | inl come ↦ inl (moves.to_come d come)
   | inr waits ↦ elim (moves.others d other) as (λ _. Rests client d piece new) [
     | inl come ↦ inl come
@@ -29,7 +29,7 @@ module _ (piece number c : ℕ) {old new : State} (clients now : List (Option Cl
       let was = sym (moves.same n) ∙ is in
       let t = each n d other was in
       let away = ne_eqb c d (two_places number n c d old.connections other here was) in
-      (away, record { client = t.client; is_held = others n other ∙ t.is_held; rests = rests_on moves away t.rests })
+      (away, record { client = t.client; is_held = others n other ∙ t.is_held; rests = rests_on t.client d piece moves away t.rests })
 
   -- one was served, and waits
   pub tends_served : Tended piece number c new now → Tends piece new now
@@ -45,7 +45,7 @@ module _ (piece number c : ℕ) {old new : State} (clients now : List (Option Cl
 
   -- or it was closed
 
-  gone : List Connection
+  abbrev gone : List Connection
   gone = changed c after_close new.connections
 
   there_now : (x : Connection) × (slice_get new.connections c ≡ Some x) × (is_under number x ≡ true)

@@ -62,8 +62,8 @@ waits_not_over : Waits ≢ Over
 waits_not_over is = cc
 
 -- replies wait, and the peer takes none
-rests_shut : (client : Client) {c : ℕ} (log : Log) → client.unsent ≢ [] → IsShutIn c log → Rests client c log.script.piece (state_of log)
-rests_shut client {c} log some is = inr (λ moving. if_some (slice_get (connections_of log) c) (λ x e. shut some e) (is moving))
+rests_shut : (client : Client) (c : ℕ) (log : Log) → client.unsent ≢ [] → IsShutIn c log → Rests client c log.script.piece (state_of log)
+rests_shut client c log some is = inr (λ moving. if_some (slice_get (connections_of log) c) (λ x e. shut some e) (is moving))
 
 module _ (options : Options) (base : ℕ) where
   -- The same, of what is equal
@@ -233,7 +233,7 @@ module _ (options : Options) (base : ℕ) where
           talks = λ lacking all holds through.
               let most = MOST_UNSENT in
               let stage = stage_then most lacking all holds through in
-              (still_through most mid old.schedule lacking all stage.through, still_becomes most mid (given_to c all) now Waits (held_then most lacking all holds through, rests_shut now mid some (sends.3 some)));
+              (still_through most mid old.schedule lacking all stage.through, still_becomes most mid (given_to c all) now Waits (held_then most lacking all holds through, rests_shut now c mid some (sends.3 some)));
         }
 
         pub visit_leaves : IsClient now → now.leaving ≡ true → now.unsent ≡ [] → Visits options base client [] now Over c old mid
@@ -390,7 +390,7 @@ module _ (options : Options) (base : ℕ) where
                       (due_same options base most c last.unsent end.stage then_sends.1 then_sends.2) end.stands)
 
                 -- so it waits
-                WaitsFor : After → Type 0
+                abbrev WaitsFor : After → Type 0
                 WaitsFor becomes = becomes ≡ Waits → (lacking : List ℕ) (all : List Given) → Looked MOST_UNSENT c old.schedule lacking log all answers replies then r
                     → Rests last c new.script.piece (state_of new)
 
@@ -429,13 +429,13 @@ module _ (options : Options) (base : ℕ) where
                 }
 
                 pub visit_shut : last.unsent ≢ [] → Visits options base client answers last Waits c old new
-                visit_shut some = visit_goes_on Waits waits_not_over (λ is lacking all looked. rests_shut last new some (then_sends.3 some))
+                visit_shut some = visit_goes_on Waits waits_not_over (λ is lacking all looked. rests_shut last c new some (then_sends.3 some))
 
                 pub visit_ends : IsClient last → last.leaving ≡ true → last.unsent ≡ [] → Visits options base client answers last Over c old new
                 visit_ends is_last over none_left = record {
                   schedule = then_sends.1.schedule ∙ looked_schedule;
-                piece = then_sends.1.piece ∙ looked_piece;
-                moves = moves_then looked_moves (moves_sends then_sends.1);
+                  piece = then_sends.1.piece ∙ looked_piece;
+                  moves = moves_then looked_moves (moves_sends then_sends.1);
                   under = λ n d is. sends_held then_sends.1 n d (looked_held n d is);
                   others = λ d other. stays_then (looked_others d other) (stays_sent then_sends.1 d other);
                   talks = λ lacking all holds through.

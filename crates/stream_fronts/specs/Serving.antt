@@ -29,7 +29,7 @@ pub record Serves (options : Options) (is_alone : Bool) (base most : ℕ) (old n
   pub in_order : AnswersInOrder options is_alone old.sessions (answers_in all) new.sessions
   pub seconds : ToldFrom old.second (seconds_of (answers_in all)) new.second
   pub lacking : List ℕ
-  pub counted : new.lacked ≡ min (old.lacked + length lacking) LAST_COUNT
+  pub counted : min new.lacked LAST_COUNT ≡ min (old.lacked + length lacking) LAST_COUNT
   pub through : TalksThrough options base most log.schedule lacking log.entries all
   pub done : new.has_ended ≡ true → 0 < log.script.piece → IsDone options base log all
 
