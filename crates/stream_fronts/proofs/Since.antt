@@ -101,10 +101,10 @@ module _ (options : Options) (is_alone : Bool) (base : ℕ) (old : Sessions) (le
 
   module _ (opened ended : Bool) (new : Sessions) (left_after tells lacked : ℕ) (clients : List (Option Client)) where
     abbrev pub first : FrontAt
-    first = record { sessions = old; second = told; lacked = had; has_ended = opened }
+    first = record { sessions = old; left = left; second = told; lacked = had; has_ended = opened }
 
     abbrev pub last : FrontAt
-    last = record { sessions = new; second = tells; lacked = lacked; has_ended = ended }
+    last = record { sessions = new; left = left_after; second = tells; lacked = lacked; has_ended = ended }
 
     -- what the front served, by what stands
     serves_by : {before now : Log} (after : Log) → after.schedule ≡ now.schedule → after.entries ≡ now.entries
@@ -117,6 +117,7 @@ module _ (options : Options) (is_alone : Bool) (base : ℕ) (old : Sessions) (le
           serves = record {
             in_order = f.1.in_order;
             seconds = f.1.seconds;
+            few = f.1.few;
             lacking = by.lacking;
             counted = by.counted;
             through = subst (λ (s : List Step). TalksThrough options base MOST_UNSENT s by.lacking after.entries f.0) (sym schedule)
