@@ -16,15 +16,14 @@ use Rattle.mica_fronts.specs.Answered.{Answered}
 use Rattle.memcached_stats.specs.Stats.{Told, stats_text}
 use Rattle.memcached_stats.proofs.Untold.{untold}
 use Rattle.memcached_fronts.specs.AskAnswers.{AnswersAsks, asks_text}
-use Rattle.memcached_fronts.specs.FlushAnswers.{FlushesFrom}
-use Rattle.memcached_fronts.specs.Exchange.{Exchange, AnswersBy, AnswersNext, asks_stats, flushes_now, count_of_answers, is_answered, is_quiet, wants_numbers, plain_text, keyed_text, flush_text, text_by, due_to, due_before, IsOpenAt, longer}
+use Rattle.memcached_fronts.specs.FlushAnswers.{FlushesFrom, flush_at}
+use Rattle.memcached_fronts.specs.Exchange.{Exchange, AnswersBy, AnswersNext, asks_stats, flushes_now, flush_due, count_of_answers, is_answered, is_quiet, wants_numbers, plain_text, keyed_text, flush_text, text_by, due_to, due_before, IsOpenAt, longer}
 use Rattle.mica_fronts.specs.Session.{Sessions, AnswersInOrder}
 use Rattle.memcached_fronts.specs.declared.answer.Limits.{Limits}
 use Rattle.memcached_fronts.specs.declared.answer.Progress.{Progress}
-use Rattle.memcached_fronts.specs.Seconds.{ToldFrom}
+use Rattle.memcached_fronts.specs.Seconds.{seconds_of, ToldFrom}
 use Rattle.memcached_fronts.specs.Going.{StandsAt, AnswersFirst, RepliesFirst, GoesOn, Replies}
 use Rattle.memcached_fronts.proofs.AskLaws.{more_answers, few_answers, more_text, quiet_both}
-use Rattle.memcached_fronts.proofs.Flushing.{no_seconds}
 
 -- a number that is not another
 differs : (n m : ℕ) → n < m → (n == m) ≡ false
@@ -73,10 +72,10 @@ module _ (options : Options) (base : ℕ) (next : Next) (done : ℕ) where
         → AnswersNext options base e.next (e.answers ++ answers)
     asks_go_on is e at =
         let here : AnswersNext options base next e.answers = subst (λ n. AnswersNext options base n e.answers) at.next_is at.answers in
-        let first : AnswersAsks base (asks_in next) e.answers = subst (λ t. AnswersBy t options base (asks_in next) e.answers) keyed here in
+        let first : AnswersAsks base (asks_in next) e.answers = subst (λ t. AnswersBy t options base (flush_due next) (asks_in next) e.answers) keyed here in
         let then : AnswersAsks base (drop (length e.answers) (asks_in next)) answers = subst (λ n. AnswersAsks base (drop n (asks_in next)) answers) (sym at.count) is in
         subst (λ n. AnswersNext options base n (e.answers ++ answers)) (sym at.next_is)
-        (subst (λ t. AnswersBy t options base (asks_in next) (e.answers ++ answers)) (sym keyed) (more_answers base (asks_in next) e.answers answers first then))
+        (subst (λ t. AnswersBy t options base (flush_due next) (asks_in next) (e.answers ++ answers)) (sym keyed) (more_answers base (asks_in next) e.answers answers first then))
 
     pub asks_are_due : IsOpenAt next done → 0 < length (asks_in next) → (e : Exchange) → StandsAt options base next done e
         → due_to options base (longer e answers told)
@@ -146,10 +145,10 @@ module _ (options : Options) (base : ℕ) (next : Next) (flushes : flushes_now n
   empty : e.answers ≡ []
   empty = none_yet e.answers at.count
 
-  pub flush_goes_on : FlushesFrom options 0 answers → AnswersNext options base e.next (e.answers ++ answers)
+  pub flush_goes_on : ((second : ℕ) × FlushesFrom options (flush_at second (flush_due next)) 0 answers) → AnswersNext options base e.next (e.answers ++ answers)
   flush_goes_on is =
       subst (λ given. AnswersNext options base e.next (given ++ answers)) (sym empty)
-      (subst (λ n. AnswersNext options base n answers) (sym at.next_is) (subst (λ t. AnswersBy t options base (asks_in next) answers) (sym flushes) is))
+      (subst (λ n. AnswersNext options base n answers) (sym at.next_is) (subst (λ t. AnswersBy t options base (flush_due next) (asks_in next) answers) (sym flushes) is))
 
   nothing_due : (quiet : Bool) → unless_quiet quiet [] ≡ []
   nothing_due true = refl
@@ -211,17 +210,17 @@ at_first next done stands none =
 module _ (options : Options) (is_alone : Bool) (base : ℕ) (next : Next) (done : ℕ) (stands : IsOpenAt next done) (old new : Sessions) (told tells : ℕ) where
   -- A flush
 
-  module _ (flushes : flushes_now next ≡ true) (answers : List Answered) (is : FlushesFrom options 0 answers) where
+  module _ (flushes : flushes_now next ≡ true) (answers : List Answered) (is : (second : ℕ) × FlushesFrom options (flush_at second (flush_due next)) 0 answers) where
     first : done ≡ 0
     first = at_first next done stands (no_asks next flushes)
 
     here : (e : Exchange) → StandsAt options base next done e → StandsAt options base next 0 e
     here e at = subst (λ n. StandsAt options base next n e) first at
 
-    pub flush_goes : AnswersInOrder options is_alone old answers new → GoesOn options is_alone base next done old told new told answers
-    flush_goes in_order = record {
+    pub flush_goes : AnswersInOrder options is_alone old answers new → ToldFrom told (seconds_of answers) tells → GoesOn options is_alone base next done old told new tells answers
+    flush_goes in_order seconds = record {
       in_order = in_order;
-      seconds = subst (λ s. ToldFrom told s told) (sym (no_seconds options 0 answers is)) refl;
+      seconds = seconds;
       next_ones = λ e at. flush_goes_on options base next flushes e (here e at) untold answers is;
     }
 

@@ -5,8 +5,8 @@ use Rattle.partition_model.specs.declared.options.Options.{Options}
 use Rattle.memcached_text.specs.declared.command.Command.{Command}
 use Rattle.memcached_text.specs.declared.command.Command.TheVariants as commands
 use Rattle.memcached_text.specs.declared.command.Topic.TheVariants.{Server, NoPart}
+use Rattle.memcached_text.specs.declared.lifetime.Due.{Due}
 use Rattle.memcached_text.specs.declared.lifetime.Due.TheVariants.{Now}
-use Rattle.memcached_text.specs.declared.fault.Fault.TheVariants.{ExpiryFormat}
 use Rattle.memcached_text.specs.declared.reply.Reply.TheVariants as replies
 use Rattle.memcached_text.specs.declared.next.Next.{Next}
 use Rattle.memcached_text.specs.declared.next.Next.TheVariants as nexts
@@ -17,7 +17,7 @@ use Rattle.memcached_commands.specs.Asks as asks
 use Rattle.memcached_commands.specs.Answers.{unless_quiet}
 use Rattle.mica_fronts.specs.Answered.{Answered, accepts}
 use Rattle.memcached_fronts.specs.AskAnswers.{AnswersAsks, asks_text}
-use Rattle.memcached_fronts.specs.FlushAnswers.{FlushesFrom}
+use Rattle.memcached_fronts.specs.FlushAnswers.{FlushesFrom, flush_at}
 use Rattle.memcached_stats.specs.Stats.{Told, stats_text}
 
 -- what a client said, what partitions answered to it so far, in order, and what the server tells of itself where that is what the client wants to know
@@ -28,19 +28,23 @@ pub record Exchange : Type 0 where
 
 -- Answers
 
--- a flush of all partitions at once
+-- whether it is a flush of all partitions, and when that is to take place
 abbrev pub flushes_now : Next → Bool
-flushes_now (nexts.Command (commands.Flush Now quiet) len) = true
+flushes_now (nexts.Command (commands.Flush due quiet) len) = true
 flushes_now _ = false
 
--- a flush of each partition; or the asks of keys
-abbrev pub AnswersBy : Bool → Options → ℕ → List Asked → List Answered → Type 0
-AnswersBy true options base asked answers = FlushesFrom options 0 answers
-AnswersBy false options base asked answers = AnswersAsks base asked answers
+abbrev pub flush_due : Next → Due
+flush_due (nexts.Command (commands.Flush due quiet) len) = due
+flush_due _ = Now
 
--- These are answers to what was said, in order. A flush that is not due at once is refused, and asks nothing.
+-- a flush of each partition, asked for at one second; or the asks of keys
+abbrev pub AnswersBy : Bool → Options → ℕ → Due → List Asked → List Answered → Type 0
+AnswersBy true options base due asked answers = (second : ℕ) × FlushesFrom options (flush_at second due) 0 answers
+AnswersBy false options base due asked answers = AnswersAsks base asked answers
+
+-- These are answers to what was said, in order.
 abbrev pub AnswersNext : Options → ℕ → Next → List Answered → Type 0
-AnswersNext options base next answers = AnswersBy (flushes_now next) options base (asks.asks_in next) answers
+AnswersNext options base next answers = AnswersBy (flushes_now next) options base (flush_due next) (asks.asks_in next) answers
 
 -- how many answers there are once all is answered
 abbrev pub count_of_answers : Options → Next → ℕ
@@ -74,7 +78,6 @@ wants_numbers _ = false
 -- what is due to a command that asks nothing: it is carried out by its reply alone
 abbrev pub plain_command_text : ℕ → Told → Command → List ℕ
 plain_command_text partitions told (commands.Get keys unique lifetime) = reply_text replies.End
-plain_command_text partitions told (commands.Flush due quiet) = fault_text ExpiryFormat
 plain_command_text partitions told (commands.Stats Server) = stats_text partitions told
 plain_command_text partitions told (commands.Stats NoPart) = reply_text replies.End
 plain_command_text partitions told commands.Version = reply_text replies.Version

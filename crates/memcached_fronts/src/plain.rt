@@ -5,7 +5,7 @@ ghost use Rattle.memcached_stats.specs.Stats.{Told};
 ghost use Rattle.memcached_fronts.specs.Exchange.{asks_stats, is_command_stats, plain_command_text, plain_text, is_quiet, wants_numbers};
 
 use memcached_commands::wants_numbers;
-use memcached_text::{Command, Fault, Next, Reply, fault_line, reply_line};
+use memcached_text::{Command, Next, Reply, fault_line, reply_line};
 use mica_io::NoMemory;
 
 /// How what was said is to be replied to.
@@ -44,7 +44,6 @@ fn plain_command_line(command: &Command) -> &'static [u8]
 {
     match command {
         Command::Get { .. } | Command::Stats { .. } => reply_line(Reply::End),
-        Command::Flush { .. } => fault_line(Fault::ExpiryFormat),
         Command::Version => reply_line(Reply::Version),
         Command::Verbosity { .. } => reply_line(Reply::Done),
         Command::Noop => reply_line(Reply::Noop),

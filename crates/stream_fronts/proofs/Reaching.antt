@@ -14,7 +14,7 @@ use Rattle.mica_fronts.specs.Answered.{Answered}
 use Rattle.mica_fronts.specs.Session.{Sessions}
 use Rattle.memcached_stats.specs.Stats.{Told}
 use Rattle.memcached_stats.proofs.Untold.{untold}
-use Rattle.memcached_fronts.specs.Exchange.{Exchange, AnswersBy, AnswersNext, IsOpenAt, flushes_now, is_answered, count_of_answers, due_to, due_before}
+use Rattle.memcached_fronts.specs.Exchange.{Exchange, AnswersBy, AnswersNext, IsOpenAt, flushes_now, flush_due, is_answered, count_of_answers, due_to, due_before}
 use Rattle.memcached_fronts.specs.Spells.{Spells, taken_by, due_to_all, answers_to_all}
 use Rattle.memcached_fronts.specs.declared.answer.Limits.{Limits}
 use Rattle.memcached_fronts.specs.declared.answer.Progress.{Progress}
@@ -40,8 +40,8 @@ module _ (options : Options) (base : ℕ) where
   pub no_answers : (next : Next) → AnswersNext options base next []
   no_answers next = go (flushes_now next)
     where
-      go : (t : Bool) → AnswersBy t options base (asks_in next) []
-      go true = tt
+      go : (t : Bool) → AnswersBy t options base (flush_due next) (asks_in next) []
+      go true = (0, tt)
       go false = tt
 
   none_begun : (bytes : List ℕ) (part : List Answered) (told : Told) → length part ≡ 0 → due_before options base (begun bytes part told) ≡ []

@@ -10,7 +10,8 @@ use Rattle.memcached_commands.specs.Asks.{asks_in}
 use Rattle.memcached_commands.specs.Answers.{unless_quiet}
 use Rattle.memcached_fronts.specs.declared.answer.Progress.{Progress}
 use Rattle.memcached_fronts.specs.AskAnswers.{AnswersAsks}
-use Rattle.memcached_fronts.specs.Exchange.{IsOpenAt, flush_text, flushes_now, wants_numbers}
+use Rattle.memcached_fronts.specs.FlushAnswers.{FlushesFrom, flush_at}
+use Rattle.memcached_fronts.specs.Exchange.{IsOpenAt, flush_due, flush_text, flushes_now, wants_numbers}
 use Rattle.memcached_fronts.specs.Going.{AnswersFirst, RepliesFirst, Replies}
 use Rattle.memcached_fronts.proofs.AskLaws.{none_left, some_left, few_answers}
 use Rattle.memcached_stats.specs.Stats.{stats_text}
@@ -35,14 +36,16 @@ returns-then-is_flush-clause-answered g c =
     let next = c.args.next in
     let done = c.args.done in
     let flushes : flushes_now next ≡ true = sym c.is_flush.ensures ∙ c.if-is_flush.true in
-    let r = c.answer_flush.ensures.flushed in (
+    let tells = g.C.Clock.last c.answer_flush.new.clock in
+    let r = c.answer_flush.ensures.flushed in
+    let asked : (second : ℕ) × FlushesFrom options (flush_at second (flush_due next)) 0 r.0 = (r.3.0, subst (λ due. FlushesFrom options (flush_at r.3.0 due) 0 r.0) c.flush_due.ensures r.3.1) in (
       r.0,
-      flush_goes options F.is_alone c.args.numbering.base next done c.requires.open old new told told flushes r.0 r.2 r.1,
+      flush_goes options F.is_alone c.args.numbering.base next done c.requires.open old new told tells flushes r.0 asked r.1 r.2,
       if_ok _ (Replies options c.args.numbering.base next done c.args.limits r.0 c.args.out.now.items c.answer_flush.new.out.items) c.answer_flush.result
-          (λ progress all. flush_replies options F.is_alone c.args.numbering.base next done c.requires.open old new told told flushes r.0 r.2 c.args.limits c.args.out.now.items
-          c.answer_flush.new.out.items progress (all.0 ∙ c.requires.partitions) (all.1 ∙ ap (λ n. progress_of n true) c.requires.partitions)
-          (all.2 ∙ ap (λ q. c.args.out.now.items ++ unless_quiet q (flush_text true r.0)) c.style_of-style.ensures.quiet)) r.3,
-      r.4,
+          (λ progress all. flush_replies options F.is_alone c.args.numbering.base next done c.requires.open old new told tells flushes r.0 asked c.args.limits c.args.out.now.items
+          c.answer_flush.new.out.items progress (r.4 ∙ c.requires.partitions) (all.0 ∙ ap (λ n. progress_of n true) c.requires.partitions)
+          (all.1 ∙ ap (λ q. c.args.out.now.items ++ unless_quiet q (flush_text true r.0)) c.style_of-style.ensures.quiet)) r.5,
+      r.6,
     )
 
 pub returns-then-is_stats-clause-answered : goal.returns-then-is_stats-clause-answered
