@@ -6,11 +6,11 @@ ghost use Rattle.memcached_commands.specs.Fit.{IsFitAsk, IsFitStored};
 use crate::memcached::sent;
 use crate::memcached_rows::{BARE, OTHER, SAME, Turn};
 use memcached_commands::{
-    Ask, Asked, Asks, Change, Moment, change_stored, found_in, put_answer, says_of, wants_numbers,
+    Ask, Asked, Asks, Moment, change_stored, found_in, put_answer, says_of, wants_numbers,
 };
 use memcached_text::{Command, Due, Next, Reply, fault_line, next_command, read_item, reply_line};
 use mica_fronts::{Flush, Flushes};
-use partition_model::ItemBuf;
+use partition_model::{Change, ItemBuf};
 use std::alloc::Global;
 
 /// The second at which each row begins.

@@ -6,8 +6,8 @@ use Rattle.memcached_commands.specs.declared.moment.Moment.{Moment}
 use Rattle.memcached_commands.specs.declared.ask.Ask.{Ask}
 use Rattle.memcached_text.specs.declared.command.Wants.TheVariants.{Whatever}
 use Rattle.memcached_commands.specs.declared.ask.Ask.TheVariants.{Store, Spoil}
-use Rattle.memcached_commands.specs.declared.change.Change.{Change}
-use Rattle.memcached_commands.specs.declared.change.Change.TheVariants.{Stay, Become, Go}
+use Rattle.partition_model.specs.declared.change.Change.{Change}
+use Rattle.partition_model.specs.declared.change.Change.TheVariants.{Stay, Become, Go}
 use Rattle.memcached_commands.specs.Moments.{ended_by, found_in}
 use Rattle.memcached_commands.specs.Decide.{Becoming, stays, becomes, goes, decide}
 

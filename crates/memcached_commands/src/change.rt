@@ -10,16 +10,7 @@ use crate::wanted::is_wanted;
 use crate::{Ask, Moment, counted, end_of, ended_by, found_in, number_in};
 use itoa::Buffer;
 use memcached_text::{Direction, Item, Lifetime, MAX_TEXT_LEN, Side, Wants};
-use partition_model::ItemBuf;
-
-/// What is to become of what is stored.
-#[derive(Clone, Copy, Debug, PartialEq, Eq)]
-pub enum Change {
-    Stay,
-    /// It is to be what the buffer has.
-    Become,
-    Go,
-}
+use partition_model::{Change, ItemBuf};
 
 // An item that is kept until its end, or goes if that is now. It ends with a flush that waits at the latest.
 fn keep_until(at: &Moment, end: Option<u32>, item: &Item, next: &mut ItemBuf) -> Change

@@ -4,8 +4,8 @@ use Rattle.std.specs.List.{list_all}
 use Rattle.partition_model.specs.declared.options.Options.{Options}
 use Rattle.memcached_text.specs.declared.command.Command.{Command}
 use Rattle.memcached_text.specs.declared.command.Command.TheVariants as commands
-use Rattle.memcached_text.specs.declared.command.Topic.TheVariants.{Server, NoPart}
 use Rattle.memcached_text.specs.declared.lifetime.Due.{Due}
+use Rattle.memcached_text.specs.declared.command.Topic.TheVariants.{Server, NoPart}
 use Rattle.memcached_text.specs.declared.lifetime.Due.TheVariants.{Now}
 use Rattle.memcached_text.specs.declared.reply.Reply.TheVariants as replies
 use Rattle.memcached_text.specs.declared.next.Next.{Next}

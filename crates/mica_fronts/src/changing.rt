@@ -8,7 +8,7 @@ ghost use Rattle.mica_fronts.specs.Session.{ChangesOnly, Writes};
 ghost use Rattle.mica_fronts.specs.Changing.{Becoming, IsChange, ComesTo, count_of};
 
 use crate::front::Front;
-use partition_model::{Answer, ItemBuf, Outcome};
+use partition_model::{Answer, Change, ItemBuf, Outcome};
 use std::sync::Wait;
 use std::thread::Threads;
 
@@ -23,15 +23,6 @@ pub struct When {
     pub flushed: u64,
     /// The second of a flush that waits then; 0 where none does.
     pub until: u64,
-}
-
-/// What is to become of a value.
-#[derive(Clone, Copy, Debug, PartialEq, Eq)]
-pub enum Change {
-    Stay,
-    /// It is to be what the buffer has.
-    Become,
-    Go,
 }
 
 /// A decision, which has no effects: it can neither wait nor take memory.

@@ -20,7 +20,7 @@ mod solo;
 mod totals;
 
 pub use batch::serve_batch;
-pub use changing::{Change, Changed, Changes, Decide, When};
+pub use changing::{Changed, Changes, Decide, When};
 pub use end::serve_end;
 pub use flushes::{FLUSH_LEN, Flush, Flushes, flush_in};
 pub use front::Front;

@@ -2,7 +2,7 @@ use Rattle.std.proofs.Common.{◌≡◌, ◌+◌, ◌-◌, ◌*◌, ◌≤◌, l
 use Rattle.std.specs.List.{flat_map}
 use Rattle.batch_packets.specs.declared.header.TheConstants.{HEADER_LEN, MAX_DATAGRAM_LEN_V2}
 use Rattle.batch_packets.specs.BatchGrammar.{request_text}
-use Rattle.batch_packets.proofs.batch.len_of.Given as goal
+use Rattle.batch_packets.proofs.batch.fits.Given as goal
 
 abbrev pub invariant-loop-request : goal.invariant-loop-request
 invariant-loop-request l = record {

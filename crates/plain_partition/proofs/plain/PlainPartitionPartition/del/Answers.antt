@@ -1,4 +1,4 @@
-use Rattle.exclusive_replay.proofs.part.OwnPartPartition.del.Goals as goal
+use Rattle.plain_partition.proofs.plain.PlainPartitionPartition.del.Goals as goal
 
 pub returns-in-Cache-clause-step : goal.returns-in-Cache-clause-step
 returns-in-Cache-clause-step c = rw c.in-Cache.is c.del.ensures.step

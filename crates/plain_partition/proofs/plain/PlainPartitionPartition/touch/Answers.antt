@@ -1,4 +1,4 @@
-use Rattle.exclusive_replay.proofs.part.OwnPartPartition.touch.Goals as goal
+use Rattle.plain_partition.proofs.plain.PlainPartitionPartition.touch.Goals as goal
 
 pub returns-in-Cache-clause-step : goal.returns-in-Cache-clause-step
 returns-in-Cache-clause-step c = rw c.in-Cache.is c.touch.ensures.step

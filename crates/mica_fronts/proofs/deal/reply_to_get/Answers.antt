@@ -9,9 +9,9 @@ use Rattle.mica_fronts.specs.Answered.{Answered, got}
 use Rattle.mica_fronts.specs.Turn.{get_reply, reply_to}
 use Rattle.mica_fronts.specs.Answering.{RepliesTo}
 use Rattle.mica_fronts.proofs.Replying.{err_anyway, get_replied}
-use Rattle.mica_fronts.proofs.deal.got.Given as given
-use Rattle.mica_fronts.proofs.deal.got.Goals as goal
-use Rattle.mica_fronts.proofs.deal.got.Goals.{After-ticket}
+use Rattle.mica_fronts.proofs.deal.reply_to_get.Given as given
+use Rattle.mica_fronts.proofs.deal.reply_to_get.Goals as goal
+use Rattle.mica_fronts.proofs.deal.reply_to_get.Goals.{After-ticket}
 
 module _ (g : given.Over) (c : After-ticket g) where
   abbrev answered : Answered

@@ -9,9 +9,9 @@ use Rattle.mica_fronts.specs.Answered.{Answered, wrote}
 use Rattle.mica_fronts.specs.Turn.{reply_to}
 use Rattle.mica_fronts.specs.Answering.{RepliesTo}
 use Rattle.mica_fronts.proofs.Replying.{err_anyway, write_replied}
-use Rattle.mica_fronts.proofs.deal.written.Given as given
-use Rattle.mica_fronts.proofs.deal.written.Goals as goal
-use Rattle.mica_fronts.proofs.deal.written.Goals.{After-ticket}
+use Rattle.mica_fronts.proofs.deal.reply_to_write.Given as given
+use Rattle.mica_fronts.proofs.deal.reply_to_write.Goals as goal
+use Rattle.mica_fronts.proofs.deal.reply_to_write.Goals.{After-ticket}
 
 module _ (g : given.Over) (c : After-ticket g) where
   abbrev write : Write
