@@ -66,28 +66,28 @@ module _ (options : Options) (is_alone : Bool) (base : ℕ) (old : Sessions) (le
   module _ (new : Sessions) (left_after tells : ℕ) (clients : List (Option Client)) where
     -- so the front served what is told
     pub since_serves : (before after : Option Log) → OnLogs (StandsSince options is_alone base old left told new left_after tells clients) before after
-        → OnLogs (ServesFromNone options is_alone base MOST_UNSENT (record { sessions = old; second = told }) (record { sessions = new; second = tells })) before after
+        → OnLogs (ServesFromNone options is_alone base MOST_UNSENT (record { sessions = old; left = left; second = told }) (record { sessions = new; left = left_after; second = tells })) before after
     since_serves None after since = tt
     since_serves (Some x) None since = since
     since_serves (Some x) (Some y) since = λ none.
         let f = since none in record {
           same = f.2.0;
           all = f.0;
-          serves = record { in_order = f.1.in_order; seconds = f.1.seconds; lacking = f.2.1.0; through = f.2.1.1.through };
+          serves = record { in_order = f.1.in_order; seconds = f.1.seconds; few = f.1.few; lacking = f.2.1.0; through = f.2.1.1.through };
         }
 
     -- also where it was asked once more what is next
     pub since_called : (before now after : Option Log) → OnLogs (StandsSince options is_alone base old left told new left_after tells clients) before now → after ≡ option_map called now
-        → OnLogs (ServesFromNone options is_alone base MOST_UNSENT (record { sessions = old; second = told }) (record { sessions = new; second = tells })) before after
+        → OnLogs (ServesFromNone options is_alone base MOST_UNSENT (record { sessions = old; left = left; second = told }) (record { sessions = new; left = left_after; second = tells })) before after
     since_called None now after since is = tt
     since_called (Some x) None after since is = absurd since
     since_called (Some x) (Some y) after since is =
-        subst (λ o. OnLogs (ServesFromNone options is_alone base MOST_UNSENT (record { sessions = old; second = told }) (record { sessions = new; second = tells })) (Some x) o) (sym is)
+        subst (λ o. OnLogs (ServesFromNone options is_alone base MOST_UNSENT (record { sessions = old; left = left; second = told }) (record { sessions = new; left = left_after; second = tells })) (Some x) o) (sym is)
         (λ none.
         let f = since none in record {
           same = f.2.0;
           all = f.0;
-          serves = record { in_order = f.1.in_order; seconds = f.1.seconds; lacking = f.2.1.0; through = f.2.1.1.through };
+          serves = record { in_order = f.1.in_order; seconds = f.1.seconds; few = f.1.few; lacking = f.2.1.0; through = f.2.1.1.through };
         })
 
 -- the end is told by one call more

@@ -1,23 +1,26 @@
 -- What a front made of the connections at its port.
-use Rattle.std.specs.Prelude.{◌≡◌, ℕ, Bool, true, List, [], slice_get, IfSome}
+use Rattle.std.specs.Prelude.{◌≡◌, ◌+◌, ◌≤◌, ℕ, Bool, true, List, [], slice_get, IfSome}
 use Rattle.partition_model.specs.declared.options.Options.{Options}
 use Rattle.stream_io.specs.Log.{Log, state_of, connections_of, received_of, sent_of}
+use Rattle.mica_fronts.specs.Answered.{count_of_writes}
 use Rattle.mica_fronts.specs.Session.{Sessions, AnswersInOrder}
 use Rattle.memcached_fronts.specs.Seconds.{seconds_of, ToldFrom}
 use Rattle.stream_fronts.specs.Given.{Given, answers_in, given_to}
 use Rattle.stream_fronts.specs.Closing.{IsSettled}
 use Rattle.stream_fronts.specs.Moments.{TalksThrough}
 
--- what contracts see of a front and its clock at one moment
+-- what contracts see of a front and its clock at one moment: its sessions, how many writes it may still be given, and the second that was told last
 pub record FrontAt : Type 0 where
   pub sessions : Sessions
+  pub left : ℕ
   pub second : ℕ
 
--- All answers of the front are one list: its sessions went on by them in this order, and the clock told their seconds. At each moment of the log they are what
+-- All answers of the front are one list: its sessions went on by them in this order, and the clock told their seconds. It was given no writes but those among them. At each moment of the log they are what
 -- it talked with its clients. For some connections there was no memory.
 pub record Serves (options : Options) (is_alone : Bool) (base most : ℕ) (old new : FrontAt) (log : Log) (all : List Given) : Type 0 where
   pub in_order : AnswersInOrder options is_alone old.sessions (answers_in all) new.sessions
   pub seconds : ToldFrom old.second (seconds_of (answers_in all)) new.second
+  pub few : old.left ≤ new.left + count_of_writes (answers_in all)
   pub lacking : List ℕ
   pub through : TalksThrough options base most log.schedule lacking log.entries all
 

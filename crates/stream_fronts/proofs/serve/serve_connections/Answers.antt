@@ -103,13 +103,13 @@ returns-clause-serves g c =
     (g.F.Front.sessions c.loop.front) (g.F.Front.left c.loop.front) (g.K.Clock.last c.loop.clock) c.loop.clients.held.items (log c.args.connections.now) (log c.loop.connections) c.loop.invariant.11 in
     elim c.match-next.branch [
       | in-None w ↦ subst (λ x. OnLogs (ServesFromNone options g.F.Front.is_alone c.args.numbering.base MOST_UNSENT
-          (record { sessions = g.F.Front.sessions c.args.front.now; second = g.K.Clock.last c.args.clock.now }) (record { sessions = g.F.Front.sessions c.loop.front; second = g.K.Clock.last c.loop.clock }))
+          (record { sessions = g.F.Front.sessions c.args.front.now; left = g.F.Front.left c.args.front.now; second = g.K.Clock.last c.args.clock.now }) (record { sessions = g.F.Front.sessions c.loop.front; left = g.F.Front.left c.loop.front; second = g.K.Clock.last c.loop.clock }))
           (log c.args.connections.now) (log x)) (sym w.connections-is) here
       | in-Some+then-left-least w ↦ subst (λ x. OnLogs (ServesFromNone options g.F.Front.is_alone c.args.numbering.base MOST_UNSENT
-          (record { sessions = g.F.Front.sessions c.args.front.now; second = g.K.Clock.last c.args.clock.now }) (record { sessions = g.F.Front.sessions c.loop.front; second = g.K.Clock.last c.loop.clock }))
+          (record { sessions = g.F.Front.sessions c.args.front.now; left = g.F.Front.left c.args.front.now; second = g.K.Clock.last c.args.clock.now }) (record { sessions = g.F.Front.sessions c.loop.front; left = g.F.Front.left c.loop.front; second = g.K.Clock.last c.loop.clock }))
           (log c.args.connections.now) (log x)) (sym w.connections-is) here
       | in-Some+else-left-least+in_ok-event+in_default w ↦ subst (λ x. OnLogs (ServesFromNone options g.F.Front.is_alone c.args.numbering.base MOST_UNSENT
-          (record { sessions = g.F.Front.sessions c.args.front.now; second = g.K.Clock.last c.args.clock.now }) (record { sessions = g.F.Front.sessions c.loop.front; second = g.K.Clock.last c.loop.clock }))
+          (record { sessions = g.F.Front.sessions c.args.front.now; left = g.F.Front.left c.args.front.now; second = g.K.Clock.last c.args.clock.now }) (record { sessions = g.F.Front.sessions c.loop.front; left = g.F.Front.left c.loop.front; second = g.K.Clock.last c.loop.clock }))
           (log c.args.connections.now) (log x)) (sym w.connections-is)
           (since_called options g.F.Front.is_alone c.args.numbering.base (g.F.Front.sessions c.args.front.now) (g.F.Front.left c.args.front.now) (g.K.Clock.last c.args.clock.now)
           (g.F.Front.sessions c.loop.front) (g.F.Front.left c.loop.front) (g.K.Clock.last c.loop.clock) c.loop.clients.held.items (log c.args.connections.now) (log c.loop.connections)
