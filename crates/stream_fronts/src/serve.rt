@@ -146,7 +146,8 @@ fn serve_event<R: Threads + Wait + Sync, F: Changes, K: Clock, C: Connections>(
     }
 }
 
-/// Serves the connections of a port, to its end, or until nearly so many writes were given to the front. A connection that there is no memory for is closed.
+/// Serves the connections of a port, to its end, or until nearly so many writes were given to the front. A connection that there is no memory for is closed,
+/// and `lacked` counts it.
 #[tactic(auto, using(crate::proofs::Going::by_none))]
 pub fn serve_connections<R: Threads + Wait + Sync, F: Changes, K: Clock, C: Connections>(
     rt: &R,
@@ -156,13 +157,16 @@ pub fn serve_connections<R: Threads + Wait + Sync, F: Changes, K: Clock, C: Conn
     numbering: Numbering,
     most: u64,
     connections: &mut C,
+    lacked: &mut u64,
 ) -> Result<(), ServeFault>
     requires open { C.has_ended connections.old ≡ false }
     requires partitions { numbering.partitions ≡ (F.options front.old).partitions }
     requires left { most ≤ F.left front.old }
     ensures goes { GoesBy (F.options front.old) F.is_alone (F.sessions front.old) (F.left front.old) (K.last clock.old) (F.sessions front.new) (F.left front.new) (K.last clock.new) }
-    ensures serves { OnLogs (ServesFromNone (F.options front.old) F.is_alone numbering.base MOST_UNSENT (record { sessions = F.sessions front.old; left = F.left front.old; second = K.last clock.old })
-        (record { sessions = F.sessions front.new; left = F.left front.new; second = K.last clock.new })) (C.log connections.old) (C.log connections.new) }
+    ensures serves { OnLogs (ServesFromNone (F.options front.old) F.is_alone numbering.base MOST_UNSENT
+        (record { sessions = F.sessions front.old; left = F.left front.old; second = K.last clock.old; lacked = lacked.old; has_ended = C.has_ended connections.old })
+        (record { sessions = F.sessions front.new; left = F.left front.new; second = K.last clock.new; lacked = lacked.new; has_ended = C.has_ended connections.new }))
+        (C.log connections.old) (C.log connections.new) }
     ensures cause { IsErrOf result ServeFault.Net → Rose (C.faults connections.old) (C.faults connections.new) }
     ensures none_served { IsErrOf result ServeFault.NoMemory → (front.new ≡ front.old) × (connections.new ≡ connections.old) }
     ensures never_fall { C.faults connections.old ≤ C.faults connections.new }
