@@ -13,9 +13,9 @@ use Rattle.mica_serve.proofs.Gathered.{all_ran, KeepsOf}
 use Rattle.locked_serve.specs.Streams.{StreamFacts, StopsStream, ServesBeside, others_of}
 use Rattle.locked_serve.specs.Running.{RanBeside, SumsUpBeside}
 
-module _ (options : Options) (some : 1 ≤ options.partitions) (begun : ℕ → History) (batches : ℕ) (clocks : List ℕ) (left : List KeptSeat) (streams : List (Result ⊤ ServeFault))
+module _ (options : Options) (some : 1 ≤ options.partitions) (begun : ℕ → History) (batches base : ℕ) (clocks : List ℕ) (left : List KeptSeat) (streams : List (Result ⊤ ServeFault))
     (fronts : List (Result Totals ServeFault)) (before after : List EndFacts) (olds : List StreamFacts)
-    (ran : RanBeside options begun batches clocks left streams fronts before after olds) where
+    (ran : RanBeside options begun batches base clocks left streams fronts before after olds) where
   comes : (answer : Result Totals ServeFault) → SumsUpBeside streams fronts answer → ComesTo (others_of ran.answers olds ran.news) fronts answer
   comes (Ok totals) sums = sums.1
   comes (Err Net) sums = (
@@ -25,7 +25,7 @@ module _ (options : Options) (some : 1 ≤ options.partitions) (begun : ℕ → 
   comes (Err NoMemory) sums = tt
 
   pub serves_beside : (kept : List KeptSeat) (answer : Result Totals ServeFault) → SumsUpBeside streams fronts answer
-      → KeepsOf (others_of ran.answers olds ran.news) options begun batches answer left kept → ServesBeside options begun batches clocks answer kept before after olds
+      → KeepsOf (others_of ran.answers olds ran.news) options begun batches answer left kept → ServesBeside options begun batches base clocks answer kept before after olds
   serves_beside kept answer sums keeps = record {
     answers = ran.answers;
     news = ran.news;

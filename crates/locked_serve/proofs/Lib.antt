@@ -5,6 +5,7 @@ mod Joined
 pub mod Taken
 mod Heard
 pub mod Ran
+mod Streamed
 mod RanBeside
 mod Faults
 mod Came

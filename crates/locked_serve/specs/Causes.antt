@@ -18,7 +18,7 @@ use Rattle.locked_serve.specs.declared.filling.OpenFault.TheVariants as open_fau
 use Rattle.locked_serve.specs.declared.stop.Stop.{Stop}
 use Rattle.locked_serve.specs.declared.stop.Stop.TheVariants.{Refused, Unannounced, Fault}
 use Rattle.locked_serve.specs.Filled.{begun_by, RefusesFilling}
-use Rattle.locked_serve.specs.Streams.{StreamFacts, ListenFacts, AreStreams, others_of}
+use Rattle.locked_serve.specs.Streams.{StreamFacts, ListenFacts, AreStreams, LeavesStreams, others_of}
 
 -- what contracts see of all ports at one moment: those of datagrams, and what listens at those of connections
 pub record PortFacts : Type 0 where
@@ -38,26 +38,27 @@ CameTo (Err Refused) before after came = ⊥
 
 -- The fronts of connections answered this, and those of datagrams came to what is said of them, beside each other. Where they came to totals, each of them all had
 -- its port.
-pub record ComesBeside (says : Others → Option (Result Totals ServeFault) → Type 0) (answer : Result Totals Stop) (streams : StreamPorts) (clocks : List ℕ)
-    (before after : ListenFacts) : Type 0 where
+pub record ComesBeside (says : Others → Option (Result Totals ServeFault) → Type 0) (answer : Result Totals Stop) (options : Options) (base : ℕ) (streams : StreamPorts)
+    (clocks : List ℕ) (before after : ListenFacts) : Type 0 where
   pub answers : List (List Answered)
   pub olds : List StreamFacts
   pub news : List StreamFacts
-  pub are : AreStreams streams before.ports clocks answers olds news
+  pub are : AreStreams options base streams before.ports clocks answers olds news
   pub all : OnOk answer (length olds ≡ streams.fronts)
   pub came : Option (Result Totals ServeFault)
   pub came_is : CameTo answer before after came
+  pub unserved : LeavesStreams came answers olds news
   pub said : says (others_of answers olds news) came
 
-abbrev pub HasCause : Result Totals Stop → Options → (ℕ → History) → PortOptions → StreamPorts → List ℕ → List KeptSeat → PortFacts → PortFacts → Type 0
-HasCause answer options begun ports streams clocks kept before after =
-    ComesBeside (λ others came. IsCauseOnceBound others came options begun ports kept before.net after.net) answer streams clocks before.listens after.listens
+abbrev pub HasCause : Result Totals Stop → Options → (ℕ → History) → ℕ → PortOptions → StreamPorts → List ℕ → List KeptSeat → PortFacts → PortFacts → Type 0
+HasCause answer options begun base ports streams clocks kept before after =
+    ComesBeside (λ others came. IsCauseOnceBound others came options begun ports kept before.net after.net) answer options base streams clocks before.listens after.listens
 
 -- What each answer says of a server that these writes fill. Where one of them was refused, there is no port. One that could not tell that it listens has
 -- received nothing.
-abbrev pub IsCauseOfStop : Result Totals Stop → Options → List Write → PortOptions → StreamPorts → List ℕ → List KeptSeat → PortFacts → PortFacts → Type 0
-IsCauseOfStop (Err Refused) options writes ports streams clocks kept before after = (kept ≡ []) × (after ≡ before) × RefusesFilling options writes
-IsCauseOfStop answer options writes ports streams clocks kept before after = HasCause answer options (begun_by options writes) ports streams clocks kept before after
+abbrev pub IsCauseOfStop : Result Totals Stop → Options → List Write → ℕ → PortOptions → StreamPorts → List ℕ → List KeptSeat → PortFacts → PortFacts → Type 0
+IsCauseOfStop (Err Refused) options writes base ports streams clocks kept before after = (kept ≡ []) × (after ≡ before) × RefusesFilling options writes
+IsCauseOfStop answer options writes base ports streams clocks kept before after = HasCause answer options (begun_by options writes) base ports streams clocks kept before after
 
 -- the answer where the partitions could not be made and filled
 abbrev pub stop_of : OpenFault → Stop

@@ -20,7 +20,7 @@ pub(crate) fn listen_all<L: Listeners>(
     ensures new { AreNewStreams (L.ports listeners.old) streams.now.port (map (stream_facts L.Port.port L.Port.faults L.Port.has_ended L.Port.log) connections.new.items) }
     ensures all { OnOk result (vec_len connections.new ≡ streams.now.fronts) }
     ensures few { vec_len connections.new ≤ streams.now.fronts }
-    ensures kept { KeepsListeners streams.now (listen_facts L.faults L.ports listeners.old) (listen_facts L.faults L.ports listeners.new) }
+    ensures kept { KeepsListeners streams.now (listen_facts L.faults L.ports L.place listeners.old) (listen_facts L.faults L.ports L.place listeners.new) }
     ensures steady { OnOk result (L.faults listeners.new ≡ L.faults listeners.old) }
     ensures cause { OnErr result (Rose (L.faults listeners.old) (L.faults listeners.new)) }
 {

@@ -89,13 +89,13 @@ fn bind_and_serve<
     requires room_of_streams { streams.now.fronts ≤ vec_capacity connections }
     ensures served { ComesBeside (λ others came. BindsAndServes others options.now J.plan.begun ports.now came tables.new
         (net_facts N.faults N.binds N.first N.refused N.ports N.fails net.old) (net_facts N.faults N.binds N.first N.refused N.ports N.fails net.new)
-        (map (end_facts N.End.port N.End.traffic N.End.faults N.End.has_ended N.End.script) ends.new.items)) result streams.now (map K.last clocks.items)
-        (listen_facts L.faults L.ports listeners.old) (listen_facts L.faults L.ports listeners.new) }
+        (map (end_facts N.End.port N.End.traffic N.End.faults N.End.has_ended N.End.script) ends.new.items)) result options.now base streams.now (map K.last clocks.items)
+        (listen_facts L.faults L.ports L.place listeners.old) (listen_facts L.faults L.ports L.place listeners.new) }
     ensures unrefused { result ≢ Err Stop.Refused }
-    ensures heard { KeepsListeners streams.now (listen_facts L.faults L.ports listeners.old) (listen_facts L.faults L.ports listeners.new) }
+    ensures heard { KeepsListeners streams.now (listen_facts L.faults L.ports L.place listeners.old) (listen_facts L.faults L.ports L.place listeners.new) }
     ensures announced { HasAnnounced (A.says ports.now streams.now) (A.fails ports.now streams.now) result
-        (port_facts (net_facts N.faults N.binds N.first N.refused N.ports N.fails net.old) (listen_facts L.faults L.ports listeners.old))
-        (port_facts (net_facts N.faults N.binds N.first N.refused N.ports N.fails net.new) (listen_facts L.faults L.ports listeners.new)) announce.old announce.new }
+        (port_facts (net_facts N.faults N.binds N.first N.refused N.ports N.fails net.old) (listen_facts L.faults L.ports L.place listeners.old))
+        (port_facts (net_facts N.faults N.binds N.first N.refused N.ports N.fails net.new) (listen_facts L.faults L.ports L.place listeners.new)) announce.old announce.new }
 {
     let mut connections = connections;
     bind_all(net, ports, ends)?;
@@ -156,16 +156,16 @@ fn serve_named<
     requires unbound { N.binds net.old ≡ 0 }
     requires tables { tables.old ≡ [] }
     ensures unrefused { result ≢ Err Stop.Refused }
-    ensures cause { HasCause result options.now J.plan.begun ports.now streams.now (map K.last clocks.items) tables.new
-        (port_facts (net_facts N.faults N.binds N.first N.refused N.ports N.fails net.old) (listen_facts L.faults L.ports listeners.old))
-        (port_facts (net_facts N.faults N.binds N.first N.refused N.ports N.fails net.new) (listen_facts L.faults L.ports listeners.new)) }
+    ensures cause { HasCause result options.now J.plan.begun base ports.now streams.now (map K.last clocks.items) tables.new
+        (port_facts (net_facts N.faults N.binds N.first N.refused N.ports N.fails net.old) (listen_facts L.faults L.ports L.place listeners.old))
+        (port_facts (net_facts N.faults N.binds N.first N.refused N.ports N.fails net.new) (listen_facts L.faults L.ports L.place listeners.new)) }
     ensures kept { KeepsNet ports.now
         (net_facts N.faults N.binds N.first N.refused N.ports N.fails net.old)
         (net_facts N.faults N.binds N.first N.refused N.ports N.fails net.new) }
-    ensures heard { KeepsListeners streams.now (listen_facts L.faults L.ports listeners.old) (listen_facts L.faults L.ports listeners.new) }
+    ensures heard { KeepsListeners streams.now (listen_facts L.faults L.ports L.place listeners.old) (listen_facts L.faults L.ports L.place listeners.new) }
     ensures announced { HasAnnounced (A.says ports.now streams.now) (A.fails ports.now streams.now) result
-        (port_facts (net_facts N.faults N.binds N.first N.refused N.ports N.fails net.old) (listen_facts L.faults L.ports listeners.old))
-        (port_facts (net_facts N.faults N.binds N.first N.refused N.ports N.fails net.new) (listen_facts L.faults L.ports listeners.new)) announce.old announce.new }
+        (port_facts (net_facts N.faults N.binds N.first N.refused N.ports N.fails net.old) (listen_facts L.faults L.ports L.place listeners.old))
+        (port_facts (net_facts N.faults N.binds N.first N.refused N.ports N.fails net.new) (listen_facts L.faults L.ports L.place listeners.new)) announce.old announce.new }
 {
     let server = LockedServer::<J, P, N::End, L::Port, K>::new(alloc, ports, streams, parts)?;
     let mut ends = Vec::with_capacity(alloc, ports.fronts as usize)?;
@@ -227,16 +227,16 @@ fn serve_on<
     requires filling { All IsWrite filling.items }
     requires unbound { N.binds net.old ≡ 0 }
     requires tables { tables.old ≡ [] }
-    ensures cause { IsCauseOfStop result options.now filling.items ports.now streams.now (map K.last clocks.items) tables.new
-        (port_facts (net_facts N.faults N.binds N.first N.refused N.ports N.fails net.old) (listen_facts L.faults L.ports listeners.old))
-        (port_facts (net_facts N.faults N.binds N.first N.refused N.ports N.fails net.new) (listen_facts L.faults L.ports listeners.new)) }
+    ensures cause { IsCauseOfStop result options.now filling.items base ports.now streams.now (map K.last clocks.items) tables.new
+        (port_facts (net_facts N.faults N.binds N.first N.refused N.ports N.fails net.old) (listen_facts L.faults L.ports L.place listeners.old))
+        (port_facts (net_facts N.faults N.binds N.first N.refused N.ports N.fails net.new) (listen_facts L.faults L.ports L.place listeners.new)) }
     ensures kept { KeepsNet ports.now
         (net_facts N.faults N.binds N.first N.refused N.ports N.fails net.old)
         (net_facts N.faults N.binds N.first N.refused N.ports N.fails net.new) }
-    ensures heard { KeepsListeners streams.now (listen_facts L.faults L.ports listeners.old) (listen_facts L.faults L.ports listeners.new) }
+    ensures heard { KeepsListeners streams.now (listen_facts L.faults L.ports L.place listeners.old) (listen_facts L.faults L.ports L.place listeners.new) }
     ensures announced { HasAnnounced (A.says ports.now streams.now) (A.fails ports.now streams.now) result
-        (port_facts (net_facts N.faults N.binds N.first N.refused N.ports N.fails net.old) (listen_facts L.faults L.ports listeners.old))
-        (port_facts (net_facts N.faults N.binds N.first N.refused N.ports N.fails net.new) (listen_facts L.faults L.ports listeners.new)) announce.old announce.new }
+        (port_facts (net_facts N.faults N.binds N.first N.refused N.ports N.fails net.old) (listen_facts L.faults L.ports L.place listeners.old))
+        (port_facts (net_facts N.faults N.binds N.first N.refused N.ports N.fails net.new) (listen_facts L.faults L.ports L.place listeners.new)) announce.old announce.new }
 {
     rehearse(rt, alloc, streams.fronts + ports.fronts)?;
     let parts = open_parts::<P>(alloc, options, filling.as_slice())?;
@@ -283,16 +283,16 @@ pub fn serve_locked<
     requires unbound { N.binds net.old ≡ 0 }
     requires tables { tables.old ≡ [] }
 
-    ensures cause { IsCauseOfStop result options.now filling.items ports.now streams.now (map K.last clocks.items) tables.new
-        (port_facts (net_facts N.faults N.binds N.first N.refused N.ports N.fails net.old) (listen_facts L.faults L.ports listeners.old))
-        (port_facts (net_facts N.faults N.binds N.first N.refused N.ports N.fails net.new) (listen_facts L.faults L.ports listeners.new)) }
+    ensures cause { IsCauseOfStop result options.now filling.items base ports.now streams.now (map K.last clocks.items) tables.new
+        (port_facts (net_facts N.faults N.binds N.first N.refused N.ports N.fails net.old) (listen_facts L.faults L.ports L.place listeners.old))
+        (port_facts (net_facts N.faults N.binds N.first N.refused N.ports N.fails net.new) (listen_facts L.faults L.ports L.place listeners.new)) }
     ensures kept { KeepsNet ports.now
         (net_facts N.faults N.binds N.first N.refused N.ports N.fails net.old)
         (net_facts N.faults N.binds N.first N.refused N.ports N.fails net.new) }
-    ensures heard { KeepsListeners streams.now (listen_facts L.faults L.ports listeners.old) (listen_facts L.faults L.ports listeners.new) }
+    ensures heard { KeepsListeners streams.now (listen_facts L.faults L.ports L.place listeners.old) (listen_facts L.faults L.ports L.place listeners.new) }
     ensures announced { HasAnnounced (A.says ports.now streams.now) (A.fails ports.now streams.now) result
-        (port_facts (net_facts N.faults N.binds N.first N.refused N.ports N.fails net.old) (listen_facts L.faults L.ports listeners.old))
-        (port_facts (net_facts N.faults N.binds N.first N.refused N.ports N.fails net.new) (listen_facts L.faults L.ports listeners.new)) announce.old announce.new }
+        (port_facts (net_facts N.faults N.binds N.first N.refused N.ports N.fails net.old) (listen_facts L.faults L.ports L.place listeners.old))
+        (port_facts (net_facts N.faults N.binds N.first N.refused N.ports N.fails net.new) (listen_facts L.faults L.ports L.place listeners.new)) announce.old announce.new }
 {
     match options.mode {
         Mode::Cache => serve_on::<W, CachePartition<OwnerSeat>, N, L, K, G, A>(

@@ -188,7 +188,7 @@ fn run_all<
         (map (λ hand. hand.items) server.stream_hands.items) (map (λ hand. hand.items) server.hands.items) server.room }
     requires unserved { AreOpen (map (end_facts D.port D.traffic D.faults D.has_ended D.script) ends.old.items) }
     requires fresh { AreUnserved (map (stream_facts C.port C.faults C.has_ended C.log) connections.items) }
-    ensures ran { RanBeside options.now J.plan.begun batches (map K.last clocks.items)
+    ensures ran { RanBeside options.now J.plan.begun batches base (map K.last clocks.items)
         (map (λ left. kept_seat_in left.owner) (map (λ part. left_view P.owner P.home part) result.parts.items)) result.streams.items result.fronts.items
         (map (end_facts D.port D.traffic D.faults D.has_ended D.script) ends.old.items) (map (end_facts D.port D.traffic D.faults D.has_ended D.script) ends.new.items)
         (map (stream_facts C.port C.faults C.has_ended C.log) connections.items) }
@@ -277,7 +277,7 @@ pub(crate) fn serve_all<
     requires tables { tables.old ≡ [] }
     requires unserved { AreOpen (map (end_facts D.port D.traffic D.faults D.has_ended D.script) ends.old.items) }
     requires fresh { AreUnserved (map (stream_facts C.port C.faults C.has_ended C.log) connections.items) }
-    ensures { ServesBeside options.now J.plan.begun batches (map K.last clocks.items) result tables.new
+    ensures { ServesBeside options.now J.plan.begun batches base (map K.last clocks.items) result tables.new
         (map (end_facts D.port D.traffic D.faults D.has_ended D.script) ends.old.items) (map (end_facts D.port D.traffic D.faults D.has_ended D.script) ends.new.items)
         (map (stream_facts C.port C.faults C.has_ended C.log) connections.items) }
 {

@@ -24,6 +24,8 @@ pub struct StreamTask<C, K> {
     pub parts: Vec<LockedPart>,
     pub port: C,
     pub clock: K,
+    /// How many connections there was no memory for.
+    pub lacked: u64,
     pub answer: Result<(), ServeFault>,
 }
 
@@ -47,7 +49,7 @@ impl<C: Connections, K: Clock> StreamTask<C, K> {
         requires locks { length locks.now ≡ options.now.partitions }
         requires low { number < J.plan.fronts }
         requires ready { IsReadyStream J.plan (stream_facts C.port C.faults C.has_ended C.log) K.last number self.old }
-        ensures { StreamRan J.plan (stream_facts C.port C.faults C.has_ended C.log) K.last number self.old self.new }
+        ensures { StreamRan J.plan (stream_facts C.port C.faults C.has_ended C.log) K.last base number self.old self.new }
     {
         let parts = mem::replace(&mut self.parts, Vec::new(alloc));
         let mut front = LockedFront::new(options, locks, number, parts);
@@ -63,6 +65,7 @@ impl<C: Connections, K: Clock> StreamTask<C, K> {
             numbering,
             u64::MAX,
             &mut self.port,
+            &mut self.lacked,
         );
         self.parts = front.into_parts();
     }
@@ -89,7 +92,7 @@ pub(crate) fn run_streams<
     requires few { J.plan.fronts ≤ 64 }
     requires many { length streams.old.items ≤ J.plan.fronts }
     requires ready { AreReadyStreams J.plan (stream_facts C.port C.faults C.has_ended C.log) K.last streams.old.items }
-    ensures { StreamsRan J.plan (stream_facts C.port C.faults C.has_ended C.log) K.last streams.old.items streams.new.items }
+    ensures { StreamsRan J.plan (stream_facts C.port C.faults C.has_ended C.log) K.last base streams.old.items streams.new.items }
 {
     let threads = streams.len().max(1);
     for_each_mut(
@@ -99,7 +102,7 @@ pub(crate) fn run_streams<
         &|number, stream|
             requires { (number < J.plan.fronts) × (J.plan.fronts ≤ 64) × IsPossible options.now × (options.now ≡ J.plan.options) × (length locks.now ≡ options.now.partitions)
                 × IsReadyStream J.plan (stream_facts C.port C.faults C.has_ended C.log) K.last number stream.now }
-            ensures { StreamRan J.plan (stream_facts C.port C.faults C.has_ended C.log) K.last number stream.entry.now stream.exit.now }
+            ensures { StreamRan J.plan (stream_facts C.port C.faults C.has_ended C.log) K.last base number stream.entry.now stream.exit.now }
         { stream.run(rt, alloc, options, base, locks, number as u32) },
     );
 }
@@ -132,6 +135,7 @@ pub(crate) fn pair_streams<C: Drop, K: Drop>(
             parts,
             port,
             clock,
+            lacked: 0,
             answer: Err(ServeFault::NoMemory),
         });
     }

@@ -127,7 +127,7 @@ fn serve_streams<
     requires few { J.plan.fronts ≤ 64 }
     requires many { length streams.items ≤ J.plan.fronts }
     requires ready { AreReadyStreams J.plan (stream_facts C.port C.faults C.has_ended C.log) K.last streams.items }
-    ensures { StreamsRan J.plan (stream_facts C.port C.faults C.has_ended C.log) K.last streams.items result.items }
+    ensures { StreamsRan J.plan (stream_facts C.port C.faults C.has_ended C.log) K.last base streams.items result.items }
 {
     let mut tasks = streams;
     run_streams(rt, alloc, options, base, locks, &mut tasks);
@@ -192,7 +192,7 @@ pub(crate) fn run_workers<
     requires many { first + length fronts.items ≡ J.plan.fronts }
     requires ready_streams { AreReadyStreams J.plan (stream_facts C.port C.faults C.has_ended C.log) K.last streams.items }
     requires ready { AreReadyTasks J.plan batches (end_facts D.port D.traffic D.faults D.has_ended D.script) first fronts.items }
-    ensures streams { StreamsRan J.plan (stream_facts C.port C.faults C.has_ended C.log) K.last streams.items result.0.items }
+    ensures streams { StreamsRan J.plan (stream_facts C.port C.faults C.has_ended C.log) K.last base streams.items result.0.items }
     ensures fronts { TasksRan J.plan batches (end_facts D.port D.traffic D.faults D.has_ended D.script) first fronts.items result.1.items }
 {
     join(
@@ -200,7 +200,7 @@ pub(crate) fn run_workers<
         move || -> Vec<StreamTask<C, K>>
             requires { IsSync W.row × IsSync J.row × IsPossible options.now × (options.now ≡ J.plan.options) × (length locks.now ≡ options.now.partitions) × (J.plan.fronts ≤ 64)
                 × (length streams.items ≤ J.plan.fronts) × AreReadyStreams J.plan (stream_facts C.port C.faults C.has_ended C.log) K.last streams.items }
-            ensures { StreamsRan J.plan (stream_facts C.port C.faults C.has_ended C.log) K.last streams.items result.items }
+            ensures { StreamsRan J.plan (stream_facts C.port C.faults C.has_ended C.log) K.last base streams.items result.items }
         { serve_streams(rt, alloc, options, base, locks, streams) },
         move || -> Vec<FrontTask<D>>
             requires { IsSync W.row × IsSync J.row × IsSync G.row × IsPossible options.now × (options.now ≡ J.plan.options) × (length locks.now ≡ options.now.partitions)

@@ -27,7 +27,7 @@ StandsSince options is_alone base old left told new left_after tells clients bef
     (λ given. (now.schedule ≡ before.schedule) × ((lacking : List ℕ) × Stands options base lacking now given clients))
 
 module _ (options : Options) (is_alone : Bool) (base : ℕ) (old : Sessions) (left told : ℕ) where
-  begun_through : (schedule : List Step) (entries : List Entry) → entries ≡ [] → TalksThrough options base MOST_UNSENT schedule [] entries []
+  pub begun_through : (schedule : List Step) (entries : List Entry) → entries ≡ [] → TalksThrough options base MOST_UNSENT schedule [] entries []
   begun_through schedule entries none = subst (λ (e : List Entry). TalksThrough options base MOST_UNSENT schedule [] e []) (sym none)
       (λ c. inl (record { said = []; rest = []; spells = refl; answered = refl; begins = ([], refl) }, record { kept = omega arith; unsent = omega arith }))
 

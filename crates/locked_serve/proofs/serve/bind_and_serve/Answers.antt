@@ -30,7 +30,7 @@ abbrev net_at : (g : given.Over) → g.row.N.Denot → NetFacts
 net_at g = net_facts g.N.Net.faults g.N.Net.binds g.N.Net.first g.N.Net.refused g.N.Net.ports g.N.Net.fails
 
 abbrev listens_at : (g : given.Over) → g.row.L.Denot → ListenFacts
-listens_at g = listen_facts g.L.Listeners.faults g.L.Listeners.ports
+listens_at g = listen_facts g.L.Listeners.faults g.L.Listeners.ports g.L.Listeners.place
 
 abbrev ports_at : (g : given.Over) → g.row.N.Denot → g.row.L.Denot → PortFacts
 ports_at g net listeners = port_facts (net_at g net) (listens_at g listeners)
@@ -39,7 +39,7 @@ pub serve_all-requires-clause-unserved : goal.serve_all-requires-clause-unserved
 serve_all-requires-clause-unserved g c _ _ i e is = let new = c.bind_all.ensures.new i e is in (new.unended, new.fresh)
 
 pub serve_all-requires-clause-fresh : goal.serve_all-requires-clause-fresh
-serve_all-requires-clause-fresh g c _ _ k s is = (c.listen_all.ensures.new k s is).unended
+serve_all-requires-clause-fresh g c _ _ k s is = let new = c.listen_all.ensures.new k s is in record { unended = new.unended; fresh = new.fresh }
 
 pub ready-requires-clause-new : goal.ready-requires-clause-new
 ready-requires-clause-new g c =
@@ -63,8 +63,8 @@ returns-in_err-bind_all-clause-served g c =
     (net_at g c.args.net.now) (net_at g c.bind_all.new.net) (map (facts g) c.bind_all.new.ends.items) in
     let listens = listens_at g c.args.listeners.now in
     let clocks = map g.K.Clock.last c.args.clocks.items in
-    subst (λ (r : Result Totals Stop). ComesBeside says r c.args.streams.now clocks listens listens) (sym (is.1 ∙ ap Err is.2))
-    (unbound says c.args.streams.now clocks listens listens
+    subst (λ (r : Result Totals Stop). ComesBeside says r c.args.options.now c.args.base c.args.streams.now clocks listens listens) (sym (is.1 ∙ ap Err is.2))
+    (unbound says c.args.options.now c.args.base c.args.streams.now clocks listens listens
     (run_failed c.args.ports.now (net_at g c.args.net.now) (net_at g c.bind_all.new.net) (map (facts g) c.bind_all.new.ends.items)
     bound.new bound.bound (omega (arith, bound.few, many, size)) bound.never_fall bound.fails bound.binds bound.first
     _ c.args.options.now g.J.ServerPlan.plan.begun c.requires.filled (Some (Err Net)) c.args.tables.now refl c.requires.tables failed.cause failed.refused (silent c.args.streams.now [] [])))
@@ -99,8 +99,8 @@ returns-in_err-listen_all-clause-served g c =
     let before = listens_at g c.args.listeners.now in
     let after = listens_at g c.listen_all.new.listeners in
     let clocks = map g.K.Clock.last c.args.clocks.items in
-    subst (λ (r : Result Totals Stop). ComesBeside says r c.args.streams.now clocks before after) (sym (is.1 ∙ ap Err is.2))
-    (unheard says c.args.streams.now clocks before after (map (of_stream g) c.listen_all.new.connections.items) heard.new
+    subst (λ (r : Result Totals Stop). ComesBeside says r c.args.options.now c.args.base c.args.streams.now clocks before after) (sym (is.1 ∙ ap Err is.2))
+    (unheard says c.args.options.now c.args.base c.args.streams.now clocks before after (map (of_stream g) c.listen_all.new.connections.items) heard.new
     (omega (arith, heard.few, heard_many, c.listen_all.new.connections.ok)) c.in_err-listen_all.ensures.cause
     (run_left c.args.ports.now (net_at g c.args.net.now) (net_at g c.bind_all.new.net) (map (facts g) c.bind_all.new.ends.items)
     bound.new bound.bound (omega (arith, bound.few, many, size)) bound.never_fall bound.fails bound.binds bound.first
@@ -133,8 +133,8 @@ returns-in_err-ready-clause-served g c =
     let before = listens_at g c.args.listeners.now in
     let after = listens_at g c.listen_all.new.listeners in
     let clocks = map g.K.Clock.last c.args.clocks.items in
-    subst (λ (r : Result Totals Stop). ComesBeside says r c.args.streams.now clocks before after) (sym (is.1 ∙ ap Err is.2))
-    (untold says c.args.streams.now clocks before after (map (of_stream g) c.listen_all.new.connections.items) heard.new
+    subst (λ (r : Result Totals Stop). ComesBeside says r c.args.options.now c.args.base c.args.streams.now clocks before after) (sym (is.1 ∙ ap Err is.2))
+    (untold says c.args.options.now c.args.base c.args.streams.now clocks before after (map (of_stream g) c.listen_all.new.connections.items) heard.new
     (omega (arith, heard.few, heard_many, c.listen_all.new.connections.ok))
     (run_left c.args.ports.now (net_at g c.args.net.now) (net_at g c.bind_all.new.net) (map (facts g) c.bind_all.new.ends.items)
     bound.new bound.bound (omega (arith, bound.few, many, size)) bound.never_fall bound.fails bound.binds bound.first
@@ -169,8 +169,8 @@ returns-in_err-totals-clause-served g c =
     let before = listens_at g c.args.listeners.now in
     let after = listens_at g c.listen_all.new.listeners in
     let clocks = map g.K.Clock.last c.args.clocks.items in
-    subst (λ (r : Result Totals Stop). ComesBeside says r c.args.streams.now clocks before after) (sym (is.1 ∙ ap Err is.2))
-    (came_err says c.args.streams.now clocks before after (map (of_stream g) c.listen_all.new.connections.items) heard.new (omega (arith, full)) full c.in_err-totals.field-0.0 c.in_err-totals.ensures
+    subst (λ (r : Result Totals Stop). ComesBeside says r c.args.options.now c.args.base c.args.streams.now clocks before after) (sym (is.1 ∙ ap Err is.2))
+    (came_err says c.args.options.now c.args.base c.args.streams.now clocks before after (map (of_stream g) c.listen_all.new.connections.items) heard.new (omega (arith, full)) full c.in_err-totals.field-0.0 c.in_err-totals.ensures
     (run_served c.args.ports.now (net_at g c.args.net.now) (net_at g c.bind_all.new.net) (map (facts g) c.bind_all.new.ends.items)
     bound.new bound.bound (omega (arith, bound.few, many, size)) bound.never_fall bound.fails bound.binds bound.first
     _ c.args.options.now g.J.ServerPlan.plan.begun c.requires.filled (Err c.in_err-totals.field-0.0) c.serve_all.new.tables (map (facts g) c.serve_all.new.ends.items)
@@ -205,7 +205,7 @@ returns-clause-served g c =
     omega (arith, c.in_ok-listen_all.ensures.all, heard_many, c.listen_all.new.connections.ok) in
     let says = λ (others : Others) (came : Option (Result Totals ServeFault)). BindsAndServes others c.args.options.now g.J.ServerPlan.plan.begun c.args.ports.now came c.serve_all.new.tables
     (net_at g c.args.net.now) (net_at g c.bind_all.new.net) (map (facts g) c.serve_all.new.ends.items) in
-    came_ok says c.args.streams.now (map g.K.Clock.last c.args.clocks.items) (listens_at g c.args.listeners.now) (listens_at g c.listen_all.new.listeners)
+    came_ok says c.args.options.now c.args.base c.args.streams.now (map g.K.Clock.last c.args.clocks.items) (listens_at g c.args.listeners.now) (listens_at g c.listen_all.new.listeners)
     (map (of_stream g) c.listen_all.new.connections.items) heard.new (omega (arith, full)) full c.in_ok-totals.totals c.in_ok-totals.ensures
     (run_served c.args.ports.now (net_at g c.args.net.now) (net_at g c.bind_all.new.net) (map (facts g) c.bind_all.new.ends.items)
     bound.new bound.bound (omega (arith, bound.few, many, size)) bound.never_fall bound.fails bound.binds bound.first

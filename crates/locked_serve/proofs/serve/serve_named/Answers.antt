@@ -29,7 +29,7 @@ abbrev net_at : (g : given.Over) → g.row.N.Denot → NetFacts
 net_at g = net_facts g.N.Net.faults g.N.Net.binds g.N.Net.first g.N.Net.refused g.N.Net.ports g.N.Net.fails
 
 abbrev listens_at : (g : given.Over) → g.row.L.Denot → ListenFacts
-listens_at g = listen_facts g.L.Listeners.faults g.L.Listeners.ports
+listens_at g = listen_facts g.L.Listeners.faults g.L.Listeners.ports g.L.Listeners.place
 
 abbrev ports_at : (g : given.Over) → g.row.N.Denot → g.row.L.Denot → PortFacts
 ports_at g net listeners = port_facts (net_at g net) (listens_at g listeners)
@@ -87,8 +87,8 @@ returns-in_err-server-clause-cause g c =
     let is = err_from_is_err_and c.from_residual.result c.from_residual.ensures.1 in
     let all = ports_at g c.args.net.now c.args.listeners.now in
     let clocks = map g.K.Clock.last c.args.clocks.items in
-    subst (λ (r : Result Totals Stop). HasCause r c.args.options.now g.J.ServerPlan.plan.begun c.args.ports.now c.args.streams.now clocks c.args.tables.now all all) (sym (is.1 ∙ ap Err is.2))
-    (no_memory c.args.options.now g.J.ServerPlan.plan.begun c.args.ports.now c.args.streams.now clocks c.args.tables.now all all c.requires.tables)
+    subst (λ (r : Result Totals Stop). HasCause r c.args.options.now g.J.ServerPlan.plan.begun c.args.base c.args.ports.now c.args.streams.now clocks c.args.tables.now all all) (sym (is.1 ∙ ap Err is.2))
+    (no_memory c.args.options.now g.J.ServerPlan.plan.begun c.args.base c.args.ports.now c.args.streams.now clocks c.args.tables.now all all c.requires.tables)
 
 pub returns-in_err-ends-clause-kept : goal.returns-in_err-ends-clause-kept
 returns-in_err-ends-clause-kept g c = net_kept c.args.ports.now (net_at g c.args.net.now) c.requires.unbound
@@ -101,8 +101,8 @@ returns-in_err-ends-clause-cause g c =
     let is = err_from_is_err_and c.from_residual-in_err-ends.result c.from_residual-in_err-ends.ensures.1 in
     let all = ports_at g c.args.net.now c.args.listeners.now in
     let clocks = map g.K.Clock.last c.args.clocks.items in
-    subst (λ (r : Result Totals Stop). HasCause r c.args.options.now g.J.ServerPlan.plan.begun c.args.ports.now c.args.streams.now clocks c.args.tables.now all all) (sym (is.1 ∙ ap Err is.2))
-    (no_memory c.args.options.now g.J.ServerPlan.plan.begun c.args.ports.now c.args.streams.now clocks c.args.tables.now all all c.requires.tables)
+    subst (λ (r : Result Totals Stop). HasCause r c.args.options.now g.J.ServerPlan.plan.begun c.args.base c.args.ports.now c.args.streams.now clocks c.args.tables.now all all) (sym (is.1 ∙ ap Err is.2))
+    (no_memory c.args.options.now g.J.ServerPlan.plan.begun c.args.base c.args.ports.now c.args.streams.now clocks c.args.tables.now all all c.requires.tables)
 
 pub returns-in_err-connections-clause-kept : goal.returns-in_err-connections-clause-kept
 returns-in_err-connections-clause-kept g c = net_kept c.args.ports.now (net_at g c.args.net.now) c.requires.unbound
@@ -115,5 +115,5 @@ returns-in_err-connections-clause-cause g c =
     let is = err_from_is_err_and c.from_residual-in_err-connections.result c.from_residual-in_err-connections.ensures.1 in
     let all = ports_at g c.args.net.now c.args.listeners.now in
     let clocks = map g.K.Clock.last c.args.clocks.items in
-    subst (λ (r : Result Totals Stop). HasCause r c.args.options.now g.J.ServerPlan.plan.begun c.args.ports.now c.args.streams.now clocks c.args.tables.now all all) (sym (is.1 ∙ ap Err is.2))
-    (no_memory c.args.options.now g.J.ServerPlan.plan.begun c.args.ports.now c.args.streams.now clocks c.args.tables.now all all c.requires.tables)
+    subst (λ (r : Result Totals Stop). HasCause r c.args.options.now g.J.ServerPlan.plan.begun c.args.base c.args.ports.now c.args.streams.now clocks c.args.tables.now all all) (sym (is.1 ∙ ap Err is.2))
+    (no_memory c.args.options.now g.J.ServerPlan.plan.begun c.args.base c.args.ports.now c.args.streams.now clocks c.args.tables.now all all c.requires.tables)

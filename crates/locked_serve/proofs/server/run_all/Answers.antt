@@ -157,7 +157,7 @@ module _ (g : given.Over) (c : After-take_all_back g) where
       (omega (arith, c.len-first.ensures, c.pair_streams.new.tasks.ok)) c.run_workers-stream_tasks.ensures.fronts
 
   are : AreHands (plan_of g) (map stream_hand c.run_workers-stream_tasks.result.0.items ++ map hand_of c.run_workers-stream_tasks.result.1.items)
-  are = both_are (plan_of g) (of_stream g) g.K.Clock.last c.pair_streams.new.tasks.items c.run_workers-stream_tasks.result.0.items c.args.batches (facts g) c.pair_up.new.tasks.items
+  are = both_are (plan_of g) (of_stream g) g.K.Clock.last c.args.base c.pair_streams.new.tasks.items c.run_workers-stream_tasks.result.0.items c.args.batches (facts g) c.pair_up.new.tasks.items
       c.run_workers-stream_tasks.result.1.items c.run_workers-stream_tasks.ensures.streams ran_fronts
 
   lefts_many : length (map (view g) c.take_all_back.new.parts.items) ≡ (plan_of g).options.partitions
@@ -233,7 +233,7 @@ returns-clause-ran g c =
     let streams = c.run_workers-stream_tasks.result.0.items in
     let stream_olds = c.pair_streams.new.tasks.items in
     let some = subst (λ (o : Options). 1 ≤ o.partitions) c.requires.named c.requires.options.partitions.0 in
-    let it = ran_beside plan some (of_stream g) g.K.Clock.last stream_olds streams c.args.batches (facts g) c.pair_up.new.tasks.items c.run_workers-stream_tasks.result.1.items c.run_workers-stream_tasks.ensures.streams
+    let it = ran_beside plan some (of_stream g) g.K.Clock.last c.args.base stream_olds streams c.args.batches (facts g) c.pair_up.new.tasks.items c.run_workers-stream_tasks.result.1.items c.run_workers-stream_tasks.ensures.streams
     (ran_fronts g at.After-take_all_back)
     (all g at.After-take_hands-2 (opened_streams g at.After-pair_up) (opened g at.After-pair_up) (are g at.After-take_all_back) (lefts_many g at.After-take_all_back)
     (took_streams g at.After-take_hands (stream_news g at.After-take_all_back)) (front_news g at.After-take_all_back)) in
@@ -247,7 +247,7 @@ returns-clause-ran g c =
     let ports : map (λ (t : StreamTask g.row.C.Denot g.row.K.Denot). of_stream g t.port) stream_olds ≡ map (of_stream g) c.args.connections.items =
     sym (map-map (of_stream g) (λ (t : StreamTask g.row.C.Denot g.row.K.Denot). t.port) stream_olds) ∙ ap (map (of_stream g)) c.pair_streams.ensures.ports in
     subst (λ (y : Options × List ℕ × List (Result ⊤ ServeFault) × List (Result Totals ServeFault) × List EndFacts × List EndFacts × List StreamFacts).
-    RanBeside y.0 plan.begun c.args.batches y.1 kept y.2 y.3 y.4 y.5 y.6)
+    RanBeside y.0 plan.begun c.args.batches c.args.base y.1 kept y.2 y.3 y.4 y.5 y.6)
     (λ i. (sym c.requires.named i, clocks i, sym c.part_streams.ensures.answers i, sym c.part_fronts.ensures.answers i, before i, after i, ports i)) it
 
 pub returns-clause-idle : goal.returns-clause-idle
