@@ -4,6 +4,7 @@ pub mod Lending
 mod Joined
 pub mod Taken
 mod Heard
+mod Released
 pub mod Ran
 mod Streamed
 mod RanBeside

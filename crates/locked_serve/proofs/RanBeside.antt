@@ -265,10 +265,9 @@ module _ {C K D : Type 0} (plan : Plan) (some : 1 ≤ plan.options.partitions) (
 
   pub ran_beside : RanBeside plan.options plan.begun batches base (map (λ (t : StreamTask C K). last t.clock) stream_olds) (kept all) (map (λ (t : StreamTask C K). t.answer) stream_news)
       (map (λ (t : FrontTask D). t.answer) news) (map (λ (t : FrontTask D). facts t.end) olds) (map (λ (t : FrontTask D). facts t.end) news)
-      (map (λ (t : StreamTask C K). stream_facts t.port) stream_olds)
+      (map (λ (t : StreamTask C K). stream_facts t.port) stream_olds) (map (λ (t : StreamTask C K). stream_facts t.port) stream_news)
   ran_beside = record {
     answers = own;
-    news = map (λ (t : StreamTask C K). stream_facts t.port) stream_news;
     many = own_many ∙ sym (length-map stream_olds (λ (t : StreamTask C K). stream_facts t.port));
     served = served plan stream_facts last base stream_olds stream_news streams;
     stopped = stopped plan stream_facts last base stream_olds stream_news streams;

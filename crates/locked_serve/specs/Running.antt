@@ -92,9 +92,8 @@ module _ {C K : Type 0} (plan : Plan) (facts : C → StreamFacts) (last : K → 
 
 -- All ran beside each other and came to these answers, and these are the seats that the partitions may leave.
 pub record RanBeside (options : Options) (begun : ℕ → History) (batches base : ℕ) (clocks : List ℕ) (kept : List KeptSeat) (streams : List (Result ⊤ ServeFault))
-    (fronts : List (Result Totals ServeFault)) (before after : List EndFacts) (olds : List StreamFacts) : Type 0 where
+    (fronts : List (Result Totals ServeFault)) (before after : List EndFacts) (olds news : List StreamFacts) : Type 0 where
   pub answers : List (List Answered)
-  pub news : List StreamFacts
   pub many : length answers ≡ length olds
   pub served : AreServed options base clocks answers olds news
   pub stopped : (k : ℕ) → slice_get streams k ≡ Some (Err Net) → StopsStream olds news

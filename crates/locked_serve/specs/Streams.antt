@@ -1,8 +1,8 @@
 -- The ports of connections, as contracts see them, and what their fronts make of them.
-use Rattle.std.specs.Prelude.{◌≡◌, ◌≢◌, ◌+◌, ◌<◌, ◌≤◌, ⊤, ℕ, Bool, false, List, [], length, slice_get, Option, None, Some, IfSome, Result}
+use Rattle.std.specs.Prelude.{◌≡◌, ◌≢◌, ◌+◌, ◌<◌, ◌≤◌, ⊤, ℕ, Bool, false, List, [], ◌∷◌, length, slice_get, Option, None, Some, IfSome, option_map, Result}
 use Rattle.mica_io.specs.Faults.{Rose}
 use Rattle.stream_io.specs.Log.{Log}
-use Rattle.stream_io.specs.Ports.{Place, Ports}
+use Rattle.stream_io.specs.Ports.{Place, Ports, with_port}
 use Rattle.partition_model.specs.declared.options.Options.{Options}
 use Rattle.partition_model.specs.History.{History}
 use Rattle.partition_table.specs.declared.tables.KeptSeat.{KeptSeat}
@@ -33,10 +33,11 @@ stream_facts port faults has_ended log = λ c. record { port = port c; faults = 
 pub record ListenFacts : Type 0 where
   pub faults : ℕ
   pub ports : Option Ports
+  pub released : Option Ports
   pub place : Place
 
-abbrev pub listen_facts : {L : Type 0} → (L → ℕ) → (L → Option Ports) → (L → Place) → L → ListenFacts
-listen_facts faults ports place = λ l. record { faults = faults l; ports = ports l; place = place l }
+abbrev pub listen_facts : {L : Type 0} → (L → ℕ) → (L → Option Ports) → (L → Option Ports) → (L → Place) → L → ListenFacts
+listen_facts faults ports released place = λ l. record { faults = faults l; ports = ports l; released = released l; place = place l }
 
 -- Before any connection came
 
@@ -72,6 +73,18 @@ pub record KeepsListeners (streams : StreamPorts) (before after : ListenFacts) :
   pub others : LeavesOthers streams.port streams.fronts before.ports after.ports
   pub place : after.place ≡ before.place
   pub unneeded : streams.fronts ≡ 0 → after ≡ before
+
+-- these ports were let go, and what was left at each is told
+abbrev pub with_ports : List StreamFacts → Ports → Ports
+with_ports [] ports = ports
+with_ports (stream ∷ later) ports = with_ports later (with_port stream.port stream.log ports)
+
+-- and nothing else became of what listens
+pub record ReleasesStreams (streams : List StreamFacts) (before after : ListenFacts) : Type 0 where
+  pub released : after.released ≡ option_map (with_ports streams) before.released
+  pub ports : after.ports ≡ before.ports
+  pub place : after.place ≡ before.place
+  pub faults : after.faults ≡ before.faults
 
 -- Served
 
@@ -122,9 +135,8 @@ LeavesStreams (Some came) answers olds news = ⊤
 
 -- Each front was served, those of connections beside those of datagrams, which came to this all together.
 pub record ServesBeside (options : Options) (begun : ℕ → History) (batches base : ℕ) (clocks : List ℕ) (answer : Result Totals ServeFault) (kept : List KeptSeat)
-    (before after : List EndFacts) (olds : List StreamFacts) : Type 0 where
+    (before after : List EndFacts) (olds news : List StreamFacts) : Type 0 where
   pub answers : List (List Answered)
-  pub news : List StreamFacts
   pub many : length answers ≡ length olds
   pub streams : AreServed options base clocks answers olds news
   pub fronts : ServesFronts (others_of answers olds news) options begun batches answer kept before after

@@ -141,19 +141,23 @@ pub(crate) fn pair_streams<C: Drop, K: Drop>(
     }
 }
 
-/// The hands and the answers of the fronts, in order. Their ports are let go.
+/// The ports, the hands and the answers of the fronts, in order.
 pub(crate) fn part_streams<C: Drop, K: Drop>(
     streams: Vec<StreamTask<C, K>>,
+    ports: &mut Vec<C>,
     hands: &mut Vec<Vec<LockedPart>>,
     answers: &mut Vec<Result<(), ServeFault>>,
 )
-    requires none { (hands.old.items ≡ []) × (answers.old.items ≡ []) }
+    requires none { (ports.old.items ≡ []) × (hands.old.items ≡ []) × (answers.old.items ≡ []) }
+    requires ports { vec_len streams ≤ vec_capacity ports.old }
     requires hands { vec_len streams ≤ vec_capacity hands.old }
     requires answers { vec_len streams ≤ vec_capacity answers.old }
+    ensures ports { ports.new.items ≡ map (λ t. t.port) streams.items }
     ensures hands { hands.new.items ≡ map (λ t. t.parts) streams.items }
     ensures answers { answers.new.items ≡ map (λ t. t.answer) streams.items }
 {
     for stream in streams {
+        ports.push_reserved(stream.port);
         hands.push_reserved(stream.parts);
         answers.push_reserved(stream.answer);
     }

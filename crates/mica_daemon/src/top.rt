@@ -71,8 +71,8 @@ fn serve_aloud<
     requires unbound { N.binds net.old ≡ 0 }
     requires tables { tables.old ≡ [] }
     ensures { Serves options.now ports.now streams.now (map C.last clocks.items) base filling.items
-        (outside (sink_facts K.taken K.faults speaker.old.sink) (net_facts N.faults N.binds N.first N.refused N.ports N.fails net.old) (listen_facts L.faults L.ports L.place listeners.old) tables.old)
-        (outside (sink_facts K.taken K.faults speaker.new.sink) (net_facts N.faults N.binds N.first N.refused N.ports N.fails net.new) (listen_facts L.faults L.ports L.place listeners.new) tables.new)
+        (outside (sink_facts K.taken K.faults speaker.old.sink) (net_facts N.faults N.binds N.first N.refused N.ports N.fails net.old) (listen_facts L.faults L.ports L.released L.place listeners.old) tables.old)
+        (outside (sink_facts K.taken K.faults speaker.new.sink) (net_facts N.faults N.binds N.first N.refused N.ports N.fails net.new) (listen_facts L.faults L.ports L.released L.place listeners.new) tables.new)
         result }
 {
     match serve_locked(
@@ -116,8 +116,8 @@ fn stay_up<
     requires unbound { N.binds net.old ≡ 0 }
     requires tables { tables.old ≡ [] }
     ensures { ServesOrNot options.now ports.now streams.now (map C.last clocks.items) base filling.items
-        (outside (sink_facts K.taken K.faults speaker.old.sink) (net_facts N.faults N.binds N.first N.refused N.ports N.fails net.old) (listen_facts L.faults L.ports L.place listeners.old) tables.old)
-        (outside (sink_facts K.taken K.faults speaker.new.sink) (net_facts N.faults N.binds N.first N.refused N.ports N.fails net.new) (listen_facts L.faults L.ports L.place listeners.new) tables.new)
+        (outside (sink_facts K.taken K.faults speaker.old.sink) (net_facts N.faults N.binds N.first N.refused N.ports N.fails net.old) (listen_facts L.faults L.ports L.released L.place listeners.old) tables.old)
+        (outside (sink_facts K.taken K.faults speaker.new.sink) (net_facts N.faults N.binds N.first N.refused N.ports N.fails net.new) (listen_facts L.faults L.ports L.released L.place listeners.new) tables.new)
         result }
 {
     match ready_line(alloc, ports, &streams.ports) {
@@ -184,8 +184,8 @@ pub fn daemon<
     requires clocks { MOST_FRONTS ≤ length clocks.items }
     requires tables { tables.old ≡ [] }
     ensures { KeepsUp (daemon_of (map string_bytes words.now)) (map C.last clocks.items) base (files_facts F.file F.free F.faults files.old) (files_facts F.file F.free F.faults files.new)
-        (outside (sink_facts K.taken K.faults speaker.old.sink) (net_facts N.faults N.binds N.first N.refused N.ports N.fails net.old) (listen_facts L.faults L.ports L.place listeners.old) tables.old)
-        (outside (sink_facts K.taken K.faults speaker.new.sink) (net_facts N.faults N.binds N.first N.refused N.ports N.fails net.new) (listen_facts L.faults L.ports L.place listeners.new) tables.new)
+        (outside (sink_facts K.taken K.faults speaker.old.sink) (net_facts N.faults N.binds N.first N.refused N.ports N.fails net.old) (listen_facts L.faults L.ports L.released L.place listeners.old) tables.old)
+        (outside (sink_facts K.taken K.faults speaker.new.sink) (net_facts N.faults N.binds N.first N.refused N.ports N.fails net.new) (listen_facts L.faults L.ports L.released L.place listeners.new) tables.new)
         result }
 {
     let DaemonOptions {

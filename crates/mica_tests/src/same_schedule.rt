@@ -42,6 +42,8 @@ impl<'a> Listeners for SameSchedule<'a> {
 
     ghost ports = { λ _. None };
 
+    ghost released = { λ _. None };
+
     ghost place = { λ l. place_at l.address l.most };
 
     fn listen(&mut self, port: u16) -> Result<MemConnections<'a>, Failed> {
@@ -59,6 +61,8 @@ impl<'a> Listeners for SameSchedule<'a> {
         self.faults = self.faults.saturating_add(1);
         Err(Failed)
     }
+
+    fn release(&mut self, _connections: MemConnections<'a>) {}
 }
 
 impl<'a> PlacedListeners for SameSchedule<'a> {

@@ -10,6 +10,10 @@ Ports = ℕ → Option Log
 abbrev pub without_port : ℕ → Ports → Ports
 without_port port ports = λ n. if n == port then None else ports n
 
+-- this was left at the port
+abbrev pub with_port : ℕ → Option Log → Ports → Ports
+with_port port log ports = λ n. if n == port then log else ports n
+
 -- the address that ports are of, and how many connections each of them has at most at a time
 pub record Place : Type 0 where
   pub address : Ipv4Addr

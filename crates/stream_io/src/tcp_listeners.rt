@@ -74,6 +74,8 @@ impl<'a, R: Sockets> Listeners for TcpListeners<'a, R> {
 
     ghost ports = { λ _. None };
 
+    ghost released = { λ _. None };
+
     ghost place = { λ l. place_at l.address l.most };
 
     fn listen(&mut self, port: u16) -> Result<TcpConnections<'a>, Failed> {
@@ -93,4 +95,6 @@ impl<'a, R: Sockets> Listeners for TcpListeners<'a, R> {
             }
         }
     }
+
+    fn release(&mut self, _connections: TcpConnections<'a>) {}
 }

@@ -15,7 +15,7 @@ abbrev facts : (g : given.Over) → g.row.L-Port.Denot → StreamFacts
 facts g = stream_facts g.L.Port.Connections.port g.L.Port.Connections.faults g.L.Port.Connections.has_ended g.L.Port.Connections.log
 
 abbrev listens_at : (g : given.Over) → g.row.L.Denot → ListenFacts
-listens_at g = listen_facts g.L.Listeners.faults g.L.Listeners.ports g.L.Listeners.place
+listens_at g = listen_facts g.L.Listeners.faults g.L.Listeners.ports g.L.Listeners.released g.L.Listeners.place
 
 pub loop-k-init : goal.loop-k-init
 loop-k-init g c =
@@ -26,6 +26,7 @@ loop-k-init g c =
       new = λ k stream at. absurd (let low = slice_get_within (map (facts g) c.args.connections.now.items) k stream at in omega (arith, low, ap length none));
       others = leaves_none c.args.streams.now.port (g.L.Listeners.ports c.args.listeners.now);
       faults = refl;
+      released = refl;
       place = refl;
       untouched = λ none. refl;
     }
@@ -61,6 +62,7 @@ loop-k-preserved g c =
           }));
       others = leaves_more first c.loop-k.k before now (g.L.Listeners.ports c.listen.new.self) inv.others listens;
       faults = heard.counted ∙ inv.faults;
+      released = c.listen.ensures.same_released ∙ inv.released;
       place = c.listen.ensures.same_place ∙ inv.place;
       untouched = λ none. absurd (omega (arith, none));
     }

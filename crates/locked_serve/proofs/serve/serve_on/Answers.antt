@@ -25,7 +25,7 @@ abbrev net_at : (g : given.Over) → g.row.N.Denot → NetFacts
 net_at g = net_facts g.N.Net.faults g.N.Net.binds g.N.Net.first g.N.Net.refused g.N.Net.ports g.N.Net.fails
 
 abbrev ports_at : (g : given.Over) → g.row.N.Denot → g.row.L.Denot → PortFacts
-ports_at g net listeners = port_facts (net_at g net) (listen_facts g.L.Listeners.faults g.L.Listeners.ports g.L.Listeners.place listeners)
+ports_at g net listeners = port_facts (net_at g net) (listen_facts g.L.Listeners.faults g.L.Listeners.ports g.L.Listeners.released g.L.Listeners.place listeners)
 
 abbrev views : (g : given.Over) → List (FilledPart g.row.P.Denot) → List FilledView
 views g parts = map (λ f. filled_view g.P.Partition.owner g.P.Partition.home f) parts
@@ -72,13 +72,13 @@ pub returns-in_err-parts-clause-kept : goal.returns-in_err-parts-clause-kept
 returns-in_err-parts-clause-kept g c = net_kept c.args.ports.now (net_at g c.args.net.now) c.requires.unbound
 
 pub returns-in_err-parts-clause-heard : goal.returns-in_err-parts-clause-heard
-returns-in_err-parts-clause-heard g c = kept_unheard c.args.streams.now (listen_facts g.L.Listeners.faults g.L.Listeners.ports g.L.Listeners.place c.args.listeners.now)
+returns-in_err-parts-clause-heard g c = kept_unheard c.args.streams.now (listen_facts g.L.Listeners.faults g.L.Listeners.ports g.L.Listeners.released g.L.Listeners.place c.args.listeners.now)
 
 pub returns-in_err-rehearse-clause-kept : goal.returns-in_err-rehearse-clause-kept
 returns-in_err-rehearse-clause-kept g c = net_kept c.args.ports.now (net_at g c.args.net.now) c.requires.unbound
 
 pub returns-in_err-rehearse-clause-heard : goal.returns-in_err-rehearse-clause-heard
-returns-in_err-rehearse-clause-heard g c = kept_unheard c.args.streams.now (listen_facts g.L.Listeners.faults g.L.Listeners.ports g.L.Listeners.place c.args.listeners.now)
+returns-in_err-rehearse-clause-heard g c = kept_unheard c.args.streams.now (listen_facts g.L.Listeners.faults g.L.Listeners.ports g.L.Listeners.released g.L.Listeners.place c.args.listeners.now)
 
 pub returns-in_err-rehearse-clause-cause : goal.returns-in_err-rehearse-clause-cause
 returns-in_err-rehearse-clause-cause g c =
@@ -86,4 +86,4 @@ returns-in_err-rehearse-clause-cause g c =
     let all = ports_at g c.args.net.now c.args.listeners.now in
     let clocks = map g.K.Clock.last c.args.clocks.items in
     subst (λ (r : Result Totals Stop). IsCauseOfStop r c.args.options.now c.args.filling.items c.args.base c.args.ports.now c.args.streams.now clocks c.args.tables.now all all) (sym (is.1 ∙ ap Err is.2))
-    (no_memory c.args.options.now (begun_by c.args.options.now c.args.filling.items) c.args.base c.args.ports.now c.args.streams.now clocks c.args.tables.now all all c.requires.tables)
+    (no_memory c.args.options.now (begun_by c.args.options.now c.args.filling.items) c.args.base c.args.ports.now c.args.streams.now clocks c.args.tables.now all c.requires.tables)

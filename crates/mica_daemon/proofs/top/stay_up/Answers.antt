@@ -11,7 +11,7 @@ returns-in-Ok g c =
     let set = c.set_place.ensures in
     inl (serves_placed c.args.options.now c.args.ports.now c.args.streams.now _ _ c.args.base c.args.filling.items _ _ _ _ _ _ _
     (take-map g.C.Clock.last c.args.streams.now.ports.fronts c.args.clocks.items ∙ ap (map g.C.Clock.last) (sym c.truncate.ensures.items))
-    (λ i. record { faults = set.faults i; ports = set.ports i; place = set.place i }) c.serve_aloud.ensures)
+    (λ i. record { faults = set.faults i; ports = set.ports i; released = set.released i; place = set.place i }) c.serve_aloud.ensures)
 
 pub returns-in-Err : goal.returns-in-Err
 returns-in-Err g c = inr ((refl, Keeps-refl (g.K.Sink.taken c.args.speaker.now.sink)), record { ports = refl; tables = refl })
