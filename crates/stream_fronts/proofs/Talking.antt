@@ -14,7 +14,7 @@ use Rattle.memcached_fronts.specs.Spells.{due_to_all, answers_to_all}
 use Rattle.memcached_fronts.proofs.ExchangeLaws.{no_asks}
 use Rattle.memcached_fronts.proofs.SpellsLaws.{spells_next, due_then, answers_then, nothing_before, due_still}
 use Rattle.stream_io.specs.Connection.{Connection}
-use Rattle.stream_fronts.specs.Talk.{IsBeginning, Talk, due_in}
+use Rattle.stream_fronts.specs.Talk.{IsBeginning, Talk, IsAllAnswered, due_in}
 use Rattle.stream_fronts.specs.Closing.{MayClose, broke, left, ended}
 use Rattle.stream_fronts.specs.Traffic.{HasEnded}
 use Rattle.stream_fronts.specs.declared.answer.Stand.{Stand}
@@ -137,22 +137,34 @@ module _ (options : Options) (base : ℕ) where
     left (sym r.due_is) r.left,
   )
 
-  pub may_end : {connection : Connection} {place : Place} {received sent : List ℕ} {given : List Answered} → Reaches options base place received given sent
-      → IsOpenAt (next_of place.bytes) place.done → next_of place.bytes ≡ More → HasEnded connection → MayClose options base connection received sent given
-  may_end {connection} {place} {received} {sent} {given} r stands more has_ended = by r.part refl
+  -- all that was said is answered, and all that is due was sent
+  pub record AllAnswered (received sent : List ℕ) (given : List Answered) : Type 0 where
+    pub talk : Talk options base received sent given
+    pub due_is : sent ≡ due_in talk
+    pub answered : IsAllAnswered options talk.said talk.rest
+
+  pub all_answered : {place : Place} {received sent : List ℕ} {given : List Answered} → Reaches options base place received given sent → IsOpenAt (next_of place.bytes) place.done
+      → next_of place.bytes ≡ More → AllAnswered received sent given
+  all_answered {place} {received} {sent} {given} r stands more = by r.part refl
     where
-      by : (part : List Answered) → r.part ≡ part → MayClose options base connection received sent given
+      by : (part : List Answered) → r.part ≡ part → AllAnswered received sent given
       by [] none =
-          let all : due_to_all options base r.whole ≡ sent = whole_due r none in (
-            record {
+          let all : due_to_all options base r.whole ≡ sent = whole_due r none in
+          record {
+            talk = record {
               said = r.whole;
               rest = place.bytes;
               spells = r.spells;
               answered = whole_answers r none;
               begins = ([], all ∙ sym (append-nil sent));
-            },
-            ended (sym all) has_ended.ended has_ended.read (r.follows, more),
-          )
+            };
+            due_is = sym all;
+            answered = (r.follows, more);
+          }
       by (a ∷ part) some =
           let many : place.done ≡ suc (length part) = sym r.count ∙ ap length some in
           absurd (not_more (next_of place.bytes) place.done (asks_some (next_of place.bytes) place.done (length part) stands many) more)
+
+  pub may_end : {connection : Connection} {place : Place} {received sent : List ℕ} {given : List Answered} → Reaches options base place received given sent
+      → IsOpenAt (next_of place.bytes) place.done → next_of place.bytes ≡ More → HasEnded connection → MayClose options base connection received sent given
+  may_end r stands more has_ended = let a = all_answered r stands more in (a.talk, ended a.due_is has_ended.ended has_ended.read a.answered)

@@ -33,7 +33,7 @@ pub record Serves (options : Options) (is_alone : Bool) (base most : ℕ) (old n
   pub seconds : ToldFrom old.second (seconds_of (answers_in all)) new.second
   pub few : old.left ≤ new.left + count_of_writes (answers_in all)
   pub lacking : List ℕ
-  pub counted : new.lacked ≡ min (old.lacked + length lacking) LAST_COUNT
+  pub counted : min new.lacked LAST_COUNT ≡ min (old.lacked + length lacking) LAST_COUNT
   pub through : TalksThrough options base most log.schedule lacking log.entries all
   pub done : new.has_ended ≡ true → 0 < log.script.piece → IsDone options base log all
 

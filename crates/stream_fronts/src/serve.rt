@@ -27,7 +27,7 @@ use std::sync::Wait;
 use std::thread::Threads;
 use stream_io::{Connections, Event};
 
-/// Visits the connection under a number, where one is held.
+/// Visits the connection under a number, where one is held. Says for how many there was no memory, one at most.
 #[tactic(auto, using(crate::proofs::Going::by_none))]
 fn visit_held<R: Threads + Wait + Sync, F: Changes, K: Clock, C: Connections>(
     rt: &R,
@@ -40,7 +40,7 @@ fn visit_held<R: Threads + Wait + Sync, F: Changes, K: Clock, C: Connections>(
     number: u32,
     clients: &mut Clients,
     desk: &mut Desk,
-)
+) -> u64
     requires room { vec_len desk.old.room ≡ MAX_WAITING_LEN }
     requires clients { AreOpen clients.old.held.items (C.log connections.old) }
     requires partitions { numbering.partitions ≡ (F.options front.old).partitions }
@@ -50,11 +50,11 @@ fn visit_held<R: Threads + Wait + Sync, F: Changes, K: Clock, C: Connections>(
     ensures port { LeavesPort C.log C.has_ended C.faults C.port connections.old connections.new }
     ensures front { MovesFront F.options F.number F.stands F.is_alone F.sessions F.left K.last front.old clock.old front.new clock.new }
     ensures serves { GoesByGiven (F.options front.old) F.is_alone (F.sessions front.old) (F.left front.old) (K.last clock.old) (F.sessions front.new) (F.left front.new) (K.last clock.new)
-        (λ given. OnLogs (StandsOn (F.options front.old) numbering.base (Event.Ready number) clients.old.held.items given clients.new.held.items) (C.log connections.old) (C.log connections.new)) }
+        (λ given. OnLogs (StandsOn (F.options front.old) numbering.base (Event.Ready number) clients.old.held.items result given clients.new.held.items) (C.log connections.old) (C.log connections.new)) }
     ensures left { left.new ≤ F.left front.new }
 {
     let Some(mut client) = clients.take(number) else {
-        return;
+        return 0;
     };
     let asks = client.asks;
     let visited = visit_on(
@@ -71,38 +71,57 @@ fn visit_held<R: Threads + Wait + Sync, F: Changes, K: Clock, C: Connections>(
     );
     let after = match visited {
         Ok(after) => after,
-        Err(NoMemory) => return close(connections, number, asks),
+        Err(NoMemory) => {
+            close(connections, number, asks);
+            return 1;
+        }
     };
     match after {
-        After::Waits => clients.put(number, client),
+        After::Waits => {
+            clients.put(number, client);
+            0
+        }
         After::Again => {
             ask_again(connections, number, client.asks);
             client.asks -= 1;
             clients.put(number, client);
+            0
         }
-        After::Over => close(connections, number, asks),
+        After::Over => {
+            close(connections, number, asks);
+            0
+        }
     }
 }
 
-/// Holds a new connection. Where there is no memory for it, it is closed.
-fn take_in<C: Connections>(alloc: Global, connections: &mut C, number: u32, clients: &mut Clients)
+/// Holds a new connection. Where there is no memory for it, it is closed. Says for how many there was none.
+fn take_in<C: Connections>(
+    alloc: Global,
+    connections: &mut C,
+    number: u32,
+    clients: &mut Clients,
+) -> u64
     requires clients { AreOpen clients.old.held.items (C.log connections.old) }
     requires open { IfSome (C.log connections.old) (IsOpen number 0) }
     ensures clients { AreOpen clients.new.held.items (C.log connections.new) }
     ensures port { LeavesPort C.log C.has_ended C.faults C.port connections.old connections.new }
     ensures serves { (options : Options) (base : ℕ)
-        → OnLogs (StandsOn options base (Event.Opened number) clients.old.held.items [] clients.new.held.items) (C.log connections.old) (C.log connections.new) }
+        → OnLogs (StandsOn options base (Event.Opened number) clients.old.held.items result [] clients.new.held.items) (C.log connections.old) (C.log connections.new) }
 {
     match clients.make_room(number) {
-        Ok(()) => clients.put(number, Client::new(alloc)),
+        Ok(()) => {
+            clients.put(number, Client::new(alloc));
+            0
+        }
         Err(NoMemory) => {
             let _gone = clients.take(number);
             close(connections, number, 0);
+            1
         }
     }
 }
 
-/// Serves what is reported.
+/// Serves what is reported. Says for how many connections there was no memory.
 #[tactic(auto, using(crate::proofs::Going::by_none))]
 fn serve_event<R: Threads + Wait + Sync, F: Changes, K: Clock, C: Connections>(
     rt: &R,
@@ -115,7 +134,7 @@ fn serve_event<R: Threads + Wait + Sync, F: Changes, K: Clock, C: Connections>(
     event: Event,
     clients: &mut Clients,
     desk: &mut Desk,
-)
+) -> u64
     requires room { vec_len desk.old.room ≡ MAX_WAITING_LEN }
     requires clients { AreOpen clients.old.held.items (C.log connections.old) }
     requires event { IfSome (C.log connections.old) (IsOpened event) }
@@ -126,7 +145,7 @@ fn serve_event<R: Threads + Wait + Sync, F: Changes, K: Clock, C: Connections>(
     ensures port { LeavesPort C.log C.has_ended C.faults C.port connections.old connections.new }
     ensures front { MovesFront F.options F.number F.stands F.is_alone F.sessions F.left K.last front.old clock.old front.new clock.new }
     ensures serves { GoesByGiven (F.options front.old) F.is_alone (F.sessions front.old) (F.left front.old) (K.last clock.old) (F.sessions front.new) (F.left front.new) (K.last clock.new)
-        (λ given. OnLogs (StandsOn (F.options front.old) numbering.base event clients.old.held.items given clients.new.held.items) (C.log connections.old) (C.log connections.new)) }
+        (λ given. OnLogs (StandsOn (F.options front.old) numbering.base event clients.old.held.items result given clients.new.held.items) (C.log connections.old) (C.log connections.new)) }
     ensures left { left.new ≤ F.left front.new }
 {
     match event {
@@ -187,7 +206,7 @@ pub fn serve_connections<R: Threads + Wait + Sync, F: Changes, K: Clock, C: Conn
         let Some(event) = connections.next()? else {
             break;
         };
-        serve_event(
+        let count = serve_event(
             rt,
             alloc,
             front,
@@ -199,6 +218,7 @@ pub fn serve_connections<R: Threads + Wait + Sync, F: Changes, K: Clock, C: Conn
             &mut clients,
             &mut desk,
         );
+        *lacked = lacked.saturating_add(count);
     }
     Ok(())
 }

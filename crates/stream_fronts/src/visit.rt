@@ -1,5 +1,5 @@
 //! One visit of a connection.
-ghost use Rattle.std.specs.Prelude.{◌≡◌, ◌≢◌, ◌<◌, ◌≤◌, ◌+◌, ◌++◌, true, false, [], length, take, drop, is_some, IfOk, IfSome, MatchResult, vec_len};
+ghost use Rattle.std.specs.Prelude.{◌≡◌, ◌≢◌, ◌<◌, ◌≤◌, ◌+◌, ◌++◌, true, false, [], length, take, drop, Some, is_some, IfOk, IfSome, MatchResult, vec_len};
 ghost use Rattle.memcached_text.specs.declared.limits.TheConstants.{MAX_WAITING_LEN};
 ghost use Rattle.stream_fronts.specs.declared.desk.TheConstants.{MOST_UNSENT};
 ghost use Rattle.stream_fronts.specs.Clients.{IsClient};
@@ -49,6 +49,7 @@ fn send_unsent<C: Connections>(
     ensures leaving { client.new.leaving ≡ client.old.leaving }
     ensures asks { client.new.asks ≡ client.old.asks }
     ensures all { IfOk result (λ all. all ≡ true → client.new.unsent ≡ []) }
+    ensures some { IfOk result (λ all. all ≡ false → client.new.unsent ≢ []) }
     ensures sends { OnLogs (OnHeld number (SendsFrom client.old.unsent client.new.unsent result)) (C.log connections.old) (C.log connections.new) }
     ensures keeps { OnLogs Keeps (C.log connections.old) (C.log connections.new) }
     ensures told { is_some (C.log connections.new) ≡ is_some (C.log connections.old) }
@@ -77,6 +78,7 @@ fn send_new<C: Connections>(
     ensures leaving { IfOk result (λ _. client.new.leaving ≡ client.old.leaving) }
     ensures asks { client.new.asks ≡ client.old.asks }
     ensures all { IfOk result (λ sent. IfOk sent (λ all. all ≡ true → client.new.unsent ≡ [])) }
+    ensures some { IfOk result (λ sent. IfOk sent (λ all. all ≡ false → client.new.unsent ≢ [])) }
     ensures sends { MatchResult result (λ sent. OnLogs (OnHeld number (SendsFrom replies.now client.new.unsent sent)) (C.log connections.old) (C.log connections.new))
         (λ _. OnLogs (OnHeld number (SendsSome replies.now)) (C.log connections.old) (C.log connections.new)) }
     ensures keeps { OnLogs Keeps (C.log connections.old) (C.log connections.new) }
@@ -264,6 +266,7 @@ fn leaves_by(stand: Stand, input: Option<Input>) -> bool
 fn after_all(leaving: bool, stand: Stand, input: Option<Input>) -> After
     ensures over { leaving ≡ true → result ≡ After.Over }
     ensures open { leaving ≡ false → result ≢ After.Over }
+    ensures waits { result ≡ After.Waits → (stand ≡ Stand.Needs) × (input ≡ Some Input.Later) }
 {
     if leaving {
         return After::Over;
