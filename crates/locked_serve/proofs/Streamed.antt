@@ -1,5 +1,5 @@
 -- A front that was served behind its port, by the answers that its log tells; where it tells none, by some.
-use Rattle.std.proofs.Common.{◌≡◌, ◌×◌, ℕ, false, List, [], Option, None, Some, refl}
+use Rattle.std.proofs.Common.{◌≡◌, ℕ, false, List, [], Option, None, Some, refl}
 use Rattle.std.specs.Prelude.{IfSome}
 use Rattle.partition_model.specs.declared.options.Options.{Options}
 use Rattle.stream_io.specs.Log.{Log}

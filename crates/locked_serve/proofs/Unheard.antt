@@ -1,7 +1,8 @@
 -- Fronts of connections that were not served.
-use Rattle.std.proofs.Common.{◌≡◌, ℕ, zero, suc, ◌≤◌, ◌×◌, List, [], ◌∷◌, length, false, true≢false, Option, None, Some, slice_get, replicate, refl, sym, ap, ◌∙◌, subst, arith}
+use Rattle.std.proofs.Common.{◌≡◌, ℕ, zero, suc, ◌≤◌, inl, List, [], ◌∷◌, length, false, true≢false, Option, None, Some, slice_get, replicate, refl, sym, ap, ◌∙◌, subst, arith}
 use Rattle.std.specs.Prelude.{IfSome}
 use Rattle.std.proofs.lemmas.Option.{slice_get_within, same_Some}
+use Rattle.stream_io.specs.State.{Entry}
 use Rattle.stream_io.specs.Log.{Log}
 use Rattle.stream_io.specs.Ports.{Ports}
 use Rattle.partition_model.specs.declared.options.Options.{Options}
@@ -9,7 +10,8 @@ use Rattle.mica_fronts.specs.Answered.{Answered}
 use Rattle.stream_fronts.specs.declared.ports.StreamPorts.{StreamPorts}
 use Rattle.stream_fronts.specs.Open.{OnLogs}
 use Rattle.stream_fronts.specs.Serving.{FrontAt}
-use Rattle.stream_fronts.proofs.Since.{begun_through}
+use Rattle.stream_fronts.specs.declared.desk.TheConstants.{MOST_UNSENT}
+use Rattle.stream_fronts.specs.Moments.{TalksThrough}
 use Rattle.locked_serve.specs.Streams.{StreamFacts, IsUnserved, AreNewStreams, ServesClients, ServesStream, AreServed, AreStreams}
 
 -- each of so many answered nothing
@@ -41,7 +43,8 @@ module _ (options : Options) (base : ℕ) where
       few = omega arith;
       lacking = [];
       counted = refl;
-      through = begun_through options false base (unmoved told).sessions 0 told log.schedule log.entries fresh;
+      through = subst (λ (entries : List Entry). TalksThrough options base MOST_UNSENT log.schedule [] entries []) (sym fresh)
+          (λ c. inl (record { said = []; rest = []; spells = refl; answered = refl; begins = ([], refl) }, record { kept = omega arith; unsent = omega arith }));
       done = λ ended. absurd (true≢false (sym ended));
     };
   }, refl)

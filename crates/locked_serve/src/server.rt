@@ -1,5 +1,6 @@
 //! The partitions under their locks and the fronts before them, opened and run.
 ghost use Rattle.std.specs.Prelude.{◌≡◌, ◌+◌, ◌<◌, ◌≤◌, ℕ, [], IfOk, Some, length, map, slice_get, vec_len};
+ghost use Rattle.partition_model.specs.declared.options.TheConstants.{MOST_PARTITIONS};
 ghost use Rattle.partition_model.specs.Options.{IsPossible};
 ghost use Rattle.partition_model.specs.History.{IsHistory};
 ghost use Rattle.epoch_core.specs.declared.state.Phase.TheVariants.{Idle};
@@ -8,6 +9,7 @@ ghost use Rattle.partition_table.specs.Seats.{note_state, note_home};
 ghost use Rattle.locked_fronts.specs.Owned.{Owned, NotesAre};
 ghost use Rattle.mica_fronts.specs.declared.totals.TheConstants.{MAX_BATCHES};
 ghost use Rattle.mica_serve.specs.Ends.{AreOpen, end_facts};
+ghost use Rattle.locked_serve.specs.declared.serve.TheConstants.{MOST_FRONTS};
 ghost use Rattle.locked_serve.specs.Opening.{ArePlanned, filled_view};
 ghost use Rattle.locked_serve.specs.Streams.{AreUnserved, ServesBeside, stream_facts};
 ghost use Rattle.locked_serve.specs.Running.{RanBeside};
@@ -44,7 +46,7 @@ pub struct Row<T, A> {
 
 impl<T: Drop, A: Drop> Row<T, A> {
     fn new(alloc: Global, fronts: usize) -> Result<Row<T, A>, NoMemory>
-        requires fronts { fronts ≤ 64 }
+        requires fronts { fronts ≤ MOST_FRONTS }
         ensures { IfOk result (IsRow fronts) }
     {
         Ok(Row {
@@ -77,9 +79,9 @@ impl<P: LendPartition<Reader = ReaderSeat, Note = Note> + Drop, D: Drop, C: Drop
         fronts: usize,
         partitions: usize,
     ) -> Result<Room<P, D, C, K>, NoMemory>
-        requires streams { streams ≤ 64 }
-        requires fronts { fronts ≤ 64 }
-        requires partitions { partitions ≤ 64 }
+        requires streams { streams ≤ MOST_FRONTS }
+        requires fronts { fronts ≤ MOST_FRONTS }
+        requires partitions { partitions ≤ MOST_PARTITIONS }
         ensures { IfOk result (IsRoom streams fronts partitions) }
     {
         Ok(Room {
@@ -123,9 +125,9 @@ impl<
         parts: Vec<FilledPart<P>>,
     ) -> Result<LockedServer<J, P, D, C, K>, NoMemory>
         requires notes { NotesAre P.noted P.note_home note_state note_home }
-        requires few { streams.now.fronts + ports.now.fronts ≤ 64 }
+        requires few { streams.now.fronts + ports.now.fronts ≤ MOST_FRONTS }
         requires takers { J.plan.fronts ≡ streams.now.fronts + ports.now.fronts }
-        requires partitions { J.plan.options.partitions ≤ 64 }
+        requires partitions { J.plan.options.partitions ≤ MOST_PARTITIONS }
         requires of { ArePlanned J.plan 0 (map (λ f. filled_view P.owner P.home f) parts.items) }
         ensures { IfOk result (λ server. IsLockedServer J.plan streams.now.fronts ports.now.fronts (length server.locks.items)
             (map (λ hand. hand.items) server.stream_hands.items) (map (λ hand. hand.items) server.hands.items) server.room) }
@@ -181,7 +183,7 @@ fn run_all<
     requires options { IsPossible options.now }
     requires named { options.now ≡ J.plan.options }
     requires some { 1 ≤ J.plan.fronts }
-    requires few { J.plan.fronts ≤ 64 }
+    requires few { J.plan.fronts ≤ MOST_FRONTS }
     requires takers { J.plan.fronts ≡ length connections.old.items + length ends.old.items }
     requires clocks { length clocks.items ≡ length connections.old.items }
     requires batches { batches ≤ MAX_BATCHES }
@@ -276,7 +278,7 @@ pub(crate) fn serve_all<
     requires options { IsPossible options.now }
     requires named { options.now ≡ J.plan.options }
     requires some { 1 ≤ J.plan.fronts }
-    requires few { J.plan.fronts ≤ 64 }
+    requires few { J.plan.fronts ≤ MOST_FRONTS }
     requires takers { J.plan.fronts ≡ length connections.old.items + length ends.old.items }
     requires clocks { length clocks.items ≡ length connections.old.items }
     requires batches { batches ≤ MAX_BATCHES }

@@ -1,6 +1,7 @@
 //! The fronts of connections side by side, each in a thread of its own.
 ghost use Rattle.std.specs.Prelude.{◌≡◌, ◌<◌, ◌≤◌, [], length, map, vec_len, vec_capacity};
 ghost use Rattle.partition_model.specs.Options.{IsPossible};
+ghost use Rattle.locked_serve.specs.declared.serve.TheConstants.{MOST_FRONTS};
 ghost use Rattle.locked_serve.specs.Streams.{stream_facts};
 ghost use Rattle.locked_serve.specs.Running.{IsReadyStream, StreamRan, AreReadyStreams, StreamsRan};
 
@@ -89,7 +90,7 @@ pub(crate) fn run_streams<
     requires valid { IsPossible options.now }
     requires options { options.now ≡ J.plan.options }
     requires locks { length locks.now ≡ options.now.partitions }
-    requires few { J.plan.fronts ≤ 64 }
+    requires few { J.plan.fronts ≤ MOST_FRONTS }
     requires many { length streams.old.items ≤ J.plan.fronts }
     requires ready { AreReadyStreams J.plan (stream_facts C.port C.faults C.has_ended C.log) K.last streams.old.items }
     ensures { StreamsRan J.plan (stream_facts C.port C.faults C.has_ended C.log) K.last base streams.old.items streams.new.items }
@@ -100,7 +101,7 @@ pub(crate) fn run_streams<
         streams.as_mut_slice(),
         threads,
         &|number, stream|
-            requires { (number < J.plan.fronts) × (J.plan.fronts ≤ 64) × IsPossible options.now × (options.now ≡ J.plan.options) × (length locks.now ≡ options.now.partitions)
+            requires { (number < J.plan.fronts) × (J.plan.fronts ≤ MOST_FRONTS) × IsPossible options.now × (options.now ≡ J.plan.options) × (length locks.now ≡ options.now.partitions)
                 × IsReadyStream J.plan (stream_facts C.port C.faults C.has_ended C.log) K.last number stream.now }
             ensures { StreamRan J.plan (stream_facts C.port C.faults C.has_ended C.log) K.last base number stream.entry.now stream.exit.now }
         { stream.run(rt, alloc, options, base, locks, number as u32) },
