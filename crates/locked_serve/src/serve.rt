@@ -10,13 +10,13 @@ ghost use Rattle.mica_serve.specs.PossiblePorts.{IsPossiblePorts};
 ghost use Rattle.mica_serve.specs.Ends.{end_facts};
 ghost use Rattle.mica_serve.specs.NetRun.{BindsAndServes, KeepsNet, net_facts};
 ghost use Rattle.locked_serve.specs.declared.serve.TheConstants.{MOST_FRONTS};
-ghost use Rattle.locked_serve.specs.Streams.{KeepsListeners, listen_facts};
+ghost use Rattle.locked_serve.specs.Streams.{KeepsListeners, listen_facts, stream_facts};
 ghost use Rattle.locked_serve.specs.Causes.{ComesBeside, HasCause, IsCauseOfStop, HasAnnounced, port_facts};
 ghost use Rattle.locked_serve.specs.Opening.{ArePlanned, filled_view};
 ghost use Rattle.locked_serve.specs.Server.{IsLockedServer};
 
 use crate::announce::Announce;
-use crate::listening::listen_all;
+use crate::listening::{listen_all, release_streams};
 use crate::opening::{FilledPart, open_parts};
 use crate::server::{LockedServer, serve_all};
 use crate::stop::Stop;
@@ -63,7 +63,7 @@ fn bind_and_serve<
     net: &mut N,
     ends: &mut Vec<N::End>,
     listeners: &mut L,
-    connections: Vec<L::Port>,
+    connections: &mut Vec<L::Port>,
     clocks: Vec<K>,
     gate: &G,
     tables: &mut Tables,
@@ -85,21 +85,22 @@ fn bind_and_serve<
     requires unbound { N.binds net.old ≡ 0 }
     requires none { ends.old.items ≡ [] }
     requires room { ports.now.fronts ≤ vec_capacity ends.old }
-    requires no_streams { connections.items ≡ [] }
-    requires room_of_streams { streams.now.fronts ≤ vec_capacity connections }
+    requires no_streams { connections.old.items ≡ [] }
+    requires room_of_streams { streams.now.fronts ≤ vec_capacity connections.old }
     ensures served { ComesBeside (λ others came. BindsAndServes others options.now J.plan.begun ports.now came tables.new
         (net_facts N.faults N.binds N.first N.refused N.ports N.fails net.old) (net_facts N.faults N.binds N.first N.refused N.ports N.fails net.new)
-        (map (end_facts N.End.port N.End.traffic N.End.faults N.End.has_ended N.End.script) ends.new.items)) result streams.now (map K.last clocks.items)
-        (listen_facts L.faults L.ports listeners.old) (listen_facts L.faults L.ports listeners.new) }
+        (map (end_facts N.End.port N.End.traffic N.End.faults N.End.has_ended N.End.script) ends.new.items))
+        (λ news. news ≡ map (stream_facts L.Port.port L.Port.faults L.Port.has_ended L.Port.log) connections.new.items) result options.now base streams.now (map K.last clocks.items)
+        (listen_facts L.faults L.ports L.released L.place listeners.old) (listen_facts L.faults L.ports L.released L.place listeners.new) }
     ensures unrefused { result ≢ Err Stop.Refused }
-    ensures heard { KeepsListeners streams.now (listen_facts L.faults L.ports listeners.old) (listen_facts L.faults L.ports listeners.new) }
+    ensures unreleased { L.released listeners.new ≡ L.released listeners.old }
+    ensures heard { KeepsListeners streams.now (listen_facts L.faults L.ports L.released L.place listeners.old) (listen_facts L.faults L.ports L.released L.place listeners.new) }
     ensures announced { HasAnnounced (A.says ports.now streams.now) (A.fails ports.now streams.now) result
-        (port_facts (net_facts N.faults N.binds N.first N.refused N.ports N.fails net.old) (listen_facts L.faults L.ports listeners.old))
-        (port_facts (net_facts N.faults N.binds N.first N.refused N.ports N.fails net.new) (listen_facts L.faults L.ports listeners.new)) announce.old announce.new }
+        (port_facts (net_facts N.faults N.binds N.first N.refused N.ports N.fails net.old) (listen_facts L.faults L.ports L.released L.place listeners.old))
+        (port_facts (net_facts N.faults N.binds N.first N.refused N.ports N.fails net.new) (listen_facts L.faults L.ports L.released L.place listeners.new)) announce.old announce.new }
 {
-    let mut connections = connections;
     bind_all(net, ports, ends)?;
-    listen_all(listeners, streams, &mut connections)?;
+    listen_all(listeners, streams, connections)?;
     announce.ready(ports, streams, ends.as_slice(), connections.as_slice())?;
     let totals = serve_all(
         rt,
@@ -156,20 +157,20 @@ fn serve_named<
     requires unbound { N.binds net.old ≡ 0 }
     requires tables { tables.old ≡ [] }
     ensures unrefused { result ≢ Err Stop.Refused }
-    ensures cause { HasCause result options.now J.plan.begun ports.now streams.now (map K.last clocks.items) tables.new
-        (port_facts (net_facts N.faults N.binds N.first N.refused N.ports N.fails net.old) (listen_facts L.faults L.ports listeners.old))
-        (port_facts (net_facts N.faults N.binds N.first N.refused N.ports N.fails net.new) (listen_facts L.faults L.ports listeners.new)) }
+    ensures cause { HasCause result options.now J.plan.begun base ports.now streams.now (map K.last clocks.items) tables.new
+        (port_facts (net_facts N.faults N.binds N.first N.refused N.ports N.fails net.old) (listen_facts L.faults L.ports L.released L.place listeners.old))
+        (port_facts (net_facts N.faults N.binds N.first N.refused N.ports N.fails net.new) (listen_facts L.faults L.ports L.released L.place listeners.new)) }
     ensures kept { KeepsNet ports.now
         (net_facts N.faults N.binds N.first N.refused N.ports N.fails net.old)
         (net_facts N.faults N.binds N.first N.refused N.ports N.fails net.new) }
-    ensures heard { KeepsListeners streams.now (listen_facts L.faults L.ports listeners.old) (listen_facts L.faults L.ports listeners.new) }
+    ensures heard { KeepsListeners streams.now (listen_facts L.faults L.ports L.released L.place listeners.old) (listen_facts L.faults L.ports L.released L.place listeners.new) }
     ensures announced { HasAnnounced (A.says ports.now streams.now) (A.fails ports.now streams.now) result
-        (port_facts (net_facts N.faults N.binds N.first N.refused N.ports N.fails net.old) (listen_facts L.faults L.ports listeners.old))
-        (port_facts (net_facts N.faults N.binds N.first N.refused N.ports N.fails net.new) (listen_facts L.faults L.ports listeners.new)) announce.old announce.new }
+        (port_facts (net_facts N.faults N.binds N.first N.refused N.ports N.fails net.old) (listen_facts L.faults L.ports L.released L.place listeners.old))
+        (port_facts (net_facts N.faults N.binds N.first N.refused N.ports N.fails net.new) (listen_facts L.faults L.ports L.released L.place listeners.new)) announce.old announce.new }
 {
     let server = LockedServer::<J, P, N::End, L::Port, K>::new(alloc, ports, streams, parts)?;
     let mut ends = Vec::with_capacity(alloc, ports.fronts as usize)?;
-    let connections = Vec::with_capacity(alloc, streams.fronts as usize)?;
+    let mut connections = Vec::with_capacity(alloc, streams.fronts as usize)?;
     let answer = bind_and_serve(
         rt,
         alloc,
@@ -181,13 +182,14 @@ fn serve_named<
         net,
         &mut ends,
         listeners,
-        connections,
+        &mut connections,
         clocks,
         gate,
         tables,
         announce,
     );
     release_all(net, ends, ports.port);
+    release_streams(listeners, connections);
     answer
 }
 
@@ -227,16 +229,16 @@ fn serve_on<
     requires filling { All IsWrite filling.items }
     requires unbound { N.binds net.old ≡ 0 }
     requires tables { tables.old ≡ [] }
-    ensures cause { IsCauseOfStop result options.now filling.items ports.now streams.now (map K.last clocks.items) tables.new
-        (port_facts (net_facts N.faults N.binds N.first N.refused N.ports N.fails net.old) (listen_facts L.faults L.ports listeners.old))
-        (port_facts (net_facts N.faults N.binds N.first N.refused N.ports N.fails net.new) (listen_facts L.faults L.ports listeners.new)) }
+    ensures cause { IsCauseOfStop result options.now filling.items base ports.now streams.now (map K.last clocks.items) tables.new
+        (port_facts (net_facts N.faults N.binds N.first N.refused N.ports N.fails net.old) (listen_facts L.faults L.ports L.released L.place listeners.old))
+        (port_facts (net_facts N.faults N.binds N.first N.refused N.ports N.fails net.new) (listen_facts L.faults L.ports L.released L.place listeners.new)) }
     ensures kept { KeepsNet ports.now
         (net_facts N.faults N.binds N.first N.refused N.ports N.fails net.old)
         (net_facts N.faults N.binds N.first N.refused N.ports N.fails net.new) }
-    ensures heard { KeepsListeners streams.now (listen_facts L.faults L.ports listeners.old) (listen_facts L.faults L.ports listeners.new) }
+    ensures heard { KeepsListeners streams.now (listen_facts L.faults L.ports L.released L.place listeners.old) (listen_facts L.faults L.ports L.released L.place listeners.new) }
     ensures announced { HasAnnounced (A.says ports.now streams.now) (A.fails ports.now streams.now) result
-        (port_facts (net_facts N.faults N.binds N.first N.refused N.ports N.fails net.old) (listen_facts L.faults L.ports listeners.old))
-        (port_facts (net_facts N.faults N.binds N.first N.refused N.ports N.fails net.new) (listen_facts L.faults L.ports listeners.new)) announce.old announce.new }
+        (port_facts (net_facts N.faults N.binds N.first N.refused N.ports N.fails net.old) (listen_facts L.faults L.ports L.released L.place listeners.old))
+        (port_facts (net_facts N.faults N.binds N.first N.refused N.ports N.fails net.new) (listen_facts L.faults L.ports L.released L.place listeners.new)) announce.old announce.new }
 {
     rehearse(rt, alloc, streams.fronts + ports.fronts)?;
     let parts = open_parts::<P>(alloc, options, filling.as_slice())?;
@@ -283,16 +285,16 @@ pub fn serve_locked<
     requires unbound { N.binds net.old ≡ 0 }
     requires tables { tables.old ≡ [] }
 
-    ensures cause { IsCauseOfStop result options.now filling.items ports.now streams.now (map K.last clocks.items) tables.new
-        (port_facts (net_facts N.faults N.binds N.first N.refused N.ports N.fails net.old) (listen_facts L.faults L.ports listeners.old))
-        (port_facts (net_facts N.faults N.binds N.first N.refused N.ports N.fails net.new) (listen_facts L.faults L.ports listeners.new)) }
+    ensures cause { IsCauseOfStop result options.now filling.items base ports.now streams.now (map K.last clocks.items) tables.new
+        (port_facts (net_facts N.faults N.binds N.first N.refused N.ports N.fails net.old) (listen_facts L.faults L.ports L.released L.place listeners.old))
+        (port_facts (net_facts N.faults N.binds N.first N.refused N.ports N.fails net.new) (listen_facts L.faults L.ports L.released L.place listeners.new)) }
     ensures kept { KeepsNet ports.now
         (net_facts N.faults N.binds N.first N.refused N.ports N.fails net.old)
         (net_facts N.faults N.binds N.first N.refused N.ports N.fails net.new) }
-    ensures heard { KeepsListeners streams.now (listen_facts L.faults L.ports listeners.old) (listen_facts L.faults L.ports listeners.new) }
+    ensures heard { KeepsListeners streams.now (listen_facts L.faults L.ports L.released L.place listeners.old) (listen_facts L.faults L.ports L.released L.place listeners.new) }
     ensures announced { HasAnnounced (A.says ports.now streams.now) (A.fails ports.now streams.now) result
-        (port_facts (net_facts N.faults N.binds N.first N.refused N.ports N.fails net.old) (listen_facts L.faults L.ports listeners.old))
-        (port_facts (net_facts N.faults N.binds N.first N.refused N.ports N.fails net.new) (listen_facts L.faults L.ports listeners.new)) announce.old announce.new }
+        (port_facts (net_facts N.faults N.binds N.first N.refused N.ports N.fails net.old) (listen_facts L.faults L.ports L.released L.place listeners.old))
+        (port_facts (net_facts N.faults N.binds N.first N.refused N.ports N.fails net.new) (listen_facts L.faults L.ports L.released L.place listeners.new)) announce.old announce.new }
 {
     match options.mode {
         Mode::Cache => serve_on::<W, CachePartition<OwnerSeat>, N, L, K, G, A>(

@@ -1,5 +1,5 @@
 //! The top call: from words to a server that stays up, and to its status.
-ghost use Rattle.std.specs.Prelude.{◌≡◌, ◌≤◌, [], All, length, take, map, string_bytes, Err, IsTrue};
+ghost use Rattle.std.specs.Prelude.{◌≡◌, ◌≤◌, [], All, length, map, string_bytes, Err, IsTrue};
 ghost use Rattle.partition_model.specs.Options.{IsPossible};
 ghost use Rattle.partition_model.specs.Write.{IsWrite};
 ghost use Rattle.locked_serve.specs.declared.stop.Stop.TheVariants.{Fault};
@@ -70,9 +70,9 @@ fn serve_aloud<
     requires line { string_bytes speaker.old.line ≡ ready_text ports.now streams.now }
     requires unbound { N.binds net.old ≡ 0 }
     requires tables { tables.old ≡ [] }
-    ensures { Serves options.now ports.now streams.now (map C.last clocks.items) filling.items
-        (outside (sink_facts K.taken K.faults speaker.old.sink) (net_facts N.faults N.binds N.first N.refused N.ports N.fails net.old) (listen_facts L.faults L.ports listeners.old) tables.old)
-        (outside (sink_facts K.taken K.faults speaker.new.sink) (net_facts N.faults N.binds N.first N.refused N.ports N.fails net.new) (listen_facts L.faults L.ports listeners.new) tables.new)
+    ensures { Serves options.now ports.now streams.now (map C.last clocks.items) base filling.items
+        (outside (sink_facts K.taken K.faults speaker.old.sink) (net_facts N.faults N.binds N.first N.refused N.ports N.fails net.old) (listen_facts L.faults L.ports L.released L.place listeners.old) tables.old)
+        (outside (sink_facts K.taken K.faults speaker.new.sink) (net_facts N.faults N.binds N.first N.refused N.ports N.fails net.new) (listen_facts L.faults L.ports L.released L.place listeners.new) tables.new)
         result }
 {
     match serve_locked(
@@ -115,9 +115,9 @@ fn stay_up<
     requires filling { All IsWrite filling.items }
     requires unbound { N.binds net.old ≡ 0 }
     requires tables { tables.old ≡ [] }
-    ensures { ServesOrNot options.now ports.now streams.now.ports (take streams.now.ports.fronts (map C.last clocks.items)) filling.items
-        (outside (sink_facts K.taken K.faults speaker.old.sink) (net_facts N.faults N.binds N.first N.refused N.ports N.fails net.old) (listen_facts L.faults L.ports listeners.old) tables.old)
-        (outside (sink_facts K.taken K.faults speaker.new.sink) (net_facts N.faults N.binds N.first N.refused N.ports N.fails net.new) (listen_facts L.faults L.ports listeners.new) tables.new)
+    ensures { ServesOrNot options.now ports.now streams.now (map C.last clocks.items) base filling.items
+        (outside (sink_facts K.taken K.faults speaker.old.sink) (net_facts N.faults N.binds N.first N.refused N.ports N.fails net.old) (listen_facts L.faults L.ports L.released L.place listeners.old) tables.old)
+        (outside (sink_facts K.taken K.faults speaker.new.sink) (net_facts N.faults N.binds N.first N.refused N.ports N.fails net.new) (listen_facts L.faults L.ports L.released L.place listeners.new) tables.new)
         result }
 {
     match ready_line(alloc, ports, &streams.ports) {
@@ -183,9 +183,9 @@ pub fn daemon<
     requires net { N.binds net.old ≡ 0 }
     requires clocks { MOST_FRONTS ≤ length clocks.items }
     requires tables { tables.old ≡ [] }
-    ensures { KeepsUp (daemon_of (map string_bytes words.now)) (map C.last clocks.items) (files_facts F.file F.free F.faults files.old) (files_facts F.file F.free F.faults files.new)
-        (outside (sink_facts K.taken K.faults speaker.old.sink) (net_facts N.faults N.binds N.first N.refused N.ports N.fails net.old) (listen_facts L.faults L.ports listeners.old) tables.old)
-        (outside (sink_facts K.taken K.faults speaker.new.sink) (net_facts N.faults N.binds N.first N.refused N.ports N.fails net.new) (listen_facts L.faults L.ports listeners.new) tables.new)
+    ensures { KeepsUp (daemon_of (map string_bytes words.now)) (map C.last clocks.items) base (files_facts F.file F.free F.faults files.old) (files_facts F.file F.free F.faults files.new)
+        (outside (sink_facts K.taken K.faults speaker.old.sink) (net_facts N.faults N.binds N.first N.refused N.ports N.fails net.old) (listen_facts L.faults L.ports L.released L.place listeners.old) tables.old)
+        (outside (sink_facts K.taken K.faults speaker.new.sink) (net_facts N.faults N.binds N.first N.refused N.ports N.fails net.new) (listen_facts L.faults L.ports L.released L.place listeners.new) tables.new)
         result }
 {
     let DaemonOptions {
