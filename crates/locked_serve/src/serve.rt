@@ -23,6 +23,7 @@ use crate::stop::Stop;
 use cache_partition::CachePartition;
 use epoch_core::LendPartition;
 use locked_fronts::ServerPlan;
+use memcached_stats::Board;
 use mica_clock::Clock;
 use mica_fronts::{Ports, Totals};
 use mica_io::{Gate, Net};
@@ -59,6 +60,7 @@ fn bind_and_serve<
     ports: &Ports,
     streams: &StreamPorts,
     base: u64,
+    board: &Board,
     server: LockedServer<J, P, N::End, L::Port, K>,
     net: &mut N,
     ends: &mut Vec<N::End>,
@@ -108,6 +110,7 @@ fn bind_and_serve<
         options,
         ports.batches,
         base,
+        board,
         server,
         ends,
         connections,
@@ -135,6 +138,7 @@ fn serve_named<
     ports: &Ports,
     streams: &StreamPorts,
     base: u64,
+    board: &Board,
     parts: Vec<FilledPart<P>>,
     net: &mut N,
     listeners: &mut L,
@@ -178,6 +182,7 @@ fn serve_named<
         ports,
         streams,
         base,
+        board,
         server,
         net,
         &mut ends,
@@ -209,6 +214,7 @@ fn serve_on<
     ports: &Ports,
     streams: &StreamPorts,
     base: u64,
+    board: &Board,
     filling: Vec<Write>,
     net: &mut N,
     listeners: &mut L,
@@ -244,7 +250,7 @@ fn serve_on<
     let parts = open_parts::<P>(alloc, options, filling.as_slice())?;
     drop(filling);
     serve_named::<Brand, W, P, N, L, K, G, A>(
-        rt, alloc, options, ports, streams, base, parts, net, listeners, clocks, gate, tables,
+        rt, alloc, options, ports, streams, base, board, parts, net, listeners, clocks, gate, tables,
         announce,
     )
 }
@@ -271,6 +277,7 @@ pub fn serve_locked<
     listeners: &mut L,
     clocks: Vec<K>,
     base: u64,
+    board: &Board,
     gate: &G,
     tables: &mut Tables,
     announce: &mut A,
@@ -298,11 +305,11 @@ pub fn serve_locked<
 {
     match options.mode {
         Mode::Cache => serve_on::<W, CachePartition<OwnerSeat>, N, L, K, G, A>(
-            rt, alloc, options, ports, streams, base, filling, net, listeners, clocks, gate,
+            rt, alloc, options, ports, streams, base, board, filling, net, listeners, clocks, gate,
             tables, announce,
         ),
         Mode::Store => serve_on::<W, StorePartition<OwnerSeat>, N, L, K, G, A>(
-            rt, alloc, options, ports, streams, base, filling, net, listeners, clocks, gate,
+            rt, alloc, options, ports, streams, base, board, filling, net, listeners, clocks, gate,
             tables, announce,
         ),
     }

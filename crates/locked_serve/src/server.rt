@@ -23,6 +23,7 @@ use crate::taking::{keep_all, take_all_back, take_hands};
 use crate::worker::{FrontTask, pair_up, part_fronts, run_workers};
 use epoch_core::LendPartition;
 use locked_fronts::{LockedPart, OwnedPartition, Returned, ServerPlan};
+use memcached_stats::Board;
 use mica_clock::Clock;
 use mica_fronts::{Ports, ServeFault, Totals};
 use mica_io::{Datagrams, Gate, NoMemory};
@@ -174,6 +175,7 @@ fn run_all<
     options: &Options,
     batches: u64,
     base: u64,
+    board: &Board,
     server: LockedServer<J, P, D, C, K>,
     ends: &mut Vec<D>,
     connections: &mut Vec<C>,
@@ -224,6 +226,7 @@ fn run_all<
         options,
         batches,
         base,
+        board,
         locks.as_slice(),
         gate,
         first,
@@ -267,6 +270,7 @@ pub(crate) fn serve_all<
     options: &Options,
     batches: u64,
     base: u64,
+    board: &Board,
     server: LockedServer<J, P, D, C, K>,
     ends: &mut Vec<D>,
     connections: &mut Vec<C>,
@@ -302,6 +306,7 @@ pub(crate) fn serve_all<
         options,
         batches,
         base,
+        board,
         server,
         ends,
         connections,

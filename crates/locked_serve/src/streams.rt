@@ -8,6 +8,7 @@ ghost use Rattle.locked_serve.specs.Running.{IsReadyStream, StreamRan, AreReadyS
 use epoch_core::LendPartition;
 use locked_fronts::{LockedFront, LockedPart, OwnedPartition, ServerPlan};
 use memcached_fronts::Numbering;
+use memcached_stats::Board;
 use mica_clock::Clock;
 use mica_fronts::ServeFault;
 use partition_model::Options;
@@ -42,6 +43,7 @@ impl<C: Connections, K: Clock> StreamTask<C, K> {
         alloc: Global,
         options: &Options,
         base: u64,
+        board: &Board,
         locks: &[Mutex<OwnedPartition<J, P>>],
         number: u32,
     )
@@ -64,6 +66,8 @@ impl<C: Connections, K: Clock> StreamTask<C, K> {
             &mut front,
             &mut self.clock,
             numbering,
+            board,
+            number,
             u64::MAX,
             &mut self.port,
             &mut self.lacked,
@@ -84,6 +88,7 @@ pub(crate) fn run_streams<
     alloc: Global,
     options: &Options,
     base: u64,
+    board: &Board,
     locks: &[Mutex<OwnedPartition<J, P>>],
     streams: &mut Vec<StreamTask<C, K>>,
 )
@@ -104,7 +109,7 @@ pub(crate) fn run_streams<
             requires { (number < J.plan.fronts) × (J.plan.fronts ≤ MOST_FRONTS) × IsPossible options.now × (options.now ≡ J.plan.options) × (length locks.now ≡ options.now.partitions)
                 × IsReadyStream J.plan (stream_facts C.port C.faults C.has_ended C.log) K.last number stream.now }
             ensures { StreamRan J.plan (stream_facts C.port C.faults C.has_ended C.log) K.last base number stream.entry.now stream.exit.now }
-        { stream.run(rt, alloc, options, base, locks, number as u32) },
+        { stream.run(rt, alloc, options, base, board, locks, number as u32) },
     );
 }
 

@@ -10,6 +10,7 @@ ghost use Rattle.locked_serve.specs.Running.{IsReadyTask, TaskRan, AreReadyTasks
 use crate::streams::{StreamTask, run_streams};
 use epoch_core::LendPartition;
 use locked_fronts::{LockedFront, LockedPart, OwnedPartition, ServerPlan};
+use memcached_stats::Board;
 use mica_clock::Clock;
 use mica_fronts::{ServeFault, Totals, serve_end};
 use mica_io::{Datagrams, Gate};
@@ -119,6 +120,7 @@ fn serve_streams<
     alloc: Global,
     options: &Options,
     base: u64,
+    board: &Board,
     locks: &[Mutex<OwnedPartition<J, P>>],
     streams: Vec<StreamTask<C, K>>,
 ) -> Vec<StreamTask<C, K>>
@@ -131,7 +133,7 @@ fn serve_streams<
     ensures { StreamsRan J.plan (stream_facts C.port C.faults C.has_ended C.log) K.last base streams.items result.items }
 {
     let mut tasks = streams;
-    run_streams(rt, alloc, options, base, locks, &mut tasks);
+    run_streams(rt, alloc, options, base, board, locks, &mut tasks);
     tasks
 }
 
@@ -179,6 +181,7 @@ pub(crate) fn run_workers<
     options: &Options,
     batches: u64,
     base: u64,
+    board: &Board,
     locks: &[Mutex<OwnedPartition<J, P>>],
     gate: &G,
     first: u32,
@@ -202,7 +205,7 @@ pub(crate) fn run_workers<
             requires { IsSync W.row × IsSync J.row × IsPossible options.now × (options.now ≡ J.plan.options) × (length locks.now ≡ options.now.partitions) × (J.plan.fronts ≤ MOST_FRONTS)
                 × (length streams.items ≤ J.plan.fronts) × AreReadyStreams J.plan (stream_facts C.port C.faults C.has_ended C.log) K.last streams.items }
             ensures { StreamsRan J.plan (stream_facts C.port C.faults C.has_ended C.log) K.last base streams.items result.items }
-        { serve_streams(rt, alloc, options, base, locks, streams) },
+        { serve_streams(rt, alloc, options, base, board, locks, streams) },
         move || -> Vec<FrontTask<D>>
             requires { IsSync W.row × IsSync J.row × IsSync G.row × IsPossible options.now × (options.now ≡ J.plan.options) × (length locks.now ≡ options.now.partitions)
                 × (J.plan.fronts ≤ MOST_FRONTS) × (first + length fronts.items ≡ J.plan.fronts)

@@ -12,10 +12,12 @@ ghost use Rattle.mica_daemon.specs.Files.{files_facts};
 ghost use Rattle.mica_daemon.specs.Daemon.{HasMemory, WritesLast, Serves, ServesOrNot, KeepsUp, outside, ready_text};
 
 use crate::Files;
+use crate::board::board_of;
 use crate::filling::filling_of;
 use crate::listening::PlacedListeners;
 use crate::speaker::{Speaker, ready_line};
 use locked_serve::{Stop, serve_locked};
+use memcached_stats::Board;
 use mica_clock::Clock;
 use mica_cmd::{Status, print_totals, write_due};
 use mica_commands::{DaemonOptions, StreamOptions, WordsFault, read_daemon};
@@ -60,6 +62,7 @@ fn serve_aloud<
     listeners: &mut L,
     clocks: Vec<C>,
     base: u64,
+    board: &Board,
     gate: &G,
     tables: &mut Tables,
 ) -> Status
@@ -76,7 +79,7 @@ fn serve_aloud<
         result }
 {
     match serve_locked(
-        rt, alloc, options, ports, streams, filling, net, listeners, clocks, base, gate, tables,
+        rt, alloc, options, ports, streams, filling, net, listeners, clocks, base, board, gate, tables,
         speaker,
     ) {
         Ok(totals) => print_totals(alloc, totals, &mut speaker.sink),
@@ -106,6 +109,7 @@ fn stay_up<
     listeners: &mut L,
     clocks: Vec<C>,
     base: u64,
+    pid: u32,
     gate: &G,
     tables: &mut Tables,
 ) -> Status
@@ -120,6 +124,17 @@ fn stay_up<
         (outside (sink_facts K.taken K.faults speaker.new.sink) (net_facts N.faults N.binds N.first N.refused N.ports N.fails net.new) (listen_facts L.faults L.ports L.released L.place listeners.new) tables.new)
         result }
 {
+    let Ok(board) = board_of(
+        alloc,
+        options,
+        ports,
+        streams,
+        clocks.as_slice(),
+        filling.as_slice(),
+        pid,
+    ) else {
+        return Status::NoMemory;
+    };
     match ready_line(alloc, ports, &streams.ports) {
         Ok(line) => {
             speaker.line = line;
@@ -138,6 +153,7 @@ fn stay_up<
                 listeners,
                 clocks,
                 base,
+                &board,
                 gate,
                 tables,
             )
@@ -177,6 +193,7 @@ pub fn daemon<
     listeners: &mut L,
     clocks: Vec<C>,
     base: u64,
+    pid: u32,
     gate: &G,
     tables: &mut Tables,
 ) -> Status
@@ -204,7 +221,7 @@ pub fn daemon<
     match filling_of(alloc, files, image, &mut speaker.sink) {
         Ok(filling) => stay_up(
             rt, alloc, &options, &ports, &streams, filling, speaker, net, listeners, clocks, base,
-            gate, tables,
+            pid, gate, tables,
         ),
         Err(status) => status,
     }
