@@ -28,7 +28,7 @@ none_answered (suc n) zero own at = sym (same_Some [] own at)
 none_answered (suc n) (suc k) own at = none_answered n k own at
 
 -- a front that was told this second, and did nothing
-unmoved : ℕ → FrontAt
+abbrev unmoved : ℕ → FrontAt
 unmoved told = record { sessions = λ q. record { seen = []; done = []; last = 0; told = None }; left = 0; second = told; lacked = 0; has_ended = false }
 
 module _ (options : Options) (base : ℕ) where
