@@ -49,6 +49,7 @@ pub fn moment_at(base: u64, when: When) -> Moment
             numbered(base, when.flushed)
         },
         unique: numbered(base, when.written),
+        until: when.until,
     }
 }
 

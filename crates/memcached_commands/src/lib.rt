@@ -22,5 +22,5 @@ pub use asks::{Asked, Asks, wants_numbers};
 pub use change::{change_stored, looks};
 pub use counting::{counted, number_in};
 pub use laws::{counts, fits, in_time, one_value};
-pub use moment::{LAST_SECOND, Moment, end_of, found_in, is_there};
+pub use moment::{LAST_SECOND, Moment, end_of, ended_by, found_in, is_there};
 pub use says::says_of;

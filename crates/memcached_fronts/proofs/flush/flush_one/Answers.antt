@@ -1,5 +1,6 @@
 use Rattle.std.proofs.Common.{◌∙◌, ap, sym}
 use Rattle.mica_words.specs.Hash.{partition_of}
+use Rattle.mica_fronts.specs.Flushes.{begins_with_feed, flush_in}
 use Rattle.memcached_fronts.proofs.Flushing.{one_flush}
 use Rattle.memcached_fronts.proofs.flush.flush_one.Goals as goal
 
@@ -7,8 +8,11 @@ pub returns-clause-flushed : goal.returns-clause-flushed
 returns-clause-flushed g c =
     let F = g.F.Front in
     let options = F.options c.args.front.now in
-    let key = c.flush_key-key.result in
-    let one = one_flush options F.is_alone (F.sessions c.args.front.now) (F.sessions c.write.new.self) c.args.partition key c.in_ok-outcome.outcome c.in_ok-outcome._stamp
-    c.flush_key-key.ensures.feed (ap (partition_of key) (sym c.requires.partitions) ∙ c.flush_key-key.ensures.partition) c.in_ok-outcome.ensures.written
-    c.in_ok-outcome.ensures.others in
+    let key = c.value.result.now in
+    let made = c.make_key.ensures in
+    let same = c.value.ensures.value in
+    let one = one_flush options c.args.flush F.is_alone (F.sessions c.args.front.now) (F.sessions c.delete-outcome.new.self) c.args.partition key c.delete-outcome.result.0
+    c.delete-outcome.result.1 (ap begins_with_feed same ∙ made.feed) (ap flush_in same ∙ made.flush)
+    (ap (partition_of key) (sym c.requires.partitions) ∙ ap (λ k. partition_of k c.args.partitions) same ∙ made.partition) c.delete-outcome.ensures.written
+    c.delete-outcome.ensures.others in
     (one.0, one.1, one.2, c.is_accepted.ensures ∙ one.3)
