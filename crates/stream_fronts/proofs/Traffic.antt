@@ -159,20 +159,6 @@ sends_held {c} {text} {old} {new} sends n d is =
     (subst (λ (s : List Step). held n (state_after s (sends.more ++ old.entries)).connections ≡ Some d) (sym sends.schedule)
     (sends_stay n d 0 c old.schedule sends.more old.entries sends.each (is, omega arith)).0)
 
--- Where a connection was read
-
-receiving_stays : (n d : ℕ) (c : ℕ) (schedule : List Step) (bytes : List ℕ) (entries : List Entry) → held n (state_after schedule entries).connections ≡ Some d
-    → held n (state_after schedule (after_receiving c bytes entries)).connections ≡ Some d
-receiving_stays n d c schedule [] entries is = is
-receiving_stays n d c schedule (byte ∷ bytes) entries is =
-    (changed_keeps (after_read (length (byte ∷ bytes))) (read_keeps (length (byte ∷ bytes))) c (state_after schedule entries).connections n d 0 (is, omega arith)).0
-
-pub reads_held : {c : ℕ} {bytes : List ℕ} {old new : Log} → Reads c bytes old new → (n d : ℕ) → held n (connections_of old) ≡ Some d → held n (connections_of new) ≡ Some d
-reads_held {c} {bytes} {old} {new} reads n d is =
-    subst (λ (e : List Entry). held n (state_after new.schedule e).connections ≡ Some d) (sym reads.entries)
-    (subst (λ (s : List Step). held n (state_after s (after_receiving c bytes (reads.mets ++ old.entries))).connections ≡ Some d) (sym reads.schedule)
-    (receiving_stays n d c old.schedule bytes (reads.mets ++ old.entries) (sends_stay n d 0 c old.schedule reads.mets old.entries (mets_send c reads.mets reads.each) (is, omega arith)).0))
-
 pub from_held : {X : Type 0} (before after : List ℕ) (c : ℕ) (old new : Log) (answer : Result X Broken) → SendsFrom before after answer c old new → (n d : ℕ)
     → held n (connections_of old) ≡ Some d → held n (connections_of new) ≡ Some d
 from_held before after c old new (Ok all) sends n d is = sends_held sends.1 n d is
