@@ -8,14 +8,14 @@ use Rattle.std.proofs.lemmas.Bool.{eq-eqb}
 use Rattle.stream_io.specs.declared.schedule.Step.{Step}
 use Rattle.stream_io.specs.declared.schedule.Step.TheVariants.{Opens, Reports, Happens}
 use Rattle.stream_io.specs.declared.connections.Broken.{Broken}
-use Rattle.stream_io.specs.Connection.{Connection, after_change, after_read, after_write}
+use Rattle.stream_io.specs.Connection.{Connection, after_change, after_write}
 use Rattle.stream_io.specs.State.{Entry, opened, reported, met, received, sent, asked, closed, State, held, state_after, after_meeting}
 use Rattle.stream_io.specs.Log.{Log, connections_of, state_of, received_of, sent_of, with_entries, after_met, after_meeting_one}
 use Rattle.stream_io.specs.Calls.{WriteTakes, IsTaken, took, after_sending}
 use Rattle.stream_fronts.specs.Open.{IsAt, IsOpen, OnLogs}
-use Rattle.stream_fronts.specs.Traffic.{IsSend, Sends, Reads, IsIn, IsBroken, IsShut, IsShutIn, after_receiving, SendsOf, SendsSome, SendsFrom, OnHeld}
+use Rattle.stream_fronts.specs.Traffic.{IsSend, Sends, IsIn, IsBroken, IsShut, IsShutIn, SendsOf, SendsSome, SendsFrom, OnHeld}
 use Rattle.stream_fronts.proofs.Places.{changed_keeps, there}
-use Rattle.stream_fronts.proofs.Opening.{met_at, change_keeps, read_keeps, write_keeps, found}
+use Rattle.stream_fronts.proofs.Opening.{met_at, change_keeps, write_keeps, found}
 
 -- Which bytes
 
