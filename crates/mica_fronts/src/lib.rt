@@ -19,7 +19,7 @@ mod solo;
 mod totals;
 
 pub use batch::serve_batch;
-pub use changing::{Change, Changed, Changes, Decide, When};
+pub use changing::{Change, Changed, Changes, Decide, Glimpse, When};
 pub use end::serve_end;
 pub use front::Front;
 pub use owner_work::serve_owner;

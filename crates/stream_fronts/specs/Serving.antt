@@ -2,8 +2,10 @@
 use Rattle.std.specs.Prelude.{◌≡◌, ℕ, Bool, true, List, [], slice_get, IfSome}
 use Rattle.partition_model.specs.declared.options.Options.{Options}
 use Rattle.stream_io.specs.Log.{Log, state_of, connections_of, received_of, sent_of}
+use Rattle.mica_fronts.specs.Answered.{Answered}
 use Rattle.mica_fronts.specs.Session.{Sessions, AnswersInOrder}
 use Rattle.memcached_fronts.specs.Seconds.{seconds_of, ToldFrom}
+use Rattle.memcached_fronts.specs.Sweeps.{HasSweeps}
 use Rattle.stream_fronts.specs.Given.{Given, answers_in, given_to}
 use Rattle.stream_fronts.specs.Closing.{IsSettled}
 use Rattle.stream_fronts.specs.Moments.{TalksThrough}
@@ -13,11 +15,13 @@ pub record FrontAt : Type 0 where
   pub sessions : Sessions
   pub second : ℕ
 
--- All answers of the front are one list: its sessions went on by them in this order, and the clock told their seconds. At each moment of the log they are what
--- it talked with its clients. For some connections there was no memory.
+-- All answers of the front are one list: its sessions went on by them in this order, and the clock told their seconds. Beside those to clients they are sweeps
+-- and nothing else. At each moment of the log those to clients are what it talked with them. For some connections there was no memory.
 pub record Serves (options : Options) (is_alone : Bool) (base most : ℕ) (old new : FrontAt) (log : Log) (all : List Given) : Type 0 where
-  pub in_order : AnswersInOrder options is_alone old.sessions (answers_in all) new.sessions
-  pub seconds : ToldFrom old.second (seconds_of (answers_in all)) new.second
+  pub answers : List Answered
+  pub sweeps : HasSweeps base (answers_in all) answers
+  pub in_order : AnswersInOrder options is_alone old.sessions answers new.sessions
+  pub seconds : ToldFrom old.second (seconds_of answers) new.second
   pub lacking : List ℕ
   pub through : TalksThrough options base most log.schedule lacking log.entries all
 

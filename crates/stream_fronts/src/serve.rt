@@ -18,7 +18,7 @@ use crate::clients::Clients;
 use crate::desk::Desk;
 use crate::visit::After;
 use crate::visits::visit_on;
-use memcached_fronts::Numbering;
+use memcached_fronts::{Numbering, Sweeper, sweep};
 use mica_clock::Clock;
 use mica_fronts::{Changes, ServeFault};
 use mica_io::NoMemory;
@@ -146,7 +146,8 @@ fn serve_event<R: Threads + Wait + Sync, F: Changes, K: Clock, C: Connections>(
     }
 }
 
-/// Serves the connections of a port, to its end, or until nearly so many writes were given to the front. A connection that there is no memory for is closed.
+/// Serves the connections of a port, to its end, or until nearly so many writes were given to the front. A connection that there is no memory for is closed. After
+/// each report it sweeps a few places of the partitions.
 #[tactic(auto, using(crate::proofs::Going::by_none))]
 pub fn serve_connections<R: Threads + Wait + Sync, F: Changes, K: Clock, C: Connections>(
     rt: &R,
@@ -173,6 +174,7 @@ pub fn serve_connections<R: Threads + Wait + Sync, F: Changes, K: Clock, C: Conn
     ensures stands { F.stands front.new ≡ F.stands front.old }
 {
     let mut desk = Desk::new(alloc)?;
+    let mut sweeper = Sweeper::new(alloc)?;
     let mut clients = Clients::new(alloc);
     let mut left = most;
     let least = LIMITS.asks as u64 + u64::from(numbering.partitions);
@@ -195,6 +197,7 @@ pub fn serve_connections<R: Threads + Wait + Sync, F: Changes, K: Clock, C: Conn
             &mut clients,
             &mut desk,
         );
+        left -= sweep(rt, front, clock, numbering, left, &mut sweeper);
     }
     Ok(())
 }
