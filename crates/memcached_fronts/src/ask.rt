@@ -12,7 +12,8 @@ use memcached_commands::{Asked, Says, put_last, put_part};
 use mica_clock::Clock;
 use mica_fronts::Changes;
 use mica_io::NoMemory;
-use partition_model::{Answer, ItemBuf};
+use mica_words::key_hash;
+use partition_model::{Answer, ItemBuf, Outcome};
 use std::sync::Wait;
 use std::thread::Threads;
 
@@ -46,6 +47,13 @@ fn value_found(found: Option<Answer>, buffer: &ItemBuf) -> Option<&[u8]>
     match found {
         Some(Answer::Hit) => Some(buffer.value()),
         _ => None,
+    }
+}
+
+// Notes the key, where its write was refused.
+fn note_refused(refused: &mut Option<u64>, key: &[u8], outcome: Option<Outcome>) {
+    if outcome.is_some_and(|outcome| !outcome.is_accepted()) {
+        *refused = Some(key_hash(key));
     }
 }
 
@@ -86,6 +94,7 @@ pub fn answer_ask<R: Threads + Wait + Sync, F: Changes, C: Clock>(
         &mut buffers.found,
         &mut buffers.next,
     );
+    note_refused(&mut buffers.refused, key, changed.outcome);
     let stored = value_found(changed.found, &buffers.found);
     let says = order.says(changed.when, stored, changed.outcome);
     put_said(out, style, is_last, key, &says)

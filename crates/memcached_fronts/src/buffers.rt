@@ -9,6 +9,8 @@ use std::alloc::Global;
 pub struct Buffers {
     pub found: ItemBuf,
     pub next: ItemBuf,
+    /// The hash of the key whose write was refused last, since somebody looked.
+    pub refused: Option<u64>,
 }
 
 impl Buffers {
@@ -16,6 +18,7 @@ impl Buffers {
         Ok(Buffers {
             found: ItemBuf::new(alloc)?,
             next: ItemBuf::new(alloc)?,
+            refused: None,
         })
     }
 }

@@ -197,6 +197,7 @@ pub fn serve_connections<R: Threads + Wait + Sync, F: Changes, K: Clock, C: Conn
             &mut clients,
             &mut desk,
         );
+        sweeper.turn_to(desk.buffers.refused.take(), numbering.partitions);
         left -= sweep(rt, front, clock, numbering, left, &mut sweeper);
     }
     Ok(())

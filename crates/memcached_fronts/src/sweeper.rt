@@ -10,6 +10,7 @@ use memcached_commands::{Ask, found_in};
 use mica_clock::Clock;
 use mica_fronts::{Changed, Changes, Glimpse, When};
 use mica_io::NoMemory;
+use mica_words::partition_of;
 use partition_model::ItemBuf;
 use std::alloc::Global;
 use std::sync::Wait;
@@ -18,8 +19,8 @@ use std::thread::Threads;
 /// The fewest places that one sweep looks at: so many where the last one found nothing to take away.
 const LEAST_STRETCH: u32 = 4;
 
-/// The most places that one sweep looks at.
-const MOST_STRETCH: u32 = 256;
+/// The most places that one sweep looks at: so many where a write was refused.
+const MOST_STRETCH: u32 = 512;
 
 /// For so many items a look under a hold tells how late it is in their partition.
 const FRESH: u32 = 64;
@@ -30,7 +31,8 @@ pub struct Sweeper {
     partition: u32,
     place: u64,
     stretch: u32,
-    when: When,
+    // When its partition was looked at under a hold last, and for how many more items that is taken for now.
+    when: Option<When>,
     fresh: u32,
     key: ItemBuf,
     head: ItemBuf,
@@ -43,11 +45,7 @@ impl Sweeper {
             partition: 0,
             place: 0,
             stretch: LEAST_STRETCH,
-            when: When {
-                second: 0,
-                written: 0,
-                flushed: 0,
-            },
+            when: None,
             fresh: 0,
             key: ItemBuf::new(alloc)?,
             head: ItemBuf::new(alloc)?,
@@ -55,11 +53,22 @@ impl Sweeper {
         })
     }
 
+    /// Looks at many places of the partition of a key whose write was refused.
+    pub fn turn_to(&mut self, refused: Option<u64>, partitions: u32) {
+        if let Some(hash) = refused {
+            if partitions > 0 {
+                self.partition = partition_of(hash, partitions);
+                self.when = None;
+                self.stretch = MOST_STRETCH;
+            }
+        }
+    }
+
     // Goes to the first place of a partition.
     fn begin(&mut self, partition: u32) {
         self.partition = partition;
         self.place = 0;
-        self.fresh = 0;
+        self.when = None;
     }
 
     // Goes to the next place.
@@ -69,8 +78,12 @@ impl Sweeper {
 
     // Whether the item that was glanced at seems to be there.
     fn seems_there(&self, base: u64) -> bool {
-        let at = moment_at(base, self.when);
-        self.fresh > 0 && found_in(&at, Some(self.head.value())).is_some()
+        match self.when {
+            Some(when) if self.fresh > 0 => {
+                found_in(&moment_at(base, when), Some(self.head.value())).is_some()
+            }
+            _ => false,
+        }
     }
 
     // Looks further where something was found, and less far where nothing was.
@@ -130,13 +143,13 @@ fn sweep_item<R: Threads + Wait + Sync, F: Changes, C: Clock>(
     ensures stands { F.stands front.new ≡ F.stands front.old }
 {
     if sweeper.seems_there(base) {
-        sweeper.fresh -= 1;
+        sweeper.fresh = sweeper.fresh.saturating_sub(1);
         sweeper.step();
         return false;
     }
     let key = sweeper.key.value();
     let changed = sweep_key(rt, front, clock, base, key, &mut sweeper.buffers);
-    sweeper.when = changed.when;
+    sweeper.when = Some(changed.when);
     sweeper.fresh = FRESH;
     let gone = changed.outcome.is_some_and(|outcome| outcome.is_accepted());
     if !gone {

@@ -7,7 +7,7 @@ use Rattle.mica_fronts.specs.Changing.{ComesTo}
 use Rattle.memcached_fronts.specs.AskAnswers.{order_of}
 use Rattle.memcached_fronts.specs.Sweeps.{SweepsBy}
 use Rattle.memcached_fronts.proofs.Sweeping.{get_of, one_swept}
-use Rattle.memcached_fronts.proofs.sweep.sweep_key.Goals as goal
+use Rattle.memcached_fronts.proofs.sweeper.sweep_key.Goals as goal
 
 pub returns-clause-swept : goal.returns-clause-swept
 returns-clause-swept g c =
