@@ -1,18 +1,17 @@
 -- What a front does beside what clients say, so that items that are not there any more give their room back.
-use Rattle.std.specs.Prelude.{◌≡◌, ⊤, ◌≤◌, ◌+◌, ◌⊎◌, ℕ, Bool, List, [], ◌∷◌, None}
+use Rattle.std.specs.Prelude.{◌≡◌, ⊤, ◌≤◌, ◌+◌, ◌⊎◌, ℕ, Bool, true, List, [], ◌∷◌, Some}
 use Rattle.std.specs.List.{AllByRecursion}
 use Rattle.partition_model.specs.declared.options.Options.{Options}
 use Rattle.partition_model.specs.declared.write.Op.TheVariants.{Del}
 use Rattle.partition_model.specs.Write.{write_of}
-use Rattle.memcached_commands.specs.Moments.{found_in}
-use Rattle.memcached_changes.specs.Numbered.{moment_at, value_in}
+use Rattle.memcached_changes.specs.Over.{is_over}
 use Rattle.mica_fronts.specs.Answered.{Answered, changed, kept, count_of_writes}
 use Rattle.mica_fronts.specs.Session.{Sessions, AnswersInOrder}
 use Rattle.memcached_fronts.specs.Seconds.{seconds_of, ToldFrom}
 
--- A key was looked at under a hold, and deleted where what was stored was not there any more at that second; or it was left.
+-- A key was looked at under a hold, and deleted where what was stored is over; or it was left.
 abbrev pub IsSweep : ℕ → Answered → Type 0
-IsSweep base (changed step look) = (step.write ≡ write_of Del step.write.key []) × (found_in (moment_at base look.when) (value_in look.value) ≡ None)
+IsSweep base (changed step look) = (step.write ≡ write_of Del step.write.key []) × ((stored : List ℕ) × (look.value ≡ Some stored) × (is_over base look.when stored ≡ true))
 IsSweep base (kept key stamp look) = ⊤
 IsSweep base _ = ⊥
 

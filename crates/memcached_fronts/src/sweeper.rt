@@ -1,12 +1,11 @@
-//! Items that are not there any more, which give their room back.
+//! Items that are over give their room back.
 ghost use Rattle.std.specs.Prelude.{◌≡◌, ◌<◌, ◌≤◌, ◌+◌};
 ghost use Rattle.mica_words.specs.Item.{KeyFits};
 ghost use Rattle.memcached_fronts.specs.Sweeps.{SweepsBy};
 
 use crate::answer::Numbering;
 use crate::buffers::Buffers;
-use memcached_changes::{CommandOrder, moment_at};
-use memcached_commands::{Ask, found_in};
+use memcached_changes::{SweepOrder, is_over};
 use mica_clock::Clock;
 use mica_fronts::{Changed, Changes, Glimpse, When};
 use mica_io::NoMemory;
@@ -25,7 +24,7 @@ const MOST_STRETCH: u32 = 512;
 /// For so many items a look under a hold tells how late it is in their partition.
 const FRESH: u32 = 64;
 
-/// Where a front looks next for items that are not there any more.
+/// Where a front looks next for items that are over.
 #[derive(Drop)]
 pub struct Sweeper {
     partition: u32,
@@ -79,10 +78,8 @@ impl Sweeper {
     // Whether the item that was glanced at seems to be there.
     fn seems_there(&self, base: u64) -> bool {
         match self.when {
-            Some(when) if self.fresh > 0 => {
-                found_in(&moment_at(base, when), Some(self.head.value())).is_some()
-            }
-            _ => false,
+            Some(when) => self.fresh > 0 && !is_over(base, when, self.head.value()),
+            None => false,
         }
     }
 
@@ -96,7 +93,7 @@ impl Sweeper {
     }
 }
 
-// Looks at a key under a hold, and deletes what is not there any more.
+// Looks at a key under a hold, and deletes what is over.
 fn sweep_key<R: Threads + Wait + Sync, F: Changes, C: Clock>(
     rt: &R,
     front: &mut F,
@@ -114,8 +111,7 @@ fn sweep_key<R: Threads + Wait + Sync, F: Changes, C: Clock>(
     ensures stands { F.stands front.new ≡ F.stands front.old }
 {
     let second = clock.second();
-    let ask = Ask::Get;
-    let order = CommandOrder::new(&ask, base);
+    let order = SweepOrder::new(base);
     front.change(
         rt,
         second,
@@ -192,7 +188,7 @@ fn sweep_place<R: Threads + Wait + Sync, F: Changes, C: Clock>(
     }
 }
 
-/// Looks at the next places, so many at most, and takes away what is not there any more. Says how many places it looked at.
+/// Looks at the next places, so many at most, and takes away what is over. Says how many places it looked at.
 pub fn sweep<R: Threads + Wait + Sync, F: Changes, C: Clock>(
     rt: &R,
     front: &mut F,
