@@ -18,10 +18,10 @@ pub loop-preserved : goal.loop-preserved
 loop-preserved g c =
     let F = g.F.Front in
     let inv = c.loop.invariant in
-    let one = c.sweep_place.ensures in
+    let one = c.sweep_place-found.ensures in
     let left = one.left in
     let here = subst (λ (o : Options). SweepsBy o F.is_alone c.args.numbering.base (F.sessions c.loop.front) (F.left c.loop.front) (g.C.Clock.last c.loop.clock)
-    (F.sessions c.sweep_place.new.front) (F.left c.sweep_place.new.front) (g.C.Clock.last c.sweep_place.new.clock)) inv.options one.swept in record {
+    (F.sessions c.sweep_place-found.new.front) (F.left c.sweep_place-found.new.front) (g.C.Clock.last c.sweep_place-found.new.clock)) inv.options one.swept in record {
       swept = swept_then (F.options c.args.front.now) F.is_alone c.args.numbering.base inv.swept here;
       left = omega (arith, left, inv.left);
       options = one.options ∙ inv.options;
