@@ -11,7 +11,7 @@ use locked_fronts::ServerPlan;
 use locked_serve::{FilledPart, lend_hand, lock_parts, open_parts};
 use memcached_fronts::{Numbering, Sweeper, sweep};
 use mica_clock::MemClock;
-use mica_fronts::{Changes, Front};
+use mica_fronts::{Front, Glances};
 use mica_words::{key_fits, value_fits};
 use partition_model::{Answer, ItemBuf, Mode, Op, Options, Outcome};
 use partition_table::{Note, OwnerSeat, ReaderSeat};
@@ -46,7 +46,7 @@ fn put<R: Abort + AllocGlobal + Threads + Wait + Sync, F: Front>(
 }
 
 // Sweeps all places several times, at a second.
-fn sweep_all<R: Abort + AllocGlobal + Threads + Wait + Sync, F: Changes>(
+fn sweep_all<R: Abort + AllocGlobal + Threads + Wait + Sync, F: Glances>(
     rt: &R,
     front: &mut F,
     second: u64,
@@ -70,7 +70,7 @@ fn sweep_all<R: Abort + AllocGlobal + Threads + Wait + Sync, F: Changes>(
 }
 
 // Ten items of 55 words that end at the fifth second and one of 5 words leave 469 of 1,024 words. The long one takes 505.
-fn what_is_over_goes<R: Abort + AllocGlobal + Threads + Wait + Sync, F: Changes>(
+fn what_is_over_goes<R: Abort + AllocGlobal + Threads + Wait + Sync, F: Glances>(
     rt: &R,
     front: &mut F,
 ) -> Result<(), Fail>

@@ -7,7 +7,7 @@ use crate::answer::Numbering;
 use crate::buffers::Buffers;
 use memcached_changes::{SweepOrder, is_over};
 use mica_clock::Clock;
-use mica_fronts::{Changed, Changes, Glimpse, When};
+use mica_fronts::{Changed, Changes, Glances, Glimpse, When};
 use mica_io::NoMemory;
 use mica_words::partition_of;
 use partition_model::ItemBuf;
@@ -155,7 +155,7 @@ fn sweep_item<R: Threads + Wait + Sync, F: Changes, C: Clock>(
 }
 
 // Looks at the next place, and says whether an item was taken away there.
-fn sweep_place<R: Threads + Wait + Sync, F: Changes, C: Clock>(
+fn sweep_place<R: Threads + Wait + Sync, F: Glances, C: Clock>(
     rt: &R,
     front: &mut F,
     clock: &mut C,
@@ -189,7 +189,7 @@ fn sweep_place<R: Threads + Wait + Sync, F: Changes, C: Clock>(
 }
 
 /// Looks at the next places, so many at most, and takes away what is over. Says how many places it looked at.
-pub fn sweep<R: Threads + Wait + Sync, F: Changes, C: Clock>(
+pub fn sweep<R: Threads + Wait + Sync, F: Glances, C: Clock>(
     rt: &R,
     front: &mut F,
     clock: &mut C,

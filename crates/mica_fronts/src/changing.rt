@@ -60,29 +60,8 @@ pub struct Changed {
     pub stamp: u64,
 }
 
-/// What stands at a place of an index.
-#[derive(Clone, Copy, Debug, PartialEq, Eq)]
-pub enum Glimpse {
-    Item,
-    Nothing,
-    /// The index has no such place.
-    Beyond,
-}
-
 /// A front that looks at a value, decides, and writes what was decided, with nothing between.
 pub trait Changes: Front {
-    /// Loads what stands at a place of a partition's index, without a hold: the key of an item, and the first bytes of its value. Nothing rests on what it
-    /// finds, which may change meanwhile. In cache mode, where items make room by themselves, it finds no places.
-    fn glance(
-        &self,
-        partition: u32,
-        place: u64,
-        key: &mut ItemBuf,
-        head: &mut ItemBuf,
-    ) -> Glimpse
-        requires partition { partition < (Self.options self.now).partitions }
-        ensures key { result ≡ Glimpse.Item → KeyFits key.new };
-
     fn change<R: Threads + Wait + Sync, D: Decide>(
         &mut self,
         rt: &R,

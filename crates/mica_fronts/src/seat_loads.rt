@@ -4,7 +4,7 @@ ghost use Rattle.mica_words.specs.declared.item.TheConstants.{MAX_KEY_LEN};
 ghost use Rattle.mica_words.specs.Item.{KeyFits};
 ghost use Rattle.partition_model.specs.declared.options.TheConstants.{MOST_PARTITIONS};
 
-use crate::changing::Glimpse;
+use crate::glancing::Glimpse;
 use epoch_core::{ReaderWords, Shape, WordAt};
 use mica_words::{
     MAX_KEY_LEN, SLOTS, bucket_of, entry_offset, entry_tag, header_key_len, header_value_len, tag_of,

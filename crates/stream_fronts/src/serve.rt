@@ -20,7 +20,7 @@ use crate::visit::After;
 use crate::visits::visit_on;
 use memcached_fronts::{Numbering, Sweeper, sweep};
 use mica_clock::Clock;
-use mica_fronts::{Changes, ServeFault};
+use mica_fronts::{Changes, Glances, ServeFault};
 use mica_io::NoMemory;
 use std::alloc::Global;
 use std::sync::Wait;
@@ -149,7 +149,7 @@ fn serve_event<R: Threads + Wait + Sync, F: Changes, K: Clock, C: Connections>(
 /// Serves the connections of a port, to its end, or until nearly so many writes were given to the front. A connection that there is no memory for is closed. After
 /// each report it sweeps a few places of the partitions.
 #[tactic(auto, using(crate::proofs::Going::by_none))]
-pub fn serve_connections<R: Threads + Wait + Sync, F: Changes, K: Clock, C: Connections>(
+pub fn serve_connections<R: Threads + Wait + Sync, F: Glances, K: Clock, C: Connections>(
     rt: &R,
     alloc: Global,
     front: &mut F,
