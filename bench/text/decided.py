@@ -183,8 +183,8 @@ def held_with_items(grammar, own, pieces):
     return held(own, pieces, items.answers, wait)
 
 
-def compare(port, grammar, plain, seeds):
-    """Holds these talks with a server and with the items, those in which seconds pass side by side, and gives those whose answers differ."""
+def compare(port, grammar, plain, seeds, ours_port=None):
+    """Holds these talks with a server and with the items or the server at another port, those in which seconds pass side by side, and gives those whose answers differ."""
     lock = threading.Lock()
 
     def differs(seed):
@@ -192,8 +192,13 @@ def compare(port, grammar, plain, seeds):
         theirs, seconds = held_with_server(port, own, pieces)
         if None in pieces and seconds > 1:
             raise SystemExit("too slow for talks in which seconds pass")
-        with lock:
-            ours = held_with_items(grammar, own, pieces)
+        if ours_port:
+            ours, seconds = held_with_server(ours_port, own, pieces)
+        else:
+            with lock:
+                ours = held_with_items(grammar, own, pieces)
+        if None in pieces and seconds > 1:
+            raise SystemExit("too slow for talks in which seconds pass")
         return None if plain(theirs) == plain(ours) else (seed, pieces, plain(theirs), plain(ours))
 
     with concurrent.futures.ThreadPoolExecutor(40) as pool:

@@ -7,7 +7,7 @@ use Rattle.std.proofs.lemmas.List.Concat.{flat_map-append}
 use Rattle.batch_packets.specs.declared.header.TheConstants.{HEADER_LEN, MAX_ITEMS, COUNT_AT}
 use Rattle.batch_packets.specs.declared.replies.Reply.{Reply}
 use Rattle.batch_packets.specs.Datagram.{FitsDatagram, max_datagram_len, count_at}
-use Rattle.batch_packets.specs.ReplyGrammar.{IsReply, reply_text, replies_datagram}
+use Rattle.batch_packets.specs.ReplyGrammar.{IsReply, status_byte, reply_text, replies_datagram}
 use Rattle.batch_packets.specs.Splitting.{BeginsWith, SplitsInto}
 use Rattle.batch_packets.specs.Filling.{Filling, HasReplies, Adds}
 use Rattle.batch_packets.proofs.ItemLaws.{value_room}
@@ -67,7 +67,7 @@ pub record IsFull (text : Filling) (reply : Reply) : Type 0 where
 
 -- the bytes of one reply fit a datagram of its version
 pub one_fits : (version : ℕ) (reply : Reply) → IsReply version reply → HEADER_LEN + 16 + length reply.value ≤ max_datagram_len version
-one_fits version reply lawful = omega (arith, lawful.value, longest version reply.status, value_room version)
+one_fits version reply lawful = omega (arith, lawful.value, longest version (status_byte reply.status), value_room version)
 
 -- a datagram that is being filled has room for a reply
 pub record HasRoom (text : Filling) (reply : Reply) : Type 0 where

@@ -1,6 +1,6 @@
 -- What the text of a reply tells of it, and that of replies of them.
 use Rattle.std.proofs.Common.{◌≡◌, ℕ, ◌+◌, ◌^◌, ◌<◌, ◌≤◌, true, false, ltb, leb, eqb, List, ◌++◌, length, take, drop, None, refl, sym, ap, ◌∙◌, arith, length-append}
-use Rattle.std.specs.Prelude.{◌==◌, slice_index}
+use Rattle.std.specs.Prelude.{◌==◌, slice_index, if◌then◌else◌}
 use Rattle.std.specs.List.{flat_map, All, AllByRecursion}
 use Rattle.std.specs.Int.{w32, w64, from_le_bytes}
 use Rattle.std.proofs.lemmas.Bool.{le-ltb, le-leb, cond_both}
@@ -8,15 +8,38 @@ use Rattle.std.proofs.lemmas.List.{take_at}
 use Rattle.std.proofs.lemmas.List.Elements.{recursion_from_All}
 use Rattle.std.proofs.lemmas.Nat.{from_le_bytes-to_le_bytes_4, from_le_bytes-to_le_bytes_8}
 use Rattle.batch_packets.specs.declared.header.TheConstants.{HEADER_LEN}
+use Rattle.batch_packets.specs.declared.status.Status.{Status}
+use Rattle.batch_packets.specs.declared.status.Status.TheVariants.{Hit, Miss, Stored, Deleted, Absent, FullSpare, FullBlock, Worn, BadBatch, LongHit, Exists, Touched}
 use Rattle.batch_packets.specs.declared.replies.Reply.{Reply}
 use Rattle.batch_packets.specs.declared.replies.Replies.{Replies}
 use Rattle.batch_packets.specs.Datagram.{item_fault, first_fault, version_at, count_at, max_value_len}
-use Rattle.batch_packets.specs.ReplyGrammar.{IsReply, replies_datagram, IsInRange, reply_text, replies_kind, is_status, longest_value, status_at, value_len_at, replies_text, SpellsReplies}
+use Rattle.batch_packets.specs.ReplyGrammar.{IsReply, replies_datagram, IsInRange, reply_text, replies_kind, is_status, longest_value, status_byte, status_at, value_len_at, replies_text, SpellsReplies}
 use Rattle.batch_packets.proofs.ItemLaws.{Tells, value_within, no_faults, one_list, no_first_fault}
+
+status_of : ℕ → Status
+status_of byte =
+    if byte == 0 then Hit else (if byte == 1 then Miss else (if byte == 2 then Stored else (if byte == 3 then Deleted
+    else (if byte == 4 then Absent else (if byte == 5 then FullSpare else (if byte == 6 then FullBlock else (if byte == 7 then Worn
+    else (if byte == 9 then BadBatch else (if byte == 10 then LongHit else (if byte == 11 then Exists else Touched))))))))))
+
+same_status : (status : Status) → status_of (status_byte status) ≡ status
+unfolding status_of status_byte
+same_status Hit = refl
+same_status Miss = refl
+same_status Stored = refl
+same_status Deleted = refl
+same_status Absent = refl
+same_status FullSpare = refl
+same_status FullBlock = refl
+same_status Worn = refl
+same_status BadBatch = refl
+same_status LongHit = refl
+same_status Exists = refl
+same_status Touched = refl
 
 pub reply_at : List ℕ → Reply
 reply_at bytes = record {
-  status = status_at bytes;
+  status = status_of (status_at bytes);
   ticket = from_le_bytes w32 (drop 4 bytes);
   stamp = from_le_bytes w64 (drop 8 bytes);
   value = take (value_len_at bytes) (drop 16 bytes);
@@ -25,7 +48,7 @@ reply_at bytes = record {
 pub longest : (version status : ℕ) → longest_value version status ≤ max_value_len version
 longest version status = cond_both (eqb status 0) (max_value_len version) 0 (λ n. n ≤ max_value_len version) (λ e. omega arith) (λ e. omega arith)
 
-status_is : (x : Reply) (rest : List ℕ) → status_at (reply_text x ++ rest) ≡ x.status
+status_is : (x : Reply) (rest : List ℕ) → status_at (reply_text x ++ rest) ≡ status_byte x.status
 unfolding reply_text
 status_is x rest = refl
 
@@ -35,7 +58,7 @@ zero_is x rest = refl
 
 value_len_is : (version : ℕ) (x : Reply) (rest : List ℕ) → IsReply version x → value_len_at (reply_text x ++ rest) ≡ length x.value
 unfolding reply_text
-value_len_is version x rest lawful = omega (arith, lawful.value, longest version x.status, value_within version)
+value_len_is version x rest lawful = omega (arith, lawful.value, longest version (status_byte x.status), value_within version)
 
 ticket_is : (x : Reply) (rest : List ℕ) → IsInRange x → from_le_bytes w32 (drop 4 (reply_text x ++ rest)) ≡ x.ticket
 unfolding reply_text
@@ -71,8 +94,9 @@ no_fault version x rest lawful =
 value : (version : ℕ) (x : Reply) (rest : List ℕ) → IsReply version x → IsInRange x → reply_at (reply_text x ++ rest) ≡ x
 unfolding reply_at
 value version x rest lawful in_range =
+    let status : status_of (status_at (reply_text x ++ rest)) ≡ x.status = ap status_of (status_is x rest) ∙ same_status x.status in
     let value : take (length x.value) (x.value ++ rest) ≡ x.value = take_at x.value rest (length x.value) refl in
-    rw (status_is x rest, ticket_is x rest in_range, stamp_is x rest in_range, value_len_is version x rest lawful, value_after x rest, value) refl
+    rw (status, ticket_is x rest in_range, stamp_is x rest in_range, value_len_is version x rest lawful, value_after x rest, value) refl
 
 pub reply_tells : (version : ℕ) (x : Reply) → IsReply version x → IsInRange x → Tells replies_kind version reply_text reply_at x
 reply_tells version x lawful in_range = record { no_fault = λ rest. no_fault version x rest lawful; size = λ rest. size version x rest lawful; value = λ rest. value version x rest lawful in_range }

@@ -1,27 +1,42 @@
 -- Replies to a batch, by cases on bytes.
 use Rattle.std.specs.Prelude.{◌≡◌, ◌+◌, ◌^◌, ◌<◌, ◌≤◌, ◌==◌, ◌&&◌, ◌||◌, ℕ, Bool, List, ◌∷◌, ◌++◌, length, drop, slice_index, nat_lt, nat_le, codes, IsTrue, All, if◌then◌else◌}
 use Rattle.std.specs.Int.{w16, w32, w64, to_le_bytes, from_le_bytes}
+use Rattle.batch_packets.specs.declared.status.Status.{Status}
+use Rattle.batch_packets.specs.declared.status.Status.TheVariants.{Hit, Miss, Stored, Deleted, Absent, FullSpare, FullBlock, Worn, BadBatch, LongHit, Exists, Touched}
 use Rattle.batch_packets.specs.declared.replies.Reply.{Reply}
 use Rattle.batch_packets.specs.declared.replies.Replies.{Replies}
 use Rattle.batch_packets.specs.Datagram.{is_version, max_value_len, datagram_text, FitsDatagram, DatagramKind}
 
--- Whether a version has this status: 0 hit, 1 miss, 2 stored, 3 deleted, 4 absent, 5 full spare,
--- 6 full block and 7 worn in both; 9 bad batch and 10 a hit of a longer value in the first; 11 exists
--- and 12 touched in the second.
+-- the byte of a status
+unfoldable pub status_byte : Status → ℕ
+status_byte Hit = 0
+status_byte Miss = 1
+status_byte Stored = 2
+status_byte Deleted = 3
+status_byte Absent = 4
+status_byte FullSpare = 5
+status_byte FullBlock = 6
+status_byte Worn = 7
+status_byte BadBatch = 9
+status_byte LongHit = 10
+status_byte Exists = 11
+status_byte Touched = 12
+
+-- whether a version has the status of this byte: 9 and 10 are of the first alone, 11 and 12 of the second
 abbrev pub is_status : ℕ → ℕ → Bool
-is_status version status =
-    nat_lt status 8
-    || (version == 1 && (status == 9 || status == 10))
-    || (version == 2 && (status == 11 || status == 12))
+is_status version byte =
+    nat_lt byte 8
+    || (version == 1 && (byte == 9 || byte == 10))
+    || (version == 2 && (byte == 11 || byte == 12))
 
 -- the bytes that a value of this status may have: a hit alone has one
 abbrev pub longest_value : ℕ → ℕ → ℕ
-longest_value version status = if status == 0 then max_value_len version else 0
+longest_value version byte = if byte == 0 then max_value_len version else 0
 
 -- a reply that a version may have
 pub record IsReply (version : ℕ) (reply : Reply) : Type 0 where
-  pub status : IsTrue (is_status version reply.status)
-  pub value : length reply.value ≤ longest_value version reply.status
+  pub status : IsTrue (is_status version (status_byte reply.status))
+  pub value : length reply.value ≤ longest_value version (status_byte reply.status)
 
 -- its numbers are below the limits of their types, as in every value of the types
 pub record IsInRange (reply : Reply) : Type 0 where
@@ -31,7 +46,7 @@ pub record IsInRange (reply : Reply) : Type 0 where
 -- sixteen bytes and the value
 unfoldable pub reply_text : Reply → List ℕ
 reply_text reply =
-    reply.status ∷ 0 ∷ to_le_bytes w16 (length reply.value)
+    status_byte reply.status ∷ 0 ∷ to_le_bytes w16 (length reply.value)
     ++ to_le_bytes w32 reply.ticket ++ to_le_bytes w64 reply.stamp ++ reply.value
 
 -- the magic of replies
@@ -60,7 +75,7 @@ pub record SpellsReplies (bytes : List ℕ) (replies : Replies) : Type 0 where
   pub number : replies.number < 2 ^ 32
   pub in_range : All IsInRange replies.replies
 
--- the status in the bytes of a reply
+-- the byte of the status in the bytes of a reply
 abbrev pub status_at : List ℕ → ℕ
 status_at bytes = slice_index bytes 0
 

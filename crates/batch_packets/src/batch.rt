@@ -103,7 +103,7 @@ impl Want {
 
     /// Whether a version has this operation.
     #[tactic(auto, unfolding(crate::specs::BatchGrammar::operation_of))]
-    fn is_of(self, version: u8) -> bool
+    pub(crate) fn is_of(self, version: u8) -> bool
         ensures { result ≡ is_operation version (operation_of self) }
     {
         match self {
@@ -113,7 +113,7 @@ impl Want {
     }
 
     #[tactic(auto, unfolding(crate::specs::BatchGrammar::operation_of))]
-    fn byte(self) -> u8
+    pub(crate) fn byte(self) -> u8
         ensures { result ≡ operation_of self }
     {
         match self {
@@ -139,48 +139,6 @@ impl Want {
 ghost use Rattle.batch_packets.specs.declared.batch.Batch.{Batch};
 ghost use Rattle.batch_packets.specs.BatchGrammar.{IsRequest, IsBatch, SpellsBatch, request_text, batch_text, batch_kind};
 
-impl Request {
-    /// How many bytes its text has. One request always fits a datagram of its version.
-    #[tactic(auto, unfolding(crate::specs::BatchGrammar::request_text))]
-    fn size(&self) -> usize
-        requires { (version : ℕ) × IsTrue (is_version version) × IsRequest version self.now }
-        ensures size { result ≡ length (request_text self.now) }
-        ensures fits { (version : ℕ) → IsTrue (is_version version) → IsRequest version self.now
-            → HEADER_LEN + result ≤ max_datagram_len version }
-    {
-        8 + self.key.bytes().len() + self.value.bytes().len()
-    }
-
-    /// Appends its text.
-    #[tactic(auto, unfolding(crate::specs::BatchGrammar::request_text))]
-    fn put(&self, out: &mut Vec<u8>) -> Result<(), NoMemory>
-        requires { (version : ℕ) × IsTrue (is_version version) × IsRequest version self.now }
-        ensures { OnOk result (out.new.items ≡ out.old.items ++ request_text self.now) }
-    {
-        let key = self.key.bytes();
-        let value = self.value.bytes();
-        out.extend_from_slice(&[self.want.byte(), key.len() as u8])?;
-        out.extend_from_slice(&(value.len() as u16).to_le_bytes())?;
-        out.extend_from_slice(&self.ticket.to_le_bytes())?;
-        out.extend_from_slice(key)?;
-        out.extend_from_slice(value)?;
-        Ok(())
-    }
-}
-
-/// The length of the text of a batch of a version.
-fn len_of(requests: &[Request]) -> usize
-    requires lawful { (version : ℕ) × IsTrue (is_version version) × All (IsRequest version) requests.now }
-    requires few { length requests.now ≤ MAX_ITEMS }
-    ensures { result ≡ HEADER_LEN + length (flat_map request_text requests.now) }
-{
-    let mut len = HEADER_LEN;
-    for request in requests {
-        len += request.size();
-    }
-    len
-}
-
 /// The batch whose text the bytes are.
 #[tactic(auto, unfolding(crate::specs::BatchGrammar::batch_text))]
 pub fn read_batch(alloc: Global, from: &[u8]) -> Result<Batch, BatchFault>
@@ -202,58 +160,97 @@ pub fn read_batch(alloc: Global, from: &[u8]) -> Result<Batch, BatchFault>
     })
 }
 
-/// Whether a batch of this version may have the request.
-pub fn is_request(version: u8, request: &Request) -> bool
-    ensures { IsTrue result ↔ IsRequest version request.now }
-{
-    let value = request.value.bytes();
-    request.want.is_of(version)
-        && key_fits(request.key.bytes())
-        && value.len() <= request.want.longest_value(version)
+/// A batch of requests whose texts lie elsewhere, to be written. Clauses see it as the batch.
+#[derive(Drop)]
+pub struct BatchRef<'a> {
+    version: u8,
+    number: u32,
+    requests: Vec<RequestRef<'a>>,
 }
 
-/// How many bytes the text of a batch has.
-#[tactic(auto, unfolding(crate::specs::BatchGrammar::batch_text))]
-pub fn batch_len(batch: &Batch) -> usize
-    requires version { IsTrue (is_version batch.now.version) }
-    requires lawful { All (IsRequest batch.now.version) batch.now.requests }
-    requires few { length batch.now.requests ≤ MAX_ITEMS }
-    ensures { result ≡ length (batch_text batch.now) }
-{
-    len_of(batch.requests.as_slice())
+impl<'a> Model for BatchRef<'a> {
+    ghost use Rattle.batch_packets.specs.declared.batch.Batch.{Batch};
+
+    ghost Value = { Batch };
+
+    ghost view = { λ b. record { version = b.version; number = b.number; requests = b.requests.items } };
 }
 
-/// Whether the batch has a text, so that it may be written.
-#[tactic(auto, unfolding(crate::specs::BatchGrammar::batch_text))]
-pub fn is_batch(batch: &Batch) -> bool
-    ensures { IsTrue result ↔ IsBatch batch.now }
-{
-    let requests = batch.requests.as_slice();
-    is_version(batch.version)
-        && !requests.is_empty()
-        && requests.len() <= MAX_ITEMS
-        && requests
-            .iter()
-            .all(|request| is_request(batch.version, request))
-        && batch_len(batch) <= max_datagram_len(batch.version)
-}
-
-/// The text of a batch.
-#[tactic(auto, unfolding(crate::specs::BatchGrammar::batch_text))]
-pub fn write_batch(alloc: Global, batch: &Batch) -> Result<Datagram, NoMemory>
-    requires { IsBatch batch.now }
-    ensures { IfOk result (λ text. text ≡ batch_text batch.now) }
-{
-    let requests = batch.requests.as_slice();
-    let mut text = Vec::with_capacity(alloc, len_of(requests))?;
-    let header = Header {
-        version: batch.version,
-        count: requests.len() as u8,
-        number: batch.number,
-    };
-    put_header(&mut text, RequestRef::magic(), header)?;
-    for request in requests {
-        request.put(&mut text)?;
+impl<'a> BatchRef<'a> {
+    pub fn new(version: u8, number: u32, requests: Vec<RequestRef<'a>>) -> BatchRef<'a>
+        ensures { result ≡ record { version = version; number = number; requests = requests.entry.items } }
+    {
+        BatchRef {
+            version,
+            number,
+            requests,
+        }
     }
-    Ok(Bytes::from(text))
+
+    pub fn number(&self) -> u32
+        ensures { result ≡ self.now.number }
+    {
+        self.number
+    }
+
+    pub fn requests(&self) -> &[RequestRef<'a>]
+        ensures { result.now ≡ self.now.requests }
+    {
+        self.requests.as_slice()
+    }
+
+    /// Whether it has a text, so that it may be written.
+    #[tactic(auto, unfolding(crate::specs::BatchGrammar::batch_text))]
+    pub fn is_batch(&self) -> bool
+        ensures { IsTrue result ↔ IsBatch self.now }
+    {
+        let version = self.version;
+        let requests = self.requests.as_slice();
+        is_version(version)
+            && !requests.is_empty()
+            && requests.len() <= MAX_ITEMS
+            && requests.iter().all(|request| request.is_of(version))
+            && fits(version, requests)
+    }
+
+    /// Puts its text in place of what `out` has.
+    pub fn write(&self, out: &mut Vec<u8>) -> Result<(), NoMemory>
+        requires { IsBatch self.now }
+        ensures { OnOk result (out.new.items ≡ batch_text self.now) }
+    {
+        let header = Header {
+            version: self.version,
+            count: self.requests.len() as u8,
+            number: self.number,
+        };
+        write_batch(header, self.requests.as_slice(), out)
+    }
+}
+
+/// Whether the text of a batch of these requests is no longer than a datagram.
+fn fits(version: u8, requests: &[RequestRef]) -> bool
+    requires lawful { All (IsRequest version) requests.now }
+    requires few { length requests.now ≤ MAX_ITEMS }
+    ensures { IsTrue result ↔ (HEADER_LEN + length (flat_map request_text requests.now) ≤ max_datagram_len version) }
+{
+    let mut len = HEADER_LEN;
+    for request in requests {
+        len += request.text_len();
+    }
+    len <= max_datagram_len(version)
+}
+
+/// Puts the text of the batch under this header in place of what `out` has.
+#[tactic(auto, unfolding(crate::specs::BatchGrammar::batch_text))]
+fn write_batch(header: Header, requests: &[RequestRef], out: &mut Vec<u8>) -> Result<(), NoMemory>
+    requires count { header.count ≡ length requests.now }
+    requires batch { IsBatch (record { version = header.version; number = header.number; requests = requests.now }) }
+    ensures { OnOk result (out.new.items ≡ batch_text (record { version = header.version; number = header.number; requests = requests.now })) }
+{
+    out.clear();
+    put_header(out, RequestRef::magic(), header)?;
+    for request in requests {
+        request.put(out)?;
+    }
+    Ok(())
 }

@@ -1,10 +1,11 @@
 //! Batches that are judged, and taken request by request, where they lie.
-ghost use Rattle.std.specs.Prelude.{◌≡◌, ◌∷◌, List, length, IsOk, IfOk};
+ghost use Rattle.std.specs.Prelude.{◌≡◌, ◌≤◌, ◌↔◌, ◌+◌, ◌∷◌, ◌++◌, ℕ, List, length, IsTrue, IsOk, IfOk, OnOk};
+ghost use Rattle.batch_packets.specs.declared.header.TheConstants.{HEADER_LEN, MAX_DATAGRAM_LEN_V2};
 ghost use Rattle.batch_packets.specs.declared.batch.Request.{Request};
 ghost use Rattle.batch_packets.specs.declared.batch.Batch.{Batch};
 ghost use Rattle.batch_packets.specs.Faults.{AnswersExactly};
 ghost use Rattle.batch_packets.specs.Datagram.{first_fault};
-ghost use Rattle.batch_packets.specs.BatchGrammar.{SpellsBatch, batch_kind};
+ghost use Rattle.batch_packets.specs.BatchGrammar.{IsRequest, SpellsBatch, batch_kind, request_text};
 ghost use Rattle.batch_packets.specs.Remaining.{HasLeft};
 
 use crate::batch::Want;
@@ -12,6 +13,7 @@ use crate::header::Header;
 use crate::item::{Item, check_datagram, next_item};
 use crate::{BatchFault, Request};
 use mica_io::{Bytes, NoMemory};
+use mica_words::key_fits;
 use std::alloc::Global;
 use std::marker::Model;
 
@@ -33,6 +35,17 @@ impl<'a> Model for RequestRef<'a> {
 }
 
 impl<'a> RequestRef<'a> {
+    pub fn new(want: Want, ticket: u32, key: &'a [u8], value: &'a [u8]) -> RequestRef<'a>
+        ensures { result ≡ record { want = want; ticket = ticket; key = key.now; value = value.now } }
+    {
+        RequestRef {
+            want,
+            ticket,
+            key,
+            value,
+        }
+    }
+
     pub fn want(&self) -> Want
         ensures { result ≡ self.now.want }
     {
@@ -67,6 +80,41 @@ impl<'a> RequestRef<'a> {
             key: Bytes::copy(alloc, self.key)?,
             value: Bytes::copy(alloc, self.value)?,
         })
+    }
+
+    /// Whether a batch of this version may have it.
+    pub fn is_of(&self, version: u8) -> bool
+        ensures { IsTrue result ↔ IsRequest version self.now }
+    {
+        self.want.is_of(version)
+            && key_fits(self.key)
+            && self.value.len() <= self.want.longest_value(version)
+    }
+
+    /// How many bytes its text has. One request always fits a datagram.
+    #[tactic(auto, unfolding(crate::specs::BatchGrammar::request_text))]
+    pub fn text_len(&self) -> usize
+        requires { (version : ℕ) × IsRequest version self.now }
+        ensures len { result ≡ length (request_text self.now) }
+        ensures fits { HEADER_LEN + result ≤ MAX_DATAGRAM_LEN_V2 }
+    {
+        8 + self.key.len() + self.value.len()
+    }
+
+    /// Appends its text.
+    #[tactic(auto, unfolding(crate::specs::BatchGrammar::request_text))]
+    pub(crate) fn put(&self, out: &mut Vec<u8>) -> Result<(), NoMemory>
+        requires { (version : ℕ) × IsRequest version self.now }
+        ensures { OnOk result (out.new.items ≡ out.old.items ++ request_text self.now) }
+    {
+        let [v0, v1] = (self.value.len() as u16).to_le_bytes();
+        let [t0, t1, t2, t3] = self.ticket.to_le_bytes();
+        let operation = self.want.byte();
+        let key_len = self.key.len() as u8;
+        out.extend_from_slice(&[operation, key_len, v0, v1, t0, t1, t2, t3])?;
+        out.extend_from_slice(self.key)?;
+        out.extend_from_slice(self.value)?;
+        Ok(())
     }
 }
 

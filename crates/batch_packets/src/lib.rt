@@ -13,10 +13,9 @@ mod item;
 mod laws;
 mod replies;
 mod reply_text;
+mod status;
 
-pub use batch::{
-    Batch, Request, RequestList, Want, batch_len, is_batch, is_request, read_batch, write_batch,
-};
+pub use batch::{Batch, BatchRef, Request, RequestList, Want, read_batch};
 pub use checking::{RequestRef, Requests, check_batch};
 pub use fault::BatchFault;
 pub use header::{
@@ -26,6 +25,7 @@ pub use header::{
 pub use laws::one_reading;
 pub use replies::{Replies, Reply, ReplyList, is_reply, read_replies, write_replies};
 pub use reply_text::ReplyText;
+pub use status::Status;
 
 /// The text of a batch, or of replies.
 pub type Datagram = mica_io::Bytes;

@@ -3,9 +3,9 @@ ghost use Rattle.std.specs.Prelude.{◌≡◌, ◌↔◌, All, IsTrue, IfOk, IsO
 ghost use Rattle.batch_packets.specs.Faults.{AgreesWith};
 ghost use Rattle.batch_packets.specs.Datagram.{is_version, first_fault};
 
-use crate::header::{max_value_len, read_u64};
+use crate::header::read_u64;
 use crate::item::{Item, check_datagram, next_item};
-use crate::{BatchFault, Datagram, ReplyText};
+use crate::{BatchFault, Datagram, ReplyText, Status};
 use mica_io::{Bytes, NoMemory};
 use std::alloc::Global;
 use std::marker::Model;
@@ -13,9 +13,7 @@ use std::marker::Model;
 /// The reply to one request, whose ticket it repeats. The value is empty unless it is a hit.
 #[derive(Debug, Drop)]
 pub struct Reply {
-    /// 0 hit, 1 miss, 2 stored, 3 deleted, 4 absent, 5 full spare, 6 full block or 7 worn; in version 1
-    /// also 9 bad batch and 10 a hit of a longer value; in version 2 also 11 exists and 12 touched.
-    pub status: u8,
+    pub status: Status,
     pub ticket: u32,
     pub stamp: u64,
     pub value: Bytes,
@@ -67,42 +65,20 @@ pub struct Replies {
 }
 
 ghost use Rattle.batch_packets.specs.declared.replies.Replies.{Replies};
-ghost use Rattle.batch_packets.specs.ReplyGrammar.{IsReply, SpellsReplies, replies_kind, is_status, longest_value};
+ghost use Rattle.batch_packets.specs.ReplyGrammar.{IsReply, SpellsReplies, replies_kind};
 ghost use Rattle.batch_packets.specs.Splitting.{SplitsInto};
-
-fn is_status(version: u8, byte: u8) -> bool
-    ensures { result ≡ is_status version byte }
-{
-    match byte {
-        0..=7 => true,
-        9 | 10 => version == 1,
-        11 | 12 => version == 2,
-        _ => false,
-    }
-}
-
-fn longest_value(version: u8, status: u8) -> usize
-    ensures { result ≡ longest_value version status }
-{
-    if status == 0 {
-        max_value_len(version)
-    } else {
-        0
-    }
-}
 
 /// Whether a datagram of this version may have the reply.
 pub fn is_reply(version: u8, reply: &Reply) -> bool
     ensures { IsTrue result ↔ IsReply version reply.now }
 {
-    is_status(version, reply.status)
-        && reply.value.bytes().len() <= longest_value(version, reply.status)
+    reply.status.is_of(version) && reply.value.bytes().len() <= reply.status.longest_value(version)
 }
 
 /// A reply whose value lies in the bytes that it is read from. Clauses see it as the reply.
 #[derive(Drop)]
 pub struct ReplyRef<'a> {
-    status: u8,
+    status: Status,
     ticket: u32,
     stamp: u64,
     value: &'a [u8],
@@ -149,17 +125,20 @@ impl<'a> Item<'a> for ReplyRef<'a> {
 
     #[tactic(auto, unfolding(crate::specs::ReplyGrammar::reply_text))]
     fn read(version: u8, from: &'a [u8]) -> Result<(ReplyRef<'a>, &'a [u8]), BatchFault> {
-        let [status, zero, v0, v1, t0, t1, t2, t3, after @ ..] = from else {
+        let [byte, zero, v0, v1, t0, t1, t2, t3, after @ ..] = from else {
             return Err(BatchFault::Short);
         };
         let Some((stamp, texts)) = read_u64(after) else {
             return Err(BatchFault::Short);
         };
-        if !is_status(version, *status) || *zero != 0 {
+        let Some(status) = Status::of(version, *byte) else {
+            return Err(BatchFault::Op);
+        };
+        if *zero != 0 {
             return Err(BatchFault::Op);
         }
         let value_len = usize::from(u16::from_le_bytes([*v0, *v1]));
-        if value_len > longest_value(version, *status) {
+        if value_len > status.longest_value(version) {
             return Err(BatchFault::Length);
         }
         if texts.len() < value_len {
@@ -167,7 +146,7 @@ impl<'a> Item<'a> for ReplyRef<'a> {
         }
         let (value, rest) = texts.split_at(value_len);
         let reply = ReplyRef {
-            status: *status,
+            status,
             ticket: u32::from_le_bytes([*t0, *t1, *t2, *t3]),
             stamp,
             value,

@@ -7,10 +7,10 @@ ghost use Rattle.batch_packets.specs.ReplyGrammar.{IsReply, reply_text, replies_
 ghost use Rattle.batch_packets.specs.Splitting.{SplitsInto};
 ghost use Rattle.batch_packets.specs.Filling.{HasReplies, Adds};
 
-use crate::Datagram;
 use crate::header::{COUNT_AT, Header, MAX_ITEMS, max_datagram_len, put_header};
 use crate::item::Item;
 use crate::replies::ReplyRef;
+use crate::{Datagram, Status};
 use mica_io::{Bytes, NoMemory};
 use std::alloc::Global;
 use std::marker::Model;
@@ -66,7 +66,7 @@ fn begin(alloc: Global, version: u8, number: u32) -> Result<Vec<u8>, NoMemory>
 
 /// Appends the text of a reply, which has room.
 #[tactic(auto, unfolding(crate::specs::ReplyGrammar::reply_text))]
-fn put_reply(out: &mut Vec<u8>, status: u8, ticket: u32, stamp: u64, value: &[u8])
+fn put_reply(out: &mut Vec<u8>, status: Status, ticket: u32, stamp: u64, value: &[u8])
     requires value { length value.now < 65536 }
     requires room { vec_len out.old + FIXED_LEN + length value.now ≤ vec_capacity out.old }
     ensures text { out.new.items ≡ out.old.items ++ reply_text (record { status = status; ticket = ticket; stamp = stamp; value = value.now }) }
@@ -77,7 +77,22 @@ fn put_reply(out: &mut Vec<u8>, status: u8, ticket: u32, stamp: u64, value: &[u8
     let [t0, t1, t2, t3] = ticket.to_le_bytes();
     let [s0, s1, s2, s3, s4, s5, s6, s7] = stamp.to_le_bytes();
     let fixed = [
-        status, 0, v0, v1, t0, t1, t2, t3, s0, s1, s2, s3, s4, s5, s6, s7,
+        status.byte(),
+        0,
+        v0,
+        v1,
+        t0,
+        t1,
+        t2,
+        t3,
+        s0,
+        s1,
+        s2,
+        s3,
+        s4,
+        s5,
+        s6,
+        s7,
     ];
     if out.extend_from_slice(&fixed).is_err() || out.extend_from_slice(value).is_err() {
         unreachable!();
@@ -137,7 +152,7 @@ impl ReplyText {
     }
 
     /// Adds a reply to the datagram that is being filled, which has room.
-    fn put(&mut self, status: u8, ticket: u32, stamp: u64, value: &[u8])
+    fn put(&mut self, status: Status, ticket: u32, stamp: u64, value: &[u8])
         requires few { count_at self.old.begun < MAX_ITEMS }
         requires short { length self.old.begun + FIXED_LEN + length value.now ≤ max_datagram_len self.old.version }
         ensures { self.new ≡ record self.old {
@@ -150,7 +165,13 @@ impl ReplyText {
     }
 
     /// Adds a reply, where it does not fit as the first one of the next datagram.
-    pub fn add(&mut self, status: u8, ticket: u32, stamp: u64, value: &[u8]) -> Result<(), NoMemory>
+    pub fn add(
+        &mut self,
+        status: Status,
+        ticket: u32,
+        stamp: u64,
+        value: &[u8],
+    ) -> Result<(), NoMemory>
         requires { IsReply self.old.version (record { status = status; ticket = ticket; stamp = stamp; value = value.now }) }
         ensures added { OnOk result (Adds self.old (record { status = status; ticket = ticket; stamp = stamp; value = value.now } ∷ []) self.new) }
         ensures err { OnErr result (self.new ≡ self.old) }

@@ -1,7 +1,7 @@
 -- The decisions that the tests of changes make.
 use Rattle.std.specs.Prelude.{ℕ, ◌+◌, ◌*◌, ◌/◌, ◌%◌, ◌==◌, List, [], ◌∷◌, Option, Some, None, length, get_or, if◌then◌else◌}
-use Rattle.mica_fronts.specs.declared.changing.Change.{Change}
-use Rattle.mica_fronts.specs.declared.changing.Change.TheVariants.{Stay, Become, Go}
+use Rattle.partition_model.specs.declared.change.Change.{Change}
+use Rattle.partition_model.specs.declared.change.Change.TheVariants.{Stay, Become, Go}
 use Rattle.mica_fronts.specs.Changing.{Becoming, stays, becomes, goes}
 
 -- the same, whatever the key has

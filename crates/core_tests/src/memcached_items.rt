@@ -6,10 +6,11 @@ ghost use Rattle.memcached_commands.specs.Fit.{IsFitAsk, IsFitStored};
 use crate::memcached::sent;
 use crate::memcached_rows::{BARE, OTHER, SAME, Turn};
 use memcached_commands::{
-    Ask, Asked, Asks, Change, Moment, change_stored, found_in, put_answer, says_of, wants_numbers,
+    Ask, Asked, Asks, Moment, change_stored, found_in, put_answer, says_of, wants_numbers,
 };
-use memcached_text::{Command, Next, Reply, fault_line, next_command, read_item, reply_line};
-use partition_model::ItemBuf;
+use memcached_text::{Command, Due, Next, Reply, fault_line, next_command, read_item, reply_line};
+use mica_fronts::{Flush, Flushes};
+use partition_model::{Change, ItemBuf};
 use std::alloc::Global;
 
 /// The second at which each row begins.
@@ -19,6 +20,7 @@ const START: u64 = 2_000_000_000;
 #[derive(Drop)]
 struct Place {
     at: Moment,
+    flushes: Flushes,
     is_stored: bool,
     item: ItemBuf,
     next: ItemBuf,
@@ -54,12 +56,44 @@ impl Place {
                 second: START,
                 flushed: 0,
                 unique: 1,
+                until: 0,
             },
+            flushes: Flushes::none(),
             is_stored: stored.is_some(),
             item,
             next: ItemBuf::new(alloc).ok()?,
             answers: Vec::new(alloc),
         })
+    }
+
+    /// Takes what flushes come to at the present second.
+    fn look_at_flushes(&mut self) {
+        self.at.flushed = self.flushes.flushed_at(self.at.second);
+        self.at.until = self.flushes.waits_at(self.at.second);
+    }
+
+    /// Some seconds pass.
+    fn wait(&mut self, seconds: u64) {
+        self.at.second = self.at.second.saturating_add(seconds);
+        self.look_at_flushes();
+    }
+
+    /// Flushes what has a number.
+    fn flush(&mut self, due: Due) {
+        let asked = self.at.second;
+        let flush = match due {
+            Due::Now => Flush { due: 0, asked: 0 },
+            Due::After(seconds) => Flush {
+                due: asked.saturating_add(u64::from(seconds)),
+                asked,
+            },
+            Due::At(second) => Flush {
+                due: u64::from(second),
+                asked,
+            },
+        };
+        self.flushes = self.flushes.and_then(self.at.unique, flush);
+        self.look_at_flushes();
     }
 
     /// Does what a command made of the item. A number that a value got is no other's.
@@ -101,10 +135,10 @@ impl Place {
         let next = next_command(bytes);
         let (len, quiet, unique) = match &next {
             Next::Command {
-                command: Command::Flush { quiet, .. },
+                command: Command::Flush { due, quiet },
                 len,
             } => {
-                self.at.flushed = self.at.unique;
+                self.flush(*due);
                 self.put_line(*quiet, reply_line(Reply::Done))?;
                 return Some(*len);
             }
@@ -143,7 +177,7 @@ impl Place {
 fn are_answered(alloc: Global, stored: Option<&[u8]>, row: &[Turn]) -> Option<bool> {
     let mut place = Place::new(alloc, stored)?;
     for turn in row {
-        place.at.second = place.at.second.saturating_add(turn.0);
+        place.wait(turn.0);
         place.answers.clear();
         place.answer_all(sent(alloc, turn.1)?.as_slice())?;
         if place.answers.as_slice() != sent(alloc, turn.2)?.as_slice() {

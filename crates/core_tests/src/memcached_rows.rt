@@ -5,7 +5,7 @@ pub type Turn = (u64, &'static [u8], &'static [u8]);
 
 /// What memcached 1.6.18 answers to these of key `k`, and so do these commands. Each row began with a new memcached, and its
 /// seconds passed by the clock; times of day were those of that clock.
-pub static SAME: [&[Turn]; 20] = [
+pub static SAME: [&[Turn]; 24] = [
     // Nothing is there.
     &[(
         0,
@@ -225,10 +225,60 @@ pub static SAME: [&[Turn]; 20] = [
             b"SERVER_ERROR object too large for cache\r\nEND\r\n",
         ),
     ],
+    // A flush at a later second: until then all is there, and then nothing that was stored before, whenever it was.
+    &[
+        (
+            0,
+            b"set k 5 0 1\r\na\r\nflush_all 4\r\nget k\r\n",
+            b"STORED\r\nOK\r\nVALUE k 5 1\r\na\r\nEND\r\n",
+        ),
+        (
+            1,
+            b"set k 6 0 1\r\n1\r\nget k\r\nincr k 1\r\ntouch k 100\r\nget k\r\n",
+            b"STORED\r\nVALUE k 6 1\r\n1\r\nEND\r\n2\r\nTOUCHED\r\nVALUE k 6 1\r\n2\r\nEND\r\n",
+        ),
+        (
+            5,
+            b"get k\r\nset k 7 0 1\r\nc\r\nget k\r\n",
+            b"END\r\nSTORED\r\nVALUE k 7 1\r\nc\r\nEND\r\n",
+        ),
+    ],
+    // What was only changed meanwhile goes too.
+    &[
+        (
+            0,
+            b"set k 5 0 1\r\na\r\nflush_all 4\r\nappend k 0 0 1\r\nb\r\ngat 0 k\r\n",
+            b"STORED\r\nOK\r\nSTORED\r\nVALUE k 5 2\r\nab\r\nEND\r\n",
+        ),
+        (
+            6,
+            b"get k\r\nadd k 7 0 1\r\nc\r\nget k\r\n",
+            b"END\r\nSTORED\r\nVALUE k 7 1\r\nc\r\nEND\r\n",
+        ),
+    ],
+    // One at once, and none waits any more.
+    &[
+        (
+            0,
+            b"set k 5 0 1\r\na\r\nflush_all 4\r\nflush_all\r\nget k\r\nset k 6 0 1\r\nb\r\n",
+            b"STORED\r\nOK\r\nOK\r\nEND\r\nSTORED\r\n",
+        ),
+        (6, b"get k\r\n", b"VALUE k 6 1\r\nb\r\nEND\r\n"),
+    ],
+    // One takes the place of another that waits.
+    &[
+        (
+            0,
+            b"set k 5 0 1\r\na\r\nflush_all 2\r\nflush_all 6\r\n",
+            b"STORED\r\nOK\r\nOK\r\n",
+        ),
+        (3, b"get k\r\n", b"VALUE k 5 1\r\na\r\nEND\r\n"),
+        (5, b"get k\r\n", b"END\r\n"),
+    ],
 ];
 
 /// What memcached answers otherwise; docs/MEMCACHED.md says how, and why this does not.
-pub static OTHER: [&[Turn]; 6] = [
+pub static OTHER: [&[Turn]; 9] = [
     // To the second: memcached's clock ticks once in a second, so it keeps an item for up to one longer than it says, or less.
     &[
         (0, b"set k 0 2 1\r\na\r\n", b"STORED\r\n"),
@@ -307,6 +357,36 @@ pub static OTHER: [&[Turn]; 6] = [
         b"set k 0 0 8000\r\n********************************\r\nprepend k 0 0 177\r\nxxxxxxxxxxxxxxxxxxxxxxxxxxxxxxxxxxxxxxxxxxxxxxxxxxxxxxxxxxxxxxxxxxxxxxxxxxxxxxxxxxxxxxxxxxxxxxxxxxxxxxxxxxxxxxxxxxxxxxxxxxxxxxxxxxxxxxxxxxxxxxxxxxxxxxxxxxxxxxxxxxxxxxxxxxxxxxxxx\r\nget k\r\n",
         b"STORED\r\nSERVER_ERROR object too large for cache\r\nVALUE k 0 8000\r\n********************************\r\nEND\r\n",
     )],
+    // A flush at its second: memcached flushes one to two seconds too early.
+    &[
+        (0, b"set k 5 0 1\r\na\r\nflush_all 2\r\n", b"STORED\r\nOK\r\n"),
+        (1, b"get k\r\nset k 6 100 1\r\nb\r\n", b"VALUE k 5 1\r\na\r\nEND\r\nSTORED\r\n"),
+        (
+            1,
+            b"get k\r\nset k 7 0 1\r\nc\r\nflush_all 2000000004\r\n",
+            b"END\r\nSTORED\r\nOK\r\n",
+        ),
+        (1, b"get k\r\n", b"VALUE k 7 1\r\nc\r\nEND\r\n"),
+        (1, b"get k\r\n", b"END\r\n"),
+    ],
+    // What was flushed does not come back.
+    &[
+        (
+            0,
+            b"set k 5 0 1\r\na\r\nflush_all\r\nflush_all 100\r\nget k\r\n",
+            b"STORED\r\nOK\r\nOK\r\nEND\r\n",
+        ),
+    ],
+    // What was stored while one waited goes with it, though a later one took its place.
+    &[
+        (
+            0,
+            b"flush_all 2\r\nset k 5 0 1\r\na\r\nflush_all 6\r\n",
+            b"OK\r\nSTORED\r\nOK\r\n",
+        ),
+        (1, b"get k\r\n", b"VALUE k 5 1\r\na\r\nEND\r\n"),
+        (1, b"get k\r\n", b"END\r\n"),
+    ],
 ];
 
 /// An item that another protocol stored, which has no numbers: it has number 0, which is no item's.

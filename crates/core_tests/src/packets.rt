@@ -5,8 +5,8 @@ ghost use Rattle.batch_packets.specs.Datagram.{is_version};
 ghost use Rattle.batch_packets.specs.ReplyGrammar.{IsReplies};
 
 use batch_packets::{
-    BatchFault, Replies, Reply, Request, Want, is_batch, is_reply, read_batch, read_replies,
-    write_batch, write_replies,
+    BatchFault, BatchRef, Replies, Reply, Request, RequestRef, Status, Want, is_reply, read_batch,
+    read_replies, write_replies,
 };
 use mica_io::{Bytes, NoMemory};
 use std::alloc::Global;
@@ -62,6 +62,28 @@ fn are_asked(requests: &[Request], first: u32, asked: &[Asked]) -> bool {
     true
 }
 
+/// The text of the batch of these requests, under tickets that rise by 1 from the first; nothing where it has none.
+fn written(
+    alloc: Global,
+    version: u8,
+    number: u32,
+    first: u32,
+    asked: &[Asked],
+) -> Result<Vec<u8>, NoMemory> {
+    let mut requests = Vec::new(alloc);
+    let mut ticket = first;
+    for (want, key, value) in asked {
+        requests.push(RequestRef::new(*want, ticket, key, value))?;
+        ticket = ticket.saturating_add(1);
+    }
+    let batch = BatchRef::new(version, number, requests);
+    let mut text = Vec::new(alloc);
+    if batch.is_batch() {
+        batch.write(&mut text)?;
+    }
+    Ok(text)
+}
+
 /// Whether a batch of this number and these requests is read, and written as the same bytes.
 fn is_batch_of(alloc: Global, text: &[u8], number: u32, first: u32, asked: &[Asked]) -> bool {
     let Ok(batch) = read_batch(alloc, text) else {
@@ -70,13 +92,10 @@ fn is_batch_of(alloc: Global, text: &[u8], number: u32, first: u32, asked: &[Ask
     if batch.number != number || !are_asked(batch.requests.as_slice(), first, asked) {
         return false;
     }
-    if !is_batch(&batch) {
-        return false;
+    match written(alloc, batch.version, number, first, asked) {
+        Ok(written) => written.as_slice() == text,
+        Err(_) => false,
     }
-    let Ok(written) = write_batch(alloc, &batch) else {
-        return false;
-    };
-    is_text(&written, text)
 }
 
 static ASKED: [Asked; 2] = [(Want::Put, b"a", b"1"), (Want::Get, b"a", b"")];
@@ -87,7 +106,7 @@ fn a_batch_is_read_and_written(rt: HostRuntime) {
 }
 
 /// A reply's status, stamp and value.
-type Told = (u8, u64, &'static [u8]);
+type Told = (Status, u64, &'static [u8]);
 
 fn is_told(reply: &Reply, ticket: u32, told: &Told) -> bool {
     reply.status == told.0
@@ -135,9 +154,9 @@ fn are_replies_of(alloc: Global, text: &[u8], number: u32, first: u32, told: &[T
         && are_written(alloc, &read, text)
 }
 
-static TOLD: [Told; 2] = [(2, 1, b""), (0, 1, b"1")];
+static TOLD: [Told; 2] = [(Status::Stored, 1, b""), (Status::Hit, 1, b"1")];
 
-static TOLD_BAD: [Told; 1] = [(9, 0, b"")];
+static TOLD_BAD: [Told; 1] = [(Status::BadBatch, 0, b"")];
 
 #[test]
 fn replies_are_read_and_written(rt: HostRuntime) {
@@ -360,7 +379,7 @@ fn misses(alloc: Global, count: u32) -> Result<Vec<Reply>, NoMemory> {
     let mut replies = Vec::new(alloc);
     for ticket in 0..count {
         replies.push(Reply {
-            status: 1,
+            status: Status::Miss,
             ticket,
             stamp: 0,
             value: Bytes::empty(alloc),
@@ -369,7 +388,7 @@ fn misses(alloc: Global, count: u32) -> Result<Vec<Reply>, NoMemory> {
     Ok(replies)
 }
 
-static MISSES: [Told; 300] = [(1, 0, b""); 300];
+static MISSES: [Told; 300] = [(Status::Miss, 0, b""); 300];
 
 /// Whether these are all replies, written as a datagram of so many and one of the rest.
 fn are_split(alloc: Global, replies: &[Reply], version: u8, first: usize) -> bool

@@ -12,7 +12,7 @@ use Rattle.line_replies.specs.Replied.{HasReplied}
 use Rattle.exclusive_replay.specs.declared.owner.Owner.{Owner}
 use Rattle.exclusive_replay.specs.Sent.{numbers_in}
 use Rattle.exclusive_replay.specs.LineEnds.{LineBox}
-use Rattle.exclusive_replay.specs.OwnPart.{owner_of}
+use Rattle.plain_partition.specs.PlainPartition.{owner_of}
 use Rattle.exclusive_replay.specs.Workers.{lines_at}
 use Rattle.exclusive_replay.specs.Run.{HasRun, HaveRun}
 use Rattle.exclusive_replay.proofs.Shares.{share_replied}

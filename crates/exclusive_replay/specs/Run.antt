@@ -9,7 +9,7 @@ use Rattle.line_replies.specs.Replied.{HasReplied}
 use Rattle.exclusive_replay.specs.declared.owner.Owner.{Owner}
 use Rattle.exclusive_replay.specs.Sent.{has_end, numbers_in}
 use Rattle.exclusive_replay.specs.LineEnds.{LineBox, line_box}
-use Rattle.exclusive_replay.specs.OwnPart.{owner_of}
+use Rattle.plain_partition.specs.PlainPartition.{owner_of}
 use Rattle.exclusive_replay.specs.Workers.{IsReadyOwner, lines_at, messages_for}
 
 -- an owner of an empty partition that is ready, and the sender of its queue

@@ -13,7 +13,7 @@ use Rattle.exclusive_replay.specs.declared.owner.Owner.{Owner}
 use Rattle.exclusive_replay.specs.declared.feeder.Feeder.{Feeder}
 use Rattle.exclusive_replay.specs.Sent.{has_end, numbers_in}
 use Rattle.exclusive_replay.specs.LineEnds.{LineBox, line_box}
-use Rattle.exclusive_replay.specs.OwnPart.{owner_of}
+use Rattle.plain_partition.specs.PlainPartition.{owner_of}
 
 -- the lines of these numbers
 abbrev pub lines_at : List TraceLine → List ℕ → List TraceLine

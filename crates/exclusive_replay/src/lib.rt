@@ -7,7 +7,6 @@
 mod feeder;
 mod merging;
 mod owner;
-mod part;
 mod printing;
 mod queue;
 mod run;

@@ -1,21 +1,21 @@
 //! An owner, which answers the lines that come through its queue.
 ghost use Rattle.std.specs.Prelude.{◌<◌, length, IfOk};
-ghost use Rattle.exclusive_replay.specs.OwnPart.{owner_of};
+ghost use Rattle.plain_partition.specs.PlainPartition.{owner_of};
 ghost use Rattle.exclusive_replay.specs.Workers.{AnswersLine, IsReadyOwner, OwnerRan};
 
-use crate::part::OwnPart;
 use crate::queue::{LineReceiver, Sent};
 use line_replies::reply_to;
 use mica_io::{Gate, NoMemory};
 use mica_trace::{Line, Trace};
 use partition_model::ItemBuf;
+use plain_partition::PlainPartition;
 use std::alloc::Global;
 use std::sync::Wait;
 
 /// A partition with its queue, and what is printed for the lines that it has answered: None after want of memory.
 #[derive(Drop)]
 pub(crate) struct Owner {
-    pub part: OwnPart,
+    pub part: PlainPartition,
     pub queue: LineReceiver,
     pub worker: u32,
     pub value: ItemBuf,
@@ -25,7 +25,7 @@ pub(crate) struct Owner {
 // Answers one line more, unless there was no memory before.
 fn answer_line(
     alloc: Global,
-    part: &mut OwnPart,
+    part: &mut PlainPartition,
     value: &mut ItemBuf,
     trace: &Trace,
     number: u32,

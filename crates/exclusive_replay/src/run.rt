@@ -9,12 +9,12 @@ ghost use Rattle.exclusive_replay.specs.Run.{AreMade, HaveRun};
 use crate::feeder::Feeder;
 use crate::merging::merge;
 use crate::owner::Owner;
-use crate::part::OwnPart;
 use crate::queue::{LineSender, line_queue};
 use crate::worker::run_workers;
 use mica_io::{Gate, NoMemory};
 use mica_trace::{Line, Report, Trace};
 use partition_model::{ItemBuf, Options};
+use plain_partition::PlainPartition;
 use std::alloc::Global;
 use std::sync::Wait;
 use std::thread::Threads;
@@ -36,7 +36,7 @@ fn make_owners(
     for p in 0..options.partitions {
         let (sender, queue) = line_queue(alloc, trace.len())?;
         let owner = Owner {
-            part: OwnPart::new(alloc, options)?,
+            part: PlainPartition::new(alloc, options)?,
             queue,
             worker: p,
             value: ItemBuf::new(alloc)?,

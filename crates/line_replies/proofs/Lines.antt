@@ -61,18 +61,3 @@ module _ (old new : OwnerState) (line : TraceLine) (does : Op) (op : op_of line.
 
   pub replied_write : (printed : Line) → IsWriteReply old new write printed → IsReplied old new line printed
   replied_write printed is = subst (IsReplied old new line) (sym is.is) (replied_with is.outcome is.stamp is.step is.stamped)
-
--- a line that changes nothing
-same_owner : (old new : OwnerState) → new ≡ old → new ≡ record old { words = new.words; history = old.history ++ [] }
-same_owner old new e =
-    let P : OwnerState → Type 0 = λ o. o ≡ record old { words = o.words; history = old.history ++ [] } in
-    subst P (sym e) (ap (λ (h : History). record old { history = h }) (sym (append-nil old.history)))
-
--- what is no write and no sync is a get
-pub is_get : (op : TraceOp) → op_of op ≡ None → is_sync_op op ≡ false → op ≡ Get
-is_get Get none other = refl
-is_get Sync none other = absurd (cc)
-is_get Put none other = absurd (cc)
-is_get Add none other = absurd (cc)
-is_get Touch none other = absurd (cc)
-is_get Del none other = absurd (cc)

@@ -26,8 +26,9 @@ use Rattle.mica_fronts.specs.declared.changing.Changed.{Changed}
 use Rattle.mica_fronts.specs.declared.changing.When.{When}
 use Rattle.mica_fronts.specs.Looks.{when_after}
 use Rattle.mica_fronts.specs.Changing.{Becoming, IsFound, write_by}
-use Rattle.mica_fronts.specs.Flushes.{is_flush, flushed_in}
-use Rattle.mica_fronts.proofs.FlushLaws.{flushed_then}
+use Rattle.mica_fronts.specs.declared.flushes.Flushes.{Flushes}
+use Rattle.mica_fronts.specs.Flushes.{is_flush, flush_in, flushes_then, flushes_in}
+use Rattle.mica_fronts.proofs.FlushLaws.{flushes_push}
 use Rattle.turn_book.specs.declared.rule.Entry.{Entry}
 use Rattle.turn_book.specs.Entries.{BookView, TakerView, entry, book_view, taker_view}
 use Rattle.locked_fronts.specs.declared.owned.Step.{Step}
@@ -108,24 +109,27 @@ looks plan was owner second key needs becoming old new changed buffer note write
       (λ i. (is i, ap (λ (o : OwnerState). o.history) same i)) did;
 }
 
--- The last flush
+-- The flushes
 
 module _ (old new : OwnerState) (write : Write) (outcome : Outcome) (step : IsOwnerStep old new write outcome) where
   history_is : (b : Bool) → is_accepted outcome ≡ b → new.history ≡ cond b (old.history ++ write ∷ []) old.history
   history_is true is = ap (λ (o : OwnerState). o.history) (step.gained ∙ ap (λ b. cond b (record old { words = new.words; history = old.history ++ write ∷ [] }) old) is)
   history_is false is = ap (λ (o : OwnerState). o.history) (step.gained ∙ ap (λ b. cond b (record old { words = new.words; history = old.history ++ write ∷ [] }) old) is)
 
-  flushed_after : (b : Bool) → is_flush write ≡ b → is_accepted outcome ≡ true → flushed_in new.history ≡ cond b (suc (length old.history)) (flushed_in old.history)
-  flushed_after b is accepted = ap flushed_in (history_is true accepted) ∙ flushed_then old.history write ∙ ap (λ x. cond x (suc (length old.history)) (flushed_in old.history)) is
+  abbrev one_more : ℕ → Flushes
+  one_more n = flushes_then n (flush_in write.key) (flushes_in old.history)
 
-  pub flushes : is_accepted outcome ≡ true → is_flush write ≡ true → length new.history ≡ flushed_in new.history
-  flushes accepted is = ap length (history_is true accepted) ∙ length_push old.history write ∙ omega arith ∙ sym (flushed_after true is accepted)
+  flushes_after : (b : Bool) → is_flush write ≡ b → is_accepted outcome ≡ true → flushes_in new.history ≡ cond b (one_more (suc (length old.history))) (flushes_in old.history)
+  flushes_after b is accepted = ap flushes_in (history_is true accepted) ∙ flushes_push old.history write ∙ ap (λ x. cond x (one_more (suc (length old.history))) (flushes_in old.history)) is
 
-  pub no_flush : is_accepted outcome ≡ false → flushed_in new.history ≡ flushed_in old.history
-  no_flush refused = ap flushed_in (history_is false refused)
+  pub flushes : is_accepted outcome ≡ true → is_flush write ≡ true → one_more (length new.history) ≡ flushes_in new.history
+  flushes accepted is = ap one_more (ap length (history_is true accepted) ∙ length_push old.history write ∙ omega arith) ∙ sym (flushes_after true is accepted)
 
-  pub flushes_not : (b : Bool) → is_accepted outcome ≡ b → is_flush write ≡ false → flushed_in new.history ≡ flushed_in old.history
-  flushes_not true accepted is = flushed_after false is accepted
+  pub no_flush : is_accepted outcome ≡ false → flushes_in new.history ≡ flushes_in old.history
+  no_flush refused = ap flushes_in (history_is false refused)
+
+  pub flushes_not : (b : Bool) → is_accepted outcome ≡ b → is_flush write ≡ false → flushes_in new.history ≡ flushes_in old.history
+  flushes_not true accepted is = flushes_after false is accepted
   flushes_not false refused is = no_flush refused
 
 -- what a note has seen that an owner split off between its writes

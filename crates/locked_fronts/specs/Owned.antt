@@ -16,8 +16,8 @@ use Rattle.partition_table.specs.declared.reader.Note.{Note}
 use Rattle.partition_table.specs.Seats.{note_state, note_home}
 use Rattle.turn_book.specs.declared.rule.Entry.{Entry}
 use Rattle.turn_book.specs.Entries.{BookView, TakerView, taker_view}
-use Rattle.mica_fronts.specs.declared.changing.Change.{Change}
-use Rattle.mica_fronts.specs.declared.changing.Change.TheVariants.{Stay, Become, Go}
+use Rattle.partition_model.specs.declared.change.Change.{Change}
+use Rattle.partition_model.specs.declared.change.Change.TheVariants.{Stay, Become, Go}
 use Rattle.mica_fronts.specs.declared.changing.Changed.{Changed}
 use Rattle.mica_fronts.specs.declared.changing.When.{When}
 use Rattle.mica_fronts.specs.Looks.{IsLookAt}

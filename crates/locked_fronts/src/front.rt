@@ -154,6 +154,13 @@ impl<'a, J: ServerPlan, P: LendPartition<Reader = ReaderSeat, Note = Note> + Dro
         let lock = &self.locks[at];
         self.parts[at].change(rt, lock, number, second, key, decide, found, next)
     }
+
+    fn delete<R: Threads + Wait + Sync>(&mut self, rt: &R, key: &[u8]) -> (Outcome, u64) {
+        let number = partition_of(key_hash(key), self.options.partitions);
+        let at = number as usize;
+        let lock = &self.locks[at];
+        self.parts[at].write(rt, lock, number, Op::Del, key, &[])
+    }
 }
 
 impl<'a, J: ServerPlan, P: LendPartition<Reader = ReaderSeat, Note = Note> + Drop> Glances

@@ -5,7 +5,7 @@ ghost use Rattle.partition_model.specs.Write.{HasValueOf, write_of};
 ghost use Rattle.epoch_core.specs.OwnerState.{options_in};
 ghost use Rattle.partition_model.specs.History.{answer_of, stamp_of};
 ghost use Rattle.mica_fronts.specs.Changing.{IsFound, write_by, written_by};
-ghost use Rattle.mica_fronts.specs.Flushes.{flushed_in};
+ghost use Rattle.mica_fronts.specs.Flushes.{flushes_in};
 ghost use Rattle.turn_book.specs.Entries.{book_view, taker_view, entry};
 ghost use Rattle.partition_table.specs.Seats.{note_state, note_home};
 ghost use Rattle.locked_fronts.specs.Owned.{where_none as none_where, owned_as, step_of, NotesAre, TookTurn, TookLook, TookOrLeft, IsHere, IsElsewhere, IsOwned};
@@ -14,8 +14,8 @@ ghost use Rattle.locked_fronts.specs.Returned.{IsNew};
 use crate::flushes::write_counted;
 use crate::returned::Returned;
 use epoch_core::{LendPartition, Partition};
-use mica_fronts::{Change, Changed, Decide, When};
-use partition_model::{Answer, ItemBuf, Op, Outcome, Write};
+use mica_fronts::{Changed, Decide, Flushes, When};
+use partition_model::{Answer, Change, ItemBuf, Op, Outcome, Write};
 use partition_table::{Note, ReaderSeat};
 use std::marker::{Brand, Model, PhantomData};
 use turn_book::{Entered, Taker, TurnBook};
@@ -63,8 +63,7 @@ pub struct OwnedPartition<
     number: u32,
     part: P,
     book: TurnBook<Step>,
-    // How many writes it had accepted up to its last flush, with that one.
-    flushed: u64,
+    flushes: Flushes,
     of: PhantomData<J>,
 }
 
@@ -72,7 +71,7 @@ impl<J: ServerPlan, P: LendPartition<Reader = ReaderSeat, Note = Note> + Drop> M
     for OwnedPartition<J, P> {
     ghost use Rattle.std.specs.Prelude.{◌≡◌};
     ghost use Rattle.partition_table.specs.Seats.{note_state, note_home};
-    ghost use Rattle.mica_fronts.specs.Flushes.{flushed_in};
+    ghost use Rattle.mica_fronts.specs.Flushes.{flushes_in};
     ghost use Rattle.locked_fronts.specs.Owned.{Owned, owned_as, IsOwned, NotesAre};
 
     ghost Value = { Owned };
@@ -80,7 +79,7 @@ impl<J: ServerPlan, P: LendPartition<Reader = ReaderSeat, Note = Note> + Drop> M
     ghost view = { λ o. owned_as o.number (P.home o.part) (P.owner o.part) o.book };
 
     ghost invariant = { λ o. IsOwned J.plan (owned_as o.number (P.home o.part) (P.owner o.part) o.book)
-        × (o.flushed ≡ flushed_in (P.owner o.part).history) × NotesAre P.noted P.note_home note_state note_home };
+        × (o.flushes ≡ flushes_in (P.owner o.part).history) × NotesAre P.noted P.note_home note_state note_home };
 }
 
 // Enters the step of K. It is told what the pick reads.
@@ -152,9 +151,9 @@ impl<J: ServerPlan, P: LendPartition<Reader = ReaderSeat, Note = Note> + Drop> O
     J,
     P,
 > {
-    /// A partition as filled, with a book of no turns. Up to its last flush it had accepted so many writes, or none.
-    pub fn new(number: u32, part: P, book: TurnBook<Step>, flushed: u64) -> OwnedPartition<J, P>
-        requires flushed { flushed ≡ flushed_in (P.owner part).history }
+    /// A partition as filled, with its flushes, and a book of no turns.
+    pub fn new(number: u32, part: P, book: TurnBook<Step>, flushes: Flushes) -> OwnedPartition<J, P>
+        requires flushes { flushes ≡ flushes_in (P.owner part).history }
         requires notes { NotesAre P.noted P.note_home note_state note_home }
         requires filled { IsNew J.plan number (P.home part) (P.owner part) book }
         ensures { result ≡ owned_as number (P.home part) (P.owner part) book }
@@ -163,7 +162,7 @@ impl<J: ServerPlan, P: LendPartition<Reader = ReaderSeat, Note = Note> + Drop> O
             number,
             part,
             book,
-            flushed,
+            flushes,
             of: PhantomData,
         }
     }
@@ -196,7 +195,7 @@ impl<J: ServerPlan, P: LendPartition<Reader = ReaderSeat, Note = Note> + Drop> O
         ensures { TookTurn J.plan self.old.number (stamp_of J.plan.options self.old.owner.history) self.old.owner.history taker.old taker.new
             (record { write = write_of op key.entry.now value.entry.now; outcome = result.outcome; stamp = result.stamp }) result.note }
     {
-        let outcome = write_counted(&mut self.part, &mut self.flushed, op, key, value);
+        let outcome = write_counted(&mut self.part, &mut self.flushes, op, key, value);
         let stamp = self.part.stamp();
         enter::<Brand>(&mut self.book, taker, op, key, value, outcome, stamp);
         let note = self.part.note();
@@ -255,7 +254,8 @@ impl<J: ServerPlan, P: LendPartition<Reader = ReaderSeat, Note = Note> + Drop> O
         let when = When {
             second,
             written: self.part.accepted(),
-            flushed: self.flushed,
+            flushed: self.flushes.flushed_at(second),
+            until: self.flushes.waits_at(second),
         };
         let (answer, change) = look(&mut self.part, key, decide, when, found, next);
         let (outcome, stamp, note) = self.do_change(taker, key, change, next);

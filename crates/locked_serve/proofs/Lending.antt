@@ -28,7 +28,7 @@ one_more plan k p old was = record {
   begun = was.begun;
   home = was.home;
   book = ap (λ (b : BookView Step). book_view b.table (b.takers + 1) b.entries) was.book;
-  flushed = was.flushed;
+  flushes = was.flushes;
 }
 
 lent_part : (plan : Plan) (k p : ℕ) (old new : FilledView) (part : LockedPart) → IsPlanned plan k p old → LendsOne old new part → IsNewPart plan k p part

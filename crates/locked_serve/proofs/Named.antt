@@ -23,7 +23,7 @@ of_plan options fronts writes all are = record {
         begun = sym (ap begun_in at);
         home = sym (ap home_in at);
         book = it.book ∙ ap (λ t. book_view t 0 []) (sym (ap book_in at));
-        flushed = it.flushed;
+        flushes = it.flushes;
       };
 }
 

@@ -13,7 +13,8 @@ use Rattle.locked_fronts.specs.declared.owned.Step.{Step}
 use Rattle.locked_fronts.specs.declared.part.LockedPart.{LockedPart}
 use Rattle.locked_fronts.specs.Plan.{Plan}
 use Rattle.locked_fronts.specs.Parts.{IsPartOf}
-use Rattle.mica_fronts.specs.Flushes.{flushed_in}
+use Rattle.mica_fronts.specs.declared.flushes.Flushes.{Flushes}
+use Rattle.mica_fronts.specs.Flushes.{flushes_in}
 use Rattle.locked_serve.specs.Filled.{IsFilledOwner, begun_by}
 use Rattle.locked_serve.specs.declared.opening.FilledPart.{FilledPart}
 
@@ -22,17 +23,17 @@ pub record FilledView : Type 0 where
   pub home : TableId
   pub owner : OwnerState
   pub book : BookView Step
-  pub flushed : ℕ
+  pub flushes : Flushes
 
 abbrev pub filled_view : {P : Type 0} → (P → OwnerState) → (P → TableId) → FilledPart P → FilledView
-filled_view owner home filled = record { home = home filled.part; owner = owner filled.part; book = filled.book; flushed = filled.flushed }
+filled_view owner home filled = record { home = home filled.part; owner = owner filled.part; book = filled.book; flushes = filled.flushes }
 
 -- filled by those of the writes that are to its keys, with a book of no takers
 pub record IsFilled (options : Options) (writes : List Write) (p : ℕ) (filled : FilledView) : Type 0 where
   pub owner : IsFilledOwner options filled.owner
   pub begun : filled.owner.history ≡ begun_by options writes p
   pub book : filled.book ≡ book_view filled.book.table 0 []
-  pub flushed : filled.flushed ≡ flushed_in filled.owner.history
+  pub flushes : filled.flushes ≡ flushes_in filled.owner.history
 
 -- one for each partition, in order
 pub record AreFilled (options : Options) (writes : List Write) (all : List FilledView) : Type 0 where
@@ -72,7 +73,7 @@ pub record IsPlanned (plan : Plan) (takers p : ℕ) (filled : FilledView) : Type
   pub begun : filled.owner.history ≡ plan.begun p
   pub home : filled.home ≡ plan.homes p
   pub book : filled.book ≡ book_view (plan.books p) takers []
-  pub flushed : filled.flushed ≡ flushed_in filled.owner.history
+  pub flushes : filled.flushes ≡ flushes_in filled.owner.history
 
 pub record ArePlanned (plan : Plan) (takers : ℕ) (all : List FilledView) : Type 0 where
   pub many : length all ≡ plan.options.partitions

@@ -7,11 +7,12 @@ ghost use Rattle.partition_model.specs.Options.{IsPossible};
 ghost use Rattle.epoch_core.specs.OwnerState.{as_made};
 ghost use Rattle.epoch_core.specs.Shape.{shape_of};
 ghost use Rattle.epoch_core.specs.OwnerStep.{IsOwnerStep};
-ghost use Rattle.mica_fronts.specs.Flushes.{flushed_in};
+ghost use Rattle.mica_fronts.specs.Flushes.{flushes_in};
 ghost use Rattle.locked_serve.specs.Filled.{RefusesFilling, IsFilledOwner, begun_by};
 
 use epoch_core::Partition;
 use locked_fronts::write_counted;
+use mica_fronts::Flushes;
 use mica_io::NoMemory;
 use mica_words::{key_hash, partition_of};
 use partition_model::{Options, Write};
@@ -58,25 +59,25 @@ impl<T: Drop> From<AllocFailed<T>> for OpenFault {
 // Does the write in the partition, where it is to one of its keys, and says whether it was not refused.
 fn fill_one<P: Partition>(
     part: &mut P,
-    flushed: &mut u64,
+    flushes: &mut Flushes,
     options: &Options,
     number: u32,
     write: &Write,
 ) -> bool
     requires valid { IsPossible options.now }
     requires write { IsWrite write.now }
-    requires flushed { flushed.old ≡ flushed_in (P.owner part.old).history }
+    requires flushes { flushes.old ≡ flushes_in (P.owner part.old).history }
     ensures own { partition_of write.now.key options.now.partitions ≡ number
         → (outcome : Outcome) × (is_accepted outcome ≡ result) × IsOwnerStep (P.owner part.old) (P.owner part.new) write.now outcome }
     ensures other { partition_of write.now.key options.now.partitions ≢ number → (result ≡ true) × (P.owner part.new ≡ P.owner part.old) }
-    ensures flushed { flushed.new ≡ flushed_in (P.owner part.new).history }
+    ensures flushes { flushes.new ≡ flushes_in (P.owner part.new).history }
 {
     if partition_of(key_hash(write.key.bytes()), options.partitions) != number {
         return true;
     }
     write_counted(
         part,
-        flushed,
+        flushes,
         write.op,
         write.key.bytes(),
         write.value.bytes(),
@@ -84,26 +85,26 @@ fn fill_one<P: Partition>(
     .is_accepted()
 }
 
-/// Does those of the writes in the partition that are to its keys, up to the first that is refused. Says how many of them stand up to the last flush.
+/// Does those of the writes in the partition that are to its keys, up to the first that is refused. Says what flushes are among them.
 pub(crate) fn fill<P: Partition>(
     part: &mut P,
     options: &Options,
     number: u32,
     filling: &[Write],
-) -> Result<u64, OpenFault>
+) -> Result<Flushes, OpenFault>
     requires valid { IsPossible options.now }
     requires made { P.owner part.old ≡ as_made (shape_of options.now) }
     requires writes { All IsWrite filling.now }
     ensures filled { OnOk result (IsFilledOwner options.now (P.owner part.new)) }
     ensures begun { OnOk result ((P.owner part.new).history ≡ begun_by options.now filling.now number) }
-    ensures flushed { IfOk result (λ flushed. flushed ≡ flushed_in (P.owner part.new).history) }
+    ensures flushes { IfOk result (λ flushes. flushes ≡ flushes_in (P.owner part.new).history) }
     ensures refused { OnErr result (RefusesFilling options.now filling.now) }
 {
-    let mut flushed = 0;
+    let mut flushes = Flushes::none();
     for write in filling {
-        if !fill_one(part, &mut flushed, options, number, write) {
+        if !fill_one(part, &mut flushes, options, number, write) {
             return Err(OpenFault::Refused);
         }
     }
-    Ok(flushed)
+    Ok(flushes)
 }

@@ -12,6 +12,7 @@ ghost use Rattle.locked_serve.specs.Opening.{IsFilled, AreFilled, ArePlanned, Le
 use crate::filling::{OpenFault, fill};
 use epoch_core::{LendPartition, Partition, Shape};
 use locked_fronts::{LockedPart, OwnedPartition, ServerPlan, Step};
+use mica_fronts::Flushes;
 use mica_io::NoMemory;
 use partition_model::{Options, Write};
 use partition_table::{Note, ReaderSeat, zeros_for};
@@ -25,8 +26,7 @@ use turn_book::TurnBook;
 pub struct FilledPart<P> {
     pub part: P,
     pub book: TurnBook<Step>,
-    /// How many writes it had accepted up to its last flush, with that one.
-    pub flushed: u64,
+    pub flushes: Flushes,
 }
 
 // Makes and fills one partition.
@@ -46,11 +46,11 @@ fn open_part<P: OnTable + LendPartition<Reader = ReaderSeat, Note = Note>>(
     ensures refused { IsErrOf result OpenFault.Refused → RefusesFilling options.now filling.now }
 {
     let mut part = P::from_zeros(alloc, options, zeros)?;
-    let flushed = fill(&mut part, options, number, filling)?;
+    let flushes = fill(&mut part, options, number, filling)?;
     Ok(FilledPart {
         part,
         book: TurnBook::new(alloc)?,
-        flushed,
+        flushes,
     })
 }
 
@@ -145,9 +145,9 @@ pub fn lock_parts<J: ServerPlan, P: LendPartition<Reader = ReaderSeat, Note = No
         let FilledPart {
             part,
             book,
-            flushed,
+            flushes,
         } = filled;
-        locks.push(Mutex::new(OwnedPartition::new(number, part, book, flushed)))?;
+        locks.push(Mutex::new(OwnedPartition::new(number, part, book, flushes)))?;
         number += 1;
     }
     Ok(locks)

@@ -24,12 +24,13 @@ pub record Order : Type 0 where
 abbrev pub numbered : ℕ → ℕ → ℕ
 numbered base written = min (base + written) 18446744073709551615
 
--- When a command is carried out: what was written up to the last flush has lower numbers than what came behind it.
+-- When a command is carried out: what is flushed has lower numbers than what came behind it.
 abbrev pub moment_at : ℕ → When → Moment
 moment_at base when = record {
   second = when.second;
   flushed = if when.flushed == 0 then 0 else numbered base when.flushed;
   unique = numbered base when.written;
+  until = when.until;
 }
 
 -- what becomes of an item, as what is stored of it

@@ -8,9 +8,9 @@ ghost use Rattle.memcached_changes.specs.Numbered.{numbered, moment_at, value_in
 
 use memcached_commands::{Ask, Moment, Says, change_stored, found_in, looks, says_of};
 use memcached_text::Reply;
-use mica_fronts::{Change, Decide, When};
+use mica_fronts::{Decide, When};
 use mica_words::MAX_VALUE_LEN;
-use partition_model::{ItemBuf, Outcome};
+use partition_model::{Change, ItemBuf, Outcome};
 use std::marker::Model;
 
 /// What is asked of a key, where the first value that its partition accepts has this unique number.
@@ -49,6 +49,7 @@ pub fn moment_at(base: u64, when: When) -> Moment
             numbered(base, when.flushed)
         },
         unique: numbered(base, when.written),
+        until: when.until,
     }
 }
 
@@ -93,12 +94,9 @@ impl<'a> Decide for CommandOrder<'a> {
         looks(self.ask)
     }
 
+    #[tactic(auto, using(crate::proofs::Becomings::same_change))]
     fn decide(&self, when: When, found: Option<&[u8]>, next: &mut ItemBuf) -> Change {
         let at = moment_at(self.base, when);
-        match change_stored(&at, self.ask, value_in(found), next) {
-            memcached_commands::Change::Stay => Change::Stay,
-            memcached_commands::Change::Become => Change::Become,
-            memcached_commands::Change::Go => Change::Go,
-        }
+        change_stored(&at, self.ask, value_in(found), next)
     }
 }

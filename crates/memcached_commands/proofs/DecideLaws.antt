@@ -1,5 +1,5 @@
 -- What follows from what is decided.
-use Rattle.std.proofs.Common.{◌≡◌, ◌<◌, ◌≤◌, ◌+◌, ◌-◌, ◌%◌, ◌^◌, ◌==◌, ℕ, List, Bool, true, false, true≢false, Option, Some, None, cond, length, drop, length-drop, max, decimal, nat_le, nat_lt, refl, sym, ap, ◌∙◌, arith, length-append, ◌⊎◌, inl, inr}
+use Rattle.std.proofs.Common.{◌≡◌, ◌<◌, ◌≤◌, ◌+◌, ◌-◌, ◌%◌, ◌^◌, ◌==◌, ℕ, List, Bool, true, false, true≢false, Option, Some, None, cond, length, drop, length-drop, max, min, zero, suc, subst, decimal, nat_le, nat_lt, refl, sym, ap, ◌∙◌, arith, length-append, ◌⊎◌, inl, inr}
 use Rattle.std.proofs.Math.Bool.{and-false}
 use Rattle.std.proofs.Math.Nat.{mod-eq_of_lt, mod-eq-sub-mod}
 use Rattle.std.proofs.lemmas.Bool.{leb-false, ltb-false, ltb-true, le-ltb, lt-leb, eqb-true}
@@ -17,19 +17,20 @@ use Rattle.memcached_text.specs.Item.{item_text, item_in}
 use Rattle.memcached_text.specs.Lifetimes.{IsLifetime}
 use Rattle.memcached_text.proofs.ItemLaws.{one_item}
 use Rattle.memcached_commands.specs.declared.moment.Moment.{Moment}
+use Rattle.memcached_commands.specs.declared.moment.TheConstants.{LAST_SECOND}
 use Rattle.memcached_text.specs.declared.fault.Fault.TheVariants.{TooLarge}
 use Rattle.memcached_text.specs.declared.reply.Reply.TheVariants.{Stored}
 use Rattle.memcached_text.specs.declared.command.Wants.TheVariants.{Whatever, Absent, Present, Numbered}
-use Rattle.memcached_commands.specs.Changes.{without_dead, becoming_of, looks}
+use Rattle.memcached_commands.specs.Changes.{without_dead, ends_with_flush, becoming_of, looks}
 use Rattle.memcached_commands.specs.declared.ask.Says.{Says}
 use Rattle.memcached_commands.specs.declared.ask.Says.TheVariants.{Line, Refusal, Number}
 use Rattle.memcached_commands.specs.declared.ask.Ask.{Ask}
 use Rattle.memcached_commands.specs.declared.ask.Ask.TheVariants.{Get, GetTouch, Store, Join, Count, Touch, Delete, Spoil}
-use Rattle.memcached_commands.specs.Moments.{end_of, is_there, found_in}
+use Rattle.memcached_commands.specs.Moments.{end_of, ended_by, is_there, found_in}
 use Rattle.memcached_commands.specs.Counting.{number_in, counted, padded}
 use Rattle.memcached_commands.specs.Decide.{Becoming, stays, becomes, goes, kept_until, joined, count_from, with_value, is_wanted, stored, missed, leaves, decide}
-use Rattle.memcached_commands.specs.Fit.{IsFitStored}
-use Rattle.memcached_commands.specs.Laws.{IsFitItem, IsKept, BecomesKept, Fits, IsGone, expired, flushed, LateIsNever, EndsAs, NeverLonger, IsSameValue, OneNumberOneValue, CountsOn, Counts, CountsGoOn}
+use Rattle.memcached_commands.specs.Fit.{IsFitAsk, IsFitStored}
+use Rattle.memcached_commands.specs.Laws.{IsFitItem, IsKept, BecomesKept, Fits, IsFitFound, IsGone, expired, flushed, LateIsNever, EndsAs, NeverLonger, EndsWithFlush, IsSameValue, OneNumberOneValue, CountsOn, Counts, CountsGoOn}
 use Rattle.memcached_commands.proofs.CountLaws.{number_fits, counted_fits, padded_fits, padded_len, padded_reads}
 
 fit_is_kept : (item : Item) → IsFitItem item → IsKept item
@@ -69,13 +70,13 @@ count_fits at direction delta item (Some n) low is read =
     let small = counted_fits direction delta n (number_fits item.value n read) in
     valued_fit at item _ low (padded_fits (length item.value) MAX_TEXT_LEN _ small is.value (omega arith)) is
 
-pub fits : Fits
+decided_fits : (at : Moment) (ask : Ask) (found : Option Item) → at.unique < 2 ^ 64 → IsFitAsk ask → IsFitFound found → BecomesKept (decide at ask found).becoming
 unfolding decide
-fits at Get None low asked found = tt
-fits at Get (Some item) low asked found = tt
-fits at (GetTouch lifetime) None low asked found = tt
-fits at (GetTouch lifetime) (Some item) low asked found = kept_fits at.second lifetime item asked found
-fits at (Store wants flags lifetime value) found low asked is = go (is_wanted wants found)
+decided_fits at Get None low asked found = tt
+decided_fits at Get (Some item) low asked found = tt
+decided_fits at (GetTouch lifetime) None low asked found = tt
+decided_fits at (GetTouch lifetime) (Some item) low asked found = kept_fits at.second lifetime item asked found
+decided_fits at (Store wants flags lifetime value) found low asked is = go (is_wanted wants found)
   where
     new : Item
     new = record { flags = flags; expires = 0; unique = at.unique; value = value }
@@ -83,20 +84,37 @@ fits at (Store wants flags lifetime value) found low asked is = go (is_wanted wa
     go : (t : Bool) → BecomesKept (cond t (stored at flags lifetime value) (leaves (Line (missed wants found)))).becoming
     go true = kept_fits at.second lifetime new asked.2 (record { numbers = record { flags = asked.1; expires = omega arith; unique = low }; value = asked.3 })
     go false = tt
-fits at (Join side more) None low asked found = tt
-fits at (Join side more) (Some item) low asked found = go (nat_lt MAX_TEXT_LEN (length item.value + length more)) refl
+decided_fits at (Join side more) None low asked found = tt
+decided_fits at (Join side more) (Some item) low asked found = go (nat_lt MAX_TEXT_LEN (length item.value + length more)) refl
   where
     go : (t : Bool) → nat_lt MAX_TEXT_LEN (length item.value + length more) ≡ t
         → BecomesKept (cond t (leaves (Refusal TooLarge)) (record { becoming = with_value at (joined side more item.value) item; says = Line Stored })).becoming
     go true long = tt
     go false short = valued_fit at item _ low (omega (arith, joined_len side more item.value, ltb-false _ _ short)) found
-fits at (Count direction delta) None low asked found = tt
-fits at (Count direction delta) (Some item) low asked found = count_fits at direction delta item (number_in item.value) low found refl
-fits at (Touch lifetime) None low asked found = tt
-fits at (Touch lifetime) (Some item) low asked found = kept_fits at.second lifetime item asked found
-fits at Delete None low asked found = tt
-fits at Delete (Some item) low asked found = tt
-fits at Spoil found low asked is = tt
+decided_fits at (Count direction delta) None low asked found = tt
+decided_fits at (Count direction delta) (Some item) low asked found = count_fits at direction delta item (number_in item.value) low found refl
+decided_fits at (Touch lifetime) None low asked found = tt
+decided_fits at (Touch lifetime) (Some item) low asked found = kept_fits at.second lifetime item asked found
+decided_fits at Delete None low asked found = tt
+decided_fits at Delete (Some item) low asked found = tt
+decided_fits at Spoil found low asked is = tt
+
+-- and with a flush that waits
+ended_low : (until expires : ℕ) → expires < 2 ^ 32 → ended_by until expires < 2 ^ 32
+ended_low until expires low = go (until == 0) (expires == 0)
+  where
+    go : (none ever : Bool) → cond none expires (cond ever (min until LAST_SECOND) (min (min until LAST_SECOND) expires)) < 2 ^ 32
+    go true ever = low
+    go false true = omega arith
+    go false false = omega (arith, low)
+
+flush_fits : (at : Moment) (becoming : Becoming) → BecomesKept becoming → BecomesKept (ends_with_flush at becoming)
+flush_fits at stays is = tt
+flush_fits at (becomes item) is = later_fit item (ended_by at.until item.expires) (ended_low at.until item.expires is.fit.numbers.expires) is.fit
+flush_fits at goes is = tt
+
+pub fits : Fits
+fits at ask found low asked is = flush_fits at (decide at ask found).becoming (decided_fits at ask found low asked is)
 
 some_end : (expires : ℕ) → 0 < expires → (expires == 0) ≡ false
 some_end expires some = go (expires == 0) refl
@@ -207,6 +225,38 @@ never_longer at Delete None next asked is = stays_no_item next is
 never_longer at Delete (Some item) next asked is = goes_no_item next is
 never_longer at Spoil found next asked is = goes_no_item next is
 
+-- what becomes an item is decided so
+alive_item : (stored : Option (List ℕ)) (found : Option Item) (becoming : Becoming) (item : Item) → without_dead stored found becoming ≡ becomes item → becoming ≡ becomes item
+alive_item None found becoming item is = is
+alive_item (Some stored) (Some old) becoming item is = is
+alive_item (Some stored) None stays item is = goes_no_item item is
+alive_item (Some stored) None (becomes next) item is = is
+alive_item (Some stored) None goes item is = is
+
+above_none : (n : ℕ) → (n == 0) ≡ false → 0 < n
+above_none zero is = absurd (true≢false is)
+above_none (suc n) is = omega arith
+
+ended_soon : (until expires : ℕ) → 0 < until → (0 < ended_by until expires) × (ended_by until expires ≤ until)
+ended_soon until expires some = go (until == 0) refl (expires == 0) refl
+  where
+    go : (none : Bool) → (until == 0) ≡ none → (ever : Bool) → (expires == 0) ≡ ever
+        → let end = cond none expires (cond ever (min until LAST_SECOND) (min (min until LAST_SECOND) expires)) in (0 < end) × (end ≤ until)
+    go true is ever which = let same = eqb-true until 0 is in absurd (omega (arith, some, same))
+    go false is true which = (omega (arith, some), omega arith)
+    go false is false which = let high = above_none expires which in (omega (arith, some, high), omega arith)
+
+flush_ends : (at : Moment) (becoming : Becoming) (item : Item) → 0 < at.until → ends_with_flush at becoming ≡ becomes item
+    → (0 < item.expires) × (item.expires ≤ at.until)
+flush_ends at stays item some is = stays_no_item item is
+flush_ends at (becomes next) item some is =
+    subst (λ e. (0 < e) × (e ≤ at.until)) (ap (λ (i : Item). i.expires) (one_next _ item is)) (ended_soon at.until next.expires some)
+flush_ends at goes item some is = goes_no_item item is
+
+pub ends_with_it : EndsWithFlush
+ends_with_it at ask stored item some is =
+    flush_ends at (decide at ask (found_in at stored)).becoming item some (alive_item stored (found_in at stored) _ item is)
+
 kept_same : (end : Option ℕ) (item next : Item) → kept_until end item ≡ becomes next → IsSameValue (Some item) next
 kept_same None item next is = goes_no_item next is
 kept_same (Some end) item next is =
@@ -286,13 +336,14 @@ unfolding decide
 counts_go_on at direction delta n item is = said_on at direction delta n item (number_in item.value) refl is
 
 -- only what stays is taken away where it is not there
-kept_alive : (end : Option ℕ) (item : Item) (stored : Option (List ℕ)) (found : Option Item) → without_dead stored found (kept_until end item) ≡ kept_until end item
-kept_alive None item None found = refl
-kept_alive None item (Some stored) None = refl
-kept_alive None item (Some stored) (Some old) = refl
-kept_alive (Some end) item None found = refl
-kept_alive (Some end) item (Some stored) None = refl
-kept_alive (Some end) item (Some stored) (Some old) = refl
+kept_alive : (at : Moment) (end : Option ℕ) (item : Item) (stored : Option (List ℕ)) (found : Option Item)
+    → without_dead stored found (ends_with_flush at (kept_until end item)) ≡ ends_with_flush at (kept_until end item)
+kept_alive at None item None found = refl
+kept_alive at None item (Some stored) None = refl
+kept_alive at None item (Some stored) (Some old) = refl
+kept_alive at (Some end) item None found = refl
+kept_alive at (Some end) item (Some stored) None = refl
+kept_alive at (Some end) item (Some stored) (Some old) = refl
 
 goes_alive : (stored : Option (List ℕ)) (found : Option Item) → without_dead stored found goes ≡ goes
 goes_alive None found = refl
@@ -302,7 +353,7 @@ goes_alive (Some stored) (Some old) = refl
 -- a command that does not look makes one thing of whatever is stored
 pub blind : (ask : Ask) → looks ask ≡ false → (at : Moment) (one other : Option (List ℕ)) → becoming_of at ask one ≡ becoming_of at ask other
 unfolding decide
-blind (Store Whatever flags lifetime value) is at one other = kept_alive _ _ one _ ∙ sym (kept_alive _ _ other _)
+blind (Store Whatever flags lifetime value) is at one other = kept_alive at _ _ one _ ∙ sym (kept_alive at _ _ other _)
 blind Spoil is at one other = goes_alive one _ ∙ sym (goes_alive other _)
 blind Get is at one other = absurd (true≢false is)
 blind (GetTouch lifetime) is at one other = absurd (true≢false is)

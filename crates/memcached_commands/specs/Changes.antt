@@ -6,9 +6,9 @@ use Rattle.memcached_commands.specs.declared.moment.Moment.{Moment}
 use Rattle.memcached_commands.specs.declared.ask.Ask.{Ask}
 use Rattle.memcached_text.specs.declared.command.Wants.TheVariants.{Whatever}
 use Rattle.memcached_commands.specs.declared.ask.Ask.TheVariants.{Store, Spoil}
-use Rattle.memcached_commands.specs.declared.change.Change.{Change}
-use Rattle.memcached_commands.specs.declared.change.Change.TheVariants.{Stay, Become, Go}
-use Rattle.memcached_commands.specs.Moments.{found_in}
+use Rattle.partition_model.specs.declared.change.Change.{Change}
+use Rattle.partition_model.specs.declared.change.Change.TheVariants.{Stay, Become, Go}
+use Rattle.memcached_commands.specs.Moments.{ended_by, found_in}
 use Rattle.memcached_commands.specs.Decide.{Becoming, stays, becomes, goes, decide}
 
 -- what is stored and not there is not left
@@ -16,9 +16,15 @@ abbrev pub without_dead : Option (List ℕ) → Option Item → Becoming → Bec
 without_dead (Some stored) None stays = goes
 without_dead _ _ becoming = becoming
 
+-- What is stored while a flush waits ends with it at the latest, so that flush takes what came behind it too.
+abbrev pub ends_with_flush : Moment → Becoming → Becoming
+ends_with_flush at stays = stays
+ends_with_flush at (becomes item) = becomes (record item { expires = ended_by at.until item.expires })
+ends_with_flush at goes = goes
+
 -- What a command makes of what is stored.
 abbrev pub becoming_of : Moment → Ask → Option (List ℕ) → Becoming
-becoming_of at ask stored = without_dead stored (found_in at stored) (decide at ask (found_in at stored)).becoming
+becoming_of at ask stored = without_dead stored (found_in at stored) (ends_with_flush at (decide at ask (found_in at stored)).becoming)
 
 -- the same in memory, where a buffer has the text of the item that is to be
 abbrev pub IsChange : Becoming → Change → List ℕ → Type 0

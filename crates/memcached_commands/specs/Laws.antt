@@ -13,6 +13,7 @@ use Rattle.memcached_commands.specs.declared.ask.Ask.{Ask}
 use Rattle.memcached_commands.specs.declared.ask.Ask.TheVariants.{GetTouch, Store, Count, Touch}
 use Rattle.memcached_commands.specs.declared.ask.Says.TheVariants.{Number}
 use Rattle.memcached_commands.specs.Moments.{found_in}
+use Rattle.memcached_commands.specs.Changes.{ends_with_flush, becoming_of}
 use Rattle.memcached_commands.specs.Counting.{number_in, counted}
 use Rattle.memcached_commands.specs.Decide.{Becoming, becomes, decide}
 use Rattle.memcached_commands.specs.Fit.{IsFitAsk}
@@ -39,7 +40,7 @@ BecomesKept _ = ⊤
 -- What becomes of an item is taken by the store, and read as it was.
 abbrev pub Fits : Type 0
 Fits = (at : Moment) (ask : Ask) (found : Option Item) → at.unique < 2 ^ 64 → IsFitAsk ask → IsFitFound found
-    → BecomesKept (decide at ask found).becoming
+    → BecomesKept (ends_with_flush at (decide at ask found).becoming)
 
 -- the time of an item has come, or a flush took it
 pub data IsGone (at : Moment) (item : Item) : Type 0 where
@@ -75,6 +76,11 @@ EndsAsAsked second None (Some item) expires = expires ≡ item.expires
 abbrev pub NeverLonger : Type 0
 NeverLonger = (at : Moment) (ask : Ask) (found : Option Item) (item : Item) → IsFitAsk ask → (decide at ask found).becoming ≡ becomes item
     → EndsAsAsked at.second (asked_lifetime ask) found item.expires
+
+-- While a flush waits, no item is kept for longer than up to it.
+abbrev pub EndsWithFlush : Type 0
+EndsWithFlush = (at : Moment) (ask : Ask) (stored : Option (List ℕ)) (item : Item) → 0 < at.until → becoming_of at ask stored ≡ becomes item
+    → (0 < item.expires) × (item.expires ≤ at.until)
 
 -- the item before, but for its end
 abbrev pub IsSameValue : Option Item → Item → Type 0

@@ -14,6 +14,11 @@ end_of second Over = None
 end_of second (For seconds) = Some (min (second + seconds) LAST_SECOND)
 end_of second (Until end) = if nat_le end second then None else Some end
 
+-- the end of an item, and that of a flush that waits at the latest
+abbrev pub ended_by : ℕ → ℕ → ℕ
+ended_by until expires =
+    if until == 0 then expires else (if expires == 0 then min until LAST_SECOND else min (min until LAST_SECOND) expires)
+
 -- its time has not come, and no flush took it
 abbrev pub is_there : Moment → Item → Bool
 is_there at item = (item.expires == 0 || nat_lt at.second item.expires) && nat_le at.flushed item.unique

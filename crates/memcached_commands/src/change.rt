@@ -1,35 +1,26 @@
 //! What becomes of what is stored, by a command.
 ghost use Rattle.std.specs.Prelude.{◌≡◌, ◌≤◌, ℕ, false, List, length, Option, option_copied, IfSome};
 ghost use Rattle.memcached_text.specs.declared.limits.TheConstants.{MAX_TEXT_LEN};
-ghost use Rattle.memcached_commands.specs.Changes.{becoming_of, IsChange, looks};
+ghost use Rattle.memcached_commands.specs.Changes.{becoming_of, ends_with_flush, IsChange, looks};
 ghost use Rattle.memcached_commands.specs.Decide.{kept_until, stored, decide};
 ghost use Rattle.memcached_commands.specs.Fit.{IsFitAsk, IsFitStored};
 
 use crate::next_item::{begin_item, put_spaces};
 use crate::wanted::is_wanted;
-use crate::{Ask, Moment, counted, end_of, found_in, number_in};
+use crate::{Ask, Moment, counted, end_of, ended_by, found_in, number_in};
 use itoa::Buffer;
 use memcached_text::{Direction, Item, Lifetime, MAX_TEXT_LEN, Side, Wants};
-use partition_model::ItemBuf;
+use partition_model::{Change, ItemBuf};
 
-/// What is to become of what is stored.
-#[derive(Clone, Copy, Debug, PartialEq, Eq)]
-pub enum Change {
-    Stay,
-    /// It is to be what the buffer has.
-    Become,
-    Go,
-}
-
-// An item that is kept until its end, or goes if that is now.
-fn keep_until(end: Option<u32>, item: &Item, next: &mut ItemBuf) -> Change
+// An item that is kept until its end, or goes if that is now. It ends with a flush that waits at the latest.
+fn keep_until(at: &Moment, end: Option<u32>, item: &Item, next: &mut ItemBuf) -> Change
     requires { length item.now.value ≤ MAX_TEXT_LEN }
-    ensures { IsChange (kept_until end item.now) result next.new }
+    ensures { IsChange (ends_with_flush at.now (kept_until end item.now)) result next.new }
 {
     let Some(expires) = end else {
         return Change::Go;
     };
-    begin_item(next, item.flags, expires, item.unique);
+    begin_item(next, item.flags, ended_by(at.until, expires), item.unique);
     next.extend(item.value.bytes());
     Change::Become
 }
@@ -37,7 +28,7 @@ fn keep_until(end: Option<u32>, item: &Item, next: &mut ItemBuf) -> Change
 // A new item.
 fn store(at: &Moment, flags: u32, lifetime: Lifetime, value: &[u8], next: &mut ItemBuf) -> Change
     requires { length value.now ≤ MAX_TEXT_LEN }
-    ensures { IsChange (stored at.now flags lifetime value.now).becoming result next.new }
+    ensures { IsChange (ends_with_flush at.now (stored at.now flags lifetime value.now).becoming) result next.new }
 {
     let item = Item {
         flags,
@@ -45,24 +36,24 @@ fn store(at: &Moment, flags: u32, lifetime: Lifetime, value: &[u8], next: &mut I
         unique: at.unique,
         value: value.into(),
     };
-    keep_until(end_of(at.second, lifetime), &item, next)
+    keep_until(at, end_of(at.second, lifetime), &item, next)
 }
 
 // The same item for another lifetime, if there is one.
 #[tactic(auto, unfolding(crate::specs::Decide::decide))]
 fn keep(at: &Moment, lifetime: Lifetime, found: Option<&Item>, next: &mut ItemBuf) -> Change
     requires { IfSome (option_copied found) (λ item. length item.value ≤ MAX_TEXT_LEN) }
-    ensures { IsChange (decide at.now (Ask.Touch lifetime) (option_copied found.entry)).becoming result next.new }
+    ensures { IsChange (ends_with_flush at.now (decide at.now (Ask.Touch lifetime) (option_copied found.entry)).becoming) result next.new }
 {
     match found {
-        Some(item) => keep_until(end_of(at.second, lifetime), item, next),
+        Some(item) => keep_until(at, end_of(at.second, lifetime), item, next),
         None => Change::Stay,
     }
 }
 
 #[tactic(auto, unfolding(crate::specs::Decide::decide))]
 fn join(at: &Moment, side: Side, more: &[u8], found: Option<&Item>, next: &mut ItemBuf) -> Change
-    ensures { IsChange (decide at.now (Ask.Join side more.now) (option_copied found.entry)).becoming result next.new }
+    ensures { IsChange (ends_with_flush at.now (decide at.now (Ask.Join side more.now) (option_copied found.entry)).becoming) result next.new }
 {
     let Some(item) = found else {
         return Change::Stay;
@@ -71,7 +62,7 @@ fn join(at: &Moment, side: Side, more: &[u8], found: Option<&Item>, next: &mut I
     if value.len() + more.len() > MAX_TEXT_LEN {
         return Change::Stay;
     }
-    begin_item(next, item.flags, item.expires, at.unique);
+    begin_item(next, item.flags, ended_by(at.until, item.expires), at.unique);
     match side {
         Side::Front => {
             next.extend(more);
@@ -94,7 +85,7 @@ fn count(
     next: &mut ItemBuf,
 ) -> Change
     requires { IfSome (option_copied found) (λ item. length item.value ≤ MAX_TEXT_LEN) }
-    ensures { IsChange (decide at.now (Ask.Count direction delta) (option_copied found.entry)).becoming result next.new }
+    ensures { IsChange (ends_with_flush at.now (decide at.now (Ask.Count direction delta) (option_copied found.entry)).becoming) result next.new }
 {
     let Some(item) = found else {
         return Change::Stay;
@@ -105,7 +96,7 @@ fn count(
     };
     let mut digits = Buffer::new();
     let digits = digits.format(counted(direction, delta, number)).as_bytes();
-    begin_item(next, item.flags, item.expires, at.unique);
+    begin_item(next, item.flags, ended_by(at.until, item.expires), at.unique);
     next.extend(digits);
     put_spaces(next, value.len().saturating_sub(digits.len()));
     Change::Become
@@ -116,7 +107,7 @@ fn count(
 fn change_found(at: &Moment, ask: &Ask, found: Option<&Item>, next: &mut ItemBuf) -> Change
     requires ask { IsFitAsk ask.now }
     requires found { IfSome (option_copied found) (λ item. length item.value ≤ MAX_TEXT_LEN) }
-    ensures { IsChange (decide at.now ask.now (option_copied found.entry)).becoming result next.new }
+    ensures { IsChange (ends_with_flush at.now (decide at.now ask.now (option_copied found.entry)).becoming) result next.new }
 {
     match ask {
         Ask::Get => Change::Stay,

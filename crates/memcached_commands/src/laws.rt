@@ -1,15 +1,17 @@
 //! What a user may rely on, whatever is asked.
-ghost use Rattle.memcached_commands.specs.Laws.{Fits, LateIsNever, NeverLonger, OneNumberOneValue, Counts, CountsGoOn};
+ghost use Rattle.memcached_commands.specs.Laws.{Fits, LateIsNever, NeverLonger, EndsWithFlush, OneNumberOneValue, Counts, CountsGoOn};
 
 /// What becomes of an item is taken by the store, and read as it was.
 pub fn fits()
     ensures { Fits }
 {}
 
-/// What expired or was flushed is as what never was, for each command. No item is kept for longer than was asked.
+/// What expired or was flushed is as what never was, for each command. No item is kept for longer than was asked, nor longer than up to a flush that
+/// waits.
 pub fn in_time()
     ensures late { LateIsNever }
     ensures ends { NeverLonger }
+    ensures flush { EndsWithFlush }
 {}
 
 /// An item keeps its unique number only where it keeps its flags and its value, and else has the new one. So where no

@@ -1,6 +1,6 @@
 //! When a command is carried out, and which items are there then.
 ghost use Rattle.std.specs.Prelude.{◌≡◌, option_copied};
-ghost use Rattle.memcached_commands.specs.Moments.{end_of, is_there, found_in};
+ghost use Rattle.memcached_commands.specs.Moments.{end_of, ended_by, is_there, found_in};
 
 use memcached_text::{Item, Lifetime, read_item};
 
@@ -16,6 +16,8 @@ pub struct Moment {
     pub flushed: u64,
     /// The unique number that a new value gets.
     pub unique: u64,
+    /// The second of a flush that waits, and 0 where none does.
+    pub until: u64,
 }
 
 /// The second from which on an item of this lifetime is not there any more, and 0 where it is kept for ever. None where it is
@@ -33,6 +35,21 @@ pub fn end_of(second: u64, lifetime: Lifetime) -> Option<u32>
         }
         Lifetime::Until(end) if u64::from(end) <= second => None,
         Lifetime::Until(end) => Some(end),
+    }
+}
+
+/// The end of an item, and that of a flush that waits at the latest.
+pub fn ended_by(until: u64, expires: u32) -> u32
+    ensures { result ≡ ended_by until expires }
+{
+    if until == 0 {
+        return expires;
+    }
+    let last = u32::try_from(until).unwrap_or(LAST_SECOND);
+    if expires == 0 {
+        last
+    } else {
+        last.min(expires)
     }
 }
 

@@ -5,11 +5,11 @@ use Rattle.std.proofs.Math.Dec.{eqb-suc-zero}
 use Rattle.std.proofs.Math.Seq.{drop-nil}
 use Rattle.std.proofs.lemmas.List.{append-nil}
 use Rattle.std.proofs.lemmas.List.Elements.{filter_map-append}
-use Rattle.std.proofs.lemmas.Option.{same_Some}
+use Rattle.std.specs.List.{cons_option}
 use Rattle.memcached_text.specs.Answer.{last_text}
 use Rattle.memcached_commands.specs.declared.asks.Asked.{Asked}
 use Rattle.memcached_commands.specs.Answers.{last_of, unless_quiet}
-use Rattle.mica_fronts.specs.Answered.{Answered, wrote, got, changed, kept}
+use Rattle.mica_fronts.specs.Answered.{Answered}
 use Rattle.memcached_fronts.specs.Seconds.{second_in, seconds_of, ToldFrom}
 use Rattle.memcached_fronts.specs.AskAnswers.{AnswersAsks, said_of, shown_text, asks_text}
 use Rattle.memcached_fronts.specs.Going.{ask_text}
@@ -21,10 +21,7 @@ told_then told between tells [] two first then = subst (λ t. ToldFrom t two tel
 told_then told between tells (second ∷ one) two first then = (first.0, told_then second between tells one two first.1 then)
 
 pub one_second : (a : Answered) (second : ℕ) → second_in a ≡ Some second → seconds_of (a ∷ []) ≡ second ∷ []
-one_second (wrote step) second is = absurd (cc)
-one_second (got key stamp value) second is = absurd (cc)
-one_second (changed step look) second is = ap (λ t. t ∷ []) (same_Some _ _ is)
-one_second (kept key stamp look) second is = ap (λ t. t ∷ []) (same_Some _ _ is)
+one_second a second is = ap (λ o. cons_option o []) is
 
 -- one more second was told
 pub tells_more : (told between tells : ℕ) (answers : List Answered) (a : Answered) → ToldFrom told (seconds_of answers) between → between ≤ tells

@@ -6,22 +6,24 @@ use Rattle.std.proofs.lemmas.Bool.{eqb-true, eq-eqb, ltb-true, ltb-false}
 use Rattle.partition_model.specs.declared.options.Options.{Options}
 use Rattle.memcached_text.specs.declared.command.Command.{Command}
 use Rattle.memcached_text.specs.declared.command.Command.TheVariants as commands
+use Rattle.memcached_text.specs.declared.command.Topic.TheVariants.{Server, NoPart}
 use Rattle.memcached_text.specs.declared.next.Next.{Next}
 use Rattle.memcached_text.specs.declared.next.Next.TheVariants as nexts
 use Rattle.memcached_commands.specs.declared.asks.Asked.{Asked}
 use Rattle.memcached_commands.specs.Asks.{asks_in, asks_of}
 use Rattle.memcached_commands.specs.Answers.{unless_quiet}
 use Rattle.mica_fronts.specs.Answered.{Answered}
+use Rattle.memcached_stats.specs.Stats.{Told, stats_text}
+use Rattle.memcached_stats.proofs.Untold.{untold}
 use Rattle.memcached_fronts.specs.AskAnswers.{AnswersAsks, asks_text}
-use Rattle.memcached_fronts.specs.FlushAnswers.{FlushesFrom}
-use Rattle.memcached_fronts.specs.Exchange.{Exchange, AnswersBy, AnswersNext, flushes_now, count_of_answers, is_answered, is_quiet, wants_numbers, plain_text, keyed_text, flush_text, text_by, due_to, due_before, IsOpenAt, longer}
+use Rattle.memcached_fronts.specs.FlushAnswers.{FlushesFrom, flush_at}
+use Rattle.memcached_fronts.specs.Exchange.{Exchange, AnswersBy, AnswersNext, asks_stats, flushes_now, flush_due, count_of_answers, is_answered, is_quiet, wants_numbers, plain_text, keyed_text, flush_text, text_by, due_to, due_before, IsOpenAt, longer}
 use Rattle.mica_fronts.specs.Session.{Sessions, AnswersInOrder}
 use Rattle.memcached_fronts.specs.declared.answer.Limits.{Limits}
 use Rattle.memcached_fronts.specs.declared.answer.Progress.{Progress}
-use Rattle.memcached_fronts.specs.Seconds.{ToldFrom}
+use Rattle.memcached_fronts.specs.Seconds.{seconds_of, ToldFrom}
 use Rattle.memcached_fronts.specs.Going.{StandsAt, AnswersFirst, RepliesFirst, GoesOn, Replies}
 use Rattle.memcached_fronts.proofs.AskLaws.{more_answers, few_answers, more_text, quiet_both}
-use Rattle.memcached_fronts.proofs.Flushing.{no_seconds}
 
 -- a number that is not another
 differs : (n m : ℕ) → n < m → (n == m) ≡ false
@@ -54,28 +56,29 @@ is_below next done stands some =
 module _ (options : Options) (base : ℕ) (next : Next) (done : ℕ) where
   -- Asks of keys
 
-  keyed_is : (asks : List Asked) (answers : List Answered) → 0 < length asks → keyed_text base next asks answers ≡ asks_text base (wants_numbers next) asks answers
-  keyed_is [] answers some = absurd (omega (arith, some))
-  keyed_is (asked ∷ asks) answers some = refl
+  keyed_is : (told : Told) (asks : List Asked) (answers : List Answered) → 0 < length asks
+      → keyed_text options.partitions base told next asks answers ≡ asks_text base (wants_numbers next) asks answers
+  keyed_is told [] answers some = absurd (omega (arith, some))
+  keyed_is told (asked ∷ asks) answers some = refl
 
-  text_is : (answers : List Answered) → flushes_now next ≡ false → 0 < length (asks_in next)
-      → text_by options base next answers ≡ asks_text base (wants_numbers next) (asks_in next) answers
-  text_is answers keyed some =
-      ap (λ t. cond t (flush_text (length answers == options.partitions) answers) (keyed_text base next (asks_in next) answers)) keyed
-      ∙ keyed_is (asks_in next) answers some
+  text_is : (told : Told) (answers : List Answered) → flushes_now next ≡ false → 0 < length (asks_in next)
+      → text_by options base told next answers ≡ asks_text base (wants_numbers next) (asks_in next) answers
+  text_is told answers keyed some =
+      ap (λ t. cond t (flush_text (length answers == options.partitions) answers) (keyed_text options.partitions base told next (asks_in next) answers)) keyed
+      ∙ keyed_is told (asks_in next) answers some
 
-  module _ (answers : List Answered) (keyed : flushes_now next ≡ false) where
+  module _ (told : Told) (answers : List Answered) (keyed : flushes_now next ≡ false) where
     pub asks_go_on : AnswersAsks base (drop done (asks_in next)) answers → (e : Exchange) → StandsAt options base next done e
         → AnswersNext options base e.next (e.answers ++ answers)
     asks_go_on is e at =
         let here : AnswersNext options base next e.answers = subst (λ n. AnswersNext options base n e.answers) at.next_is at.answers in
-        let first : AnswersAsks base (asks_in next) e.answers = subst (λ t. AnswersBy t options base (asks_in next) e.answers) keyed here in
+        let first : AnswersAsks base (asks_in next) e.answers = subst (λ t. AnswersBy t options base (flush_due next) (asks_in next) e.answers) keyed here in
         let then : AnswersAsks base (drop (length e.answers) (asks_in next)) answers = subst (λ n. AnswersAsks base (drop n (asks_in next)) answers) (sym at.count) is in
         subst (λ n. AnswersNext options base n (e.answers ++ answers)) (sym at.next_is)
-        (subst (λ t. AnswersBy t options base (asks_in next) (e.answers ++ answers)) (sym keyed) (more_answers base (asks_in next) e.answers answers first then))
+        (subst (λ t. AnswersBy t options base (flush_due next) (asks_in next) (e.answers ++ answers)) (sym keyed) (more_answers base (asks_in next) e.answers answers first then))
 
     pub asks_are_due : IsOpenAt next done → 0 < length (asks_in next) → (e : Exchange) → StandsAt options base next done e
-        → due_to options base (longer e answers)
+        → due_to options base (longer e answers told)
         ≡ due_before options base e ++ unless_quiet (is_quiet next) (asks_text base (wants_numbers next) (drop done (asks_in next)) answers)
     asks_are_due stands some e at =
         let quiet = is_quiet next in
@@ -85,10 +88,10 @@ module _ (options : Options) (base : ℕ) (next : Next) (done : ℕ) where
         ap (λ n. length e.answers == count_of_answers options n) at.next_is ∙ ap (λ t. length e.answers == cond t options.partitions (length (asks_in next))) keyed
         ∙ differs (length e.answers) (length (asks_in next)) (omega (arith, less, at.count)) in
         let before : due_before options base e ≡ unless_quiet quiet (asks_text base unique (asks_in next) e.answers) =
-        ap (λ t. cond t [] (due_to options base e)) not_yet ∙ ap (λ n. unless_quiet (is_quiet n) (text_by options base n e.answers)) at.next_is
-        ∙ ap (unless_quiet quiet) (text_is e.answers keyed some) in
-        let after : due_to options base (longer e answers) ≡ unless_quiet quiet (asks_text base unique (asks_in next) (e.answers ++ answers)) =
-        ap (λ n. unless_quiet (is_quiet n) (text_by options base n (e.answers ++ answers))) at.next_is ∙ ap (unless_quiet quiet) (text_is (e.answers ++ answers) keyed some) in
+        ap (λ t. cond t [] (due_to options base e)) not_yet ∙ ap (λ n. unless_quiet (is_quiet n) (text_by options base e.told n e.answers)) at.next_is
+        ∙ ap (unless_quiet quiet) (text_is e.told e.answers keyed some) in
+        let after : due_to options base (longer e answers told) ≡ unless_quiet quiet (asks_text base unique (asks_in next) (e.answers ++ answers)) =
+        ap (λ n. unless_quiet (is_quiet n) (text_by options base told n (e.answers ++ answers))) at.next_is ∙ ap (unless_quiet quiet) (text_is told (e.answers ++ answers) keyed some) in
         after ∙ ap (unless_quiet quiet) (more_text base unique (asks_in next) e.answers answers) ∙ quiet_both quiet (asks_text base unique (asks_in next) e.answers) (asks_text base unique (drop (length e.answers) (asks_in next)) answers)
         ∙ ap (λ n. unless_quiet quiet (asks_text base unique (asks_in next) e.answers) ++ unless_quiet quiet (asks_text base unique (drop n (asks_in next)) answers)) at.count
         ∙ ap (λ text. text ++ unless_quiet quiet (asks_text base unique (drop done (asks_in next)) answers)) (sym before)
@@ -98,17 +101,17 @@ module _ (options : Options) (base : ℕ) (next : Next) (done : ℕ) where
   pub nothing_more : (e : Exchange) → StandsAt options base next done e → AnswersNext options base e.next (e.answers ++ [])
   nothing_more e at = subst (AnswersNext options base e.next) (sym (append-nil e.answers)) at.answers
 
-  pub plain_is_due : flushes_now next ≡ false → asks_in next ≡ [] → done ≡ 0 → (e : Exchange) → StandsAt options base next done e
-      → due_to options base (longer e []) ≡ due_before options base e ++ unless_quiet (is_quiet next) (plain_text next)
-  plain_is_due keyed none first e at =
+  pub plain_is_due : (told : Told) → flushes_now next ≡ false → asks_in next ≡ [] → done ≡ 0 → (e : Exchange) → StandsAt options base next done e
+      → due_to options base (longer e [] told) ≡ due_before options base e ++ unless_quiet (is_quiet next) (plain_text options.partitions told next)
+  plain_is_due told keyed none first e at =
       let whole : is_answered options e ≡ true =
       ap (λ n. length e.answers == count_of_answers options n) at.next_is ∙ ap (λ t. length e.answers == cond t options.partitions (length (asks_in next))) keyed
       ∙ ap (λ asks. length e.answers == length asks) none ∙ ap (λ n. n == 0) (at.count ∙ first) in
-      let text : text_by options base next (e.answers ++ []) ≡ plain_text next =
-      ap (λ t. cond t (flush_text (length (e.answers ++ []) == options.partitions) (e.answers ++ [])) (keyed_text base next (asks_in next) (e.answers ++ []))) keyed
-      ∙ ap (λ asks. keyed_text base next asks (e.answers ++ [])) none in
-      ap (λ n. unless_quiet (is_quiet n) (text_by options base n (e.answers ++ []))) at.next_is ∙ ap (unless_quiet (is_quiet next)) text
-      ∙ ap (λ t. cond t [] (due_to options base e) ++ unless_quiet (is_quiet next) (plain_text next)) (sym whole)
+      let text : text_by options base told next (e.answers ++ []) ≡ plain_text options.partitions told next =
+      ap (λ t. cond t (flush_text (length (e.answers ++ []) == options.partitions) (e.answers ++ [])) (keyed_text options.partitions base told next (asks_in next) (e.answers ++ []))) keyed
+      ∙ ap (λ asks. keyed_text options.partitions base told next asks (e.answers ++ [])) none in
+      ap (λ n. unless_quiet (is_quiet n) (text_by options base told n (e.answers ++ []))) at.next_is ∙ ap (unless_quiet (is_quiet next)) text
+      ∙ ap (λ t. cond t [] (due_to options base e) ++ unless_quiet (is_quiet next) (plain_text options.partitions told next)) (sym whole)
 
 -- Flushes
 
@@ -134,7 +137,7 @@ no_asks nexts.More is = refl
 no_asks nexts.LongLine is = refl
 
 -- how many bytes are due before a flush, and after it
-module _ (options : Options) (base : ℕ) (next : Next) (flushes : flushes_now next ≡ true) (e : Exchange) (at : StandsAt options base next 0 e) (answers : List Answered) where
+module _ (options : Options) (base : ℕ) (next : Next) (flushes : flushes_now next ≡ true) (e : Exchange) (at : StandsAt options base next 0 e) (told : Told) (answers : List Answered) where
   none_yet : (given : List Answered) → length given ≡ 0 → given ≡ []
   none_yet [] is = refl
   none_yet (a ∷ given) is = absurd (omega (arith, is))
@@ -142,10 +145,10 @@ module _ (options : Options) (base : ℕ) (next : Next) (flushes : flushes_now n
   empty : e.answers ≡ []
   empty = none_yet e.answers at.count
 
-  pub flush_goes_on : FlushesFrom options 0 answers → AnswersNext options base e.next (e.answers ++ answers)
+  pub flush_goes_on : ((second : ℕ) × FlushesFrom options (flush_at second (flush_due next)) 0 answers) → AnswersNext options base e.next (e.answers ++ answers)
   flush_goes_on is =
       subst (λ given. AnswersNext options base e.next (given ++ answers)) (sym empty)
-      (subst (λ n. AnswersNext options base n answers) (sym at.next_is) (subst (λ t. AnswersBy t options base (asks_in next) answers) (sym flushes) is))
+      (subst (λ n. AnswersNext options base n answers) (sym at.next_is) (subst (λ t. AnswersBy t options base (flush_due next) (asks_in next) answers) (sym flushes) is))
 
   nothing_due : (quiet : Bool) → unless_quiet quiet [] ≡ []
   nothing_due true = refl
@@ -155,21 +158,47 @@ module _ (options : Options) (base : ℕ) (next : Next) (flushes : flushes_now n
   before_is true = refl
   before_is false = nothing_due (is_quiet next)
 
-  pub flush_is_due : length answers ≡ options.partitions → due_to options base (longer e answers) ≡ due_before options base e ++ unless_quiet (is_quiet next) (flush_text true answers)
+  pub flush_is_due : length answers ≡ options.partitions → due_to options base (longer e answers told) ≡ due_before options base e ++ unless_quiet (is_quiet next) (flush_text true answers)
   flush_is_due many =
       let quiet = is_quiet next in
-      let text : (given : List Answered) → text_by options base next given ≡ flush_text (length given == options.partitions) given =
-      λ given. ap (λ t. cond t (flush_text (length given == options.partitions) given) (keyed_text base next (asks_in next) given)) flushes in
-      let after : due_to options base (longer e answers) ≡ unless_quiet quiet (flush_text true answers) =
-      ap (λ n. unless_quiet (is_quiet n) (text_by options base n (e.answers ++ answers))) at.next_is
-      ∙ ap (λ given. unless_quiet quiet (text_by options base next (given ++ answers))) empty
-      ∙ ap (unless_quiet quiet) (text answers ∙ ap (λ t. flush_text t answers) (eq-eqb (length answers) options.partitions many)) in
+      let text : (t : Told) (given : List Answered) → text_by options base t next given ≡ flush_text (length given == options.partitions) given =
+      λ t given. ap (λ is. cond is (flush_text (length given == options.partitions) given) (keyed_text options.partitions base t next (asks_in next) given)) flushes in
+      let after : due_to options base (longer e answers told) ≡ unless_quiet quiet (flush_text true answers) =
+      ap (λ n. unless_quiet (is_quiet n) (text_by options base told n (e.answers ++ answers))) at.next_is
+      ∙ ap (λ given. unless_quiet quiet (text_by options base told next (given ++ answers))) empty
+      ∙ ap (unless_quiet quiet) (text told answers ∙ ap (λ t. flush_text t answers) (eq-eqb (length answers) options.partitions many)) in
       let before : due_before options base e ≡ [] =
-      ap (λ n. cond (length e.answers == count_of_answers options n) [] (unless_quiet (is_quiet n) (text_by options base n e.answers))) at.next_is
-      ∙ ap (λ given. cond (length given == count_of_answers options next) [] (unless_quiet quiet (text_by options base next given))) empty
-      ∙ ap (λ t. cond (0 == cond t options.partitions (length (asks_in next))) [] (unless_quiet quiet (text_by options base next []))) flushes
-      ∙ ap (λ text. cond (0 == options.partitions) [] (unless_quiet quiet text)) (text []) ∙ before_is (0 == options.partitions) in
+      ap (λ n. cond (length e.answers == count_of_answers options n) [] (unless_quiet (is_quiet n) (text_by options base e.told n e.answers))) at.next_is
+      ∙ ap (λ given. cond (length given == count_of_answers options next) [] (unless_quiet quiet (text_by options base e.told next given))) empty
+      ∙ ap (λ t. cond (0 == cond t options.partitions (length (asks_in next))) [] (unless_quiet quiet (text_by options base e.told next []))) flushes
+      ∙ ap (λ text. cond (0 == options.partitions) [] (unless_quiet quiet text)) (text e.told []) ∙ before_is (0 == options.partitions) in
       after ∙ ap (λ text. text ++ unless_quiet quiet (flush_text true answers)) (sym before)
+
+-- What the server tells of itself
+
+-- what is due where that is asked: nothing is asked of keys
+pub record AsksStats (next : Next) : Type 0 where
+  pub keyed : flushes_now next ≡ false
+  pub none : asks_in next ≡ []
+  pub due : (partitions : ℕ) (told : Told) → unless_quiet (is_quiet next) (plain_text partitions told next) ≡ stats_text partitions told
+
+pub of_stats : (next : Next) → asks_stats next ≡ true → AsksStats next
+of_stats (nexts.Command (commands.Stats Server) len) is = record { keyed = refl; none = refl; due = λ partitions told. refl }
+of_stats (nexts.Command (commands.Stats NoPart) len) is = absurd (true≢false (sym is))
+of_stats (nexts.Command (commands.Get keys unique lifetime) len) is = absurd (true≢false (sym is))
+of_stats (nexts.Command (commands.Store wants key flags lifetime value quiet) len) is = absurd (true≢false (sym is))
+of_stats (nexts.Command (commands.Join side key value quiet) len) is = absurd (true≢false (sym is))
+of_stats (nexts.Command (commands.Count direction key delta quiet) len) is = absurd (true≢false (sym is))
+of_stats (nexts.Command (commands.Delete key quiet) len) is = absurd (true≢false (sym is))
+of_stats (nexts.Command (commands.Touch key lifetime quiet) len) is = absurd (true≢false (sym is))
+of_stats (nexts.Command (commands.Flush due quiet) len) is = absurd (true≢false (sym is))
+of_stats (nexts.Command commands.Version len) is = absurd (true≢false (sym is))
+of_stats (nexts.Command (commands.Verbosity quiet) len) is = absurd (true≢false (sym is))
+of_stats (nexts.Command commands.Noop len) is = absurd (true≢false (sym is))
+of_stats (nexts.Command commands.Quit len) is = absurd (true≢false (sym is))
+of_stats (nexts.Refused fault stale quiet len) is = absurd (true≢false (sym is))
+of_stats nexts.More is = absurd (true≢false (sym is))
+of_stats nexts.LongLine is = absurd (true≢false (sym is))
 
 -- What one call makes
 
@@ -181,18 +210,18 @@ at_first next done stands none =
 module _ (options : Options) (is_alone : Bool) (base : ℕ) (next : Next) (done : ℕ) (stands : IsOpenAt next done) (old new : Sessions) (told tells : ℕ) where
   -- A flush
 
-  module _ (flushes : flushes_now next ≡ true) (answers : List Answered) (is : FlushesFrom options 0 answers) where
+  module _ (flushes : flushes_now next ≡ true) (answers : List Answered) (is : (second : ℕ) × FlushesFrom options (flush_at second (flush_due next)) 0 answers) where
     first : done ≡ 0
     first = at_first next done stands (no_asks next flushes)
 
     here : (e : Exchange) → StandsAt options base next done e → StandsAt options base next 0 e
     here e at = subst (λ n. StandsAt options base next n e) first at
 
-    pub flush_goes : AnswersInOrder options is_alone old answers new → GoesOn options is_alone base next done old told new told answers
-    flush_goes in_order = record {
+    pub flush_goes : AnswersInOrder options is_alone old answers new → ToldFrom told (seconds_of answers) tells → GoesOn options is_alone base next done old told new tells answers
+    flush_goes in_order seconds = record {
       in_order = in_order;
-      seconds = subst (λ s. ToldFrom told s told) (sym (no_seconds options 0 answers is)) refl;
-      next_ones = λ e at. flush_goes_on options base next flushes e (here e at) answers is;
+      seconds = seconds;
+      next_ones = λ e at. flush_goes_on options base next flushes e (here e at) untold answers is;
     }
 
     pub flush_replies : (limits : Limits) (before after : List ℕ) (progress : Progress) → length answers ≡ options.partitions
@@ -200,8 +229,9 @@ module _ (options : Options) (is_alone : Bool) (base : ℕ) (next : Next) (done 
         → Replies options base next done limits answers before after progress
     flush_replies limits before after progress many is_all text = record {
       text = unless_quiet (is_quiet next) (flush_text true answers);
+      told = untold;
       appended = text;
-      due = λ e at. flush_is_due options base next flushes e (here e at) answers many;
+      due = λ e at. flush_is_due options base next flushes e (here e at) untold answers many;
       count = let done_is = ap (λ (p : Progress). p.done) is_all in omega (arith, done_is, many, first);
       whole =
           ap (λ (p : Progress). p.is_whole) is_all
@@ -215,13 +245,14 @@ module _ (options : Options) (is_alone : Bool) (base : ℕ) (next : Next) (done 
     pub plain_goes : GoesOn options is_alone base next done old told old told []
     plain_goes = record { in_order = λ q. refl; seconds = refl; next_ones = nothing_more options base next done }
 
-    pub plain_replies : (limits : Limits) (before after : List ℕ) → after ≡ before ++ unless_quiet (is_quiet next) (plain_text next)
+    pub plain_replies : (said : Told) (limits : Limits) (before after : List ℕ) → after ≡ before ++ unless_quiet (is_quiet next) (plain_text options.partitions said next)
         → Replies options base next done limits [] before after (record { done = done; is_whole = true })
-    plain_replies limits before after text =
+    plain_replies said limits before after text =
         let first = at_first next done stands none in record {
-          text = unless_quiet (is_quiet next) (plain_text next);
+          text = unless_quiet (is_quiet next) (plain_text options.partitions said next);
+          told = said;
           appended = text;
-          due = plain_is_due options base next done keyed none first;
+          due = plain_is_due options base next done said keyed none first;
           count = omega arith;
           whole = sym (ap (λ t. done == cond t options.partitions (length (asks_in next))) keyed ∙ eq-eqb done (length (asks_in next)) (first ∙ sym (ap length none)));
           stops = λ part. absurd (true≢false part);
@@ -234,7 +265,7 @@ module _ (options : Options) (is_alone : Bool) (base : ℕ) (next : Next) (done 
     asks_go first = record {
       in_order = first.in_order;
       seconds = first.seconds;
-      next_ones = asks_go_on options base next done answers keyed first.to_asks;
+      next_ones = asks_go_on options base next done untold answers keyed first.to_asks;
     }
 
     -- whether nothing is left, and whether as many were answered as were asked
@@ -266,8 +297,9 @@ module _ (options : Options) (is_alone : Bool) (base : ℕ) (next : Next) (done 
         let fits : done + count ≤ length (asks_in next) = let many = r.many in omega (arith, few, len, less, many) in
         let end : (length left == 0) ≡ (done + count == length (asks_in next)) = ap (λ l. length l == 0) r.left_is ∙ same_end count fits in record {
           text = unless_quiet (is_quiet next) (asks_text base (wants_numbers next) (drop done (asks_in next)) answers);
+          told = untold;
           appended = r.text;
-          due = asks_are_due options base next done answers keyed stands some;
+          due = asks_are_due options base next done untold answers keyed stands some;
           count = ap (λ n. done + n) r.many;
           whole = end ∙ sym (ap (λ t. done + count == cond t options.partitions (length (asks_in next))) keyed);
           stops = λ part. (

@@ -1,6 +1,9 @@
 -- Partitions that are flushed one after another.
-use Rattle.std.proofs.Common.{◌≡◌, ◌≤◌, ◌+◌, ◌&&◌, ℕ, suc, Bool, true, false, List, [], ◌∷◌, ◌++◌, length, refl, sym, ap, ◌∙◌, subst, arith, length-append}
-use Rattle.std.specs.List.{list_all}
+use Rattle.std.proofs.Common.{◌≡◌, ◌<◌, ◌≤◌, ◌+◌, ◌^◌, ◌&&◌, ℕ, zero, suc, Bool, true, false, cond, List, [], ◌∷◌, ◌++◌, length, drop, nat_lt, Option, Some, None, option_to_list, refl, sym, ap, ◌∙◌, subst, arith, length-append}
+use Rattle.std.specs.Int.{w64, to_le_bytes, from_le_bytes}
+use Rattle.std.specs.List.{list_all, cons_option}
+use Rattle.std.proofs.lemmas.Bool.{le-ltb}
+use Rattle.std.proofs.lemmas.Nat.{from_le_bytes-to_le_bytes_8}
 use Rattle.std.proofs.lemmas.List.Folds.{list_all-append}
 use Rattle.mica_words.specs.Hash.{partition_of}
 use Rattle.partition_model.specs.declared.options.Options.{Options}
@@ -9,77 +12,139 @@ use Rattle.partition_model.specs.declared.write.Op.TheVariants.{Del}
 use Rattle.partition_model.specs.Write.{write_of, is_accepted}
 use Rattle.partition_model.specs.Run.{RunStep}
 use Rattle.mica_fronts.specs.Answered.{Answered, wrote, got, changed, kept, accepts, count_of_writes}
-use Rattle.mica_fronts.specs.Flushes.{begins_with_feed}
+use Rattle.mica_fronts.specs.declared.flushes.TheConstants.{FLUSH_LEN}
+use Rattle.mica_fronts.specs.declared.flushes.Flush.{Flush}
+use Rattle.mica_fronts.specs.Flushes.{begins_with_feed, flush_in}
 use Rattle.mica_fronts.specs.Session.{Sessions, Answers, AnswersInOrder, ChangesOnly, Writes}
 use Rattle.mica_fronts.proofs.InOrder.{answers_append}
-use Rattle.memcached_fronts.specs.Seconds.{seconds_of}
-use Rattle.memcached_fronts.specs.FlushAnswers.{FlushesOne, FlushesFrom}
+use Rattle.memcached_fronts.specs.Seconds.{second_asked, second_in, seconds_of, ToldFrom}
+use Rattle.memcached_text.specs.declared.lifetime.Due.{Due}
+use Rattle.memcached_fronts.specs.FlushAnswers.{FlushesOne, FlushesFrom, flush_at}
 
 -- so many partitions were flushed, and each took it or not
-pub record Flushed (options : Options) (is_alone : Bool) (old new : Sessions) (count : ℕ) (took : Bool) : Type 0 where
+pub record Flushed (options : Options) (flush : Flush) (is_alone : Bool) (old new : Sessions) (count : ℕ) (took : Bool) : Type 0 where
   pub answers : List Answered
   pub in_order : AnswersInOrder options is_alone old answers new
-  pub flushes : FlushesFrom options 0 answers
+  pub flushes : FlushesFrom options flush 0 answers
   pub many : length answers ≡ count
   pub took_all : took ≡ list_all accepts answers
 
-pub none_flushed : (options : Options) (is_alone : Bool) (old : Sessions) → Flushed options is_alone old old 0 true
-none_flushed options is_alone old = record { answers = []; in_order = λ q. refl; flushes = tt; many = refl; took_all = refl }
+pub none_flushed : (options : Options) (flush : Flush) (is_alone : Bool) (old : Sessions) → Flushed options flush is_alone old old 0 true
+none_flushed options flush is_alone old = record { answers = []; in_order = λ q. refl; flushes = tt; many = refl; took_all = refl }
 
-flushes_then : (options : Options) (partition count : ℕ) (answers : List Answered) (a : Answered) → FlushesFrom options partition answers → length answers ≡ count
-    → FlushesOne options (partition + count) a → FlushesFrom options partition (answers ++ a ∷ [])
-flushes_then options partition count [] a first many one = (subst (λ (p : ℕ). FlushesOne options p a) (omega (arith, many)) one, tt)
-flushes_then options partition count (x ∷ answers) a first many one = (
+flushes_then : (options : Options) (flush : Flush) (partition count : ℕ) (answers : List Answered) (a : Answered) → FlushesFrom options flush partition answers
+    → length answers ≡ count → FlushesOne options flush (partition + count) a → FlushesFrom options flush partition (answers ++ a ∷ [])
+flushes_then options flush partition count [] a first many one = (subst (λ (p : ℕ). FlushesOne options flush p a) (omega (arith, many)) one, tt)
+flushes_then options flush partition count (x ∷ answers) a first many one = (
   first.0,
-  flushes_then options (suc partition) (length answers) answers a first.1 refl (subst (λ (p : ℕ). FlushesOne options p a) (omega (arith, many)) one),
+  flushes_then options flush (suc partition) (length answers) answers a first.1 refl (subst (λ (p : ℕ). FlushesOne options flush p a) (omega (arith, many)) one),
 )
 
 and_true : (t : Bool) → t ≡ (t && true)
 and_true true = refl
 and_true false = refl
 
-module _ (options : Options) (is_alone : Bool) (old between new : Sessions) (count : ℕ) (took : Bool) where
-  pub flushed_more : (a : Answered) → Flushed options is_alone old between count took → FlushesOne options count a → Answers options is_alone between a new
-      → Flushed options is_alone old new (count + 1) (took && accepts a)
+module _ (options : Options) (flush : Flush) (is_alone : Bool) (old between new : Sessions) (count : ℕ) (took : Bool) where
+  pub flushed_more : (a : Answered) → Flushed options flush is_alone old between count took → FlushesOne options flush count a → Answers options is_alone between a new
+      → Flushed options flush is_alone old new (count + 1) (took && accepts a)
   flushed_more a so_far one here =
       let zero : count ≡ 0 + count = omega arith in record {
         answers = so_far.answers ++ a ∷ [];
         in_order = answers_append options is_alone so_far.answers (a ∷ []) old between new so_far.in_order (new, here, λ q. refl);
-        flushes = flushes_then options 0 count so_far.answers a so_far.flushes so_far.many (subst (λ (n : ℕ). FlushesOne options n a) zero one);
+        flushes = flushes_then options flush 0 count so_far.answers a so_far.flushes so_far.many (subst (λ (n : ℕ). FlushesOne options flush n a) zero one);
         many = length-append so_far.answers (a ∷ []) ∙ ap (λ n. n + 1) so_far.many;
         took_all =
             ap (λ t. t && accepts a) so_far.took_all ∙ ap (λ t. list_all accepts so_far.answers && t) (and_true (accepts a))
             ∙ sym (list_all-append accepts so_far.answers (a ∷ []));
       }
 
--- a flush reads no clock
-pub no_seconds : (options : Options) (partition : ℕ) (answers : List Answered) → FlushesFrom options partition answers → seconds_of answers ≡ []
-no_seconds options partition [] is = refl
-no_seconds options partition (wrote step ∷ answers) is = no_seconds options (suc partition) answers is.1
-no_seconds options partition (got key stamp value ∷ answers) is = absurd is.0
-no_seconds options partition (changed step look ∷ answers) is = absurd is.0
-no_seconds options partition (kept key stamp look ∷ answers) is = absurd is.0
+-- Seconds
+
+module _ (options : Options) (flush : Flush) where
+  one_asked : (partition : ℕ) (a : Answered) → FlushesOne options flush partition a → second_in a ≡ second_asked flush
+  one_asked partition (wrote step) is = ap (λ t. cond t (second_asked (flush_in step.write.key)) None) is.0 ∙ ap second_asked is.1
+  one_asked partition (got key stamp value) is = absurd is
+  one_asked partition (changed step look) is = absurd is
+  one_asked partition (kept key stamp look) is = absurd is
+
+  -- a flush at once reads no clock
+  none_told : (partition : ℕ) (answers : List Answered) → second_asked flush ≡ None → FlushesFrom options flush partition answers → seconds_of answers ≡ []
+  none_told partition [] none is = refl
+  none_told partition (a ∷ answers) none is =
+      (λ i. cons_option ((one_asked partition a is.0 ∙ none) i) (none_told (suc partition) answers none is.1 i))
+
+  -- and each partition tells the second of another
+  same_told : (partition second : ℕ) (answers : List Answered) (tells : ℕ) → second_asked flush ≡ Some second → tells ≡ second
+      → FlushesFrom options flush partition answers → ToldFrom second (seconds_of answers) tells
+  same_told partition second [] tells at same is = same
+  same_told partition second (a ∷ answers) tells at same is =
+      subst (λ o. ToldFrom second (cons_option o (seconds_of answers)) tells) (sym (one_asked partition a is.0 ∙ at))
+      (omega arith, same_told (suc partition) second answers tells at same is.1)
+
+  pub flush_told : (answers : List Answered) (told tells : ℕ) → 0 < length answers → FlushesFrom options flush 0 answers
+      → ToldFrom told (option_to_list (second_asked flush)) tells → ToldFrom told (seconds_of answers) tells
+  flush_told [] told tells some is at = absurd (omega (arith, some))
+  flush_told (a ∷ answers) told tells some is at = go (second_asked flush) refl at
+    where
+      go : (o : Option ℕ) → second_asked flush ≡ o → ToldFrom told (option_to_list o) tells → ToldFrom told (seconds_of (a ∷ answers)) tells
+      go None none at = subst (λ s. ToldFrom told s tells) (sym (none_told 0 (a ∷ answers) none is)) at
+      go (Some second) here at =
+          subst (λ o. ToldFrom told (cons_option o (seconds_of answers)) tells) (sym (one_asked 0 a is.0 ∙ here))
+          (at.0, same_told 1 second answers tells here at.1 is.1)
+
+-- the second that a clock told last is told by the flush that was asked for then
+pub told_then : (told second : ℕ) → told ≤ second → ToldFrom told (option_to_list (cond (nat_lt 0 second) (Some second) None)) second
+told_then told zero falls = omega (arith, falls)
+told_then told (suc n) falls = (falls, refl)
+
+-- all partitions tell the second at which they were asked, where there are any
+pub all_told : (options : Options) (flush : Flush) (answers : List Answered) (told tells partitions : ℕ) (due : Due) → length answers ≡ partitions
+    → FlushesFrom options flush 0 answers → (0 < partitions → (second : ℕ) × (flush ≡ flush_at second due)) → (partitions ≡ 0 → tells ≡ told)
+    → ToldFrom told (option_to_list (second_asked flush)) tells
+    → ToldFrom told (seconds_of answers) tells × ((second : ℕ) × FlushesFrom options (flush_at second due) 0 answers)
+all_told options flush [] told tells partitions due many is asked none at = (none (sym many), 0, tt)
+all_told options flush (a ∷ answers) told tells partitions due many is asked none at =
+    let here = asked (omega (arith, many)) in (
+      flush_told options flush (a ∷ answers) told tells (omega arith) is at,
+      here.0,
+      subst (λ f. FlushesFrom options f 0 (a ∷ answers)) here.1 is,
+    )
+
+-- Writes
 
 -- each flush is a write
-pub all_writes : (options : Options) (partition : ℕ) (answers : List Answered) → FlushesFrom options partition answers → count_of_writes answers ≡ length answers
-all_writes options partition [] is = refl
-all_writes options partition (wrote step ∷ answers) is = ap suc (all_writes options (suc partition) answers is.1)
-all_writes options partition (got key stamp value ∷ answers) is = absurd is.0
-all_writes options partition (changed step look ∷ answers) is = absurd is.0
-all_writes options partition (kept key stamp look ∷ answers) is = absurd is.0
+pub all_writes : (options : Options) (flush : Flush) (partition : ℕ) (answers : List Answered) → FlushesFrom options flush partition answers → count_of_writes answers ≡ length answers
+all_writes options flush partition [] is = refl
+all_writes options flush partition (wrote step ∷ answers) is = ap suc (all_writes options flush (suc partition) answers is.1)
+all_writes options flush partition (got key stamp value ∷ answers) is = absurd is.0
+all_writes options flush partition (changed step look ∷ answers) is = absurd is.0
+all_writes options flush partition (kept key stamp look ∷ answers) is = absurd is.0
 
 -- so no more was given to the front than the flushes
-pub flushes_few : {options : Options} {is_alone : Bool} {old new : Sessions} {count : ℕ} {took : Bool} (left left_after : ℕ) (f : Flushed options is_alone old new count took)
+pub flushes_few : {options : Options} {flush : Flush} {is_alone : Bool} {old new : Sessions} {count : ℕ} {took : Bool} (left left_after : ℕ) (f : Flushed options flush is_alone old new count took)
     → left ≤ left_after + count → left ≤ left_after + count_of_writes f.answers
-flushes_few {options} left left_after f few = omega (arith, few, f.many, all_writes options 0 f.answers f.flushes)
+flushes_few {options} {flush} left left_after f few = omega (arith, few, f.many, all_writes options flush 0 f.answers f.flushes)
+
+-- Keys
+
+-- what a key of a flush says
+pub key_says : (due asked : ℕ) (rest : List ℕ) → due < 2 ^ 64 → asked < 2 ^ 64
+    → flush_in (10 ∷ to_le_bytes w64 due ++ to_le_bytes w64 asked ++ rest) ≡ record { due = due; asked = asked }
+unfolding flush_in
+key_says due asked rest due_low asked_low =
+    let key : List ℕ = 10 ∷ to_le_bytes w64 due ++ to_le_bytes w64 asked ++ rest in
+    let at : from_le_bytes w64 (drop 1 key) ≡ due = from_le_bytes-to_le_bytes_8 due due_low in
+    let from : from_le_bytes w64 (drop 9 key) ≡ asked = from_le_bytes-to_le_bytes_8 asked asked_low in
+    let long : nat_lt (length key) FLUSH_LEN ≡ false = le-ltb _ _ (omega arith) in
+    rw (long, at, from) refl
 
 -- the write of a partition's flush
-pub one_flush : (options : Options) (is_alone : Bool) (old new : Sessions) (partition : ℕ) (key : List ℕ) (outcome : Outcome) (stamp : ℕ) → begins_with_feed key ≡ true
-    → partition_of key options.partitions ≡ partition
+pub one_flush : (options : Options) (flush : Flush) (is_alone : Bool) (old new : Sessions) (partition : ℕ) (key : List ℕ) (outcome : Outcome) (stamp : ℕ) → begins_with_feed key ≡ true
+    → flush_in key ≡ flush → partition_of key options.partitions ≡ partition
     → Writes options is_alone (old (partition_of key options.partitions)) (record { write = write_of Del key []; outcome = outcome; stamp = stamp })
     (new (partition_of key options.partitions))
     → ChangesOnly (partition_of key options.partitions) old new
-    → (answered : Answered) × FlushesOne options partition answered × Answers options is_alone old answered new × (is_accepted outcome ≡ accepts answered)
-one_flush options is_alone old new partition key outcome stamp feed at written others =
+    → (answered : Answered) × FlushesOne options flush partition answered × Answers options is_alone old answered new × (is_accepted outcome ≡ accepts answered)
+one_flush options flush is_alone old new partition key outcome stamp feed says at written others =
     let step : RunStep = record { write = write_of Del key []; outcome = outcome; stamp = stamp } in
-    (wrote step, (feed, at), record { one = written; others = others }, refl)
+    (wrote step, (feed, says, at), record { one = written; others = others }, refl)

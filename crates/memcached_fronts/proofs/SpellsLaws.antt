@@ -14,6 +14,7 @@ use Rattle.memcached_commands.specs.declared.asks.Asked.{Asked}
 use Rattle.memcached_commands.specs.Asks.{asks_in}
 use Rattle.memcached_commands.specs.Answers.{unless_quiet}
 use Rattle.mica_fronts.specs.Answered.{Answered}
+use Rattle.memcached_stats.specs.Stats.{Told}
 use Rattle.memcached_fronts.specs.Exchange.{Exchange, AnswersNext, flushes_now, is_answered, is_quiet, keyed_text, flush_text, due_to, due_before, longer}
 use Rattle.memcached_fronts.specs.Spells.{Begins, MayFollow, Spells, taken_by, MayGoOn, due_to_all, answers_to_all}
 
@@ -82,13 +83,13 @@ module _ (options : Options) (base : ℕ) where
   )
 
   -- the last of them is answered further
-  pub spells_longer : (bytes : List ℕ) (es : List Exchange) (e : Exchange) (more : List Answered) (rest : List ℕ) → Spells options base bytes (es ++ e ∷ []) rest
-      → AnswersNext options base e.next (e.answers ++ more) → Spells options base bytes (es ++ longer e more ∷ []) rest
-  spells_longer bytes [] e more rest is answers = (record { next = is.0.next; some = is.0.some; answers = answers }, inl refl, is.2)
-  spells_longer bytes (x ∷ es) e more rest is answers = (
+  pub spells_longer : (bytes : List ℕ) (es : List Exchange) (e : Exchange) (more : List Answered) (told : Told) (rest : List ℕ) → Spells options base bytes (es ++ e ∷ []) rest
+      → AnswersNext options base e.next (e.answers ++ more) → Spells options base bytes (es ++ longer e more told ∷ []) rest
+  spells_longer bytes [] e more told rest is answers = (record { next = is.0.next; some = is.0.some; answers = answers }, inl refl, is.2)
+  spells_longer bytes (x ∷ es) e more told rest is answers = (
     is.0,
-    elim is.1 as (λ _. MayFollow options x (es ++ longer e more ∷ [])) [ inl none ↦ absurd (not_empty es e none) | inr follows ↦ inr follows ],
-    spells_longer (drop (len_of x.next) bytes) es e more rest is.2 answers,
+    elim is.1 as (λ _. MayFollow options x (es ++ longer e more told ∷ [])) [ inl none ↦ absurd (not_empty es e none) | inr follows ↦ inr follows ],
+    spells_longer (drop (len_of x.next) bytes) es e more told rest is.2 answers,
   )
 
   -- the one that goes on has answers to what was said
@@ -116,8 +117,8 @@ module _ (options : Options) (base : ℕ) where
   nothing_due false = refl
 
   -- nothing was due before anything was answered
-  pub nothing_before : (next : Next) → due_before options base (record { next = next; answers = [] }) ≡ []
-  nothing_before next = go (flushes_now next) (asks_in next)
+  pub nothing_before : (next : Next) (told : Told) → due_before options base (record { next = next; answers = []; told = told }) ≡ []
+  nothing_before next told = go (flushes_now next) (asks_in next)
     where
       flush : (t : Bool) → cond t [] (unless_quiet (is_quiet next) (flush_text t [])) ≡ []
       flush true = refl
@@ -125,7 +126,7 @@ module _ (options : Options) (base : ℕ) where
 
       go : (flushes : Bool) (asks : List Asked)
           → cond (0 == cond flushes options.partitions (length asks)) []
-          (unless_quiet (is_quiet next) (cond flushes (flush_text (0 == options.partitions) []) (keyed_text base next asks []))) ≡ []
+          (unless_quiet (is_quiet next) (cond flushes (flush_text (0 == options.partitions) []) (keyed_text options.partitions base told next asks []))) ≡ []
       go true asks = flush (0 == options.partitions)
       go false [] = refl
       go false (asked ∷ asks) = ap (λ t. cond t [] (unless_quiet (is_quiet next) [])) (eqb-zero-suc (length asks)) ∙ nothing_due (is_quiet next)

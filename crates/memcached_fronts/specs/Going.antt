@@ -14,6 +14,7 @@ use Rattle.memcached_fronts.specs.declared.answer.Limits.{Limits}
 use Rattle.memcached_fronts.specs.declared.answer.Progress.{Progress}
 use Rattle.memcached_fronts.specs.Seconds.{second_in, seconds_of, ToldFrom}
 use Rattle.memcached_fronts.specs.AskAnswers.{AnswersAsk, AnswersAsks, shown_text, asks_text}
+use Rattle.memcached_stats.specs.Stats.{Told}
 use Rattle.memcached_fronts.specs.Exchange.{Exchange, AnswersNext, IsOpenAt, count_of_answers, due_before, due_to, longer}
 
 -- One ask
@@ -68,8 +69,9 @@ pub record GoesOn (options : Options) (is_alone : Bool) (base : ℕ) (next : Nex
 pub record Replies (options : Options) (base : ℕ) (next : Next) (done : ℕ) (limits : Limits) (answers : List Answered) (old new : List ℕ) (progress : Progress)
     : Type 0 where
   pub text : List ℕ
+  pub told : Told
   pub appended : new ≡ old ++ text
-  pub due : (e : Exchange) → StandsAt options base next done e → due_to options base (longer e answers) ≡ due_before options base e ++ text
+  pub due : (e : Exchange) → StandsAt options base next done e → due_to options base (longer e answers told) ≡ due_before options base e ++ text
   pub count : progress.done ≡ done + length answers
   pub whole : progress.is_whole ≡ (progress.done == count_of_answers options next)
   pub stops : progress.is_whole ≡ false → IsOpenAt next progress.done × ((length answers ≡ limits.asks) ⊎ (limits.bytes ≤ length new))

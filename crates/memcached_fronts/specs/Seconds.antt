@@ -1,11 +1,17 @@
 -- The seconds at which answers were made.
-use Rattle.std.specs.Prelude.{◌≡◌, ◌≤◌, ℕ, List, [], ◌∷◌, Option, Some, None}
+use Rattle.std.specs.Prelude.{◌≡◌, ◌≤◌, ℕ, List, [], ◌∷◌, nat_lt, Option, Some, None, if◌then◌else◌}
 use Rattle.std.specs.List.{filter_map}
+use Rattle.mica_fronts.specs.declared.flushes.Flush.{Flush}
 use Rattle.mica_fronts.specs.Answered.{Answered, wrote, got, changed, kept}
+use Rattle.mica_fronts.specs.Flushes.{is_flush, flush_in}
 
--- that of a look under a hold
+-- the second at which a flush was asked for; one at once is asked for at none
+abbrev pub second_asked : Flush → Option ℕ
+second_asked flush = if nat_lt 0 flush.asked then Some flush.asked else None
+
+-- that of a flush, and of a look under a hold
 abbrev pub second_in : Answered → Option ℕ
-second_in (wrote step) = None
+second_in (wrote step) = if is_flush step.write then second_asked (flush_in step.write.key) else None
 second_in (got key stamp value) = None
 second_in (changed step look) = Some look.when.second
 second_in (kept key stamp look) = Some look.when.second

@@ -7,20 +7,23 @@ ghost use Rattle.memcached_commands.specs.Asks.{asks_in};
 ghost use Rattle.memcached_commands.specs.Fit.{IsFitAsked};
 ghost use Rattle.mica_fronts.specs.Answered.{Answered, accepts, count_of_writes};
 ghost use Rattle.mica_fronts.specs.Session.{AnswersInOrder};
-ghost use Rattle.memcached_fronts.specs.Exchange.{IsOpenAt, flush_text, flushes_now};
-ghost use Rattle.memcached_fronts.specs.FlushAnswers.{FlushesFrom};
+ghost use Rattle.memcached_stats.specs.Stats.{Told, stats_text};
+ghost use Rattle.memcached_fronts.specs.Exchange.{IsOpenAt, asks_stats, flush_due, flush_text, flushes_now};
+ghost use Rattle.memcached_fronts.specs.FlushAnswers.{FlushesFrom, flush_at};
+ghost use Rattle.memcached_fronts.specs.Seconds.{ToldFrom, seconds_of};
 ghost use Rattle.memcached_fronts.specs.Going.{AnswersFirst, RepliesFirst, GoesOn, Replies};
 
 use crate::ask::answer_ask;
 use crate::buffers::Buffers;
-use crate::flush::flush_all;
+use crate::flush::{ask_flush, flush_all};
 use crate::plain::{Style, plain_line, put_line, style_of};
 use memcached_commands::Asks;
-use memcached_text::{Command, Due, Next, Reply, reply_line};
+use memcached_stats::counter_by;
+use memcached_text::{Command, Due, Next, Reply, Topic, reply_line};
 use mica_clock::Clock;
-use mica_fronts::{Changes, Front};
+use mica_fronts::Changes;
 use mica_io::NoMemory;
-use std::alloc::Global;
+use partition_model::ItemBuf;
 use std::sync::Wait;
 use std::thread::Threads;
 
@@ -47,15 +50,62 @@ pub struct Progress {
     pub is_whole: bool,
 }
 
+fn is_stats(next: &Next) -> bool
+    ensures { result ≡ asks_stats next.now }
+{
+    match next {
+        Next::Command {
+            command: Command::Stats { topic },
+            ..
+        } => *topic == Topic::Server,
+        _ => false,
+    }
+}
+
+// Tells what the server counts. After want of memory nothing is appended.
+fn answer_stats<C: Clock>(
+    clock: &C,
+    partitions: u32,
+    buffers: &Buffers,
+    done: usize,
+    out: &mut Vec<u8>,
+) -> Result<Progress, NoMemory>
+    ensures told { IfOk result (λ progress. (progress ≡ record { done = done; is_whole = true })
+        × ((told : Told) × (out.new.items ≡ out.old.items ++ stats_text partitions told))) }
+    ensures err { OnErr result (out.new.items ≡ out.old.items) }
+{
+    buffers.show();
+    buffers
+        .board
+        .put_stats(clock.present(), partitions, out)?;
+    Ok(Progress {
+        done,
+        is_whole: true,
+    })
+}
+
 fn is_flush(next: &Next) -> bool
     ensures { result ≡ flushes_now next.now }
 {
     match next {
         Next::Command {
+            command: Command::Flush { .. },
+            ..
+        } => true,
+        _ => false,
+    }
+}
+
+// When a flush is to take place.
+fn flush_due(next: &Next) -> Due
+    ensures { result ≡ flush_due next.now }
+{
+    match next {
+        Next::Command {
             command: Command::Flush { due, .. },
             ..
-        } => *due == Due::Now,
-        _ => false,
+        } => *due,
+        _ => Due::Now,
     }
 }
 
@@ -71,19 +121,22 @@ fn flush_line(took: bool) -> &'static [u8]
 }
 
 // Flushes all partitions, and appends the line that is due to it.
-fn answer_flush<R: Threads + Wait + Sync, F: Front>(
+fn answer_flush<R: Threads + Wait + Sync, F: Changes, C: Clock>(
     rt: &R,
-    alloc: Global,
     front: &mut F,
+    clock: &mut C,
     partitions: u32,
+    due: Due,
+    key: &mut ItemBuf,
     quiet: bool,
     out: &mut Vec<u8>,
 ) -> Result<Progress, NoMemory>
     requires partitions { partitions ≡ (F.options front.old).partitions }
     requires left { partitions ≤ F.left front.old }
     ensures flushed { (answers : List Answered) × AnswersInOrder (F.options front.old) F.is_alone (F.sessions front.old) answers (F.sessions front.new)
-        × FlushesFrom (F.options front.old) 0 answers
-        × IfOk result (λ progress. (length answers ≡ partitions) × (progress ≡ record { done = partitions; is_whole = true })
+        × ToldFrom (C.last clock.old) (seconds_of answers) (C.last clock.new)
+        × ((second : ℕ) × FlushesFrom (F.options front.old) (flush_at second due) 0 answers) × (length answers ≡ partitions)
+        × IfOk result (λ progress. (progress ≡ record { done = partitions; is_whole = true })
         × (out.new.items ≡ out.old.items ++ unless_quiet quiet (flush_text true answers)))
         × (F.left front.old ≤ F.left front.new + count_of_writes answers) }
     ensures err { OnErr result (out.new.items ≡ out.old.items) }
@@ -92,9 +145,8 @@ fn answer_flush<R: Threads + Wait + Sync, F: Front>(
     ensures number { F.number front.new ≡ F.number front.old }
     ensures stands { F.stands front.new ≡ F.stands front.old }
 {
-    let Ok(took) = flush_all(rt, alloc, front, partitions) else {
-        return Err(NoMemory);
-    };
+    let flush = ask_flush(clock, partitions, due);
+    let took = flush_all(rt, front, partitions, flush, key);
     let Ok(()) = put_line(out, quiet, flush_line(took)) else {
         return Err(NoMemory);
     };
@@ -120,6 +172,7 @@ fn answer_asks<'a, R: Threads + Wait + Sync, F: Changes, C: Clock>(
     front: &mut F,
     clock: &mut C,
     base: u64,
+    partitions: u32,
     buffers: &mut Buffers,
     style: Style,
     asks: &mut Asks<'a>,
@@ -144,7 +197,7 @@ fn answer_asks<'a, R: Threads + Wait + Sync, F: Changes, C: Clock>(
             return Ok(count);
         };
         let is_last = asks.is_empty();
-        let Ok(()) = answer_ask(rt, front, clock, base, buffers, style, &asked, is_last, out) else {
+        let Ok(()) = answer_ask(rt, front, clock, base, partitions, buffers, style, &asked, is_last, out) else {
             return Err(NoMemory);
         };
         count += 1;
@@ -156,7 +209,6 @@ fn answer_asks<'a, R: Threads + Wait + Sync, F: Changes, C: Clock>(
 /// some of it may be done: then the connection is to end.
 pub fn answer_next<'a, R: Threads + Wait + Sync, F: Changes, C: Clock>(
     rt: &R,
-    alloc: Global,
     front: &mut F,
     clock: &mut C,
     numbering: Numbering,
@@ -182,8 +234,21 @@ pub fn answer_next<'a, R: Threads + Wait + Sync, F: Changes, C: Clock>(
     ensures stands { F.stands front.new ≡ F.stands front.old }
 {
     let style = style_of(&next);
+    buffers.tally.count(counter_by(&next));
     if is_flush(&next) {
-        return answer_flush(rt, alloc, front, numbering.partitions, style.quiet, out);
+        return answer_flush(
+            rt,
+            front,
+            clock,
+            numbering.partitions,
+            flush_due(&next),
+            &mut buffers.next,
+            style.quiet,
+            out,
+        );
+    }
+    if is_stats(&next) {
+        return answer_stats(clock, numbering.partitions, buffers, done, out);
     }
     let line = plain_line(&next);
     let mut asks = Asks::by(next);
@@ -203,6 +268,7 @@ pub fn answer_next<'a, R: Threads + Wait + Sync, F: Changes, C: Clock>(
         front,
         clock,
         numbering.base,
+        numbering.partitions,
         buffers,
         style,
         &mut asks,

@@ -9,11 +9,12 @@ use crate::buffers::Buffers;
 use crate::plain::Style;
 use memcached_changes::CommandOrder;
 use memcached_commands::{Asked, Says, put_last, put_part};
+use memcached_stats::{Tally, counter_of};
 use mica_clock::Clock;
-use mica_fronts::Changes;
+use mica_fronts::{Changed, Changes};
 use mica_io::NoMemory;
-use mica_words::key_hash;
-use partition_model::{Answer, ItemBuf, Outcome};
+use mica_words::{key_hash, partition_of};
+use partition_model::{Answer, ItemBuf};
 use std::sync::Wait;
 use std::thread::Threads;
 
@@ -50,10 +51,13 @@ fn value_found(found: Option<Answer>, buffer: &ItemBuf) -> Option<&[u8]>
     }
 }
 
-// Notes the key, where its write was refused.
-fn note_refused(refused: &mut Option<u64>, key: &[u8], outcome: Option<Outcome>) {
-    if outcome.is_some_and(|outcome| !outcome.is_accepted()) {
-        *refused = Some(key_hash(key));
+// Notes what a write left of its partition, where one was made.
+fn note_write(tally: &mut Tally, partitions: u32, key: &[u8], changed: &Changed) {
+    if let Some(outcome) = changed.outcome {
+        let accepted = u64::from(outcome.is_accepted());
+        let writes = changed.when.written.saturating_add(accepted);
+        let partition = partition_of(key_hash(key), partitions.max(1));
+        tally.note(partition, writes, changed.stamp);
     }
 }
 
@@ -64,6 +68,7 @@ pub fn answer_ask<R: Threads + Wait + Sync, F: Changes, C: Clock>(
     front: &mut F,
     clock: &mut C,
     base: u64,
+    partitions: u32,
     buffers: &mut Buffers,
     style: Style,
     asked: &Asked,
@@ -83,19 +88,16 @@ pub fn answer_ask<R: Threads + Wait + Sync, F: Changes, C: Clock>(
     ensures number { F.number front.new ≡ F.number front.old }
     ensures stands { F.stands front.new ≡ F.stands front.old }
 {
+    let Buffers {
+        found, next, tally, ..
+    } = buffers;
     let second = clock.second();
     let order = CommandOrder::new(&asked.ask, base);
     let key = asked.key.bytes();
-    let changed = front.change(
-        rt,
-        second,
-        key,
-        &order,
-        &mut buffers.found,
-        &mut buffers.next,
-    );
-    note_refused(&mut buffers.refused, key, changed.outcome);
-    let stored = value_found(changed.found, &buffers.found);
+    let changed = front.change(rt, second, key, &order, found, next);
+    let stored = value_found(changed.found, found);
     let says = order.says(changed.when, stored, changed.outcome);
+    tally.count(counter_of(&asked.ask, &says));
+    note_write(tally, partitions, key, &changed);
     put_said(out, style, is_last, key, &says)
 }

@@ -1,24 +1,33 @@
-//! Room for values.
+//! What a front has in hand for its commands.
 
+use memcached_stats::{Board, Tally};
 use mica_io::NoMemory;
 use partition_model::ItemBuf;
 use std::alloc::Global;
 
-/// Room for a value that is found, and for the one that is to be.
+/// Room for a value that is found, and for the one that is to be; what the front has counted; and where it shows that, in the place of this number.
 #[derive(Drop)]
-pub struct Buffers {
+pub struct Buffers<'a> {
     pub found: ItemBuf,
     pub next: ItemBuf,
-    /// The hash of the key whose write was refused last, since somebody looked.
-    pub refused: Option<u64>,
+    pub tally: Tally,
+    pub board: &'a Board,
+    pub place: u32,
 }
 
-impl Buffers {
-    pub fn new(alloc: Global) -> Result<Buffers, NoMemory> {
+impl<'a> Buffers<'a> {
+    pub fn new(alloc: Global, board: &'a Board, place: u32) -> Result<Buffers<'a>, NoMemory> {
         Ok(Buffers {
             found: ItemBuf::new(alloc)?,
             next: ItemBuf::new(alloc)?,
-            refused: None,
+            tally: Tally::new(),
+            board,
+            place,
         })
+    }
+
+    /// Shows what the front has counted.
+    pub fn show(&self) {
+        self.board.show(self.place, &self.tally);
     }
 }

@@ -1,35 +1,65 @@
 //! A flush of all partitions.
-ghost use Rattle.std.specs.Prelude.{◌≡◌, ◌<◌, ◌≤◌, ◌+◌, true, List, length, IfOk, OnErr};
+ghost use Rattle.std.specs.Prelude.{◌≡◌, ◌<◌, ◌≤◌, ◌+◌, ℕ, true, List, length, option_to_list};
 ghost use Rattle.std.specs.List.{list_all};
 ghost use Rattle.mica_words.specs.Hash.{partition_of};
 ghost use Rattle.mica_words.specs.Item.{KeyFits};
 ghost use Rattle.mica_fronts.specs.Answered.{Answered, accepts, count_of_writes};
-ghost use Rattle.mica_fronts.specs.Flushes.{begins_with_feed};
+ghost use Rattle.mica_fronts.specs.Flushes.{begins_with_feed, flush_in};
 ghost use Rattle.mica_fronts.specs.Session.{Answers, AnswersInOrder};
-ghost use Rattle.memcached_fronts.specs.FlushAnswers.{FlushesOne, FlushesFrom};
+ghost use Rattle.memcached_fronts.specs.FlushAnswers.{FlushesOne, FlushesFrom, flush_at};
+ghost use Rattle.memcached_fronts.specs.Seconds.{ToldFrom, second_asked};
 
-use mica_fronts::Front;
-use mica_io::NoMemory;
+use memcached_text::Due;
+use mica_clock::Clock;
+use mica_fronts::{Changes, Flush};
 use mica_words::{key_hash, partition_of};
-use partition_model::Op;
-use std::alloc::Global;
+use partition_model::ItemBuf;
 use std::sync::Wait;
 use std::thread::Threads;
 
-// A key of the partition that no line can spell.
+/// The flush that is asked for now. The clock is read unless it is to take place at once, and not where there is no partition to tell its second.
+pub fn ask_flush<C: Clock>(clock: &mut C, partitions: u32, due: Due) -> Flush
+    ensures asked { 0 < partitions → (second : ℕ) × (result ≡ flush_at second due) }
+    ensures told { ToldFrom (C.last clock.old) (option_to_list (second_asked result)) (C.last clock.new) }
+    ensures none { partitions ≡ 0 → C.last clock.new ≡ C.last clock.old }
+{
+    if partitions == 0 {
+        return Flush { due: 0, asked: 0 };
+    }
+    match due {
+        Due::Now => Flush { due: 0, asked: 0 },
+        Due::After(seconds) => {
+            let asked = clock.second();
+            Flush {
+                due: asked.saturating_add(u64::from(seconds)),
+                asked,
+            }
+        }
+        Due::At(second) => Flush {
+            due: u64::from(second),
+            asked: clock.second(),
+        },
+    }
+}
+
+// Makes a key of the partition that no line can spell, and that says when it flushes.
 #[tactic(auto, unfolding(mica_words::specs::Hash::partition_of))]
-fn flush_key<R: Wait>(rt: &R, partitions: u32, partition: u32) -> [u8; 5]
+fn make_key<R: Wait>(rt: &R, partitions: u32, partition: u32, flush: Flush, key: &mut ItemBuf)
     requires { 1 ≤ partitions }
-    ensures feed { begins_with_feed result ≡ true }
-    ensures fits { KeyFits result }
-    ensures partition { partition_of result partitions ≡ partition }
+    ensures feed { begins_with_feed key.new ≡ true }
+    ensures fits { KeyFits key.new }
+    ensures flush { flush_in key.new ≡ flush }
+    ensures partition { partition_of key.new partitions ≡ partition }
 {
     let mut number: u32 = 0;
     for _ in rt.forever() {
-        let bytes = number.to_le_bytes();
-        let key = [b'\n', bytes[0], bytes[1], bytes[2], bytes[3]];
-        if partition_of(key_hash(&key), partitions) == partition {
-            return key;
+        key.clear();
+        key.extend(b"\n");
+        key.push_word(flush.due);
+        key.push_word(flush.asked);
+        key.extend(&number.to_le_bytes());
+        if partition_of(key_hash(key.value()), partitions) == partition {
+            return;
         }
         number = number.wrapping_add(1);
     }
@@ -37,40 +67,41 @@ fn flush_key<R: Wait>(rt: &R, partitions: u32, partition: u32) -> [u8; 5]
 }
 
 // Flushes a partition, and says whether it took it.
-fn flush_one<R: Threads + Wait + Sync, F: Front>(
+fn flush_one<R: Threads + Wait + Sync, F: Changes>(
     rt: &R,
-    alloc: Global,
     front: &mut F,
     partitions: u32,
     partition: u32,
-) -> Result<bool, NoMemory>
+    flush: Flush,
+    key: &mut ItemBuf,
+) -> bool
     requires some { 1 ≤ partitions }
     requires partitions { partitions ≡ (F.options front.old).partitions }
     requires left { 0 < F.left front.old }
-    ensures flushed { IfOk result (λ took. (answered : Answered) × FlushesOne (F.options front.old) partition answered
-        × Answers (F.options front.old) F.is_alone (F.sessions front.old) answered (F.sessions front.new) × (took ≡ accepts answered)) }
-    ensures err { OnErr result (front.new ≡ front.old) }
+    ensures flushed { (answered : Answered) × FlushesOne (F.options front.old) flush partition answered
+        × Answers (F.options front.old) F.is_alone (F.sessions front.old) answered (F.sessions front.new) × (result ≡ accepts answered) }
     ensures left { F.left front.old ≤ F.left front.new + 1 }
     ensures options { F.options front.new ≡ F.options front.old }
     ensures number { F.number front.new ≡ F.number front.old }
     ensures stands { F.stands front.new ≡ F.stands front.old }
 {
-    let key = flush_key(rt, partitions, partition);
-    let (outcome, _stamp) = front.write(rt, alloc, Op::Del, &key, &[])?;
-    Ok(outcome.is_accepted())
+    make_key(rt, partitions, partition, flush, key);
+    let (outcome, _stamp) = front.delete(rt, key.value());
+    outcome.is_accepted()
 }
 
-/// Flushes the partitions in order, and says whether each took it.
-pub fn flush_all<R: Threads + Wait + Sync, F: Front>(
+/// Flushes the partitions in order, and says whether each took it. The buffer is for keys.
+pub fn flush_all<R: Threads + Wait + Sync, F: Changes>(
     rt: &R,
-    alloc: Global,
     front: &mut F,
     partitions: u32,
-) -> Result<bool, NoMemory>
+    flush: Flush,
+    key: &mut ItemBuf,
+) -> bool
     requires partitions { partitions ≡ (F.options front.old).partitions }
     requires left { partitions ≤ F.left front.old }
     ensures flushed { (answers : List Answered) × AnswersInOrder (F.options front.old) F.is_alone (F.sessions front.old) answers (F.sessions front.new)
-        × FlushesFrom (F.options front.old) 0 answers × IfOk result (λ took. (length answers ≡ partitions) × (took ≡ list_all accepts answers))
+        × FlushesFrom (F.options front.old) flush 0 answers × (length answers ≡ partitions) × (result ≡ list_all accepts answers)
         × (F.left front.old ≤ F.left front.new + count_of_writes answers) }
     ensures left { F.left front.old ≤ F.left front.new + partitions }
     ensures options { F.options front.new ≡ F.options front.old }
@@ -79,10 +110,8 @@ pub fn flush_all<R: Threads + Wait + Sync, F: Front>(
 {
     let mut took = true;
     for partition in 0..partitions {
-        let Ok(one) = flush_one(rt, alloc, front, partitions, partition) else {
-            return Err(NoMemory);
-        };
+        let one = flush_one(rt, front, partitions, partition, flush, key);
         took = took & one;
     }
-    Ok(took)
+    took
 }

@@ -1,10 +1,11 @@
 //! What is replied where no key is asked.
-ghost use Rattle.std.specs.Prelude.{◌≡◌, ◌++◌, OnOk, OnErr};
+ghost use Rattle.std.specs.Prelude.{◌≡◌, ◌++◌, ℕ, false, OnOk, OnErr};
 ghost use Rattle.memcached_commands.specs.Answers.{unless_quiet};
-ghost use Rattle.memcached_fronts.specs.Exchange.{plain_command_text, plain_text, is_quiet, wants_numbers};
+ghost use Rattle.memcached_stats.specs.Stats.{Told};
+ghost use Rattle.memcached_fronts.specs.Exchange.{asks_stats, is_command_stats, plain_command_text, plain_text, is_quiet, wants_numbers};
 
 use memcached_commands::wants_numbers;
-use memcached_text::{Command, Fault, Next, Reply, fault_line, reply_line};
+use memcached_text::{Command, Next, Reply, fault_line, reply_line};
 use mica_io::NoMemory;
 
 /// How what was said is to be replied to.
@@ -37,12 +38,12 @@ pub fn style_of(next: &Next) -> Style
     }
 }
 
+// The line of what asks nothing, but for what the server tells of itself.
 fn plain_command_line(command: &Command) -> &'static [u8]
-    ensures { result.now ≡ plain_command_text command.now }
+    ensures { is_command_stats command.now ≡ false → (partitions : ℕ) (told : Told) → result.now ≡ plain_command_text partitions told command.now }
 {
     match command {
         Command::Get { .. } | Command::Stats { .. } => reply_line(Reply::End),
-        Command::Flush { .. } => fault_line(Fault::ExpiryFormat),
         Command::Version => reply_line(Reply::Version),
         Command::Verbosity { .. } => reply_line(Reply::Done),
         Command::Noop => reply_line(Reply::Noop),
@@ -50,9 +51,9 @@ fn plain_command_line(command: &Command) -> &'static [u8]
     }
 }
 
-/// The line of what asks nothing.
+/// The line of what asks nothing, but for what the server tells of itself.
 pub fn plain_line(next: &Next) -> &'static [u8]
-    ensures { result.now ≡ plain_text next.now }
+    ensures { asks_stats next.now ≡ false → (partitions : ℕ) (told : Told) → result.now ≡ plain_text partitions told next.now }
 {
     match next {
         Next::Command { command, .. } => plain_command_line(command),

@@ -4,12 +4,10 @@ ghost use Rattle.mica_words.specs.Item.{KeyFits};
 ghost use Rattle.memcached_fronts.specs.Sweeps.{SweepsBy};
 
 use crate::answer::Numbering;
-use crate::buffers::Buffers;
 use memcached_changes::{SweepOrder, is_over};
 use mica_clock::Clock;
 use mica_fronts::{Changed, Changes, Glances, Glimpse, When};
 use mica_io::NoMemory;
-use mica_words::partition_of;
 use partition_model::ItemBuf;
 use std::alloc::Global;
 use std::sync::Wait;
@@ -18,7 +16,7 @@ use std::thread::Threads;
 /// The fewest places that one sweep looks at: so many where the last one found nothing to take away.
 const LEAST_STRETCH: u32 = 4;
 
-/// The most places that one sweep looks at: so many where a write was refused.
+/// The most places that one sweep looks at.
 const MOST_STRETCH: u32 = 512;
 
 /// For so many items a look under a hold tells how late it is in their partition.
@@ -35,7 +33,8 @@ pub struct Sweeper {
     fresh: u32,
     key: ItemBuf,
     head: ItemBuf,
-    buffers: Buffers,
+    found: ItemBuf,
+    next: ItemBuf,
 }
 
 impl Sweeper {
@@ -48,19 +47,9 @@ impl Sweeper {
             fresh: 0,
             key: ItemBuf::new(alloc)?,
             head: ItemBuf::new(alloc)?,
-            buffers: Buffers::new(alloc)?,
+            found: ItemBuf::new(alloc)?,
+            next: ItemBuf::new(alloc)?,
         })
-    }
-
-    /// Looks at many places of the partition of a key whose write was refused.
-    pub fn turn_to(&mut self, refused: Option<u64>, partitions: u32) {
-        if let Some(hash) = refused {
-            if partitions > 0 {
-                self.partition = partition_of(hash, partitions);
-                self.when = None;
-                self.stretch = MOST_STRETCH;
-            }
-        }
     }
 
     // Goes to the first place of a partition.
@@ -100,7 +89,8 @@ fn sweep_key<R: Threads + Wait + Sync, F: Changes, C: Clock>(
     clock: &mut C,
     base: u64,
     key: &[u8],
-    buffers: &mut Buffers,
+    found: &mut ItemBuf,
+    next: &mut ItemBuf,
 ) -> Changed
     requires key { KeyFits key.now }
     requires left { 0 < F.left front.old }
@@ -112,14 +102,7 @@ fn sweep_key<R: Threads + Wait + Sync, F: Changes, C: Clock>(
 {
     let second = clock.second();
     let order = SweepOrder::new(base);
-    front.change(
-        rt,
-        second,
-        key,
-        &order,
-        &mut buffers.found,
-        &mut buffers.next,
-    )
+    front.change(rt, second, key, &order, found, next)
 }
 
 // Takes the item that was glanced at away, unless it is there, and says whether it did. Each so many items, and where one seems to be gone, it looks under a hold.
@@ -143,8 +126,10 @@ fn sweep_item<R: Threads + Wait + Sync, F: Changes, C: Clock>(
         sweeper.step();
         return false;
     }
-    let key = sweeper.key.value();
-    let changed = sweep_key(rt, front, clock, base, key, &mut sweeper.buffers);
+    let Sweeper {
+        key, found, next, ..
+    } = sweeper;
+    let changed = sweep_key(rt, front, clock, base, key.value(), found, next);
     sweeper.when = Some(changed.when);
     sweeper.fresh = FRESH;
     let gone = changed.outcome.is_some_and(|outcome| outcome.is_accepted());

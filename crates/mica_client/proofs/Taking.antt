@@ -23,15 +23,17 @@ use Rattle.mica_trace.specs.ReportGrammar.{IsReportLine, HasOutcome}
 use Rattle.batch_packets.specs.declared.batch.Want.{Want}
 use Rattle.batch_packets.specs.declared.batch.Request.{Request}
 use Rattle.batch_packets.specs.declared.batch.Batch.{Batch}
+use Rattle.batch_packets.specs.declared.status.Status.{Status}
+use Rattle.batch_packets.specs.declared.status.Status.TheVariants as status
 use Rattle.batch_packets.specs.declared.replies.Reply.{Reply}
 use Rattle.batch_packets.specs.declared.replies.Replies.{Replies}
-use Rattle.batch_packets.specs.ReplyGrammar.{IsReply, IsReplies}
+use Rattle.batch_packets.specs.ReplyGrammar.{IsReply, IsReplies, status_byte, longest_value}
 use Rattle.mica_client.specs.declared.options.TheConstants.{VERSION}
 use Rattle.mica_client.specs.declared.fault.AskFault.{AskFault}
 use Rattle.mica_client.specs.declared.fault.AskFault.TheVariants.{Stranger, Double}
 use Rattle.mica_client.specs.Batches.{want_of}
 use Rattle.mica_client.proofs.Requests.{of_line}
-use Rattle.mica_client.specs.Answers.{KnownLines, HasTicketIn, HasTickets, wrote, is_answered, line_of, line_of_get, outcome_of_put, outcome_of_add, outcome_of_touch, outcome_of_del, is_printable, want_at, by_line, by_want, after_one, after_replies, go_on, open_answers, AreFor, IsOfTrace, KeepsAnswers}
+use Rattle.mica_client.specs.Answers.{KnownLines, HasTicketIn, HasTickets, wrote, is_answered, line_of, line_got, outcome_of_put, outcome_of_add, outcome_of_touch, outcome_of_del, is_printable, want_at, by_line, by_want, after_one, after_replies, go_on, open_answers, AreFor, IsOfTrace, KeepsAnswers}
 
 -- a list of answers with one more known
 
@@ -126,60 +128,63 @@ all_printable (b ∷ bs) h =
     let both = and_parts (nat_le 32 b) (nat_le b 126) parts.0 in
     ((leb-true 32 b both.0, leb-true b 126 both.1), all_printable bs parts.1)
 
-pick : (P : Outcome → Type 0) (b : Bool) (x : Outcome) (rest : Option Outcome) (outcome : Outcome) → P x → (rest ≡ Some outcome → P outcome) → cond b (Some x) rest ≡ Some outcome → P outcome
-pick P true x rest outcome px next h = let same : x ≡ outcome = cc in subst P same px
-pick P false x rest outcome px next h = next h
+-- what a status means for a write is an outcome of it, or nothing
+record Outcomes (status : Status) : Type 0 where
+  put : IfSome (outcome_of_put status) (HasOutcome PutOp)
+  add : IfSome (outcome_of_add status) (HasOutcome AddOp)
+  touch : IfSome (outcome_of_touch status) (HasOutcome TouchOp)
+  del : IfSome (outcome_of_del status) (HasOutcome DelOp)
 
-no_outcome : (P : Outcome → Type 0) (outcome : Outcome) → None ≡ Some outcome → P outcome
-no_outcome P outcome h = absurd (cc)
-
-put_outcome : (s : ℕ) (outcome : Outcome) → outcome_of_put s ≡ Some outcome → HasOutcome PutOp outcome
-put_outcome s o = let P = HasOutcome PutOp in pick P (s == 2) Stored _ o tt (pick P (s == 5) FullSpare _ o tt (pick P (s == 6) FullBlock _ o tt (pick P (s == 7) Worn None o tt (no_outcome P o))))
-
-add_outcome : (s : ℕ) (outcome : Outcome) → outcome_of_add s ≡ Some outcome → HasOutcome AddOp outcome
-add_outcome s o =
-    let P = HasOutcome AddOp in
-    pick P (s == 11) Exists _ o tt (pick P (s == 2) Stored _ o tt (pick P (s == 5) FullSpare _ o tt (pick P (s == 6) FullBlock _ o tt (pick P (s == 7) Worn None o tt (no_outcome P o)))))
-
-touch_outcome : (s : ℕ) (outcome : Outcome) → outcome_of_touch s ≡ Some outcome → HasOutcome TouchOp outcome
-touch_outcome s o = let P = HasOutcome TouchOp in pick P (s == 12) Touched _ o tt (pick P (s == 4) Absent _ o tt (pick P (s == 7) Worn None o tt (no_outcome P o)))
-
-del_outcome : (s : ℕ) (outcome : Outcome) → outcome_of_del s ≡ Some outcome → HasOutcome DelOp outcome
-del_outcome s o = let P = HasOutcome DelOp in pick P (s == 3) Deleted _ o tt (pick P (s == 4) Absent _ o tt (pick P (s == 7) Worn None o tt (no_outcome P o)))
+outcomes : (status : Status) → Outcomes status
+outcomes status.Hit = record { put = tt; add = tt; touch = tt; del = tt }
+outcomes status.Miss = record { put = tt; add = tt; touch = tt; del = tt }
+outcomes status.Stored = record { put = tt; add = tt; touch = tt; del = tt }
+outcomes status.Deleted = record { put = tt; add = tt; touch = tt; del = tt }
+outcomes status.Absent = record { put = tt; add = tt; touch = tt; del = tt }
+outcomes status.FullSpare = record { put = tt; add = tt; touch = tt; del = tt }
+outcomes status.FullBlock = record { put = tt; add = tt; touch = tt; del = tt }
+outcomes status.Worn = record { put = tt; add = tt; touch = tt; del = tt }
+outcomes status.BadBatch = record { put = tt; add = tt; touch = tt; del = tt }
+outcomes status.LongHit = record { put = tt; add = tt; touch = tt; del = tt }
+outcomes status.Exists = record { put = tt; add = tt; touch = tt; del = tt }
+outcomes status.Touched = record { put = tt; add = tt; touch = tt; del = tt }
 
 -- a report line of the operation's kind
 abbrev pub IsFor : TraceOp → Line → Type 0
 IsFor asked line = IsReportLine line × IsKindOf asked line
 
-wrote_line : (asked : TraceOp) (does : Op) (stamp : ℕ) (outcome : Option Outcome) (line : Line) → op_of asked ≡ Some does → ((o : Outcome) → outcome ≡ Some o → HasOutcome does o)
+wrote_line : (asked : TraceOp) (does : Op) (stamp : ℕ) (outcome : Option Outcome) (line : Line) → op_of asked ≡ Some does → IfSome outcome (HasOutcome does)
     → option_map (wrote does stamp) outcome ≡ Some line → IsFor asked line
 wrote_line asked does stamp None line kind has h = absurd (cc)
 wrote_line asked does stamp (Some o) line kind has h =
     let same : wrote does stamp o ≡ line = cc in
-    subst (IsFor asked) same (has o refl, subst (λ k. IsReplyTo k does) (sym kind) refl)
+    subst (IsFor asked) same (has, subst (λ k. IsReplyTo k does) (sym kind) refl)
 
-get_line : (reply : Reply) (line : Line) → IsReply VERSION reply → line_of_get reply ≡ Some line → IsFor op.Get line
-get_line reply line lawful h = by (reply.status == 0) refl h
-  where
-    hit : (b : Bool) → list_all is_printable reply.value ≡ b → ValueFits reply.value → cond b (Some (Hit reply.stamp reply.value)) None ≡ Some line → IsFor op.Get line
-    hit true e short k = let same : Hit reply.stamp reply.value ≡ line = cc in subst (IsFor op.Get) same ((short, all_printable reply.value e), tt)
-    hit false e short k = absurd (cc)
+hit : (stamp : ℕ) (value : List ℕ) (b : Bool) → list_all is_printable value ≡ b → ValueFits value → (line : Line) → cond b (Some (Hit stamp value)) None ≡ Some line → IsFor op.Get line
+hit stamp value true e short line k = let same : Hit stamp value ≡ line = cc in subst (IsFor op.Get) same ((short, all_printable value e), tt)
+hit stamp value false e short line k = absurd (cc)
 
-    miss : (b : Bool) → cond b (Some (Miss reply.stamp)) None ≡ Some line → IsFor op.Get line
-    miss true k = let same : Miss reply.stamp ≡ line = cc in subst (IsFor op.Get) same (tt, tt)
-    miss false k = absurd (cc)
-
-    by : (b : Bool) → (reply.status == 0) ≡ b
-        → cond b (cond (list_all is_printable reply.value) (Some (Hit reply.stamp reply.value)) None) (cond (reply.status == 1) (Some (Miss reply.stamp)) None) ≡ Some line → IsFor op.Get line
-    by true e k = hit (list_all is_printable reply.value) refl (subst (λ b. length reply.value ≤ cond b MAX_VALUE_LEN 0) e lawful.value) k
-    by false e k = miss (reply.status == 1) k
+got : (status : Status) (stamp : ℕ) (value : List ℕ) → length value ≤ longest_value VERSION (status_byte status) → (line : Line) → line_got status stamp value ≡ Some line → IsFor op.Get line
+unfolding status_byte
+got status.Hit stamp value short line h = hit stamp value (list_all is_printable value) refl short line h
+got status.Miss stamp value short line h = let same : Miss stamp ≡ line = cc in subst (IsFor op.Get) same (tt, tt)
+got status.Stored stamp value short line h = absurd (cc)
+got status.Deleted stamp value short line h = absurd (cc)
+got status.Absent stamp value short line h = absurd (cc)
+got status.FullSpare stamp value short line h = absurd (cc)
+got status.FullBlock stamp value short line h = absurd (cc)
+got status.Worn stamp value short line h = absurd (cc)
+got status.BadBatch stamp value short line h = absurd (cc)
+got status.LongHit stamp value short line h = absurd (cc)
+got status.Exists stamp value short line h = absurd (cc)
+got status.Touched stamp value short line h = absurd (cc)
 
 kind_line : (reply : Reply) (line : Line) → IsReply VERSION reply → (asked : TraceOp) → IfSome (want_of asked) (λ want. line_of want reply ≡ Some line → IsFor asked line)
-kind_line reply line lawful op.Put = wrote_line op.Put PutOp reply.stamp (outcome_of_put reply.status) line refl (put_outcome reply.status)
-kind_line reply line lawful op.Add = wrote_line op.Add AddOp reply.stamp (outcome_of_add reply.status) line refl (add_outcome reply.status)
-kind_line reply line lawful op.Touch = wrote_line op.Touch TouchOp reply.stamp (outcome_of_touch reply.status) line refl (touch_outcome reply.status)
-kind_line reply line lawful op.Del = wrote_line op.Del DelOp reply.stamp (outcome_of_del reply.status) line refl (del_outcome reply.status)
-kind_line reply line lawful op.Get = get_line reply line lawful
+kind_line reply line lawful op.Put = wrote_line op.Put PutOp reply.stamp (outcome_of_put reply.status) line refl (outcomes reply.status).put
+kind_line reply line lawful op.Add = wrote_line op.Add AddOp reply.stamp (outcome_of_add reply.status) line refl (outcomes reply.status).add
+kind_line reply line lawful op.Touch = wrote_line op.Touch TouchOp reply.stamp (outcome_of_touch reply.status) line refl (outcomes reply.status).touch
+kind_line reply line lawful op.Del = wrote_line op.Del DelOp reply.stamp (outcome_of_del reply.status) line refl (outcomes reply.status).del
+kind_line reply line lawful op.Get = got reply.status reply.stamp reply.value lawful.value line
 kind_line reply line lawful op.Sync = tt
 
 op_line : (asked : TraceOp) (want : Want) (reply : Reply) (line : Line) → want_of asked ≡ Some want → IsReply VERSION reply → line_of want reply ≡ Some line → IsFor asked line

@@ -14,6 +14,8 @@ use Rattle.batch_packets.specs.declared.batch.Want.{Want}
 use Rattle.batch_packets.specs.declared.batch.Want.TheVariants.{Put, Add, Del, Touch, Get}
 use Rattle.batch_packets.specs.declared.batch.Request.{Request}
 use Rattle.batch_packets.specs.declared.batch.Batch.{Batch}
+use Rattle.batch_packets.specs.declared.status.Status.{Status}
+use Rattle.batch_packets.specs.declared.status.Status.TheVariants as status
 use Rattle.batch_packets.specs.declared.replies.Reply.{Reply}
 use Rattle.mica_client.specs.declared.fault.AskFault.{AskFault}
 use Rattle.mica_client.specs.Batches.{Group, request_of}
@@ -60,31 +62,42 @@ AnswerIsKnown answer = is_some answer ≡ true
 abbrev pub is_printable : ℕ → Bool
 is_printable b = nat_le 32 b && nat_le b 126
 
--- the line of a get's reply, where it has one: 0 is a hit, 1 a miss
+-- the line of a get's status, stamp and value, where it has one
+abbrev pub line_got : Status → ℕ → List ℕ → Option Line
+line_got status.Hit stamp value = if list_all is_printable value then Some (Hit stamp value) else None
+line_got status.Miss stamp value = Some (Miss stamp)
+line_got status stamp value = None
+
+-- the line of a get's reply
 abbrev pub line_of_get : Reply → Option Line
-line_of_get reply =
-    if reply.status == 0 then (if list_all is_printable reply.value then Some (Hit reply.stamp reply.value) else None)
-    else (if reply.status == 1 then Some (Miss reply.stamp) else None)
+line_of_get reply = line_got reply.status reply.stamp reply.value
 
 -- the outcome of a put's reply, where it has one
-abbrev pub outcome_of_put : ℕ → Option Outcome
-outcome_of_put status =
-    if status == 2 then Some Stored else (if status == 5 then Some FullSpare
-    else (if status == 6 then Some FullBlock else (if status == 7 then Some Worn else None)))
+abbrev pub outcome_of_put : Status → Option Outcome
+outcome_of_put status.Stored = Some Stored
+outcome_of_put status.FullSpare = Some FullSpare
+outcome_of_put status.FullBlock = Some FullBlock
+outcome_of_put status.Worn = Some Worn
+outcome_of_put status = None
 
 -- the outcome of an add's reply, where it has one: that of a put, or that there was a value
-abbrev pub outcome_of_add : ℕ → Option Outcome
-outcome_of_add status = if status == 11 then Some Exists else outcome_of_put status
+abbrev pub outcome_of_add : Status → Option Outcome
+outcome_of_add status.Exists = Some Exists
+outcome_of_add status = outcome_of_put status
 
 -- the outcome of a touch's reply, where it has one
-abbrev pub outcome_of_touch : ℕ → Option Outcome
-outcome_of_touch status =
-    if status == 12 then Some Touched else (if status == 4 then Some Absent else (if status == 7 then Some Worn else None))
+abbrev pub outcome_of_touch : Status → Option Outcome
+outcome_of_touch status.Touched = Some Touched
+outcome_of_touch status.Absent = Some Absent
+outcome_of_touch status.Worn = Some Worn
+outcome_of_touch status = None
 
 -- the outcome of a delete's reply, where it has one
-abbrev pub outcome_of_del : ℕ → Option Outcome
-outcome_of_del status =
-    if status == 3 then Some Deleted else (if status == 4 then Some Absent else (if status == 7 then Some Worn else None))
+abbrev pub outcome_of_del : Status → Option Outcome
+outcome_of_del status.Deleted = Some Deleted
+outcome_of_del status.Absent = Some Absent
+outcome_of_del status.Worn = Some Worn
+outcome_of_del status = None
 
 abbrev pub wrote : Op → ℕ → Outcome → Line
 wrote op stamp outcome = Wrote op outcome stamp

@@ -6,8 +6,7 @@ ghost use Rattle.mica_client.specs.Exchange.{is_lost};
 
 use crate::AskFault;
 use crate::answer_list::AnswerList;
-use crate::line_batch::{LineBatch, LineRequest};
-use batch_packets::{Reply, ReplyList, Want};
+use batch_packets::{BatchRef, Reply, ReplyList, RequestRef, Status, Want};
 use mica_trace::Line;
 use partition_model::{Op, Outcome};
 
@@ -37,58 +36,52 @@ fn line_of_get(reply: Reply) -> Option<Line>
         stamp,
         value,
     } = reply;
-    if status == 0 {
-        if is_text(value.bytes()) {
-            Some(Line::Hit { stamp, value })
-        } else {
-            None
-        }
-    } else if status == 1 {
-        Some(Line::Miss { stamp })
-    } else {
-        None
-    }
-}
-
-fn outcome_of_put(status: u8) -> Option<Outcome>
-    ensures { result ≡ outcome_of_put status }
-{
     match status {
-        2 => Some(Outcome::Stored),
-        5 => Some(Outcome::FullSpare),
-        6 => Some(Outcome::FullBlock),
-        7 => Some(Outcome::Worn),
+        Status::Hit if is_text(value.bytes()) => Some(Line::Hit { stamp, value }),
+        Status::Miss => Some(Line::Miss { stamp }),
         _ => None,
     }
 }
 
-fn outcome_of_add(status: u8) -> Option<Outcome>
+fn outcome_of_put(status: Status) -> Option<Outcome>
+    ensures { result ≡ outcome_of_put status }
+{
+    match status {
+        Status::Stored => Some(Outcome::Stored),
+        Status::FullSpare => Some(Outcome::FullSpare),
+        Status::FullBlock => Some(Outcome::FullBlock),
+        Status::Worn => Some(Outcome::Worn),
+        _ => None,
+    }
+}
+
+fn outcome_of_add(status: Status) -> Option<Outcome>
     ensures { result ≡ outcome_of_add status }
 {
     match status {
-        11 => Some(Outcome::Exists),
+        Status::Exists => Some(Outcome::Exists),
         _ => outcome_of_put(status),
     }
 }
 
-fn outcome_of_touch(status: u8) -> Option<Outcome>
+fn outcome_of_touch(status: Status) -> Option<Outcome>
     ensures { result ≡ outcome_of_touch status }
 {
     match status {
-        4 => Some(Outcome::Absent),
-        7 => Some(Outcome::Worn),
-        12 => Some(Outcome::Touched),
+        Status::Absent => Some(Outcome::Absent),
+        Status::Worn => Some(Outcome::Worn),
+        Status::Touched => Some(Outcome::Touched),
         _ => None,
     }
 }
 
-fn outcome_of_del(status: u8) -> Option<Outcome>
+fn outcome_of_del(status: Status) -> Option<Outcome>
     ensures { result ≡ outcome_of_del status }
 {
     match status {
-        3 => Some(Outcome::Deleted),
-        4 => Some(Outcome::Absent),
-        7 => Some(Outcome::Worn),
+        Status::Deleted => Some(Outcome::Deleted),
+        Status::Absent => Some(Outcome::Absent),
+        Status::Worn => Some(Outcome::Worn),
         _ => None,
     }
 }
@@ -114,7 +107,7 @@ fn line_of(want: Want, reply: Reply) -> Option<Line>
 }
 
 // What the request with this ticket asks for. It is looked for at the likely place first.
-fn want_at(requests: &[LineRequest], likely: usize, ticket: u32) -> Option<Want>
+fn want_at(requests: &[RequestRef], likely: usize, ticket: u32) -> Option<Want>
     requires { TicketsRise requests.now }
     ensures { result ≡ want_at requests.now ticket }
 {
@@ -131,7 +124,7 @@ fn want_at(requests: &[LineRequest], likely: usize, ticket: u32) -> Option<Want>
 
 // Takes one reply of a datagram of this number, while the batch waits. Its request is looked for at the likely place first.
 fn take_reply(
-    batch: &LineBatch,
+    batch: &BatchRef,
     number: u32,
     likely: usize,
     reply: Reply,
@@ -162,7 +155,7 @@ fn take_reply(
 
 /// Takes the replies of a datagram of this number, while the batch waits. After a fault some of them were taken.
 pub fn take_replies(
-    batch: &LineBatch,
+    batch: &BatchRef,
     number: u32,
     replies: ReplyList,
     answers: &mut AnswerList,

@@ -9,7 +9,7 @@ ghost use Rattle.mica_client.specs.Batches.{Group, port_of, groups_of};
 ghost use Rattle.mica_client.specs.Cutting.{share_with, AllHold, IsCutting};
 
 use crate::AskOptions;
-use crate::line_batch::{Group, LineRequest};
+use crate::request::{Group, request_of};
 use crate::share::Share;
 use mica_io::NoMemory;
 use mica_trace::TraceLine;
@@ -79,7 +79,7 @@ fn take_line<'a>(
         → IsCutting options.now number (line.now ∷ later) groups.old.items shares.old.items all
         → IsCutting options.now (number + 1) later groups.new.items shares.new.items all) }
 {
-    match LineRequest::of(number, line) {
+    match request_of(number, line) {
         Some(request) => {
             let share = &mut shares[part_of(options, line) as usize];
             share.put(alloc, options.per, request)

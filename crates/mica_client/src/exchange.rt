@@ -15,10 +15,10 @@ ghost use Rattle.mica_client.specs.Exchange.{lacks_answer, start, standing_at, S
 use crate::answer_list::AnswerList;
 use crate::answers::take_replies;
 use crate::batches::groups_of;
-use crate::line_batch::{Group, LineBatch};
 use crate::link::Link;
+use crate::request::Group;
 use crate::{AskFault, AskOptions, VERSION};
-use batch_packets::{BatchFault, MAX_DATAGRAM_LEN_V2, Replies, read_replies};
+use batch_packets::{BatchFault, BatchRef, MAX_DATAGRAM_LEN_V2, Replies, read_replies};
 use mica_trace::{Report, Trace};
 use std::alloc::Global;
 
@@ -26,7 +26,7 @@ use std::alloc::Global;
 pub const ROOM: usize = MAX_DATAGRAM_LEN_V2 + 1;
 
 // Whether some request of the batch has no answer.
-fn lacks_answer(batch: &LineBatch, answers: &AnswerList) -> bool
+fn lacks_answer(batch: &BatchRef, answers: &AnswerList) -> bool
     ensures { result ≡ lacks_answer answers.now batch.now.requests }
 {
     batch
@@ -78,7 +78,7 @@ fn receive<L: Link>(alloc: Global, link: &mut L, room: &mut [u8]) -> Result<Repl
 fn receive_one<L: Link>(
     alloc: Global,
     link: &mut L,
-    batch: &LineBatch,
+    batch: &BatchRef,
     answers: &mut AnswerList,
     room: &mut [u8],
 ) -> Result<(), AskFault>
@@ -116,7 +116,7 @@ fn ask_one<L: Link>(
     alloc: Global,
     link: &mut L,
     port: u16,
-    batch: &LineBatch,
+    batch: &BatchRef,
     answers: &mut AnswerList,
     text: &mut Vec<u8>,
     room: &mut [u8],

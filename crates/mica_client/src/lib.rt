@@ -21,10 +21,10 @@ mod batches;
 mod exchange;
 mod fault;
 mod laws;
-mod line_batch;
 mod link;
 mod memory_link;
 mod options;
+mod request;
 mod share;
 mod udp_link;
 

@@ -6,8 +6,8 @@ ghost use Rattle.batch_packets.specs.BatchGrammar.{IsRequest};
 ghost use Rattle.mica_client.specs.declared.options.TheConstants.{VERSION};
 ghost use Rattle.mica_client.specs.Batches.{text_len, joins, batches_with};
 
-use crate::line_batch::{Group, LineRequest};
-use batch_packets::{HEADER_LEN, MAX_DATAGRAM_LEN_V2};
+use crate::request::Group;
+use batch_packets::{HEADER_LEN, MAX_DATAGRAM_LEN_V2, RequestRef};
 use mica_io::NoMemory;
 use std::alloc::Global;
 use std::mem;
@@ -17,7 +17,7 @@ use std::mem;
 pub struct Share<'a> {
     port: u16,
     full: Vec<Group<'a>>,
-    last: Vec<LineRequest<'a>>,
+    last: Vec<RequestRef<'a>>,
     /// How many bytes the text of the last batch has.
     len: usize,
     ghost len_is: { len ≡ text_len last.items },
@@ -40,7 +40,7 @@ impl<'a> Share<'a> {
     }
 
     /// Whether the last batch takes one more request.
-    fn joins(&self, per: u32, request: &LineRequest<'a>) -> bool
+    fn joins(&self, per: u32, request: &RequestRef<'a>) -> bool
         requires { IsRequest VERSION request.now }
         ensures { result ≡ joins per self.now.last.items request.now }
     {
@@ -66,7 +66,7 @@ impl<'a> Share<'a> {
         &mut self,
         alloc: Global,
         per: u32,
-        request: &LineRequest<'a>,
+        request: &RequestRef<'a>,
     ) -> Result<(), NoMemory>
         requires some { 1 ≤ per }
         requires lawful { IsRequest VERSION request.now }
@@ -83,7 +83,7 @@ impl<'a> Share<'a> {
     }
 
     /// Adds the next request.
-    pub fn put(&mut self, alloc: Global, per: u32, request: LineRequest<'a>) -> Result<(), NoMemory>
+    pub fn put(&mut self, alloc: Global, per: u32, request: RequestRef<'a>) -> Result<(), NoMemory>
         requires some { 1 ≤ per }
         requires lawful { IsRequest VERSION request }
         ensures { OnOk result ((later : List Request)

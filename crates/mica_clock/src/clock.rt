@@ -11,6 +11,10 @@ pub trait Clock {
     fn second(&mut self) -> u64
         ensures told { result ≡ last self.new }
         ensures never_falls { last self.old ≤ last self.new };
+
+    /// The present second where nothing is decided by it: it is shown, and does not count as told.
+    fn present(&self) -> u64
+        ensures { last self.now ≤ result };
 }
 
 // The second that is told where the clock shows this.

@@ -35,4 +35,11 @@ impl<'a> Clock for MemClock<'a> {
         }
         self.last
     }
+
+    fn present(&self) -> u64
+        ensures later { self.now.last ≤ result }
+        ensures shown { result ≡ second_after self.now.last (shown_in self.now.script.now) }
+    {
+        second_after(self.last, self.script.first().copied().flatten())
+    }
 }

@@ -31,4 +31,8 @@ impl<'a, R: time::Clock> Clock for StdClock<'a, R> {
         self.last = second_after(self.last, shown(self.rt));
         self.last
     }
+
+    fn present(&self) -> u64 {
+        second_after(self.last, shown(self.rt))
+    }
 }

@@ -1,5 +1,5 @@
 -- What is made of one end: datagram by datagram.
-use Rattle.std.proofs.Common.{◌≡◌, ℕ, inl, inr, Bool, List, [], length, take, Option, Some, None, refl, sym, ap, ◌∙◌, subst}
+use Rattle.std.proofs.Common.{◌≡◌, ℕ, inl, inr, Bool, List, length, take, Option, Some, None, refl, sym, ap, ◌∙◌, subst}
 use Rattle.std.specs.Prelude.{IfSome}
 use Rattle.mica_io.specs.Traffic.{Datagram, Traffic, ReceivesNext}
 use Rattle.partition_model.specs.declared.options.Options.{Options}
@@ -8,7 +8,7 @@ use Rattle.mica_fronts.specs.Turn.{Turn}
 use Rattle.mica_fronts.specs.Dealing.{IsDealing}
 use Rattle.mica_fronts.specs.Session.{Sessions}
 use Rattle.mica_fronts.specs.Answering.{DealsWith}
-use Rattle.mica_fronts.specs.OneEnd.{OnTraffic, SendsAll, SendsPart, sent_all, IsAtEnd, received_one, ServesOne, StopsOne, LeavesUnread}
+use Rattle.mica_fronts.specs.OneEnd.{OnTraffic, SendsAll, SendsPart, sent_all, received_one, ServesOne, StopsOne, LeavesUnread}
 use Rattle.mica_fronts.proofs.Cut.{cut_dealing}
 
 module _ (options : Options) (is_alone : Bool) (old new : Sessions) (left left_after : ℕ) where
@@ -64,7 +64,3 @@ pub stays_one : (options : Options) (is_alone : Bool) (old : Sessions) (left : �
 stays_one options is_alone old left None b same = tt
 stays_one options is_alone old left (Some a) b same =
     subst (λ (t : Option Traffic). OnTraffic (StopsOne options is_alone old left old left) (Some a) t) (sym same) (inl (refl, refl, refl))
-
-pub at_end : (a b : Option Traffic) → IfSome a (λ t. t.left ≡ []) → b ≡ a → OnTraffic IsAtEnd a b
-at_end None b none same = tt
-at_end (Some a) b none same = subst (λ (t : Option Traffic). OnTraffic IsAtEnd (Some a) t) (sym same) (refl, none)

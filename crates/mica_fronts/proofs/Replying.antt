@@ -15,16 +15,15 @@ use Rattle.partition_model.specs.Write.{is_accepted}
 use Rattle.partition_model.specs.Answer.{IsAnswer}
 use Rattle.batch_packets.specs.declared.header.TheConstants.{MAX_VALUE_LEN_V1}
 use Rattle.batch_packets.specs.declared.batch.Request.{Request}
-use Rattle.batch_packets.specs.declared.batch.Batch.{Batch}
-use Rattle.batch_packets.specs.BatchGrammar.{IsRequest, SpellsBatch}
+use Rattle.batch_packets.specs.BatchGrammar.{IsRequest}
 use Rattle.batch_packets.specs.declared.replies.Reply.{Reply}
-use Rattle.batch_packets.specs.ReplyGrammar.{replies_text, IsReply}
+use Rattle.batch_packets.specs.ReplyGrammar.{replies_text, IsReply, status_byte}
 use Rattle.batch_packets.specs.Splitting.{SplitsInto}
 use Rattle.mica_fronts.specs.Answered.{wrote, got}
 use Rattle.mica_fronts.specs.Turn.{write_in, get_reply}
 use Rattle.mica_fronts.specs.Session.{Sessions, Writes, Reads, ChangesOnly}
 use Rattle.mica_fronts.specs.Dealing.{IsNoBatch, bad_batch_text}
-use Rattle.mica_fronts.specs.Answering.{RepliesTo, AnswersAll, DealsWith, DealsInPart}
+use Rattle.mica_fronts.specs.Answering.{RepliesTo, DealsWith, DealsInPart}
 use Rattle.mica_fronts.proofs.InOrder.{first_none}
 use Rattle.mica_fronts.proofs.Statuses.{replied_status}
 
@@ -34,6 +33,7 @@ err_anyway (Err e) x = x
 
 -- a reply to a get is of its version
 lawful_get : (version ticket stamp : ℕ) (value : Option (List ℕ)) → IfSome value ValueFits → IsReply version (get_reply version ticket stamp value)
+unfolding status_byte
 lawful_get version ticket stamp None fits = record { status = refl; value = omega arith }
 lawful_get version ticket stamp (Some v) fits = by (eqb version 1) (ltb MAX_VALUE_LEN_V1 (length v)) refl refl
   where
@@ -107,19 +107,3 @@ refuses options is_alone sessions left bytes replies none is = record {
 -- no request of any datagram was answered
 pub none_dealt : (options : Options) (is_alone : Bool) (sessions : Sessions) (left : ℕ) (bytes : List ℕ) → DealsInPart options is_alone sessions left bytes sessions left
 none_dealt options is_alone sessions left bytes = record { requests = []; of = inl refl; first = first_none options is_alone sessions left [] }
-
--- all requests of a batch were answered
-pub answered : (options : Options) (is_alone : Bool) (old new : Sessions) (left left_after : ℕ) (bytes : List ℕ) (batch : Batch) (replies : List Reply) (datagrams : List (List ℕ))
-    → SpellsBatch bytes batch → (all : AnswersAll options is_alone batch.version old left batch.requests new left_after replies) → SplitsInto batch.version batch.number replies datagrams
-    → DealsWith options is_alone old left (record { datagram = bytes; turns = all.turns; replies = datagrams }) new left_after
-answered options is_alone old new left left_after bytes batch replies datagrams spelled all split = record {
-  is = inl (record {
-    batch = batch;
-    spelled = spelled;
-    requests = all.asked;
-    each = all.each;
-    split = subst (λ (r : List Reply). SplitsInto batch.version batch.number r datagrams) (sym all.replied) split;
-  });
-  answers = all.answers;
-  few = all.few;
-}

@@ -11,7 +11,7 @@ use Rattle.batch_packets.specs.BatchGrammar.{SpellsBatch}
 use Rattle.batch_packets.specs.ReplyGrammar.{replies_datagram}
 use Rattle.batch_packets.specs.Splitting.{SplitsInto}
 use Rattle.batch_packets.proofs.RequestLaws.{one_batch}
-use Rattle.mica_fronts.specs.Turn.{reply_of}
+use Rattle.mica_fronts.specs.Turn.{reply_of, bad_batch_reply}
 use Rattle.mica_fronts.specs.Dealing.{Dealing, IsDealing, AnswersBatch, RefusesBatch, bad_batch_text, due_after, due_to}
 use Rattle.mica_fronts.specs.OneEnd.{BeginsAs}
 
@@ -46,8 +46,8 @@ split version number replies (d ∷ datagrams) h =
     let some = h.2.fits.some in
     record { all = omega (arith, rest.all); some = (omega arith, rest.some) }
 
-bad_split : Split (record { status = 9; ticket = 0; stamp = 0; value = [] } ∷ []) (bad_batch_text ∷ [])
-bad_split = let one = counted 1 0 (record { status = 9; ticket = 0; stamp = 0; value = [] } ∷ []) in record { all = omega arith; some = (omega arith, tt) }
+bad_split : Split (bad_batch_reply ∷ []) (bad_batch_text ∷ [])
+bad_split = let one = counted 1 0 (bad_batch_reply ∷ []) in record { all = omega arith; some = (omega arith, tt) }
 
 -- what is due to an dealing: as many replies as the datagram alone says, and some in each datagram
 record Due (dealing : Dealing) (n : ℕ) : Type 0 where

@@ -28,7 +28,7 @@ use Rattle.owner_queue.specs.declared.message.Message.TheVariants as message
 use Rattle.owner_queue.specs.Acked.{IsReplyAt, IsAcked}
 use Rattle.owner_queue.specs.AckOrder.{AckMayFollow}
 use Rattle.owner_queue.specs.AckEnds.{AckBox, ack_box}
-use Rattle.owner_queue.specs.JobEnds.{Outbox, outbox}
+use Rattle.owner_queue.specs.JobEnds.{outbox}
 use Rattle.mica_fronts.specs.declared.queue_front.FrontPart.{FrontPart}
 use Rattle.mica_fronts.specs.Session.{Writes, Reads, TellsStep}
 use Rattle.mica_fronts.specs.QueueFront.{IsOfOneTable, HasTakenMore, HasAwaited, PartWrites, PartReads, step_by, told_by, session_of}

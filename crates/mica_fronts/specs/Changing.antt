@@ -1,5 +1,5 @@
 -- What becomes of a value that is looked at and written under one hold.
-use Rattle.std.specs.Prelude.{◌≡◌, ℕ, Bool, true, false, List, [], Option, Some, None, ⊤}
+use Rattle.std.specs.Prelude.{◌≡◌, ℕ, Bool, false, List, [], Option, Some, None, ⊤}
 use Rattle.partition_model.specs.declared.options.Options.{Options}
 use Rattle.partition_model.specs.declared.write.Op.TheVariants.{Put, Del}
 use Rattle.partition_model.specs.declared.write.Write.{Write}
@@ -7,8 +7,8 @@ use Rattle.partition_model.specs.declared.write.Answer.{Answer}
 use Rattle.partition_model.specs.declared.write.Outcome.{Outcome}
 use Rattle.partition_model.specs.Write.{write_of}
 use Rattle.partition_model.specs.Answer.{IsAnswer}
-use Rattle.mica_fronts.specs.declared.changing.Change.{Change}
-use Rattle.mica_fronts.specs.declared.changing.Change.TheVariants.{Stay, Become, Go}
+use Rattle.partition_model.specs.declared.change.Change.{Change}
+use Rattle.partition_model.specs.declared.change.Change.TheVariants.{Stay, Become, Go}
 use Rattle.mica_fronts.specs.declared.changing.Changed.{Changed}
 use Rattle.mica_fronts.specs.declared.changing.When.{When}
 use Rattle.mica_fronts.specs.Looks.{Look}

@@ -15,4 +15,3 @@ pub mod OneEnd
 pub mod QueueFront
 pub mod OwnerWork
 pub mod Solo
-pub mod Owners

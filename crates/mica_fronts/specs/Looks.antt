@@ -3,7 +3,7 @@ use Rattle.std.specs.Prelude.{◌≡◌, ℕ, List, length, Option}
 use Rattle.partition_model.specs.declared.options.Options.{Options}
 use Rattle.partition_model.specs.History.{History, answer_of}
 use Rattle.mica_fronts.specs.declared.changing.When.{When}
-use Rattle.mica_fronts.specs.Flushes.{flushed_in}
+use Rattle.mica_fronts.specs.Flushes.{flushed_at, waits_at, flushes_in}
 
 -- the value of the key, or none, and when that was
 pub record Look : Type 0 where
@@ -12,7 +12,12 @@ pub record Look : Type 0 where
 
 -- a second, with the counts behind this history
 abbrev pub when_after : ℕ → History → When
-when_after second history = record { second = second; written = length history; flushed = flushed_in history }
+when_after second history = record {
+  second = second;
+  written = length history;
+  flushed = flushed_at second (flushes_in history);
+  until = waits_at second (flushes_in history);
+}
 
 -- it is what the machine has behind this history
 pub record IsLookAt (options : Options) (history : History) (key : List ℕ) (look : Look) : Type 0 where

@@ -4,13 +4,13 @@ use Rattle.partition_model.specs.declared.write.Op.TheVariants.{Put as PutOp, De
 use Rattle.partition_model.specs.declared.write.Outcome.{Outcome}
 use Rattle.partition_model.specs.declared.write.Outcome.TheVariants.{Stored, Deleted, Absent, Touched, FullSpare, FullBlock, Worn, Exists}
 use Rattle.partition_model.specs.declared.write.Write.{Write}
-use Rattle.partition_model.specs.declared.write.Answer.{Answer}
-use Rattle.partition_model.specs.declared.write.Answer.TheVariants.{Hit, Miss}
 use Rattle.partition_model.specs.Write.{write_of}
 use Rattle.batch_packets.specs.declared.header.TheConstants.{MAX_VALUE_LEN_V1}
 use Rattle.batch_packets.specs.declared.batch.Want.{Want}
 use Rattle.batch_packets.specs.declared.batch.Want.TheVariants.{Get, Put, Del, Add, Touch}
 use Rattle.batch_packets.specs.declared.batch.Request.{Request}
+use Rattle.batch_packets.specs.declared.status.Status.{Status}
+use Rattle.batch_packets.specs.declared.status.Status.TheVariants as status
 use Rattle.batch_packets.specs.declared.replies.Reply.{Reply}
 use Rattle.mica_fronts.specs.Answered.{Answered, wrote, got, changed, kept}
 
@@ -41,20 +41,15 @@ Asks request (kept key stamp look) = ⊥
 -- What is replied
 
 -- the status of a write's reply; the last two are of an add and a touch, which the second version alone has
-abbrev pub status_of : Outcome → ℕ
-status_of Stored = 2
-status_of Deleted = 3
-status_of Absent = 4
-status_of FullSpare = 5
-status_of FullBlock = 6
-status_of Worn = 7
-status_of Exists = 11
-status_of Touched = 12
-
--- the status of a get's reply
-abbrev pub status_at : Answer → ℕ
-status_at Hit = 0
-status_at Miss = 1
+abbrev pub status_of : Outcome → Status
+status_of Stored = status.Stored
+status_of Deleted = status.Deleted
+status_of Absent = status.Absent
+status_of FullSpare = status.FullSpare
+status_of FullBlock = status.FullBlock
+status_of Worn = status.Worn
+status_of Exists = status.Exists
+status_of Touched = status.Touched
 
 -- the reply to a write
 abbrev pub write_reply : ℕ → Outcome → ℕ → Reply
@@ -66,9 +61,9 @@ is_too_long version value = (version == 1) && nat_lt MAX_VALUE_LEN_V1 (length va
 
 -- The reply to a get, in a version, where the key has this value or none. A hit of a value that is too long has a status of its own.
 abbrev pub get_reply : ℕ → ℕ → ℕ → Option (List ℕ) → Reply
-get_reply version ticket stamp None = record { status = status_at Miss; ticket = ticket; stamp = stamp; value = [] }
+get_reply version ticket stamp None = record { status = status.Miss; ticket = ticket; stamp = stamp; value = [] }
 get_reply version ticket stamp (Some value) = record {
-  status = if is_too_long version value then 10 else status_at Hit;
+  status = if is_too_long version value then status.LongHit else status.Hit;
   ticket = ticket;
   stamp = stamp;
   value = if is_too_long version value then [] else value;
@@ -76,7 +71,7 @@ get_reply version ticket stamp (Some value) = record {
 
 -- the reply to bytes that are no batch
 abbrev pub bad_batch_reply : Reply
-bad_batch_reply = record { status = 9; ticket = 0; stamp = 0; value = [] }
+bad_batch_reply = record { status = status.BadBatch; ticket = 0; stamp = 0; value = [] }
 
 -- the reply of a version, with this ticket
 abbrev pub reply_to : ℕ → ℕ → Answered → Reply

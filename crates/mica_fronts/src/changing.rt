@@ -1,12 +1,14 @@
 //! A front that looks at a value and writes under one hold.
-ghost use Rattle.std.specs.Prelude.{◌≡◌, ◌+◌, ◌<◌, ◌≤◌, ℕ, Bool, false, List, Option, option_copied};
+ghost use Rattle.std.specs.Prelude.{◌≡◌, ◌+◌, ◌<◌, ◌≤◌, ℕ, Bool, false, List, [], Option, option_copied};
 ghost use Rattle.mica_words.specs.Hash.{partition_of};
 ghost use Rattle.mica_words.specs.Item.{KeyFits};
-ghost use Rattle.mica_fronts.specs.Session.{ChangesOnly};
+ghost use Rattle.partition_model.specs.declared.write.Op.TheVariants.{Del};
+ghost use Rattle.partition_model.specs.Write.{write_of};
+ghost use Rattle.mica_fronts.specs.Session.{ChangesOnly, Writes};
 ghost use Rattle.mica_fronts.specs.Changing.{Becoming, IsChange, ComesTo, count_of};
 
 use crate::front::Front;
-use partition_model::{Answer, ItemBuf, Outcome};
+use partition_model::{Answer, Change, ItemBuf, Outcome};
 use std::sync::Wait;
 use std::thread::Threads;
 
@@ -17,17 +19,10 @@ pub struct When {
     pub second: u64,
     /// How many writes the partition had accepted.
     pub written: u64,
-    /// How many it had accepted up to its last flush, with that one; 0 where there was none.
+    /// How many of them are flushed at that second.
     pub flushed: u64,
-}
-
-/// What is to become of a value.
-#[derive(Clone, Copy, Debug, PartialEq, Eq)]
-pub enum Change {
-    Stay,
-    /// It is to be what the buffer has.
-    Become,
-    Go,
+    /// The second of a flush that waits then; 0 where none does.
+    pub until: u64,
 }
 
 /// A decision, which has no effects: it can neither wait nor take memory.
@@ -78,6 +73,19 @@ pub trait Changes: Front {
             (Self.sessions self.old p) result found.new (Self.sessions self.new p) }
         ensures others { ChangesOnly (partition_of key.entry.now (Self.options self.old).partitions) (Self.sessions self.old) (Self.sessions self.new) }
         ensures left { Self.left self.old ≤ Self.left self.new + count_of result.outcome }
+        ensures options { Self.options self.new ≡ Self.options self.old }
+        ensures number { Self.number self.new ≡ Self.number self.old }
+        ensures stands { Self.stands self.new ≡ Self.stands self.old };
+
+    /// The outcome of a delete, and the stamp after it. It takes no memory.
+    fn delete<R: Threads + Wait + Sync>(&mut self, rt: &R, key: &[u8]) -> (Outcome, u64)
+        requires key { KeyFits key.now }
+        requires left { 0 < Self.left self.old }
+        ensures written { let p = partition_of key.entry.now (Self.options self.old).partitions in
+            Writes (Self.options self.old) Self.is_alone (Self.sessions self.old p)
+            (record { write = write_of Del key.entry.now []; outcome = result.0; stamp = result.1 }) (Self.sessions self.new p) }
+        ensures others { ChangesOnly (partition_of key.entry.now (Self.options self.old).partitions) (Self.sessions self.old) (Self.sessions self.new) }
+        ensures left { Self.left self.old ≤ Self.left self.new + 1 }
         ensures options { Self.options self.new ≡ Self.options self.old }
         ensures number { Self.number self.new ≡ Self.number self.old }
         ensures stands { Self.stands self.new ≡ Self.stands self.old };

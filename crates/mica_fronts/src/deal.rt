@@ -8,15 +8,15 @@ ghost use Rattle.batch_packets.specs.BatchGrammar.{IsRequest};
 ghost use Rattle.batch_packets.specs.Splitting.{SplitsInto};
 ghost use Rattle.batch_packets.specs.declared.replies.Reply.{Reply};
 ghost use Rattle.mica_fronts.specs.Answered.{Answered};
-ghost use Rattle.mica_fronts.specs.Turn.{Turn, status_of, status_at, write_in, writes_of_one, get_reply};
+ghost use Rattle.mica_fronts.specs.Turn.{Turn, status_of, write_in, writes_of_one, get_reply};
 ghost use Rattle.mica_fronts.specs.Dealing.{bad_batch_text};
 ghost use Rattle.mica_fronts.specs.Answering.{RepliesTo, AddsReply, AnswersAll, AddsAll, AnswersFirst, AreLeft, DealsWith, DealsInPart};
 
 use crate::ahead::load_ahead;
 use crate::front::Front;
 use batch_packets::{
-    Datagram, Header, MAX_VALUE_LEN_V1, Reply, ReplyText, RequestRef, Requests, Want, check_batch,
-    write_replies,
+    Datagram, Header, MAX_VALUE_LEN_V1, Reply, ReplyText, RequestRef, Requests, Status, Want,
+    check_batch, write_replies,
 };
 use mica_io::{Bytes, Gate, NoMemory};
 use partition_model::{Answer, ItemBuf, Op, Outcome};
@@ -32,33 +32,23 @@ pub(crate) struct Dealt {
 }
 
 /// The status of a write's reply.
-fn status_of(outcome: Outcome) -> u8
+fn status_of(outcome: Outcome) -> Status
     ensures { result ≡ status_of outcome }
 {
     match outcome {
-        Outcome::Stored => 2,
-        Outcome::Deleted => 3,
-        Outcome::Absent => 4,
-        Outcome::FullSpare => 5,
-        Outcome::FullBlock => 6,
-        Outcome::Worn => 7,
-        Outcome::Exists => 11,
-        Outcome::Touched => 12,
-    }
-}
-
-/// The status of a get's reply.
-fn status_at(answer: Answer) -> u8
-    ensures { result ≡ status_at answer }
-{
-    match answer {
-        Answer::Hit => 0,
-        Answer::Miss => 1,
+        Outcome::Stored => Status::Stored,
+        Outcome::Deleted => Status::Deleted,
+        Outcome::Absent => Status::Absent,
+        Outcome::FullSpare => Status::FullSpare,
+        Outcome::FullBlock => Status::FullBlock,
+        Outcome::Worn => Status::Worn,
+        Outcome::Exists => Status::Exists,
+        Outcome::Touched => Status::Touched,
     }
 }
 
 /// Does a write, and adds its reply.
-fn written<R: Threads + Wait + Sync, F: Front>(
+fn reply_to_write<R: Threads + Wait + Sync, F: Front>(
     rt: &R,
     alloc: Global,
     front: &mut F,
@@ -83,18 +73,21 @@ fn written<R: Threads + Wait + Sync, F: Front>(
 }
 
 /// The status and the value of the reply to a get, in a version, where the buffer has the value of a hit and none of a miss.
-fn get_reply(version: u8, answer: Answer, value: &[u8]) -> (u8, &[u8])
+fn get_reply(version: u8, answer: Answer, value: &[u8]) -> (Status, &[u8])
     ensures { (ticket stamp : ℕ) (found : Option (List ℕ)) → IsAnswer answer value.now found
         → record { status = result.0; ticket = ticket; stamp = stamp; value = result.1.now } ≡ get_reply version ticket stamp found }
 {
     if version == 1 && value.len() > MAX_VALUE_LEN_V1 {
-        return (10, &value[..0]);
+        return (Status::LongHit, &value[..0]);
     }
-    (status_at(answer), value)
+    match answer {
+        Answer::Hit => (Status::Hit, value),
+        Answer::Miss => (Status::Miss, value),
+    }
 }
 
 /// Gets, and adds the reply.
-fn got<R: Threads + Wait + Sync, F: Front>(
+fn reply_to_get<R: Threads + Wait + Sync, F: Front>(
     rt: &R,
     front: &mut F,
     version: u8,
@@ -140,11 +133,11 @@ fn reply_to<R: Threads + Wait + Sync, F: Front>(
     ensures stands { F.stands front.new ≡ F.stands front.old }
 {
     match request.want() {
-        Want::Get => got(rt, front, version, request, replies, out),
-        Want::Put => written(rt, alloc, front, Op::Put, request, replies),
-        Want::Del => written(rt, alloc, front, Op::Del, request, replies),
-        Want::Add => written(rt, alloc, front, Op::Add, request, replies),
-        Want::Touch => written(rt, alloc, front, Op::Touch, request, replies),
+        Want::Get => reply_to_get(rt, front, version, request, replies, out),
+        Want::Put => reply_to_write(rt, alloc, front, Op::Put, request, replies),
+        Want::Del => reply_to_write(rt, alloc, front, Op::Del, request, replies),
+        Want::Add => reply_to_write(rt, alloc, front, Op::Add, request, replies),
+        Want::Touch => reply_to_write(rt, alloc, front, Op::Touch, request, replies),
     }
 }
 
@@ -183,11 +176,12 @@ fn reply_to_all<R: Threads + Wait + Sync, F: Front, G: Gate>(
 }
 
 /// The one datagram that is due to bytes that are no batch.
+#[tactic(auto, unfolding(batch_packets::specs::ReplyGrammar::status_byte))]
 fn bad_batch(alloc: Global) -> Result<Vec<Datagram>, NoMemory>
     ensures { IfOk result (λ datagrams. datagrams.items ≡ bad_batch_text ∷ []) }
 {
     let reply = Reply {
-        status: 9,
+        status: Status::BadBatch,
         ticket: 0,
         stamp: 0,
         value: Bytes::empty(alloc),

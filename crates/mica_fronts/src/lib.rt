@@ -9,6 +9,7 @@ mod batch;
 mod changing;
 mod deal;
 mod end;
+mod flushes;
 mod front;
 mod gate;
 mod glancing;
@@ -20,8 +21,9 @@ mod solo;
 mod totals;
 
 pub use batch::serve_batch;
-pub use changing::{Change, Changed, Changes, Decide, When};
+pub use changing::{Changed, Changes, Decide, When};
 pub use end::serve_end;
+pub use flushes::{FLUSH_LEN, Flush, Flushes, flush_in};
 pub use front::Front;
 pub use glancing::{Glances, Glimpse};
 pub use owner_work::serve_owner;

@@ -5,6 +5,7 @@
 //! these steps stand in `mica_model`.
 #![tactic(auto)]
 
+mod change;
 mod fate;
 mod item_buf;
 mod laws;
@@ -13,6 +14,7 @@ mod options;
 mod ranges;
 mod write;
 
+pub use change::Change;
 pub use fate::Fate;
 pub use item_buf::ItemBuf;
 pub use laws::{count_comes_first, one_cut, valid_is_possible};

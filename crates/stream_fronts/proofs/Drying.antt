@@ -1,5 +1,5 @@
 -- Of what its peer sends, nothing comes behind the end.
-use Rattle.std.proofs.Common.{◌≡◌, ℕ, zero, suc, ◌<◌, ◌≤◌, Bool, true, false, true≢false, cond, List, [], ◌∷◌, ◌++◌, length, take, drop, refl, sym, ap, ◌∙◌, subst, arith}
+use Rattle.std.proofs.Common.{◌≡◌, ℕ, zero, suc, ◌<◌, ◌≤◌, inr, Bool, true, false, true≢false, cond, List, [], ◌∷◌, ◌++◌, length, take, drop, refl, sym, ap, ◌∙◌, subst, arith}
 use Rattle.std.specs.Prelude.{slice_get, Option, Some, None, IfSome, min, is_some, ◌||◌, Result, Ok, Err}
 use Rattle.std.specs.List.{AllByRecursion}
 use Rattle.std.proofs.Math.Seq.{drop-nil}
@@ -15,9 +15,9 @@ use Rattle.stream_io.specs.Connection.{Connection, new_connection, readable, aft
 use Rattle.stream_io.specs.State.{State, Entry, opened, reported, met, received, sent, asked, closed, changed, state_after, after_step, after_report, after_meeting, held}
 use Rattle.stream_io.specs.Log.{Log, connections_of, state_of, with_entries, after_met}
 use Rattle.stream_io.specs.Calls.{IsGiven, ReadGives, gave}
-use Rattle.stream_fronts.specs.Traffic.{IsSend, Sends, IsIn, IsBroken, HasEnded, after_receiving, ReadsTo, why, bytes_in, OnHeld}
+use Rattle.stream_fronts.specs.Traffic.{IsSend, Sends, IsIn, IsBroken, HasEnded, IsSilent, after_receiving, ReadsTo, why, bytes_in, OnHeld}
 use Rattle.stream_fronts.specs.Open.{IsOpen, OnLogs}
-use Rattle.stream_fronts.proofs.Places.{there}
+use Rattle.stream_fronts.proofs.Places.{there, if_changed}
 use Rattle.stream_fronts.proofs.Opening.{met_at, found}
 use Rattle.stream_fronts.proofs.Traffic.{met_entries}
 
@@ -99,11 +99,7 @@ ended_change change x is = record {
 
 pub in_changed : (c : ℕ) (f : Connection → Connection) → ((x : Connection) → HasEnded x → HasEnded (f x)) → (d : ℕ) (all : List Connection) → IfSome (slice_get all d) HasEnded
     → IfSome (slice_get (changed c f all) d) HasEnded
-in_changed c f keeps d [] is = is
-in_changed zero f keeps zero (x ∷ all) is = keeps x is
-in_changed zero f keeps (suc d) (x ∷ all) is = is
-in_changed (suc c) f keeps zero (x ∷ all) is = is
-in_changed (suc c) f keeps (suc d) (x ∷ all) is = in_changed c f keeps d all is
+in_changed = if_changed HasEnded
 
 ended_meeting : (d : ℕ) (state : State) (later : List Step) → IfSome (slice_get state.connections d) HasEnded → IfSome (slice_get (after_meeting state later).connections d) HasEnded
 ended_meeting d state [] is = is
@@ -147,6 +143,7 @@ gave_reads c most out (Ok (Bytes count)) old x is given =
     let some : 0 < length (take count out) = let n = given.0 in omega (arith, n, len) in (
       record {
         schedule = refl;
+        piece = refl;
         mets = m.0;
         each = m.1;
         entries =
@@ -156,7 +153,9 @@ gave_reads c most out (Ok (Bytes count)) old x is given =
       tt,
     )
 gave_reads c most out (Ok Later) old x is given =
-    let m = met_entries (state_of old).later old.entries in (record { schedule = refl; mets = m.0; each = m.1; entries = m.2 }, tt)
+    let m = met_entries (state_of old).later old.entries in
+    let silent : IsSilent x = record { read = given.0; whole = given.1; goes_on = given.2 } in
+    (record { schedule = refl; piece = refl; mets = m.0; each = m.1; entries = m.2 }, inr (subst (λ o. IfSome o IsSilent) (sym is) silent))
 gave_reads c most out (Ok Ended) old x is given =
     let m = met_entries (state_of old).later old.entries in
     let ended : HasEnded x = record {
@@ -164,10 +163,10 @@ gave_reads c most out (Ok Ended) old x is given =
       read = given.0;
       none = dry_at (connections_of (after_met old)) c x (dry old.schedule (after_met old).entries) is given.2;
     } in
-    (record { schedule = refl; mets = m.0; each = m.1; entries = m.2 }, subst (λ o. IfSome o HasEnded) (sym is) ended)
+    (record { schedule = refl; piece = refl; mets = m.0; each = m.1; entries = m.2 }, subst (λ o. IfSome o HasEnded) (sym is) ended)
 gave_reads c most out (Err broken) old x is given =
     let m = met_entries (state_of old).later old.entries in
-    (record { schedule = refl; mets = m.0; each = m.1; entries = m.2 }, subst (λ o. IfSome o IsBroken) (sym is) given.1)
+    (record { schedule = refl; piece = refl; mets = m.0; each = m.1; entries = m.2 }, subst (λ o. IfSome o IsBroken) (sym is) given.1)
 
 -- what one call of `read` makes of a log
 pub read_reads : (number room : ℕ) (out : List ℕ) (answer : Result Input Broken) (old : Log) (new : Option Log) (c : ℕ) → held number (connections_of old) ≡ Some c

@@ -9,6 +9,8 @@ pub mod Answering
 pub mod Looking
 pub mod Filling
 pub mod Traffic
+pub mod Moving
+pub mod Tending
 pub mod Talking
 pub mod Moments
 pub mod Drying
@@ -21,5 +23,7 @@ pub mod GoingOn
 pub mod Standing
 pub mod Served
 pub mod TakenIn
+pub mod Telling
 pub mod Reported
+pub mod Settling
 pub mod Since

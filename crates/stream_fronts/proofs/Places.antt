@@ -1,6 +1,6 @@
 -- A change of one connection, and the places of the others.
-use Rattle.std.proofs.Common.{◌≡◌, ◌≢◌, ℕ, zero, suc, ◌-◌, ◌≤◌, Bool, true, false, cond, ltb, List, [], ◌∷◌, ◌++◌, length, refl, sym, ap, ◌∙◌, subst, arith}
-use Rattle.std.specs.Prelude.{◌==◌, ◌&&◌, not, slice_get, get_or, None, Some}
+use Rattle.std.proofs.Common.{◌≡◌, ◌≢◌, ℕ, zero, suc, ◌-◌, ◌≤◌, Bool, true, false, true≢false, cond, ltb, List, [], ◌∷◌, ◌++◌, length, refl, sym, ap, ◌∙◌, subst, arith}
+use Rattle.std.specs.Prelude.{◌==◌, ◌&&◌, not, slice_get, get_or, None, Some, is_some, IfSome}
 use Rattle.std.specs.List.{position_or_len}
 use Rattle.std.proofs.lemmas.Option.{none-some, same_Some, slice_get-get_or}
 use Rattle.std.proofs.lemmas.List.{get_or_append_left}
@@ -36,7 +36,7 @@ same_held n c f all same =
     ∙ ap (λ k. cond (ltb (position_or_len (is_under n) all) k) (Some (position_or_len (is_under n) all)) None) (length_changed c f all)
 
 -- each other connection is as it was
-elsewhere : (c d : ℕ) (f : Connection → Connection) (all : List Connection) → c ≢ d → slice_get (changed c f all) d ≡ slice_get all d
+pub elsewhere : (c d : ℕ) (f : Connection → Connection) (all : List Connection) → c ≢ d → slice_get (changed c f all) d ≡ slice_get all d
 elsewhere c d f [] other = refl
 elsewhere zero zero f (x ∷ all) other = absurd (other refl)
 elsewhere zero (suc d) f (x ∷ all) other = refl
@@ -47,6 +47,21 @@ pub changed_here : (c : ℕ) (f : Connection → Connection) (all : List Connect
 changed_here c f [] x is = absurd (none-some x is)
 changed_here zero f (y ∷ all) x is = ap (λ z. Some (f z)) (same_Some y x is)
 changed_here (suc c) f (y ∷ all) x is = changed_here c f all x is
+
+-- what a change keeps of one is kept of each
+pub if_changed : (P : Connection → Type 0) (c : ℕ) (f : Connection → Connection) → ((x : Connection) → P x → P (f x)) → (d : ℕ) (all : List Connection) → IfSome (slice_get all d) P
+    → IfSome (slice_get (changed c f all) d) P
+if_changed P c f keeps d [] is = is
+if_changed P zero f keeps zero (x ∷ all) is = keeps x is
+if_changed P zero f keeps (suc d) (x ∷ all) is = is
+if_changed P (suc c) f keeps zero (x ∷ all) is = is
+if_changed P (suc c) f keeps (suc d) (x ∷ all) is = if_changed P c f keeps d all is
+
+-- what is told of one that was made stays with one more
+pub if_pushed : (P : Connection → Type 0) (all : List Connection) (x : Connection) (d : ℕ) → is_some (slice_get all d) ≡ true → IfSome (slice_get all d) P → IfSome (slice_get (all ++ x ∷ []) d) P
+if_pushed P [] x d made is = absurd (true≢false (sym made))
+if_pushed P (y ∷ all) x zero made is = is
+if_pushed P (y ∷ all) x (suc d) made is = if_pushed P all x d made is
 
 more_asks : (c d : ℕ) (f : Connection → Connection) (all : List Connection) → ((x : Connection) → x.asks ≤ (f x).asks) → asks_in (slice_get all d) ≤ asks_in (slice_get (changed c f all) d)
 more_asks c d f [] more = omega arith

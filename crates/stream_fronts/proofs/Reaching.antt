@@ -12,7 +12,9 @@ use Rattle.memcached_commands.specs.declared.asks.Asked.{Asked}
 use Rattle.memcached_commands.specs.Asks.{asks_in}
 use Rattle.mica_fronts.specs.Answered.{Answered}
 use Rattle.mica_fronts.specs.Session.{Sessions}
-use Rattle.memcached_fronts.specs.Exchange.{Exchange, AnswersBy, AnswersNext, IsOpenAt, flushes_now, is_answered, count_of_answers, due_to, due_before}
+use Rattle.memcached_stats.specs.Stats.{Told}
+use Rattle.memcached_stats.proofs.Untold.{untold}
+use Rattle.memcached_fronts.specs.Exchange.{Exchange, AnswersBy, AnswersNext, IsOpenAt, flushes_now, flush_due, is_answered, count_of_answers, due_to, due_before}
 use Rattle.memcached_fronts.specs.Spells.{Spells, taken_by, due_to_all, answers_to_all}
 use Rattle.memcached_fronts.specs.declared.answer.Limits.{Limits}
 use Rattle.memcached_fronts.specs.declared.answer.Progress.{Progress}
@@ -38,67 +40,69 @@ module _ (options : Options) (base : ℕ) where
   pub no_answers : (next : Next) → AnswersNext options base next []
   no_answers next = go (flushes_now next)
     where
-      go : (t : Bool) → AnswersBy t options base (asks_in next) []
-      go true = tt
+      go : (t : Bool) → AnswersBy t options base (flush_due next) (asks_in next) []
+      go true = (0, tt)
       go false = tt
 
-  none_begun : (bytes : List ℕ) (part : List Answered) → length part ≡ 0 → due_before options base (begun bytes part) ≡ []
-  none_begun bytes part none = subst (λ p. due_before options base (begun bytes p) ≡ []) (sym (nil_from_length part none)) (nothing_before options base (next_of bytes))
+  none_begun : (bytes : List ℕ) (part : List Answered) (told : Told) → length part ≡ 0 → due_before options base (begun bytes part told) ≡ []
+  none_begun bytes part told none = subst (λ p. due_before options base (begun bytes p told) ≡ []) (sym (nil_from_length part none)) (nothing_before options base (next_of bytes) told)
 
   -- The command at a place
 
   module _ {bytes : List ℕ} {done : ℕ} {received : List ℕ} {given : List Answered} {due : List ℕ} (r : Reaches options base (place_at bytes done) received given due) where
-    pub here : StandsAt options base (next_of bytes) done (begun bytes r.part)
+    pub here : StandsAt options base (next_of bytes) done (begun bytes r.part r.told)
     here = record { next_is = refl; count = r.count; answers = r.begins }
 
-    module _ (answers : List Answered) (text : List ℕ) (goes : AnswersNext options base (next_of bytes) (r.part ++ answers))
-        (due_now : due_to options base (begun bytes (r.part ++ answers)) ≡ due_before options base (begun bytes r.part) ++ text) where
+    module _ (told : Told) (answers : List Answered) (text : List ℕ) (goes : AnswersNext options base (next_of bytes) (r.part ++ answers))
+        (due_now : due_to options base (begun bytes (r.part ++ answers) told) ≡ due_before options base (begun bytes r.part r.told) ++ text) where
       now : Exchange
-      now = begun bytes (r.part ++ answers)
+      now = begun bytes (r.part ++ answers) told
 
       given_now : answers_to_all r.whole ++ (r.part ++ answers) ≡ given ++ answers
       given_now = sym (append_assoc (answers_to_all r.whole) r.part answers) ∙ ap (λ g. g ++ answers) r.answered
 
-      text_now : due_to_all options base r.whole ++ due_to options base (begun bytes (r.part ++ answers)) ≡ due ++ text
+      text_now : due_to_all options base r.whole ++ due_to options base (begun bytes (r.part ++ answers) told) ≡ due ++ text
       text_now =
-          ap (λ t. due_to_all options base r.whole ++ t) due_now ∙ sym (append_assoc (due_to_all options base r.whole) (due_before options base (begun bytes r.part)) text)
+          ap (λ t. due_to_all options base r.whole ++ t) due_now ∙ sym (append_assoc (due_to_all options base r.whole) (due_before options base (begun bytes r.part r.told)) text)
           ∙ ap (λ t. t ++ text) r.due_is
 
       -- it is answered in part
-      pub in_part : is_answered options (begun bytes (r.part ++ answers)) ≡ false → (more : ℕ) → more ≡ done + length answers
+      pub in_part : is_answered options (begun bytes (r.part ++ answers) told) ≡ false → (more : ℕ) → more ≡ done + length answers
           → Reaches options base (place_at bytes more) received (given ++ answers) (due ++ text)
       in_part going more is = record {
         whole = r.whole;
         part = r.part ++ answers;
+        told = told;
         spells = r.spells;
         follows = r.follows;
         begins = goes;
         count = length-append r.part answers ∙ ap (λ n. n + length answers) r.count ∙ sym is;
         answered = given_now;
-        due_is = ap (λ t. due_to_all options base r.whole ++ t) (due_still options base (begun bytes (r.part ++ answers)) going) ∙ text_now;
+        due_is = ap (λ t. due_to_all options base r.whole ++ t) (due_still options base (begun bytes (r.part ++ answers) told) going) ∙ text_now;
         missing = r.missing;
       }
 
       module _ (some : next_of bytes ≢ More) where
-        spelled : Spells options base received (r.whole ++ begun bytes (r.part ++ answers) ∷ []) (drop (len_of (next_of bytes)) bytes)
-        spelled = spells_next options base received r.whole bytes (begun bytes (r.part ++ answers)) r.spells r.follows (record { next = refl; some = some; answers = goes })
+        spelled : Spells options base received (r.whole ++ begun bytes (r.part ++ answers) told ∷ []) (drop (len_of (next_of bytes)) bytes)
+        spelled = spells_next options base received r.whole bytes (begun bytes (r.part ++ answers) told) r.spells r.follows (record { next = refl; some = some; answers = goes })
 
         -- it is answered
-        pub as_whole : is_answered options (begun bytes (r.part ++ answers)) ≡ true → is_last (next_of bytes) ≡ false → (len : ℕ) → len ≡ len_of (next_of bytes)
+        pub as_whole : is_answered options (begun bytes (r.part ++ answers) told) ≡ true → is_last (next_of bytes) ≡ false → (len : ℕ) → len ≡ len_of (next_of bytes)
             → Reaches options base (record { bytes = drop len bytes; done = 0; dropping = len - length bytes }) received (given ++ answers) (due ++ text)
         as_whole answered goes_on len is = record {
-          whole = r.whole ++ begun bytes (r.part ++ answers) ∷ [];
+          whole = r.whole ++ begun bytes (r.part ++ answers) told ∷ [];
           part = [];
-          spells = subst (λ n. Spells options base received (r.whole ++ begun bytes (r.part ++ answers) ∷ []) (drop n bytes)) (sym is) spelled;
-          follows = may_go_on options base r.whole (begun bytes (r.part ++ answers)) answered goes_on;
+          told = told;
+          spells = subst (λ n. Spells options base received (r.whole ++ begun bytes (r.part ++ answers) told ∷ []) (drop n bytes)) (sym is) spelled;
+          follows = may_go_on options base r.whole (begun bytes (r.part ++ answers) told) answered goes_on;
           begins = no_answers (next_of (drop len bytes));
           count = refl;
-          answered = append-nil _ ∙ answers_then options base r.whole (begun bytes (r.part ++ answers)) ∙ given_now;
+          answered = append-nil _ ∙ answers_then options base r.whole (begun bytes (r.part ++ answers) told) ∙ given_now;
           due_is =
-              ap (λ t. due_to_all options base (r.whole ++ begun bytes (r.part ++ answers) ∷ []) ++ t) (nothing_before options base (next_of (drop len bytes)))
-              ∙ append-nil _ ∙ due_then options base r.whole (begun bytes (r.part ++ answers)) ∙ text_now;
+              ap (λ t. due_to_all options base (r.whole ++ begun bytes (r.part ++ answers) told ∷ []) ++ t) (nothing_before options base (next_of (drop len bytes)) told)
+              ∙ append-nil _ ∙ due_then options base r.whole (begun bytes (r.part ++ answers) told) ∙ text_now;
           missing =
-              let taken = taken_then r.whole (begun bytes (r.part ++ answers)) in
+              let taken = taken_then r.whole (begun bytes (r.part ++ answers) told) in
               let left = ap length (rest_is options base received r.whole bytes r.spells) ∙ length-drop (taken_by r.whole) received in
               let none = r.missing in
               omega (arith, taken, left, none, is);
@@ -107,12 +111,12 @@ module _ (options : Options) (base : ℕ) where
         -- it is the last
         pub at_end : is_last (next_of bytes) ≡ true → Ends options base (length bytes) received (given ++ answers) (due ++ text)
         at_end last = record {
-          said = r.whole ++ begun bytes (r.part ++ answers) ∷ [];
+          said = r.whole ++ begun bytes (r.part ++ answers) told ∷ [];
           rest = drop (len_of (next_of bytes)) bytes;
           spells = spelled;
-          left = left_by r.whole (begun bytes (r.part ++ answers)) ∙ last;
-          answered = answers_then options base r.whole (begun bytes (r.part ++ answers)) ∙ given_now;
-          due_is = due_then options base r.whole (begun bytes (r.part ++ answers)) ∙ text_now;
+          left = left_by r.whole (begun bytes (r.part ++ answers) told) ∙ last;
+          answered = answers_then options base r.whole (begun bytes (r.part ++ answers) told) ∙ given_now;
+          due_is = due_then options base r.whole (begun bytes (r.part ++ answers) told) ∙ text_now;
           few = let len = length-drop (len_of (next_of bytes)) bytes in omega (arith, len);
         }
 
@@ -128,7 +132,7 @@ module _ (options : Options) (base : ℕ) where
     all = subst (λ (n : Next). Replies options base n done limits answers before after progress) is replies
 
     answered_is : {received : List ℕ} {given : List Answered} {due : List ℕ} (r : Reaches options base (place_at bytes done) received given due)
-        → is_answered options (begun bytes (r.part ++ answers)) ≡ progress.is_whole
+        → is_answered options (begun bytes (r.part ++ answers) all.told) ≡ progress.is_whole
     answered_is r =
         ap (λ n. n == count_of_answers options (next_of bytes)) (length-append r.part answers ∙ ap (λ n. n + length answers) r.count ∙ sym all.count) ∙ sym all.whole
 
@@ -136,7 +140,7 @@ module _ (options : Options) (base : ℕ) where
     part_of going = record {
       text = all.text;
       appended = all.appended;
-      on = λ received given due r. in_part r answers all.text (by_all.next_ones (begun bytes r.part) (here r)) (all.due (begun bytes r.part) (here r))
+      on = λ received given due r. in_part r all.told answers all.text (by_all.next_ones (begun bytes r.part r.told) (here r)) (all.due (begun bytes r.part r.told) (here r))
           (answered_is r ∙ going) progress.done all.count;
     }
 
@@ -149,7 +153,7 @@ module _ (options : Options) (base : ℕ) where
       whole_of answered goes_on len len_is = record {
         text = all.text;
         appended = all.appended;
-        on = λ received given due r. as_whole r answers all.text (by_all.next_ones (begun bytes r.part) (here r)) (all.due (begun bytes r.part) (here r)) some_here
+        on = λ received given due r. as_whole r all.told answers all.text (by_all.next_ones (begun bytes r.part r.told) (here r)) (all.due (begun bytes r.part r.told) (here r)) some_here
             (answered_is r ∙ answered) (ap is_last (sym is) ∙ goes_on) len (len_is ∙ ap len_of is);
       }
 
@@ -157,41 +161,41 @@ module _ (options : Options) (base : ℕ) where
       last_of last = record {
         text = all.text;
         appended = all.appended;
-        on = λ received given due r. at_end r answers all.text (by_all.next_ones (begun bytes r.part) (here r)) (all.due (begun bytes r.part) (here r)) some_here
+        on = λ received given due r. at_end r all.told answers all.text (by_all.next_ones (begun bytes r.part r.told) (here r)) (all.due (begun bytes r.part r.told) (here r)) some_here
             (ap is_last (sym is) ∙ last);
       }
 
   -- Memory lacked
 
   -- what is due grows
-  due_grows : (bytes : List ℕ) (done : ℕ) (part answers : List Answered) → IsOpenAt (next_of bytes) done → StandsAt options base (next_of bytes) done (begun bytes part)
-      → (later : List ℕ) × (due_to options base (begun bytes (part ++ answers)) ≡ due_before options base (begun bytes part) ++ later)
-  due_grows bytes done part answers stands at = by (flushes_now (next_of bytes)) refl (asks_in (next_of bytes)) refl
+  due_grows : (bytes : List ℕ) (done : ℕ) (part answers : List Answered) (told : Told) → IsOpenAt (next_of bytes) done → StandsAt options base (next_of bytes) done (begun bytes part told)
+      → (later : List ℕ) × (due_to options base (begun bytes (part ++ answers) told) ≡ due_before options base (begun bytes part told) ++ later)
+  due_grows bytes done part answers told stands at = by (flushes_now (next_of bytes)) refl (asks_in (next_of bytes)) refl
     where
-      at_once : asks_in (next_of bytes) ≡ [] → (later : List ℕ) × (due_to options base (begun bytes (part ++ answers)) ≡ due_before options base (begun bytes part) ++ later)
+      at_once : asks_in (next_of bytes) ≡ [] → (later : List ℕ) × (due_to options base (begun bytes (part ++ answers) told) ≡ due_before options base (begun bytes part told) ++ later)
       at_once none = (
-        due_to options base (begun bytes (part ++ answers)),
-        ap (λ t. t ++ due_to options base (begun bytes (part ++ answers))) (sym (none_begun bytes part (at.count ∙ at_first (next_of bytes) done stands none))),
+        due_to options base (begun bytes (part ++ answers) told),
+        ap (λ t. t ++ due_to options base (begun bytes (part ++ answers) told)) (sym (none_begun bytes part told (at.count ∙ at_first (next_of bytes) done stands none))),
       )
 
       by : (flushes : Bool) → flushes_now (next_of bytes) ≡ flushes → (asks : List Asked) → asks_in (next_of bytes) ≡ asks
-          → (later : List ℕ) × (due_to options base (begun bytes (part ++ answers)) ≡ due_before options base (begun bytes part) ++ later)
+          → (later : List ℕ) × (due_to options base (begun bytes (part ++ answers) told) ≡ due_before options base (begun bytes part told) ++ later)
       by true flushes asks is = at_once (no_asks (next_of bytes) flushes)
       by false keyed [] is = at_once is
       by false keyed (asked ∷ asks) is =
-          (_, asks_are_due options base (next_of bytes) done answers keyed stands (let many = ap length is in omega (arith, many)) (begun bytes part) at)
+          (_, asks_are_due options base (next_of bytes) done told answers keyed stands (let many = ap length is in omega (arith, many)) (begun bytes part told) at)
 
   module _ {is_alone : Bool} {old new : Sessions} {told tells : ℕ} {answers : List Answered} (bytes : List ℕ) (done : ℕ) (next : Next) (is : next ≡ next_of bytes)
       (goes : GoesOn options is_alone base next done old told new tells answers) (some : next ≢ More) (stands : IsOpenAt (next_of bytes) done) where
     pub spoke_of : SpokeFrom options base (length bytes) (place_at bytes done) answers
     spoke_of received given due r =
         let by_all = subst (λ (n : Next). GoesOn options is_alone base n done old told new tells answers) is goes in
-        let begins = by_all.next_ones (begun bytes r.part) (here r) in
-        let grows = due_grows bytes done r.part answers stands (here r) in
-        let now = begun bytes (r.part ++ answers) in
+        let begins = by_all.next_ones (begun bytes r.part r.told) (here r) in
+        let grows = due_grows bytes done r.part answers r.told stands (here r) in
+        let now = begun bytes (r.part ++ answers) r.told in
         record {
           talk = record {
-            said = r.whole ++ begun bytes (r.part ++ answers) ∷ [];
+            said = r.whole ++ begun bytes (r.part ++ answers) r.told ∷ [];
             rest = drop (len_of (next_of bytes)) bytes;
             spells = spells_next options base received r.whole bytes now r.spells r.follows (record { next = refl; some = λ none. some (is ∙ none); answers = begins });
             answered =
@@ -199,7 +203,7 @@ module _ (options : Options) (base : ℕ) where
             begins = (
               grows.0,
               due_then options base r.whole now ∙ ap (λ t. due_to_all options base r.whole ++ t) grows.1
-                  ∙ sym (append_assoc (due_to_all options base r.whole) (due_before options base (begun bytes r.part)) grows.0) ∙ ap (λ t. t ++ grows.0) r.due_is,
+                  ∙ sym (append_assoc (due_to_all options base r.whole) (due_before options base (begun bytes r.part r.told)) grows.0) ∙ ap (λ t. t ++ grows.0) r.due_is,
             );
           };
           few = let len = length-drop (len_of (next_of bytes)) bytes in omega (arith, len);
@@ -231,12 +235,13 @@ module _ (options : Options) (base : ℕ) where
   begins_none = record {
     whole = [];
     part = [];
+    told = untold;
     spells = refl;
     follows = tt;
     begins = no_answers (next_of []);
     count = refl;
     answered = refl;
-    due_is = nothing_before options base (next_of []);
+    due_is = nothing_before options base (next_of []) untold;
     missing = omega arith;
   }
 
@@ -294,13 +299,14 @@ module _ (options : Options) (base : ℕ) where
     read_more = record {
       whole = r.whole;
       part = [];
+      told = r.told;
       spells = subst (Spells options base (received ++ more) r.whole) behind (spells_more options base received more r.whole place.bytes r.spells);
       follows = r.follows;
       begins = no_answers (next_of (drop place.dropping (place.bytes ++ more)));
       count = refl;
       answered = ap (λ p. answers_to_all r.whole ++ p) (sym (nil_from_length r.part (r.count ∙ first))) ∙ r.answered;
       due_is =
-          ap (λ t. due_to_all options base r.whole ++ t) (none_begun (drop place.dropping (place.bytes ++ more)) [] refl ∙ sym (none_begun place.bytes r.part (r.count ∙ first)))
+          ap (λ t. due_to_all options base r.whole ++ t) (none_begun (drop place.dropping (place.bytes ++ more)) [] r.told refl ∙ sym (none_begun place.bytes r.part r.told (r.count ∙ first)))
           ∙ r.due_is;
       missing =
           let kept = ap length (rest_is options base received r.whole place.bytes r.spells) ∙ length-drop taken received in

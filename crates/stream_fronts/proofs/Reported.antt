@@ -16,22 +16,19 @@ use Rattle.stream_fronts.specs.declared.desk.TheConstants.{MOST_UNSENT}
 use Rattle.stream_fronts.specs.Given.{Given}
 use Rattle.stream_fronts.specs.Traffic.{HasEnded}
 use Rattle.stream_fronts.specs.Standing.{IsUntouched, Stands, IsNew}
-use Rattle.stream_fronts.proofs.Places.{there, pushed_here}
+use Rattle.stream_fronts.specs.Resting.{Tends, TendsBut}
+use Rattle.stream_fronts.proofs.Places.{there, pushed_here, if_pushed}
 use Rattle.stream_fronts.proofs.Opening.{next_at}
 use Rattle.stream_fronts.proofs.Moments.{last_moment, through_entry}
 use Rattle.stream_fronts.proofs.Drying.{in_changed, ended_change}
 use Rattle.stream_fronts.proofs.Making.{made_report}
 use Rattle.stream_fronts.proofs.Standing.{under_stays}
-
-ended_pushed : (all : List Connection) (x : Connection) (d : ℕ) → is_some (slice_get all d) ≡ true → IfSome (slice_get all d) HasEnded → IfSome (slice_get (all ++ x ∷ []) d) HasEnded
-ended_pushed [] x d made is = absurd (true≢false (sym made))
-ended_pushed (y ∷ all) x zero made is = is
-ended_pushed (y ∷ all) x (suc d) made is = ended_pushed all x d made is
+use Rattle.stream_fronts.proofs.Telling.{tells}
 
 ended_report : (number : ℕ) (state : State) (later : List Step) (d : ℕ) → is_some (slice_get state.connections d) ≡ true → IfSome (slice_get state.connections d) HasEnded
     → IfSome (slice_get (after_report number state later).connections d) HasEnded
 ended_report number state [] d made is = is
-ended_report number state (Opens window bytes ∷ later) d made is = ended_pushed state.connections _ d made is
+ended_report number state (Opens window bytes ∷ later) d made is = if_pushed HasEnded state.connections _ d made is
 ended_report number state (Reports c change ∷ later) d made is = in_changed c (after_change change) (ended_change change) d state.connections is
 ended_report number state (Happens c change ∷ later) d made is = in_changed c (after_change change) (ended_change change) d state.connections is
 
@@ -84,13 +81,27 @@ module _ (options : Options) (base : ℕ) (lacking : List ℕ) (all : List Given
   -- all stands as it did, and nothing was done with what is new
   pub record Told (event : Event) (old new : Log) : Type 0 where
     pub schedule : new.schedule ≡ old.schedule
+    pub piece : new.script.piece ≡ old.script.piece
     pub stands : Stands options base lacking new all clients
     pub is_new : IsNew event new all
+    pub tends : Tends old.script.piece (state_of old) clients → TendsBut event old.script.piece (state_of new) clients
 
   pub event_told : (event : Event) (old new : Log) → ReportsNext old event (Some new) → Stands options base lacking old all clients → Told event old new
   event_told (Opened number) old new reports stands =
       subst (λ m. Told (Opened number) old m) (sym (same_Some new (logged (opened number) (called old)) reports.result))
-      (record { schedule = refl; stands = stands_opened number old reports.next stands; is_new = new_opened number old reports.next stands })
+      (record {
+        schedule = refl;
+        piece = refl;
+        stands = stands_opened number old reports.next stands;
+        is_new = new_opened number old reports.next stands;
+        tends = tells (Opened number) old.script.piece clients (state_of old) (state_of old).later refl reports.next;
+      })
   event_told (Ready number) old new reports stands =
       subst (λ m. Told (Ready number) old m) (sym (same_Some new (logged (reported number) (called old)) reports.result))
-      (record { schedule = refl; stands = stands_reported number old reports.next stands; is_new = tt })
+      (record {
+        schedule = refl;
+        piece = refl;
+        stands = stands_reported number old reports.next stands;
+        is_new = tt;
+        tends = tells (Ready number) old.script.piece clients (state_of old) (state_of old).later refl reports.next;
+      })

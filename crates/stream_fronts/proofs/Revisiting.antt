@@ -3,7 +3,7 @@ use Rattle.std.proofs.Common.{◌≡◌, ℕ, List, [], ◌++◌, refl, sym, ap,
 use Rattle.std.proofs.lemmas.List.{append-nil, map-append}
 use Rattle.partition_model.specs.declared.options.Options.{Options}
 use Rattle.stream_io.specs.declared.schedule.Step.{Step}
-use Rattle.stream_io.specs.Log.{Log}
+use Rattle.stream_io.specs.Log.{Log, state_of}
 use Rattle.mica_fronts.specs.Answered.{Answered}
 use Rattle.stream_fronts.specs.declared.client.Client.{Client}
 use Rattle.stream_fronts.specs.declared.desk.TheConstants.{MOST_UNSENT}
@@ -13,12 +13,15 @@ use Rattle.stream_fronts.specs.Given.{Given, given_to}
 use Rattle.stream_fronts.specs.Moments.{TalksThrough}
 use Rattle.stream_fronts.specs.Held.{Holds, all_to, Becomes, Visits, VisitLacks}
 use Rattle.stream_fronts.proofs.Moments.{given_more}
+use Rattle.stream_fronts.proofs.Moving.{moves_none, moves_then}
 use Rattle.stream_fronts.proofs.Staying.{stays_same, stays_then}
 
 module _ (options : Options) (base c : ℕ) where
   pub visits_none : (client : Client) (log : Log) → Visits options base client [] client Again c log log
   visits_none client log = record {
     schedule = refl;
+    piece = refl;
+    moves = moves_none c (state_of log);
     under = λ n d is. is;
     others = λ d other. stays_same d log;
     talks = λ lacking all holds through. (
@@ -50,6 +53,8 @@ module _ (options : Options) (base c : ℕ) where
     pub visits_then : {now : Client} {two : List Answered} {new : Log} (becomes : After) → Visits options base between two now becomes c mid new → Visits options base client (one ++ two) now becomes c old new
     visits_then {now} {two} {new} becomes second = record {
       schedule = second.schedule ∙ first.schedule;
+      piece = second.piece ∙ first.piece;
+      moves = moves_then first.moves second.moves;
       under = λ n d is. second.under n d (first.under n d is);
       others = λ d other. stays_then (first.others d other) (second.others d other);
       talks = λ lacking all holds through.
@@ -63,6 +68,8 @@ module _ (options : Options) (base c : ℕ) where
     pub visits_lack : {two : List Answered} {new : Log} → VisitLacks options base between two c mid new → VisitLacks options base client (one ++ two) c old new
     visits_lack {two} {new} second = record {
       schedule = second.schedule ∙ first.schedule;
+      piece = second.piece ∙ first.piece;
+      moves = moves_then first.moves second.moves;
       under = λ n d is. second.under n d (first.under n d is);
       others = λ d other. stays_then (first.others d other) (second.others d other);
       talks = λ lacking all among holds through.

@@ -1,12 +1,12 @@
 -- What serving a report makes of what stands.
-use Rattle.std.proofs.Common.{◌≡◌, ◌≢◌, inl, inr, ℕ, List, [], ◌∷◌, ◌++◌, length, refl, sym, ap, ◌∙◌, subst, arith}
-use Rattle.std.specs.Prelude.{slice_get, Option, None, Some, IfSome}
+use Rattle.std.proofs.Common.{◌≡◌, ◌≢◌, inl, inr, ℕ, true≢false, List, [], ◌∷◌, ◌++◌, length, refl, sym, ap, ◌∙◌, subst, arith}
+use Rattle.std.specs.Prelude.{slice_get, Option, None, Some, is_some, IfSome}
 use Rattle.std.proofs.lemmas.List.{append-nil}
 use Rattle.std.proofs.lemmas.Option.{none-some}
 use Rattle.partition_model.specs.declared.options.Options.{Options}
 use Rattle.stream_io.specs.declared.connections.Event.TheVariants.{Ready}
 use Rattle.stream_io.specs.State.{asked, closed, held}
-use Rattle.stream_io.specs.Log.{Log, connections_of, received_of, sent_of, logged}
+use Rattle.stream_io.specs.Log.{Log, state_of, connections_of, received_of, sent_of, logged}
 use Rattle.stream_io.specs.Calls.{Asks, Closes}
 use Rattle.mica_fronts.specs.Answered.{Answered}
 use Rattle.stream_fronts.specs.declared.client.Client.{Client}
@@ -21,7 +21,10 @@ use Rattle.stream_fronts.specs.Traffic.{OnHeld}
 use Rattle.stream_fronts.specs.Reached.{place_of}
 use Rattle.stream_fronts.specs.Held.{Holds, Visits, VisitLacks, all_to}
 use Rattle.stream_fronts.specs.Standing.{Stands, StandsBut, StandsOn}
+use Rattle.stream_fronts.specs.Resting.{Rests}
 use Rattle.stream_fronts.proofs.Opening.{found}
+use Rattle.stream_fronts.proofs.Moving.{moves_then, moves_asked, asked_comes}
+use Rattle.stream_fronts.proofs.Tending.{tends_served, tends_closed}
 use Rattle.stream_fronts.proofs.Moments.{given_more}
 use Rattle.stream_fronts.proofs.Visited.{held_sent}
 use Rattle.stream_fronts.proofs.Standing.{answers_all_to, stays_asked, under_asked, holds_at, stands_lacking, stands_less, stands_put, stands_asked, stands_closed, stands_visited}
@@ -46,8 +49,8 @@ abbrev pub VisitsTo : Options → ℕ → ℕ → Client → List Answered → C
 VisitsTo options base number client answers now old new after = OnLogs (OnHeld number (Visits options base client answers now after)) old new
 
 module _ (options : Options) (base : ℕ) where
-  pub stands_none : (lacking : List ℕ) (log : Log) (all : List Given) (now : List (Option Client)) → Stands options base lacking log all now → StandsBut options base lacking log (all ++ []) now
-  stands_none lacking log all now stands = ([], subst (λ l. Stands options base lacking log l now) (sym (append-nil all)) stands)
+  pub stands_none : (lacking : List ℕ) (log : Log) (all : List Given) (now : List (Option Client)) → Stands options base lacking log all now → StandsBut options base lacking 0 log (all ++ []) now
+  stands_none lacking log all now stands = ([], refl, subst (λ l. Stands options base lacking log l now) (sym (append-nil all)) stands)
 
   module _ (number : ℕ) (clients taken : List (Option Client)) (others : (n : ℕ) → n ≢ number → at taken n ≡ at clients n) (gone : at taken number ≡ None) where
     -- There was nothing under it
@@ -55,52 +58,70 @@ module _ (options : Options) (base : ℕ) where
     less_held : (n : ℕ) (client : Client) → at taken n ≡ Some client → at clients n ≡ Some client
     less_held n client is = sym (others n (λ same. none-some client (sym gone ∙ subst (λ m. at taken m ≡ Some client) same is))) ∙ is
 
-    pub serves_none : (log : Option Log) → OnLogs (StandsOn options base (Ready number) clients [] taken) log log
-    serves_none None = tt
-    serves_none (Some log) = record {
+    pub serves_none : at clients number ≡ None → (log : Option Log) → OnLogs (StandsOn options base (Ready number) clients 0 [] taken) log log
+    serves_none none None = tt
+    serves_none none (Some log) = record {
       schedule = refl;
+      piece = refl;
       on = λ lacking all new stands. stands_none lacking log all taken (stands_less options base lacking less_held stands);
+      tends = λ lacking all stands but. record {
+        apart = but.apart;
+        each = λ n c is.
+            let other : n ≢ number = λ same. true≢false (sym (but.told c (subst (λ m. held m (connections_of log) ≡ Some c) same is)) ∙ ap is_some none) in
+            let t = but.each n c other is in record { client = t.client; is_held = others n other ∙ t.is_held; rests = t.rests };
+      };
     }
 
     module _ (client : Client) (is_held : at clients number ≡ Some client) (answers : List Answered) where
-      serves_to : (c : ℕ) (now : List (Option Client)) (old new : Log) → held number (connections_of old) ≡ Some c → StandsOn options base (Ready number) clients (all_to c answers) now old new
-          → StandsOn options base (Ready number) clients (all_to (place_under (held number (connections_of old))) answers) now old new
-      serves_to c now old new here on = subst (λ h. StandsOn options base (Ready number) clients (all_to (place_under h) answers) now old new) (sym here) on
+      serves_to : (c count : ℕ) (now : List (Option Client)) (old new : Log) → held number (connections_of old) ≡ Some c
+          → StandsOn options base (Ready number) clients count (all_to c answers) now old new
+          → StandsOn options base (Ready number) clients count (all_to (place_under (held number (connections_of old))) answers) now old new
+      serves_to c count now old new here on = subst (λ h. StandsOn options base (Ready number) clients count (all_to (place_under h) answers) now old new) (sym here) on
 
       -- It waits
 
       module _ (now : Client) (new : List (Option Client)) (others_put : (n : ℕ) → n ≢ number → at new n ≡ at taken n) (asks : ℕ) where
+        others_new : (n : ℕ) → n ≢ number → at new n ≡ at clients n
+        others_new n other = others_put n other ∙ others n other
+
         waits_at : (c : ℕ) (a b : Log) → held number (connections_of a) ≡ Some c → at new number ≡ Some now → Visits options base client answers now Waits c a b
-            → StandsOn options base (Ready number) clients (all_to c answers) new a b
+            → StandsOn options base (Ready number) clients 0 (all_to c answers) new a b
         waits_at c a b here put visit = record {
           schedule = visit.schedule;
+          piece = visit.piece;
           on = λ lacking all is_new stands.
               let t = visit.talks lacking all (holds_at options base c here (stands.holds number client is_held)) stands.through in
               let s = stands_visited options base lacking {old = a} {new = b} all clients taken number c here others gone visit.schedule visit.under visit.others answers t.0 stands in (
                 [],
+                refl,
                 stands_put options base lacking number now others_put put (record {
                   place = c;
                   under = visit.under number c here;
-                  holds = subst (λ g. Holds options base MOST_UNSENT c b g now) (sym (given_more c all answers)) t.1;
+                  holds = subst (λ g. Holds options base MOST_UNSENT c b g now) (sym (given_more c all answers)) t.1.0;
                 }) s,
               );
+          tends = λ lacking all stands but.
+              let t = visit.talks lacking all (holds_at options base c here (stands.holds number client is_held)) stands.through in
+              tends_served a.script.piece number c clients new here visit.moves others_new but.apart but.each
+              (record { client = now; is_held = put; rests = subst (λ p. Rests now c p (state_of b)) visit.piece t.1.1 });
         }
 
         pub serves_waits : (before after : Option Log) → at new number ≡ Some now → IfSome before (IsOpen number asks) → OnLogs (OnHeld number (Visits options base client answers now Waits)) before after
-            → OnLogs (StandsOn options base (Ready number) clients (given_by number before answers) new) before after
+            → OnLogs (StandsOn options base (Ready number) clients 0 (given_by number before answers) new) before after
         serves_waits None after put stands visits = tt
         serves_waits (Some a) None put stands visits = visits
         serves_waits (Some a) (Some b) put stands visits =
             let here = stands.1.0 in
-            serves_to stands.0 new a b here (waits_at stands.0 a b here put (found (λ d. Visits options base client answers now Waits d a b) (held number (connections_of a)) stands.0 here visits))
+            serves_to stands.0 0 new a b here (waits_at stands.0 a b here put (found (λ d. Visits options base client answers now Waits d a b) (held number (connections_of a)) stands.0 here visits))
 
         -- It is asked for again
 
         module _ (last : Client) (place : place_of last ≡ place_of now) (leaving : last.leaving ≡ now.leaving) (unsent : last.unsent ≡ now.unsent) where
           again_at : (c : ℕ) (a b : Log) → held number (connections_of a) ≡ Some c → at new number ≡ Some last → Visits options base client answers now Again c a b
-              → StandsOn options base (Ready number) clients (all_to c answers) new a (logged (asked c) b)
+              → StandsOn options base (Ready number) clients 0 (all_to c answers) new a (logged (asked c) b)
           again_at c a b here put visit = record {
             schedule = visit.schedule;
+            piece = visit.piece;
             on = λ lacking all is_new stands.
                 let t = visit.talks lacking all (holds_at options base c here (stands.holds number client is_held)) stands.through in
                 let s = stands_visited options base lacking {old = a} {new = b} all clients taken number c here others gone visit.schedule visit.under visit.others answers t.0 stands in
@@ -108,17 +129,21 @@ module _ (options : Options) (base : ℕ) where
                 let held_last = held_sent options base MOST_UNSENT c {old = b} {new = logged (asked c) b} now last place leaving (let same = ap length unsent in omega (arith, same)) stays.came
                 (ap (λ u. sent_of c b.entries ++ u) unsent) stays.over t.1 in (
                   [],
+                  refl,
                   stands_put options base lacking number last others_put put (record {
                     place = c;
                     under = under_asked c number c b (visit.under number c here);
                     holds = subst (λ g. Holds options base MOST_UNSENT c (logged (asked c) b) g last) (sym (given_more c all answers)) held_last;
                   }) (stands_asked options base lacking c s),
                 );
+            tends = λ lacking all stands but.
+                tends_served a.script.piece number c clients new here (moves_then visit.moves (moves_asked c (state_of b))) others_new but.apart but.each
+                (record { client = last; is_held = put; rests = inl (asked_comes c (state_of b)) });
           }
 
           pub serves_again : (before between after : Option Log) → at new number ≡ Some last → IfSome before (IsOpen number asks)
               → OnLogs (OnHeld number (Visits options base client answers now Again)) before between → IfSome between (λ l. Asks number l after)
-              → OnLogs (StandsOn options base (Ready number) clients (given_by number before answers) new) before after
+              → OnLogs (StandsOn options base (Ready number) clients 0 (given_by number before answers) new) before after
           serves_again None between after put stands visits asks = tt
           serves_again (Some a) None after put stands visits asks = absurd visits
           serves_again (Some a) (Some b) after put stands visits asks =
@@ -126,55 +151,59 @@ module _ (options : Options) (base : ℕ) where
               let here = stands.1.0 in
               let visit = found (λ d. Visits options base client answers now Again d a b) (held number (connections_of a)) c here visits in
               let is = found (λ d. after ≡ Some (logged (asked d) b)) (held number (connections_of b)) c (visit.under number c here) asks in
-              subst (λ o. OnLogs (StandsOn options base (Ready number) clients (given_by number (Some a) answers) new) (Some a) o) (sym is)
-              (serves_to c new a (logged (asked c) b) here (again_at c a b here put visit))
+              subst (λ o. OnLogs (StandsOn options base (Ready number) clients 0 (given_by number (Some a) answers) new) (Some a) o) (sym is)
+              (serves_to c 0 new a (logged (asked c) b) here (again_at c a b here put visit))
 
       -- It is closed
 
       over_at : (now : Client) (c : ℕ) (a b : Log) → held number (connections_of a) ≡ Some c → Visits options base client answers now Over c a b
-          → StandsOn options base (Ready number) clients (all_to c answers) taken a (logged (closed c) b)
+          → StandsOn options base (Ready number) clients 0 (all_to c answers) taken a (logged (closed c) b)
       over_at now c a b here visit = record {
         schedule = visit.schedule;
+        piece = visit.piece;
         on = λ lacking all is_new stands.
             let t = visit.talks lacking all (holds_at options base c here (stands.holds number client is_held)) stands.through in
             let s = stands_visited options base lacking {old = a} {new = b} all clients taken number c here others gone visit.schedule visit.under visit.others answers t.0 stands in
             let cause = subst (λ g. IfSome (slice_get (connections_of b) c) (λ x. MayClose options base x (received_of c b.entries) (sent_of c b.entries) g)) (sym (given_more c all answers)) t.1 in
-            ([], stands_closed options base lacking number c (visit.under number c here) gone (inr cause) s);
+            ([], refl, stands_closed options base lacking number c (visit.under number c here) gone (inr cause) s);
+        tends = λ lacking all stands but. tends_closed a.script.piece number c clients taken here visit.moves others but.apart but.each;
       }
 
       lacks_at : (c : ℕ) (a b : Log) → held number (connections_of a) ≡ Some c → VisitLacks options base client answers c a b
-          → StandsOn options base (Ready number) clients (all_to c answers) taken a (logged (closed c) b)
+          → StandsOn options base (Ready number) clients 1 (all_to c answers) taken a (logged (closed c) b)
       lacks_at c a b here visit = record {
         schedule = visit.schedule;
+        piece = visit.piece;
         on = λ lacking all is_new before.
             let stands = stands_lacking options base c before in
             let through = visit.talks (c ∷ lacking) all ([], lacking, refl) (holds_at options base c here (stands.holds number client is_held)) stands.through in
             let s = stands_visited options base (c ∷ lacking) {old = a} {new = b} all clients taken number c here others gone visit.schedule visit.under visit.others answers through stands in
-            (c ∷ [], stands_closed options base (c ∷ lacking) number c (visit.under number c here) gone (inl ([], lacking, refl)) s);
+            (c ∷ [], refl, stands_closed options base (c ∷ lacking) number c (visit.under number c here) gone (inl ([], lacking, refl)) s);
+        tends = λ lacking all stands but. tends_closed a.script.piece number c clients taken here visit.moves others but.apart but.each;
       }
 
-      closes_at : (P : ℕ → Log → Log → Type 0) (asks : ℕ) (before between after : Option Log) → ((c : ℕ) (a b : Log) → P c a b → held number (connections_of a) ≡ Some c → held number (connections_of b) ≡ Some c)
-          → ((c : ℕ) (a b : Log) → held number (connections_of a) ≡ Some c → P c a b → StandsOn options base (Ready number) clients (all_to c answers) taken a (logged (closed c) b))
+      closes_at : (P : ℕ → Log → Log → Type 0) (count asks : ℕ) (before between after : Option Log) → ((c : ℕ) (a b : Log) → P c a b → held number (connections_of a) ≡ Some c → held number (connections_of b) ≡ Some c)
+          → ((c : ℕ) (a b : Log) → held number (connections_of a) ≡ Some c → P c a b → StandsOn options base (Ready number) clients count (all_to c answers) taken a (logged (closed c) b))
           → IfSome before (IsOpen number asks) → OnLogs (OnHeld number P) before between → IfSome between (λ l. Closes number l after)
-          → OnLogs (StandsOn options base (Ready number) clients (given_by number before answers) taken) before after
-      closes_at P asks None between after under serves stands visits closes = tt
-      closes_at P asks (Some a) None after under serves stands visits closes = absurd visits
-      closes_at P asks (Some a) (Some b) after under serves stands visits closes =
+          → OnLogs (StandsOn options base (Ready number) clients count (given_by number before answers) taken) before after
+      closes_at P count asks None between after under serves stands visits closes = tt
+      closes_at P count asks (Some a) None after under serves stands visits closes = absurd visits
+      closes_at P count asks (Some a) (Some b) after under serves stands visits closes =
           let c = stands.0 in
           let here = stands.1.0 in
           let visit = found (λ d. P d a b) (held number (connections_of a)) c here visits in
           let is = found (λ d. after ≡ Some (logged (closed d) b)) (held number (connections_of b)) c (under c a b visit here) closes in
-          subst (λ o. OnLogs (StandsOn options base (Ready number) clients (given_by number (Some a) answers) taken) (Some a) o) (sym is)
-          (serves_to c taken a (logged (closed c) b) here (serves c a b here visit))
+          subst (λ o. OnLogs (StandsOn options base (Ready number) clients count (given_by number (Some a) answers) taken) (Some a) o) (sym is)
+          (serves_to c count taken a (logged (closed c) b) here (serves c a b here visit))
 
       pub serves_over : (now : Client) (asks : ℕ) (before between after : Option Log) → IfSome before (IsOpen number asks)
           → OnLogs (OnHeld number (Visits options base client answers now Over)) before between → IfSome between (λ l. Closes number l after)
-          → OnLogs (StandsOn options base (Ready number) clients (given_by number before answers) taken) before after
+          → OnLogs (StandsOn options base (Ready number) clients 0 (given_by number before answers) taken) before after
       serves_over now asks before between after stands visits closes =
-          closes_at (Visits options base client answers now Over) asks before between after (λ c a b v here. v.under number c here) (over_at now) stands visits closes
+          closes_at (Visits options base client answers now Over) 0 asks before between after (λ c a b v here. v.under number c here) (over_at now) stands visits closes
 
       pub serves_lacks : (asks : ℕ) (before between after : Option Log) → IfSome before (IsOpen number asks)
           → OnLogs (OnHeld number (VisitLacks options base client answers)) before between → IfSome between (λ l. Closes number l after)
-          → OnLogs (StandsOn options base (Ready number) clients (given_by number before answers) taken) before after
+          → OnLogs (StandsOn options base (Ready number) clients 1 (given_by number before answers) taken) before after
       serves_lacks asks before between after stands visits closes =
-          closes_at (VisitLacks options base client answers) asks before between after (λ c a b v here. v.under number c here) lacks_at stands visits closes
+          closes_at (VisitLacks options base client answers) 1 asks before between after (λ c a b v here. v.under number c here) lacks_at stands visits closes

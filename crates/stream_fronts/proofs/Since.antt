@@ -1,13 +1,14 @@
 -- What stands since a front began to serve a port.
-use Rattle.std.proofs.Common.{◌≡◌, ℕ, Bool, true≢false, List, [], ◌∷◌, ◌++◌, length, inl, refl, sym, ap, ◌∙◌, subst, arith}
-use Rattle.std.specs.Prelude.{slice_get, Option, None, Some, is_some, IfSome, option_map}
+use Rattle.std.proofs.Common.{◌≡◌, ℕ, ◌+◌, ◌<◌, ◌≤◌, Bool, true, false, true≢false, List, [], ◌∷◌, ◌++◌, length, inl, refl, sym, ap, ◌∙◌, subst, arith, length-append}
+use Rattle.std.specs.Prelude.{min, slice_get, Option, None, Some, is_some, IfSome, option_map}
 use Rattle.std.proofs.lemmas.List.{append-nil, map-append}
 use Rattle.std.proofs.lemmas.Option.{none-some}
 use Rattle.partition_model.specs.declared.options.Options.{Options}
+use Rattle.mica_io.specs.Faults.{LAST_COUNT}
 use Rattle.stream_io.specs.declared.schedule.Step.{Step}
 use Rattle.stream_io.specs.declared.connections.Event.{Event}
-use Rattle.stream_io.specs.State.{Entry}
-use Rattle.stream_io.specs.Log.{Log, called}
+use Rattle.stream_io.specs.State.{Entry, state_after}
+use Rattle.stream_io.specs.Log.{Log, state_of, called}
 use Rattle.stream_io.specs.Calls.{ReportsNext, IsOver}
 use Rattle.mica_fronts.specs.Answered.{Answered}
 use Rattle.mica_fronts.specs.Session.{Sessions}
@@ -18,11 +19,22 @@ use Rattle.stream_fronts.specs.Given.{Given, answers_in}
 use Rattle.stream_fronts.specs.Going.{GoesByThese}
 use Rattle.stream_fronts.specs.Open.{OnLogs}
 use Rattle.stream_fronts.specs.Moments.{TalksThrough}
-use Rattle.stream_fronts.specs.Serving.{FrontAt, ServesLog, ServesFromNone}
+use Rattle.stream_fronts.specs.Clients.{AreOpen}
+use Rattle.stream_fronts.specs.Resting.{Tends, TendsBut}
+use Rattle.stream_fronts.specs.Serving.{FrontAt, IsDone, ServesLog, ServesFromNone}
 use Rattle.stream_fronts.specs.Standing.{IsUntouched, Stands, StandsOn, GoesByGiven}
 use Rattle.stream_fronts.proofs.Going.{these_none, these_then}
 use Rattle.stream_fronts.proofs.Sweeping.{unswept, only_swept, has_both, these_sweeps}
 use Rattle.stream_fronts.proofs.Reported.{event_told}
+use Rattle.stream_fronts.proofs.Settling.{done_all}
+
+-- All stands by these answers, for so many connections memory lacked, and each waits.
+pub record StandsBy (options : Options) (base had lacked : ℕ) (clients : List (Option Client)) (before now : Log) (given : List Given) : Type 0 where
+  pub schedule : now.schedule ≡ before.schedule
+  pub lacking : List ℕ
+  pub counted : min lacked LAST_COUNT ≡ min (had + length lacking) LAST_COUNT
+  pub stands : Stands options base lacking now given clients
+  pub tends : Tends now.script.piece (state_of now) clients
 
 -- They went on by answers that were given to clients and by sweeps, and of the first P holds.
 abbrev pub GoesBySwept : Options → Bool → ℕ → Sessions → ℕ → ℕ → Sessions → ℕ → ℕ → (List Given → Type 0) → Type 0
@@ -30,12 +42,11 @@ GoesBySwept options is_alone base old left told new left_after tells P =
     (given : List Given) × (answers : List Answered) × HasSweeps base (answers_in given) answers × GoesByThese options is_alone old left told answers new left_after tells × P given
 
 -- Where nothing had been done before, sessions and clock went on by answers by which all stands.
-abbrev pub StandsSince : Options → Bool → ℕ → Sessions → ℕ → ℕ → Sessions → ℕ → ℕ → List (Option Client) → Log → Log → Type 0
-StandsSince options is_alone base old left told new left_after tells clients before now =
-    before.entries ≡ [] → GoesBySwept options is_alone base old left told new left_after tells
-    (λ given. (now.schedule ≡ before.schedule) × ((lacking : List ℕ) × Stands options base lacking now given clients))
+abbrev pub StandsSince : Options → Bool → ℕ → Sessions → ℕ → ℕ → ℕ → Sessions → ℕ → ℕ → ℕ → List (Option Client) → Log → Log → Type 0
+StandsSince options is_alone base old left told had new left_after tells lacked clients before now =
+    before.entries ≡ [] → GoesBySwept options is_alone base old left told new left_after tells (StandsBy options base had lacked clients before now)
 
-module _ (options : Options) (is_alone : Bool) (base : ℕ) (old : Sessions) (left told : ℕ) where
+module _ (options : Options) (is_alone : Bool) (base : ℕ) (old : Sessions) (left told had : ℕ) where
   begun_through : (schedule : List Step) (entries : List Entry) → entries ≡ [] → TalksThrough options base MOST_UNSENT schedule [] entries []
   begun_through schedule entries none = subst (λ (e : List Entry). TalksThrough options base MOST_UNSENT schedule [] e []) (sym none)
       (λ c. inl (record { said = []; rest = []; spells = refl; answered = refl; begins = ([], refl) }, record { kept = omega arith; unsent = omega arith }))
@@ -47,39 +58,61 @@ module _ (options : Options) (is_alone : Bool) (base : ℕ) (old : Sessions) (le
     to_come = λ c made. subst (λ (e : List Entry). IsUntouched c e []) (sym none) (record { came = refl; went = refl; given = refl });
   })
 
+  begun_tends : (piece : ℕ) (schedule : List Step) (entries : List Entry) (clients : List (Option Client)) → entries ≡ [] → Tends piece (state_after schedule entries) clients
+  begun_tends piece schedule entries clients none = subst (λ (e : List Entry). Tends piece (state_after schedule e) clients) (sym none)
+      (record { apart = λ n c is. absurd (true≢false (sym is)); each = λ n c is. absurd (none-some c is) })
+
   -- nothing was served yet
-  pub since_none : (clients : List (Option Client)) → clients ≡ [] → (log : Option Log) → OnLogs (StandsSince options is_alone base old left told old left told clients) log log
+  pub since_none : (clients : List (Option Client)) → clients ≡ [] → (log : Option Log)
+      → OnLogs (StandsSince options is_alone base old left told had old left told had clients) log log
   since_none clients empty None = tt
-  since_none clients empty (Some log) = λ none. ([], [], refl, these_none options is_alone old left told, (refl, ([], begun_stands log clients empty none)))
+  since_none clients empty (Some log) = λ none. ([], [], refl, these_none options is_alone old left told, record {
+    schedule = refl;
+    lacking = [];
+    counted = omega arith;
+    stands = begun_stands log clients empty none;
+    tends = begun_tends log.script.piece log.schedule log.entries clients none;
+  })
 
   module _ {between new : Sessions} {then_left left_after then_told tells : ℕ} (clients now : List (Option Client)) where
     -- one report more was served
-    pub since_then : (event : Event) (before a b d : Option Log) → OnLogs (StandsSince options is_alone base old left told between then_left then_told clients) before a
+    pub since_then : (event : Event) (then_lacked count lacked : ℕ) → lacked ≡ min (then_lacked + count) LAST_COUNT → (before a b d : Option Log)
+        → OnLogs (StandsSince options is_alone base old left told had between then_left then_told then_lacked clients) before a
         → is_some b ≡ is_some a → IfSome a (λ l. ReportsNext l event b) → (o : Options) → o ≡ options
-        → GoesByGiven o is_alone between then_left then_told new left_after tells (λ given. OnLogs (StandsOn o base event clients given now) b d)
-        → OnLogs (StandsSince options is_alone base old left told new left_after tells now) before d
-    since_then event None a b d first same reports o is more = tt
-    since_then event (Some x) None b d first same reports o is more = absurd first
-    since_then event (Some x) (Some y) None d first same reports o is more = absurd (true≢false (sym same))
-    since_then event (Some x) (Some y) (Some z) None first same reports o is more = absurd more.2
-    since_then event (Some x) (Some y) (Some z) (Some w) first same reports o is more = λ none.
+        → GoesByGiven o is_alone between then_left then_told new left_after tells (λ given. OnLogs (StandsOn o base event clients count given now) b d)
+        → OnLogs (StandsSince options is_alone base old left told had new left_after tells lacked now) before d
+    since_then event then_lacked count lacked more_lacked None a b d first same reports o is more = tt
+    since_then event then_lacked count lacked more_lacked (Some x) None b d first same reports o is more = absurd first
+    since_then event then_lacked count lacked more_lacked (Some x) (Some y) None d first same reports o is more = absurd (true≢false (sym same))
+    since_then event then_lacked count lacked more_lacked (Some x) (Some y) (Some z) None first same reports o is more = absurd more.2
+    since_then event then_lacked count lacked more_lacked (Some x) (Some y) (Some z) (Some w) first same reports o is more = λ none.
         let f = first none in
-        let second = subst (λ (p : Options). GoesByGiven p is_alone between then_left then_told new left_after tells (λ given. StandsOn p base event clients given now z w)) is more in
-        let t = event_told options base f.4.1.0 f.0 clients event y z reports f.4.1.1 in
-        let s = second.2.on f.4.1.0 f.0 t.is_new t.stands in
+        let by = f.4 in
+        let second = subst (λ (p : Options). GoesByGiven p is_alone between then_left then_told new left_after tells (λ given. StandsOn p base event clients count given now z w)) is more in
+        let t = event_told options base by.lacking f.0 clients event y z reports by.stands in
+        let s = second.2.on by.lacking f.0 t.is_new t.stands in
+        let piece = second.2.piece ∙ t.piece in
         let here = answers_in second.0 in (
           f.0 ++ second.0,
           f.1 ++ here,
           subst (λ (a : List Answered). HasSweeps base a (f.1 ++ here)) (sym (map-append (λ (g : Given). g.answered) f.0 second.0))
               (has_both base f.1 here (answers_in f.0) here f.2 (unswept base here)),
           these_then options is_alone f.3 second.1,
-          (second.2.schedule ∙ t.schedule ∙ f.4.0, (s.0 ++ f.4.1.0, s.1)),
+          record {
+            schedule = second.2.schedule ∙ t.schedule ∙ by.schedule;
+            lacking = s.0 ++ by.lacking;
+            counted = let len = length-append s.0 by.lacking in let counted = by.counted in omega (arith, len, counted, s.1, more_lacked);
+            stands = s.2;
+            tends = subst (λ p. Tends p (state_of w) now) (sym piece)
+                (subst (λ p. Tends p (state_of w) now) t.piece (second.2.tends by.lacking f.0 t.stands (subst (λ p. TendsBut event p (state_of z) clients) (sym t.piece) (t.tends by.tends))));
+          },
         )
 
-  module _ {between new : Sessions} {then_left left_after then_told tells : ℕ} (clients : List (Option Client)) where
+  module _ {between new : Sessions} {then_left left_after then_told tells : ℕ} (lacked : ℕ) (clients : List (Option Client)) where
     -- and the partitions were swept
-    pub since_swept : (before now : Option Log) → OnLogs (StandsSince options is_alone base old left told between then_left then_told clients) before now → (o : Options) → o ≡ options
-        → SweepsBy o is_alone base between then_left then_told new left_after tells → OnLogs (StandsSince options is_alone base old left told new left_after tells clients) before now
+    pub since_swept : (before now : Option Log) → OnLogs (StandsSince options is_alone base old left told had between then_left then_told lacked clients) before now
+        → (o : Options) → o ≡ options → SweepsBy o is_alone base between then_left then_told new left_after tells
+        → OnLogs (StandsSince options is_alone base old left told had new left_after tells lacked clients) before now
     since_swept None now first o is more = tt
     since_swept (Some x) None first o is more = first
     since_swept (Some x) (Some y) first o is more = λ none.
@@ -93,35 +126,59 @@ module _ (options : Options) (is_alone : Bool) (base : ℕ) (old : Sessions) (le
           f.4,
         )
 
-  module _ (new : Sessions) (left_after tells : ℕ) (clients : List (Option Client)) where
-    -- so the front served what is told
-    pub since_serves : (before after : Option Log) → OnLogs (StandsSince options is_alone base old left told new left_after tells clients) before after
-        → OnLogs (ServesFromNone options is_alone base MOST_UNSENT (record { sessions = old; second = told }) (record { sessions = new; second = tells })) before after
-    since_serves None after since = tt
-    since_serves (Some x) None since = since
-    since_serves (Some x) (Some y) since = λ none.
-        let f = since none in record {
-          same = f.4.0;
+  module _ (opened ended : Bool) (new : Sessions) (left_after tells lacked : ℕ) (clients : List (Option Client)) where
+    abbrev pub first : FrontAt
+    first = record { sessions = old; second = told; lacked = had; has_ended = opened }
+
+    abbrev pub last : FrontAt
+    last = record { sessions = new; second = tells; lacked = lacked; has_ended = ended }
+
+    -- what the front served, by what stands
+    serves_by : {before now : Log} (after : Log) → after.schedule ≡ now.schedule → after.entries ≡ now.entries
+        → (f : GoesBySwept options is_alone base old left told new left_after tells (StandsBy options base had lacked clients before now))
+        → (ended ≡ true → 0 < after.script.piece → IsDone options base after f.0) → ServesLog options is_alone base MOST_UNSENT first last before after
+    serves_by {before} {now} after schedule entries f done =
+        let by = f.4 in record {
+          same = schedule ∙ by.schedule;
           all = f.0;
-          serves = record { answers = f.1; sweeps = f.2; in_order = f.3.in_order; seconds = f.3.seconds; lacking = f.4.1.0; through = f.4.1.1.through };
+          serves = record {
+            answers = f.1;
+            sweeps = f.2;
+            in_order = f.3.in_order;
+            seconds = f.3.seconds;
+            lacking = by.lacking;
+            counted = by.counted;
+            through = subst (λ (s : List Step). TalksThrough options base MOST_UNSENT s by.lacking after.entries f.0) (sym schedule)
+                (subst (λ (e : List Entry). TalksThrough options base MOST_UNSENT now.schedule by.lacking e f.0) (sym entries) by.stands.through);
+            done = done;
+          };
         }
 
-    -- also where it was asked once more what is next
-    pub since_called : (before now after : Option Log) → OnLogs (StandsSince options is_alone base old left told new left_after tells clients) before now → after ≡ option_map called now
-        → OnLogs (ServesFromNone options is_alone base MOST_UNSENT (record { sessions = old; second = told }) (record { sessions = new; second = tells })) before after
-    since_called None now after since is = tt
-    since_called (Some x) None after since is = absurd since
-    since_called (Some x) (Some y) after since is =
-        subst (λ o. OnLogs (ServesFromNone options is_alone base MOST_UNSENT (record { sessions = old; second = told }) (record { sessions = new; second = tells })) (Some x) o) (sym is)
-        (λ none.
-        let f = since none in record {
-          same = f.4.0;
-          all = f.0;
-          serves = record { answers = f.1; sweeps = f.2; in_order = f.3.in_order; seconds = f.3.seconds; lacking = f.4.1.0; through = f.4.1.1.through };
-        })
+    -- where the end did not come
+    pub since_serves : ended ≡ false → (before after : Option Log) → OnLogs (StandsSince options is_alone base old left told had new left_after tells lacked clients) before after
+        → OnLogs (ServesFromNone options is_alone base MOST_UNSENT first last) before after
+    since_serves goes_on None after since = tt
+    since_serves goes_on (Some x) None since = since
+    since_serves goes_on (Some x) (Some y) since = λ none. serves_by y refl refl (since none) (λ is. absurd (true≢false (sym is ∙ goes_on)))
 
--- the end is told by one call more
-pub over_called : (now after : Option Log) → is_some after ≡ is_some now → IfSome now (λ l. IsOver l after) → after ≡ option_map called now
-over_called None None same over = refl
-over_called None (Some x) same over = absurd (true≢false same)
-over_called (Some y) after same over = over.result
+    -- also where it was asked once more what is next
+    pub since_called : ended ≡ false → (before now after : Option Log) → OnLogs (StandsSince options is_alone base old left told had new left_after tells lacked clients) before now
+        → after ≡ option_map called now → OnLogs (ServesFromNone options is_alone base MOST_UNSENT first last) before after
+    since_called goes_on None now after since is = tt
+    since_called goes_on (Some x) None after since is = absurd since
+    since_called goes_on (Some x) (Some y) after since is =
+        subst (λ o. OnLogs (ServesFromNone options is_alone base MOST_UNSENT first last) (Some x) o) (sym is)
+        (λ none. serves_by (called y) refl refl (since none) (λ over. absurd (true≢false (sym over ∙ goes_on))))
+
+    -- and where nothing is left to be reported
+    pub since_over : (before now after : Option Log) → OnLogs (StandsSince options is_alone base old left told had new left_after tells lacked clients) before now
+        → AreOpen clients now → IfSome now (λ l. IsOver l after) → OnLogs (ServesFromNone options is_alone base MOST_UNSENT first last) before after
+    since_over None now after since are over = tt
+    since_over (Some x) None after since are over = absurd since
+    since_over (Some x) (Some y) after since are over =
+        subst (λ o. OnLogs (ServesFromNone options is_alone base MOST_UNSENT first last) (Some x) o) (sym over.result)
+        (λ none. let f = since none in
+        serves_by (called y) refl refl f (λ ends moving. done_called (done_all options base f.4.lacking y f.0 clients are f.4.stands f.4.tends moving over.over)))
+      where
+        done_called : {log : Log} {all : List Given} → IsDone options base log all → IsDone options base (called log) all
+        done_called done = record { over = done.over; settled = done.settled }

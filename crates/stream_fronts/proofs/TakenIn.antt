@@ -1,12 +1,14 @@
 -- What taking in a new connection makes of what stands.
-use Rattle.std.proofs.Common.{◌≡◌, ◌≢◌, inl, ℕ, false, List, [], ◌∷◌, ◌++◌, length, refl, sym, ap, ◌∙◌, subst, arith}
-use Rattle.std.specs.Prelude.{Option, None, Some, IfSome}
+use Rattle.std.proofs.Common.{◌≡◌, ◌≢◌, inl, inr, ℕ, false, List, [], ◌∷◌, ◌++◌, length, refl, sym, ap, ◌∙◌, subst, arith}
+use Rattle.std.specs.Prelude.{slice_get, Option, None, Some, IfSome}
 use Rattle.std.proofs.lemmas.List.{append-nil}
 use Rattle.std.proofs.lemmas.Option.{none-some}
 use Rattle.partition_model.specs.declared.options.Options.{Options}
+use Rattle.memcached_text.specs.declared.next.Next.TheVariants.{More}
+use Rattle.memcached_text.specs.Next.{next_of}
 use Rattle.stream_io.specs.declared.connections.Event.TheVariants.{Opened}
 use Rattle.stream_io.specs.State.{closed, held}
-use Rattle.stream_io.specs.Log.{Log, connections_of, received_of, sent_of, logged}
+use Rattle.stream_io.specs.Log.{Log, state_of, connections_of, received_of, sent_of, logged}
 use Rattle.stream_io.specs.Calls.{Closes}
 use Rattle.stream_fronts.specs.declared.client.Client.{Client}
 use Rattle.stream_fronts.specs.Given.{Given, given_to}
@@ -15,7 +17,11 @@ use Rattle.stream_fronts.specs.Clients.{at}
 use Rattle.stream_fronts.specs.Reached.{Reaches, place_of}
 use Rattle.stream_fronts.specs.Held.{goes_on}
 use Rattle.stream_fronts.specs.Standing.{IsUntouched, HoldsUnder, Stands, StandsOn}
+use Rattle.stream_fronts.specs.Resting.{idle}
 use Rattle.stream_fronts.proofs.Opening.{found}
+use Rattle.stream_fronts.proofs.Moving.{moves_none}
+use Rattle.stream_fronts.proofs.Tending.{tends_served, tends_closed}
+use Rattle.stream_fronts.proofs.Visiting.{if_some}
 use Rattle.stream_fronts.proofs.Standing.{stands_lacking, stands_less, stands_put, stands_closed}
 use Rattle.stream_fronts.proofs.Served.{stands_none}
 
@@ -35,30 +41,43 @@ module _ (options : Options) (base number : ℕ) (clients : List (Option Client)
       }
 
   pub takes_in : (now : List (Option Client)) (client : Client) → ((n : ℕ) → n ≢ number → at now n ≡ at clients n) → at now number ≡ Some client → client.leaving ≡ false → client.unsent ≡ []
-      → Reaches options base (place_of client) [] [] [] → (log : Option Log) → IfSome log (IsOpen number 0) → OnLogs (StandsOn options base (Opened number) clients [] now) log log
-  takes_in now client others put reading none talk None stands = tt
-  takes_in now client others put reading none talk (Some log) is_open = record {
+      → Reaches options base (place_of client) [] [] [] → next_of client.kept.items ≡ More → (log : Option Log) → IfSome log (IsOpen number 0)
+      → OnLogs (StandsOn options base (Opened number) clients 0 [] now) log log
+  takes_in now client others put reading none talk waits None stands = tt
+  takes_in now client others put reading none talk waits (Some log) is_open = record {
     schedule = refl;
+    piece = refl;
     on = λ lacking all is_new stands.
         let c = is_open.0 in
         stands_none options base lacking log all now (stands_put options base lacking number client others put (holds_new client reading none talk c log all is_open.1.0 (is_new c is_open.1.0)) stands);
+    tends = λ lacking all stands but.
+        let c = is_open.0 in
+        let here = is_open.1.0 in
+        tends_served log.script.piece number c clients now here (moves_none c (state_of log)) others but.apart but.each (record {
+          client = client;
+          is_held = put;
+          rests = inr (λ moving. if_some (slice_get (connections_of log) c) (λ x silent. idle none reading waits silent) (but.told c here));
+        });
   }
 
   -- there was no memory for it
   pub turns_away : (taken : List (Option Client)) → ((n : ℕ) → n ≢ number → at taken n ≡ at clients n) → at taken number ≡ None → (before after : Option Log)
-      → IfSome before (IsOpen number 0) → IfSome before (λ l. Closes number l after) → OnLogs (StandsOn options base (Opened number) clients [] taken) before after
+      → IfSome before (IsOpen number 0) → IfSome before (λ l. Closes number l after) → OnLogs (StandsOn options base (Opened number) clients 1 [] taken) before after
   turns_away taken others gone None after is_open closes = tt
   turns_away taken others gone (Some log) after is_open closes =
       let c = is_open.0 in
       let here = is_open.1.0 in
       let is = found (λ d. after ≡ Some (logged (closed d) log)) (held number (connections_of log)) c here closes in
-      subst (λ o. OnLogs (StandsOn options base (Opened number) clients [] taken) (Some log) o) (sym is) (record {
+      subst (λ o. OnLogs (StandsOn options base (Opened number) clients 1 [] taken) (Some log) o) (sym is) (record {
         schedule = refl;
+        piece = refl;
         on = λ lacking all is_new stands.
             let less = stands_less options base lacking {now = taken}
             (λ n x held_so. sym (others n (λ same. none-some x (sym gone ∙ subst (λ m. at taken m ≡ Some x) same held_so))) ∙ held_so) stands in (
               c ∷ [],
+              refl,
               subst (λ l. Stands options base (c ∷ lacking) (logged (closed c) log) l taken) (sym (append-nil all))
                   (stands_closed options base (c ∷ lacking) number c here gone (inl ([], lacking, refl)) (stands_lacking options base c less)),
             );
+        tends = λ lacking all stands but. tends_closed log.script.piece number c clients taken here (moves_none c (state_of log)) others but.apart but.each;
       })

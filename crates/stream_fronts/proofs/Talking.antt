@@ -9,12 +9,13 @@ use Rattle.memcached_text.specs.Next.{next_of}
 use Rattle.memcached_text.specs.Stream.{len_of}
 use Rattle.memcached_commands.specs.Asks.{asks_in}
 use Rattle.mica_fronts.specs.Answered.{Answered}
+use Rattle.memcached_stats.specs.Stats as stats
 use Rattle.memcached_fronts.specs.Exchange.{IsOpenAt, flushes_now, count_of_answers, is_answered, due_before}
 use Rattle.memcached_fronts.specs.Spells.{due_to_all, answers_to_all}
 use Rattle.memcached_fronts.proofs.ExchangeLaws.{no_asks}
 use Rattle.memcached_fronts.proofs.SpellsLaws.{spells_next, due_then, answers_then, nothing_before, due_still}
 use Rattle.stream_io.specs.Connection.{Connection}
-use Rattle.stream_fronts.specs.Talk.{IsBeginning, Talk, due_in}
+use Rattle.stream_fronts.specs.Talk.{IsBeginning, Talk, IsAllAnswered, due_in}
 use Rattle.stream_fronts.specs.Closing.{MayClose, broke, left, ended}
 use Rattle.stream_fronts.specs.Traffic.{HasEnded}
 use Rattle.stream_fronts.specs.declared.answer.Stand.{Stand}
@@ -31,10 +32,10 @@ not_more next done less more = let none : length (asks_in next) ≡ 0 = ap (λ n
 
 module _ (options : Options) (base : ℕ) where
   -- and not answered
-  not_yet : (next : Next) (part : List Answered) → length part < length (asks_in next) → is_answered options (record { next = next; answers = part }) ≡ false
-  not_yet next part less = go (flushes_now next) refl (is_answered options (record { next = next; answers = part })) refl
+  not_yet : (next : Next) (part : List Answered) (told : stats.Told) → length part < length (asks_in next) → is_answered options (record { next = next; answers = part; told = told }) ≡ false
+  not_yet next part told less = go (flushes_now next) refl (is_answered options (record { next = next; answers = part; told = told })) refl
     where
-      go : (f : Bool) → flushes_now next ≡ f → (t : Bool) → is_answered options (record { next = next; answers = part }) ≡ t → is_answered options (record { next = next; answers = part }) ≡ false
+      go : (f : Bool) → flushes_now next ≡ f → (t : Bool) → is_answered options (record { next = next; answers = part; told = told }) ≡ t → is_answered options (record { next = next; answers = part; told = told }) ≡ false
       go true flushes t is = let none : length (asks_in next) ≡ 0 = ap length (no_asks next flushes) in absurd (omega (arith, less, none))
       go false keyed false is = is
       go false keyed true is =
@@ -56,8 +57,8 @@ module _ (options : Options) (base : ℕ) where
     -- where nothing is answered in part
     whole_due : r.part ≡ [] → due_to_all options base r.whole ≡ due
     whole_due none =
-        sym (append-nil _) ∙ ap (λ t. due_to_all options base r.whole ++ t) (sym (nothing_before options base (next_of place.bytes)))
-        ∙ ap (λ p. due_to_all options base r.whole ++ due_before options base (begun place.bytes p)) (sym none) ∙ r.due_is
+        sym (append-nil _) ∙ ap (λ t. due_to_all options base r.whole ++ t) (sym (nothing_before options base (next_of place.bytes) r.told))
+        ∙ ap (λ p. due_to_all options base r.whole ++ due_before options base (begun place.bytes p r.told)) (sym none) ∙ r.due_is
 
     whole_answers : r.part ≡ [] → answers_to_all r.whole ≡ given
     whole_answers none = sym (append-nil _) ∙ ap (λ p. answers_to_all r.whole ++ p) (sym none) ∙ r.answered
@@ -80,20 +81,20 @@ module _ (options : Options) (base : ℕ) where
             }
         by (a ∷ part) some =
             let next = next_of place.bytes in
-            let e = begun place.bytes r.part in
+            let e = begun place.bytes r.part r.told in
             let many : place.done ≡ suc (length part) = sym r.count ∙ ap length some in
             let less : place.done < length (asks_in next) = asks_some next place.done (length part) stands many in
-            let going : is_answered options (begun place.bytes r.part) ≡ false = not_yet next r.part (let count = r.count in omega (arith, count, less)) in
-            let all : due_to_all options base (r.whole ++ begun place.bytes r.part ∷ []) ≡ due =
-            due_then options base r.whole (begun place.bytes r.part) ∙ ap (λ t. due_to_all options base r.whole ++ t) (sym (due_still options base (begun place.bytes r.part) going))
+            let going : is_answered options (begun place.bytes r.part r.told) ≡ false = not_yet next r.part r.told (let count = r.count in omega (arith, count, less)) in
+            let all : due_to_all options base (r.whole ++ begun place.bytes r.part r.told ∷ []) ≡ due =
+            due_then options base r.whole (begun place.bytes r.part r.told) ∙ ap (λ t. due_to_all options base r.whole ++ t) (sym (due_still options base (begun place.bytes r.part r.told) going))
             ∙ r.due_is in
             record {
               talk = record {
-                said = r.whole ++ begun place.bytes r.part ∷ [];
+                said = r.whole ++ begun place.bytes r.part r.told ∷ [];
                 rest = drop (len_of next) place.bytes;
-                spells = spells_next options base received r.whole place.bytes (begun place.bytes r.part) r.spells r.follows
+                spells = spells_next options base received r.whole place.bytes (begun place.bytes r.part r.told) r.spells r.follows
                     (record { next = refl; some = not_more next place.done less; answers = r.begins });
-                answered = answers_then options base r.whole (begun place.bytes r.part) ∙ r.answered;
+                answered = answers_then options base r.whole (begun place.bytes r.part r.told) ∙ r.answered;
                 begins = begins_with sent all begins;
               };
               due_is = all;
@@ -137,22 +138,34 @@ module _ (options : Options) (base : ℕ) where
     left (sym r.due_is) r.left,
   )
 
-  pub may_end : {connection : Connection} {place : Place} {received sent : List ℕ} {given : List Answered} → Reaches options base place received given sent
-      → IsOpenAt (next_of place.bytes) place.done → next_of place.bytes ≡ More → HasEnded connection → MayClose options base connection received sent given
-  may_end {connection} {place} {received} {sent} {given} r stands more has_ended = by r.part refl
+  -- all that was said is answered, and all that is due was sent
+  pub record AllAnswered (received sent : List ℕ) (given : List Answered) : Type 0 where
+    pub talk : Talk options base received sent given
+    pub due_is : sent ≡ due_in talk
+    pub answered : IsAllAnswered options talk.said talk.rest
+
+  pub all_answered : {place : Place} {received sent : List ℕ} {given : List Answered} → Reaches options base place received given sent → IsOpenAt (next_of place.bytes) place.done
+      → next_of place.bytes ≡ More → AllAnswered received sent given
+  all_answered {place} {received} {sent} {given} r stands more = by r.part refl
     where
-      by : (part : List Answered) → r.part ≡ part → MayClose options base connection received sent given
+      by : (part : List Answered) → r.part ≡ part → AllAnswered received sent given
       by [] none =
-          let all : due_to_all options base r.whole ≡ sent = whole_due r none in (
-            record {
+          let all : due_to_all options base r.whole ≡ sent = whole_due r none in
+          record {
+            talk = record {
               said = r.whole;
               rest = place.bytes;
               spells = r.spells;
               answered = whole_answers r none;
               begins = ([], all ∙ sym (append-nil sent));
-            },
-            ended (sym all) has_ended.ended has_ended.read (r.follows, more),
-          )
+            };
+            due_is = sym all;
+            answered = (r.follows, more);
+          }
       by (a ∷ part) some =
           let many : place.done ≡ suc (length part) = sym r.count ∙ ap length some in
           absurd (not_more (next_of place.bytes) place.done (asks_some (next_of place.bytes) place.done (length part) stands many) more)
+
+  pub may_end : {connection : Connection} {place : Place} {received sent : List ℕ} {given : List Answered} → Reaches options base place received given sent
+      → IsOpenAt (next_of place.bytes) place.done → next_of place.bytes ≡ More → HasEnded connection → MayClose options base connection received sent given
+  may_end r stands more has_ended = let a = all_answered r stands more in (a.talk, ended a.due_is has_ended.ended has_ended.read a.answered)

@@ -1,9 +1,9 @@
 -- What calls for one connection make of a log.
-use Rattle.std.proofs.Common.{◌≡◌, ℕ, ◌+◌, cond, List, [], ◌∷◌, ◌++◌, length, take, drop, refl, sym, ap, ◌∙◌, subst, arith, append_assoc}
+use Rattle.std.proofs.Common.{◌≡◌, ◌≢◌, ℕ, ◌+◌, ◌<◌, ◌≤◌, Bool, cond, List, [], ◌∷◌, ◌++◌, length, take, drop, refl, sym, ap, ◌∙◌, subst, arith, append_assoc, length-drop}
 use Rattle.std.specs.Prelude.{slice_get, Option, Some, None, Result, Ok, Err, IfSome}
 use Rattle.std.specs.List.{AllByRecursion}
 use Rattle.std.proofs.Math.Seq.{take-add}
-use Rattle.std.proofs.lemmas.List.{append-nil}
+use Rattle.std.proofs.lemmas.List.{append-nil, take-append-drop}
 use Rattle.std.proofs.lemmas.Bool.{eq-eqb}
 use Rattle.stream_io.specs.declared.schedule.Step.{Step}
 use Rattle.stream_io.specs.declared.schedule.Step.TheVariants.{Opens, Reports, Happens}
@@ -13,7 +13,7 @@ use Rattle.stream_io.specs.State.{Entry, opened, reported, met, received, sent, 
 use Rattle.stream_io.specs.Log.{Log, connections_of, state_of, received_of, sent_of, with_entries, after_met, after_meeting_one}
 use Rattle.stream_io.specs.Calls.{WriteTakes, IsTaken, took, after_sending}
 use Rattle.stream_fronts.specs.Open.{IsAt, IsOpen, OnLogs}
-use Rattle.stream_fronts.specs.Traffic.{IsSend, Sends, Reads, IsBroken, after_receiving, SendsOf, SendsFrom, OnHeld}
+use Rattle.stream_fronts.specs.Traffic.{IsSend, Sends, Reads, IsIn, IsBroken, IsShut, IsShutIn, after_receiving, SendsOf, SendsSome, SendsFrom, OnHeld}
 use Rattle.stream_fronts.proofs.Places.{changed_keeps, there}
 use Rattle.stream_fronts.proofs.Opening.{met_at, change_keeps, read_keeps, write_keeps, found}
 
@@ -56,7 +56,7 @@ sends_received c (closed e ∷ more) entries each d = absurd each.0
 -- Sends, one after another
 
 pub sends_none : (c : ℕ) (log : Log) → Sends c [] log log
-sends_none c log = record { schedule = refl; more = []; each = tt; entries = refl; sent = sym (append-nil (sent_of c log.entries)) }
+sends_none c log = record { schedule = refl; piece = refl; more = []; each = tt; entries = refl; sent = sym (append-nil (sent_of c log.entries)) }
 
 all_append : {X : Type 0} (P : X → Type 0) (xs ys : List X) → AllByRecursion P xs → AllByRecursion P ys → AllByRecursion P (xs ++ ys)
 all_append P [] ys one two = two
@@ -65,6 +65,7 @@ all_append P (x ∷ xs) ys one two = (one.0, all_append P xs ys one.1 two)
 pub sends_then : {c : ℕ} {one two : List ℕ} {old between new : Log} → Sends c one old between → Sends c two between new → Sends c (one ++ two) old new
 sends_then {c} {one} {two} {old} {between} {new} first second = record {
   schedule = second.schedule ∙ first.schedule;
+  piece = second.piece ∙ first.piece;
   more = second.more ++ first.more;
   each = all_append (IsSend c) second.more first.more second.each first.each;
   entries = second.entries ∙ ap (λ e. second.more ++ e) first.entries ∙ sym (append_assoc second.more first.more old.entries);
@@ -82,6 +83,7 @@ pub meets : (c : ℕ) (log : Log) → Sends c [] log (after_met log)
 meets c log =
     let m = met_entries (state_of log).later log.entries in record {
       schedule = refl;
+      piece = refl;
       more = m.0;
       each = mets_send c m.0 m.1;
       entries = m.2;
@@ -89,22 +91,35 @@ meets c log =
     }
 
 sends_wrote : (c : ℕ) (bytes : List ℕ) (log : Log) → Sends c bytes log (with_entries (after_sending c bytes) log)
-sends_wrote c bytes log = let w = wrote c bytes log.entries in record { schedule = refl; more = w.0; each = w.1; entries = w.2; sent = w.3 }
+sends_wrote c bytes log = let w = wrote c bytes log.entries in record { schedule = refl; piece = refl; more = w.0; each = w.1; entries = w.2; sent = w.3 }
+
+-- So much of a text was sent, and none only where the peer takes no more; or the connection is broken.
+abbrev pub Writes : List ℕ → Result ℕ Broken → ℕ → Log → Log → Type 0
+Writes text (Ok n) c old new = Sends c (take n text) old new × (n ≡ 0 → 0 < length text → IsShutIn c new)
+Writes text (Err broken) c old new = SendsSome text c old new × IsIn IsBroken c new
+
+-- where a write takes nothing, the peer takes no more
+none_taken : (c : ℕ) (bytes : List ℕ) (n : ℕ) (log : Log) (x : Connection) → slice_get (connections_of log) c ≡ Some x → IsTaken x log.script.piece bytes (Ok n) → n ≡ 0 → 0 < length bytes
+    → IsShutIn c (with_entries (took c bytes (Ok n)) log)
+none_taken c bytes n log x is taken none some moving =
+    let shut : x.window ≡ 0 = let count = taken.1 in omega (arith, count, none, some, moving) in
+    subst (λ m. IfSome (slice_get (connections_of (with_entries (took c bytes (Ok m)) log)) c) IsShut) (sym none)
+    (subst (λ o. IfSome o IsShut) (sym is) (record { shut = shut; whole = taken.0 }))
 
 -- what one write makes of the log, and that it is broken where the write says so
-took_sends : (c : ℕ) (bytes : List ℕ) (most : ℕ) (answer : Result ℕ Broken) (log : Log) (x : Connection) → slice_get (connections_of log) c ≡ Some x → IsTaken x most bytes answer
-    → SendsOf bytes answer c log (with_entries (took c bytes answer) log)
-took_sends c bytes most (Ok n) log x is taken = sends_wrote c (take n bytes) log
-took_sends c bytes most (Err broken) log x is taken = ((0, sends_none c log), subst (λ o. IfSome o IsBroken) (sym is) taken)
+took_sends : (c : ℕ) (bytes : List ℕ) (answer : Result ℕ Broken) (log : Log) (x : Connection) → slice_get (connections_of log) c ≡ Some x → IsTaken x log.script.piece bytes answer
+    → Writes bytes answer c log (with_entries (took c bytes answer) log)
+took_sends c bytes (Ok n) log x is taken = (sends_wrote c (take n bytes) log, none_taken c bytes n log x is taken)
+took_sends c bytes (Err broken) log x is taken = ((0, sends_none c log), subst (λ o. IfSome o IsBroken) (sym is) taken)
 
 -- steps that were met before
-after_met_sends : (c : ℕ) (bytes : List ℕ) (answer : Result ℕ Broken) (old new : Log) → SendsOf bytes answer c (after_met old) new → SendsOf bytes answer c old new
-after_met_sends c bytes (Ok n) old new sends = sends_then (meets c old) sends
-after_met_sends c bytes (Err broken) old new sends = ((sends.0.0, sends_then (meets c old) sends.0.1), sends.1)
+after_met_sends : (c : ℕ) (bytes : List ℕ) (answer : Result ℕ Broken) (old new : Log) → Writes bytes answer c (after_met old) new → Writes bytes answer c old new
+after_met_sends c bytes (Ok n) old new writes = (sends_then (meets c old) writes.0, writes.1)
+after_met_sends c bytes (Err broken) old new writes = ((writes.0.0, sends_then (meets c old) writes.0.1), writes.1)
 
 -- what one call of `write` makes of a log
 pub write_sends : (number : ℕ) (bytes : List ℕ) (answer : Result ℕ Broken) (old : Log) (new : Option Log) (c : ℕ) → held number (connections_of old) ≡ Some c
-    → WriteTakes number bytes answer old new → (made : Log) × (new ≡ Some made) × SendsOf bytes answer c old made
+    → WriteTakes number bytes answer old new → (made : Log) × (new ≡ Some made) × Writes bytes answer c old made
 write_sends number bytes answer old new c is takes =
     let at = met_at old number c 0 (is, omega arith) in
     let x = there number c (connections_of (after_met old)) at.0 in
@@ -112,8 +127,7 @@ write_sends number bytes answer old new c is takes =
     let g' = found _ (slice_get (connections_of (after_met old)) c) x.0 x.1 g in (
       with_entries (took c bytes answer) (after_met old),
       g'.1,
-      after_met_sends c bytes answer old (with_entries (took c bytes answer) (after_met old))
-          (took_sends c bytes old.script.piece answer (after_met old) x.0 x.1 g'.0),
+      after_met_sends c bytes answer old (with_entries (took c bytes answer) (after_met old)) (took_sends c bytes answer (after_met old) x.0 x.1 g'.0),
     )
 
 -- What stays
@@ -203,32 +217,65 @@ module _ (number : ℕ) where
 
 -- Writes, one after another
 
--- with what was sent before
-abbrev pub more_sent : ℕ → Result ℕ Broken → Result ℕ Broken
-more_sent so_far (Ok n) = Ok (so_far + n)
-more_sent so_far (Err broken) = Err broken
+-- so much of a text was sent
+abbrev pub SendsFirst : List ℕ → ℕ → ℕ → Log → Log → Type 0
+SendsFirst text n c old new = Sends c (take n text) old new
 
-wrote_then : (text : List ℕ) (so_far : ℕ) (answer : Result ℕ Broken) (c : ℕ) (first old new : Log) → Sends c (take so_far text) first old → SendsOf (drop so_far text) answer c old new
-    → SendsOf text (more_sent so_far answer) c first new
-wrote_then text so_far (Ok n) c first old new one two = subst (λ t. Sends c t first new) (sym (take-add so_far n text)) (sends_then one two)
+-- The same behind what was sent before.
+abbrev pub WritesMore : List ℕ → ℕ → Result ℕ Broken → ℕ → Log → Log → Type 0
+WritesMore text so_far (Ok n) c old new = SendsFirst text (so_far + n) c old new × (n ≡ 0 → so_far < length text → IsShutIn c new)
+WritesMore text so_far (Err broken) c old new = SendsSome text c old new × IsIn IsBroken c new
+
+wrote_then : (text : List ℕ) (so_far : ℕ) (answer : Result ℕ Broken) (c : ℕ) (first old new : Log) → Sends c (take so_far text) first old → Writes (drop so_far text) answer c old new
+    → WritesMore text so_far answer c first new
+wrote_then text so_far (Ok n) c first old new one two = (
+  subst (λ t. Sends c t first new) (sym (take-add so_far n text)) (sends_then one two.0),
+  λ none less. two.1 none (let len = length-drop so_far text in omega (arith, len, less)),
+)
 wrote_then text so_far (Err broken) c first old new one two =
     ((so_far + two.0.0, subst (λ t. Sends c t first new) (sym (take-add so_far two.0.0 text)) (sends_then one two.0.1)), two.1)
 
 -- what one more write made of a log, where so much was sent before
 pub wrote_more : (number asks : ℕ) (text piece : List ℕ) (so_far : ℕ) (answer : Result ℕ Broken) (first old new : Option Log) → piece ≡ drop so_far text → IfSome first (IsOpen number asks)
-    → OnLogs (OnHeld number (SendsOf text (Ok so_far))) first old → IfSome old (λ l. WriteTakes number piece answer l new)
-    → OnLogs (OnHeld number (SendsOf text (more_sent so_far answer))) first new
+    → OnLogs (OnHeld number (SendsFirst text so_far)) first old → IfSome old (λ l. WriteTakes number piece answer l new)
+    → OnLogs (OnHeld number (WritesMore text so_far answer)) first new
 wrote_more number asks text piece so_far answer None old new piece_is stands before takes = tt
 wrote_more number asks text piece so_far answer (Some a) None new piece_is stands before takes = absurd before
 wrote_more number asks text piece so_far answer (Some a) (Some b) new piece_is stands before takes =
     let c = stands.0 in
     let one = found (λ d. Sends d (take so_far text) a b) (held number (connections_of a)) c stands.1.0 before in
     let made = write_sends number (drop so_far text) answer b new c (sends_held one number c stands.1.0) (subst (λ p. WriteTakes number p answer b new) piece_is takes) in
-    subst (λ o. OnLogs (OnHeld number (SendsOf text (more_sent so_far answer))) (Some a) o) (sym made.1)
-    (subst (λ h. IfSome h (λ d. SendsOf text (more_sent so_far answer) d a made.0)) (sym stands.1.0) (wrote_then text so_far answer c a b made.0 one made.2))
+    subst (λ o. OnLogs (OnHeld number (WritesMore text so_far answer)) (Some a) o) (sym made.1)
+    (subst (λ h. IfSome h (λ d. WritesMore text so_far answer d a made.0)) (sym stands.1.0) (wrote_then text so_far answer c a b made.0 one made.2))
+
+-- where all of it was sent, nothing is left
+pub wrote_all : (number : ℕ) (text : List ℕ) (n : ℕ) (old new : Option Log) → length text ≤ n → OnLogs (OnHeld number (SendsFirst text n)) old new → OnLogs (OnHeld number (SendsOf text (Ok n))) old new
+wrote_all number text n old new all sends = on_one number (SendsFirst text n) (SendsOf text (Ok n)) old new (λ c a b s. (s, λ less. absurd (omega (arith, all, less)))) sends
+
+-- where one more took nothing, the peer takes no more
+pub wrote_last : (number : ℕ) (text : List ℕ) (so_far n : ℕ) (old new : Option Log) → n ≡ 0 → OnLogs (OnHeld number (WritesMore text so_far (Ok n))) old new
+    → OnLogs (OnHeld number (SendsOf text (Ok so_far))) old new
+wrote_last number text so_far n old new none sends =
+    let same : so_far + n ≡ so_far = omega (arith, none) in
+    on_one number (WritesMore text so_far (Ok n)) (SendsOf text (Ok so_far)) old new (λ c a b w. (subst (λ m. Sends c (take m text) a b) same w.0, w.1 none)) sends
+
+some_left : (n : ℕ) (text after : List ℕ) → after ≡ drop n text → after ≢ [] → n < length text
+some_left n text [] is some = absurd (some refl)
+some_left n text (x ∷ after) is some = let len = ap length is in let rest = length-drop n text in omega (arith, len, rest)
+
+-- of what was not sent
+pub sends_rest : (number : ℕ) (text after : List ℕ) (n : ℕ) (all : Bool) (old new : Option Log) → after ≡ drop n text → OnLogs (OnHeld number (SendsOf text (Ok n))) old new
+    → OnLogs (OnHeld number (SendsFrom text after (Ok all))) old new
+sends_rest number text after n all old new is sends =
+    on_one number (SendsOf text (Ok n)) (SendsFrom text after (Ok all)) old new (λ c a b s. (
+      take n text,
+      s.0,
+      sym (take-append-drop n text) ∙ ap (λ r. take n text ++ r) (sym is),
+      λ some. s.1 (some_left n text after is some),
+    )) sends
 
 -- nothing was sent yet
-pub wrote_none : (number : ℕ) (text : List ℕ) (old : Option Log) → OnLogs (OnHeld number (SendsOf text (Ok 0))) old old
+pub wrote_none : (number : ℕ) (text : List ℕ) (old : Option Log) → OnLogs (OnHeld number (SendsFirst text 0)) old old
 wrote_none number text None = tt
 wrote_none number text (Some a) = by (held number (connections_of a))
   where

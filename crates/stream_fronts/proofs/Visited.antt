@@ -10,7 +10,7 @@ use Rattle.stream_io.specs.declared.connections.Broken.{Broken}
 use Rattle.stream_io.specs.declared.connections.Input.{Input}
 use Rattle.stream_io.specs.declared.connections.Input.TheVariants.{Bytes, Later, Ended}
 use Rattle.stream_io.specs.State.{held}
-use Rattle.stream_io.specs.Log.{Log, connections_of, received_of, sent_of}
+use Rattle.stream_io.specs.Log.{Log, state_of, connections_of, received_of, sent_of}
 use Rattle.mica_fronts.specs.Answered.{Answered}
 use Rattle.stream_fronts.specs.declared.answer.Stand.{Stand}
 use Rattle.stream_fronts.specs.declared.answer.Stand.TheVariants.{Needs, Enough, Leaves}
@@ -23,11 +23,13 @@ use Rattle.stream_fronts.specs.Reached.{Place, Reaches, Ends, StandsAs, Spoke, p
 use Rattle.stream_fronts.specs.Closing.{MayClose}
 use Rattle.stream_fronts.specs.Moments.{TalksThrough}
 use Rattle.stream_fronts.specs.Clients.{IsClient}
-use Rattle.stream_fronts.specs.Traffic.{Sends, SendsFrom, Reads, IsIn, HasEnded, EndsBy}
+use Rattle.stream_fronts.specs.Traffic.{Sends, SendsFrom, Reads, IsIn, IsShutIn, HasEnded, EndsBy}
+use Rattle.stream_fronts.specs.Resting.{shut, idle, Rests, Moves}
 use Rattle.stream_fronts.specs.Held.{StaysAs, Holds, goes_on, left, ended, all_to, Becomes, Visits, leaves_by, Looks, Lacks, VisitLacks}
 use Rattle.stream_fronts.proofs.Talking.{may_leave, may_end}
 use Rattle.stream_fronts.proofs.Staying.{stays_same, stays_then, stays_sent, stays_read}
 use Rattle.stream_fronts.proofs.Traffic.{reads_held, sends_held}
+use Rattle.stream_fronts.proofs.Moving.{moves_sends, moves_reads, moves_then}
 use Rattle.stream_fronts.proofs.Drying.{sends_ended}
 use Rattle.stream_fronts.proofs.Moments.{given_more}
 use Rattle.stream_fronts.proofs.Visiting.{if_some, Stage, stage_held, stage_sent, due_same, received_same, stage_breaks, stage_read, received_now, sent_now, stage_answered, stage_lacking}
@@ -48,8 +50,20 @@ looks_held options base client answers replies now (Ok r) c old new looks n d is
 ends_on : (input : Option Input) {c : ℕ} {text : List ℕ} {old new : Log} → Sends c text old new → EndsBy input c old → EndsBy input c new
 ends_on None sends is = tt
 ends_on (Some (Bytes count)) sends is = tt
-ends_on (Some Later) sends is = tt
+ends_on (Some Later) {c} {text} {old} {new} sends is =
+    let moves = moves_sends sends in
+    elim is as (λ _. EndsBy (Some Later) c new) [
+      | inl come ↦ inl (moves.to_come c come)
+      | inr silent ↦ elim moves.own as (λ _. EndsBy (Some Later) c new) [ inl come ↦ inl come | inr on ↦ inr (on silent) ]
+    ]
 ends_on (Some Ended) {c} sends is = sends_ended sends c is
+
+waits_not_over : Waits ≢ Over
+waits_not_over is = cc
+
+-- replies wait, and the peer takes none
+rests_shut : (client : Client) (c : ℕ) (log : Log) → client.unsent ≢ [] → IsShutIn c log → Rests client c log.script.piece (state_of log)
+rests_shut client c log some is = inr (λ moving. if_some (slice_get (connections_of log) c) (λ x e. shut some e) (is moving))
 
 module _ (options : Options) (base : ℕ) where
   -- The same, of what is equal
@@ -125,7 +139,7 @@ module _ (options : Options) (base : ℕ) where
           (sends_ended sends c) holds
 
     -- where nothing waits and more may be read, it came to the place that is kept
-    held_reaches : {log : Log} {client : Client} {given : List Answered} → Holds options base most c log given client → client.leaving ≡ false → client.unsent ≡ []
+    pub held_reaches : {log : Log} {client : Client} {given : List Answered} → Holds options base most c log given client → client.leaving ≡ false → client.unsent ≡ []
         → Reaches options base (place_of client) (received_of c log.entries) given (sent_of c log.entries ++ [])
     held_reaches {log} {client} {given} holds reading none = elim holds as (λ _. Reaches options base (place_of client) (received_of c log.entries) given (sent_of c log.entries ++ [])) [
       | goes_on stays few at ↦ reaches_as refl refl (ap (λ u. sent_of c log.entries ++ u) (sym none)) at
@@ -189,6 +203,8 @@ module _ (options : Options) (base : ℕ) where
           → Visits options base client [] now Over c old mid
       visit_breaks now broken sends = record {
         schedule = sends.0.1.schedule;
+        piece = sends.0.1.piece;
+        moves = moves_sends sends.0.1;
         under = sends_held sends.0.1;
         others = stays_sent sends.0.1;
         talks = λ lacking all holds through.
@@ -207,20 +223,24 @@ module _ (options : Options) (base : ℕ) where
           stage_then : Stage options base most c old.schedule lacking mid all now.unsent
           stage_then = stage_unsent most c lacking all client refl is holds through now.unsent sends.1 sends.2
 
-        pub visit_waits : Visits options base client [] now Waits c old mid
-        visit_waits = record {
+        pub visit_waits : now.unsent ≢ [] → Visits options base client [] now Waits c old mid
+        visit_waits some = record {
           schedule = sends.1.schedule;
+          piece = sends.1.piece;
+          moves = moves_sends sends.1;
           under = sends_held sends.1;
           others = stays_sent sends.1;
           talks = λ lacking all holds through.
               let most = MOST_UNSENT in
               let stage = stage_then most lacking all holds through in
-              (still_through most mid old.schedule lacking all stage.through, still_becomes most mid (given_to c all) now Waits (held_then most lacking all holds through));
+              (still_through most mid old.schedule lacking all stage.through, still_becomes most mid (given_to c all) now Waits (held_then most lacking all holds through, rests_shut now c mid some (sends.3 some)));
         }
 
         pub visit_leaves : IsClient now → now.leaving ≡ true → now.unsent ≡ [] → Visits options base client [] now Over c old mid
         visit_leaves is_now ends none = record {
           schedule = sends.1.schedule;
+          piece = sends.1.piece;
+          moves = moves_sends sends.1;
           under = sends_held sends.1;
           others = stays_sent sends.1;
           talks = λ lacking all holds through.
@@ -237,6 +257,8 @@ module _ (options : Options) (base : ℕ) where
           visit_unread broken looks =
               let still : Visits options base client [] then Over c old log = record {
                 schedule = looks.2.schedule ∙ sends.1.schedule;
+                piece = looks.2.piece ∙ sends.1.piece;
+                moves = moves_then (moves_sends sends.1) (moves_reads looks.2);
                 under = λ n d is. reads_held looks.2 n d (sends_held sends.1 n d is);
                 others = λ d other. stays_then (stays_sent sends.1 d other) (stays_read looks.2 d other);
                 talks = λ lacking all holds through.
@@ -252,6 +274,8 @@ module _ (options : Options) (base : ℕ) where
           visit_lacks lacks = elim lacks as (λ _. VisitLacks options base client answers c old log) [
             | inl further ↦ record {
               schedule = ap (λ (l : Log). l.schedule) further.same ∙ sends.1.schedule;
+              piece = ap (λ (l : Log). l.script.piece) further.same ∙ sends.1.piece;
+              moves = subst (λ (l : Log). Moves c (state_of old) (state_of l)) (sym further.same) (moves_sends sends.1);
               under = λ n d is. ap (λ (l : Log). held n (connections_of l)) further.same ∙ sends_held sends.1 n d is;
               others = λ d other. stays_then (stays_sent sends.1 d other) (subst (λ (l : Log). StaysAs d mid l) (sym further.same) (stays_same d mid));
               talks = λ lacking all among holds through.
@@ -263,6 +287,8 @@ module _ (options : Options) (base : ℕ) where
             }
             | inr read ↦ record {
               schedule = read.reads.schedule ∙ sends.1.schedule;
+              piece = read.reads.piece ∙ sends.1.piece;
+              moves = moves_then (moves_sends sends.1) (moves_reads read.reads);
               under = λ n d is. reads_held read.reads n d (sends_held sends.1 n d is);
               others = λ d other. stays_then (stays_sent sends.1 d other) (stays_read read.reads d other);
               talks = λ lacking all among holds through.
@@ -297,6 +323,18 @@ module _ (options : Options) (base : ℕ) where
               | inr reads ↦ reads.reads.schedule ∙ sends.1.schedule
             ]
 
+            looked_piece : log.script.piece ≡ old.script.piece
+            looked_piece = elim looks as (λ _. log.script.piece ≡ old.script.piece) [
+              | inl further ↦ ap (λ (l : Log). l.script.piece) further.same ∙ sends.1.piece
+              | inr reads ↦ reads.reads.piece ∙ sends.1.piece
+            ]
+
+            looked_moves : Moves c (state_of old) (state_of log)
+            looked_moves = elim looks as (λ _. Moves c (state_of old) (state_of log)) [
+              | inl further ↦ subst (λ (l : Log). Moves c (state_of old) (state_of l)) (sym further.same) (moves_sends sends.1)
+              | inr reads ↦ moves_then (moves_sends sends.1) (moves_reads reads.reads)
+            ]
+
             looked_held : (n d : ℕ) → held n (connections_of old) ≡ Some d → held n (connections_of log) ≡ Some d
             looked_held n d is = looks_held options base now answers replies then (Ok r) c mid log looks n d (sends_held sends.1 n d is)
 
@@ -311,6 +349,8 @@ module _ (options : Options) (base : ℕ) where
               pub visit_keeps_none : (n : ℕ) → Sends c (take n replies) log new → VisitLacks options base client answers c old new
               visit_keeps_none n then_sends = record {
                 schedule = then_sends.schedule ∙ looked_schedule;
+                piece = then_sends.piece ∙ looked_piece;
+                moves = moves_then looked_moves (moves_sends then_sends);
                 under = λ n d is. sends_held then_sends n d (looked_held n d is);
                 others = λ d other. stays_then (looked_others d other) (stays_sent then_sends d other);
                 talks = λ lacking all among holds through.
@@ -322,6 +362,8 @@ module _ (options : Options) (base : ℕ) where
               pub visit_unsent : (broken : Broken) → SendsFrom {X = Bool} replies last.unsent (Err broken) c log new → Visits options base client answers last Over c old new
               visit_unsent broken then_sends = record {
                 schedule = then_sends.0.1.schedule ∙ looked_schedule;
+                piece = then_sends.0.1.piece ∙ looked_piece;
+                moves = moves_then looked_moves (moves_sends then_sends.0.1);
                 under = λ n d is. sends_held then_sends.0.1 n d (looked_held n d is);
                 others = λ d other. stays_then (looked_others d other) (stays_sent then_sends.0.1 d other);
                 talks = λ lacking all holds through.
@@ -347,18 +389,38 @@ module _ (options : Options) (base : ℕ) where
                       (stands_as r.0 (given_to c all ++ answers) place_is (received_same options base most c last.unsent end.stage then_sends.1 then_sends.2)
                       (due_same options base most c last.unsent end.stage then_sends.1 then_sends.2) end.stands)
 
-                pub visit_goes_on : (becomes : After) → becomes ≢ Over → Visits options base client answers last becomes c old new
-                visit_goes_on Over other = absurd (other refl)
-                visit_goes_on Waits other = record {
+                -- so it waits
+                abbrev WaitsFor : After → Type 0
+                WaitsFor becomes = becomes ≡ Waits → (lacking : List ℕ) (all : List Given) → Looked MOST_UNSENT c old.schedule lacking log all answers replies then r
+                    → Rests last c new.script.piece (state_of new)
+
+                waits_idle : (becomes : After) → last.leaving ≡ false → last.unsent ≡ [] → (becomes ≡ Waits → (r.0 ≡ Needs) × (r.1 ≡ Some Later)) → WaitsFor becomes
+                waits_idle becomes reading none_left waits = λ is lacking all looked.
+                    let w = waits is in
+                    let over = subst (λ i. EndsBy i c new) w.1 (ends_on r.1 then_sends.1 looked.ends) in
+                    let more = (subst (λ s. StandsAs options base MAX_WAITING_LEN s (place_of then) (received_of c log.entries) (given_to c all ++ answers) (sent_of c log.entries ++ replies)) w.0 looked.stands).1 in
+                    elim over as (λ _. Rests last c new.script.piece (state_of new)) [
+                      | inl come ↦ inl come
+                      | inr silent ↦ inr (λ moving. if_some (slice_get (connections_of new) c) (λ x e. idle none_left reading (ap (λ (p : Place). next_of p.bytes) place_is ∙ more) e) silent)
+                    ]
+
+                visit_goes_on : (becomes : After) → becomes ≢ Over → WaitsFor becomes → Visits options base client answers last becomes c old new
+                visit_goes_on Over other rests = absurd (other refl)
+                visit_goes_on Waits other rests = record {
                   schedule = then_sends.1.schedule ∙ looked_schedule;
+                  piece = then_sends.1.piece ∙ looked_piece;
+                  moves = moves_then looked_moves (moves_sends then_sends.1);
                   under = λ n d is. sends_held then_sends.1 n d (looked_held n d is);
                   others = λ d other. stays_then (looked_others d other) (stays_sent then_sends.1 d other);
                   talks = λ lacking all holds through.
                       let most = MOST_UNSENT in
-                      let stage = stage_end most lacking all looks_few holds through in (stage.through, held_end most lacking all looks_few holds through);
+                      let stage = stage_end most lacking all looks_few holds through in
+                      (stage.through, (held_end most lacking all looks_few holds through, rests refl lacking all (end most lacking all looks_few holds through)));
                 }
-                visit_goes_on Again other = record {
+                visit_goes_on Again other rests = record {
                   schedule = then_sends.1.schedule ∙ looked_schedule;
+                  piece = then_sends.1.piece ∙ looked_piece;
+                  moves = moves_then looked_moves (moves_sends then_sends.1);
                   under = λ n d is. sends_held then_sends.1 n d (looked_held n d is);
                   others = λ d other. stays_then (looked_others d other) (stays_sent then_sends.1 d other);
                   talks = λ lacking all holds through.
@@ -366,9 +428,14 @@ module _ (options : Options) (base : ℕ) where
                       let stage = stage_end most lacking all looks_few holds through in (stage.through, held_end most lacking all looks_few holds through);
                 }
 
+                pub visit_shut : last.unsent ≢ [] → Visits options base client answers last Waits c old new
+                visit_shut some = visit_goes_on Waits waits_not_over (λ is lacking all looked. rests_shut last c new some (then_sends.3 some))
+
                 pub visit_ends : IsClient last → last.leaving ≡ true → last.unsent ≡ [] → Visits options base client answers last Over c old new
                 visit_ends is_last over none_left = record {
                   schedule = then_sends.1.schedule ∙ looked_schedule;
+                  piece = then_sends.1.piece ∙ looked_piece;
+                  moves = moves_then looked_moves (moves_sends then_sends.1);
                   under = λ n d is. sends_held then_sends.1 n d (looked_held n d is);
                   others = λ d other. stays_then (looked_others d other) (stays_sent then_sends.1 d other);
                   talks = λ lacking all holds through.
@@ -377,13 +444,11 @@ module _ (options : Options) (base : ℕ) where
                       (stage.through, held_over most c last is_last new (given_to c all ++ answers) over none_left (held_end most lacking all looks_few holds through));
                 }
 
-                pub visit_after : (becomes : After) → (last.leaving ≡ true → becomes ≡ Over) → (last.leaving ≡ false → becomes ≢ Over) → IsClient last → last.unsent ≡ []
-                    → Visits options base client answers last becomes c old new
-                visit_after becomes over stays is_last none_left = by last.leaving refl
+                pub visit_after : (becomes : After) → (last.leaving ≡ true → becomes ≡ Over) → (last.leaving ≡ false → becomes ≢ Over) → (becomes ≡ Waits → (r.0 ≡ Needs) × (r.1 ≡ Some Later))
+                    → IsClient last → last.unsent ≡ [] → Visits options base client answers last becomes c old new
+                visit_after becomes over stays waits is_last none_left = by last.leaving refl
                   where
                     by : (b : Bool) → last.leaving ≡ b → Visits options base client answers last becomes c old new
                     by true is_over = subst (λ (a : After). Visits options base client answers last a c old new) (sym (over is_over)) (visit_ends is_last is_over none_left)
-                    by false is_open = visit_goes_on becomes (stays is_open)
+                    by false is_open = visit_goes_on becomes (stays is_open) (waits_idle becomes is_open none_left waits)
 
-pub waits_not_over : Waits ≢ Over
-waits_not_over is = cc

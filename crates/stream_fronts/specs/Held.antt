@@ -8,19 +8,20 @@ use Rattle.stream_io.specs.declared.connections.Broken.{Broken}
 use Rattle.stream_io.specs.declared.connections.Input.{Input}
 use Rattle.stream_io.specs.declared.connections.Input.TheVariants.{Ended}
 use Rattle.stream_io.specs.State.{held}
-use Rattle.stream_io.specs.Log.{Log, connections_of, received_of, sent_of}
+use Rattle.stream_io.specs.Log.{Log, state_of, connections_of, received_of, sent_of}
 use Rattle.mica_fronts.specs.Answered.{Answered}
 use Rattle.stream_fronts.specs.declared.answer.Stand.{Stand}
 use Rattle.stream_fronts.specs.declared.answer.Stand.TheVariants.{Needs, Leaves}
 use Rattle.stream_fronts.specs.declared.client.Client.{Client}
 use Rattle.stream_fronts.specs.declared.desk.TheConstants.{MOST_UNSENT}
 use Rattle.stream_fronts.specs.declared.visit.After.{After}
-use Rattle.stream_fronts.specs.declared.visit.After.TheVariants.{Over}
+use Rattle.stream_fronts.specs.declared.visit.After.TheVariants.{Waits, Again, Over}
 use Rattle.stream_fronts.specs.Given.{Given, given_to}
 use Rattle.stream_fronts.specs.Reached.{Reaches, Ends, GoesOnTo, SpokeFrom, SpokeBehind, StandsAs, place_of}
 use Rattle.stream_fronts.specs.Closing.{MayClose}
 use Rattle.stream_fronts.specs.Moments.{IsAmong, TalksThrough}
 use Rattle.stream_fronts.specs.Traffic.{Reads, IsIn, IsBroken, HasEnded, EndsBy}
+use Rattle.stream_fronts.specs.Resting.{Moves, Rests}
 
 -- What is held of the client of the c-th connection goes with their talk, where these answers were given. What is unsent is the end of what is due, so many
 -- bytes at most. More of it is read, from the place that is kept; or it asked for the end; or it sends no more, and nothing whole is left of what it said.
@@ -37,11 +38,12 @@ pub data Holds (options : Options) (base most c : ℕ) (log : Log) (answers : Li
 abbrev pub all_to : ℕ → List Answered → List Given
 all_to c answers = map (λ a. record { to = c; answered = a }) answers
 
--- What became of it: it may be closed; or what is held of it goes with the talk.
+-- What became of it: it may be closed; or what is held of it goes with the talk, and waits for its peer or not.
 abbrev pub Becomes : Options → ℕ → ℕ → ℕ → Log → List Answered → Client → After → Type 0
 Becomes options base most c log answers client Over =
     IfSome (slice_get (connections_of log) c) (λ connection. MayClose options base connection (received_of c log.entries) (sent_of c log.entries) answers)
-Becomes options base most c log answers client _ = Holds options base most c log answers client
+Becomes options base most c log answers client Waits = Holds options base most c log answers client × Rests client c log.script.piece (state_of log)
+Becomes options base most c log answers client Again = Holds options base most c log answers client
 
 -- nothing moved of the d-th connection; where it had ended it has, and where it is not made it was not
 pub record StaysAs (d : ℕ) (old new : Log) : Type 0 where
@@ -54,6 +56,8 @@ pub record StaysAs (d : ℕ) (old new : Log) : Type 0 where
 -- answers to this one.
 pub record Visits (options : Options) (base : ℕ) (client : Client) (answers : List Answered) (now : Client) (becomes : After) (c : ℕ) (old new : Log) : Type 0 where
   pub schedule : new.schedule ≡ old.schedule
+  pub piece : new.script.piece ≡ old.script.piece
+  pub moves : Moves c (state_of old) (state_of new)
   pub under : (n d : ℕ) → held n (connections_of old) ≡ Some d → held n (connections_of new) ≡ Some d
   pub others : (d : ℕ) → (c == d) ≡ false → StaysAs d old new
   pub talks : (lacking : List ℕ) (all : List Given) → Holds options base MOST_UNSENT c old (given_to c all) client
@@ -117,6 +121,8 @@ Lacks options base client answers c old new = LacksFurther options base client a
 -- The c-th connection was visited, and memory lacked for it. At each moment the front had talked with all clients all the same.
 pub record VisitLacks (options : Options) (base : ℕ) (client : Client) (answers : List Answered) (c : ℕ) (old new : Log) : Type 0 where
   pub schedule : new.schedule ≡ old.schedule
+  pub piece : new.script.piece ≡ old.script.piece
+  pub moves : Moves c (state_of old) (state_of new)
   pub under : (n d : ℕ) → held n (connections_of old) ≡ Some d → held n (connections_of new) ≡ Some d
   pub others : (d : ℕ) → (c == d) ≡ false → StaysAs d old new
   pub talks : (lacking : List ℕ) (all : List Given) → IsAmong c lacking → Holds options base MOST_UNSENT c old (given_to c all) client

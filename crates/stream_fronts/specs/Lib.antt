@@ -10,6 +10,7 @@ pub mod Going
 pub mod Traffic
 pub mod Parts
 pub mod Clients
+pub mod Resting
 pub mod Held
 pub mod Standing
 pub mod StreamPorts

@@ -4,6 +4,7 @@ use Rattle.partition_model.specs.declared.options.Options.{Options}
 use Rattle.memcached_text.specs.declared.next.Next.TheVariants.{More}
 use Rattle.memcached_text.specs.Next.{next_of}
 use Rattle.mica_fronts.specs.Answered.{Answered}
+use Rattle.memcached_stats.specs.Stats.{Told}
 use Rattle.memcached_fronts.specs.Exchange.{Exchange, AnswersNext, due_before}
 use Rattle.memcached_fronts.specs.Spells.{Spells, MayGoOn, taken_by, due_to_all, answers_to_all}
 use Rattle.stream_fronts.specs.declared.answer.Answered.{Answered as HowFar}
@@ -25,21 +26,22 @@ pub record Place : Type 0 where
 abbrev pub place_at : List ℕ → ℕ → Place
 place_at bytes done = record { bytes = bytes; done = done; dropping = 0 }
 
--- what bytes begin with, with these answers
-abbrev pub begun : List ℕ → List Answered → Exchange
-begun bytes answers = record { next = next_of bytes; answers = answers }
+-- what bytes begin with, with these answers, where this was told
+abbrev pub begun : List ℕ → List Answered → Told → Exchange
+begun bytes answers told = record { next = next_of bytes; answers = answers; told = told }
 
 -- What was received is answered up to this place: so much as a whole, and the command that stands there in part. These are all answers that were given, and
 -- this is all that is due.
 pub record Reaches (options : Options) (base : ℕ) (place : Place) (received : List ℕ) (answers : List Answered) (due : List ℕ) : Type 0 where
   pub whole : List Exchange
   pub part : List Answered
+  pub told : Told
   pub spells : Spells options base received whole place.bytes
   pub follows : MayGoOn options whole
   pub begins : AnswersNext options base (next_of place.bytes) part
   pub count : length part ≡ place.done
   pub answered : answers_to_all whole ++ part ≡ answers
-  pub due_is : due_to_all options base whole ++ due_before options base (begun place.bytes part) ≡ due
+  pub due_is : due_to_all options base whole ++ due_before options base (begun place.bytes part told) ≡ due
   pub missing : place.dropping ≡ taken_by whole - length received
 
 -- The client asked for the end, or its line was too long. These bytes are left behind that, no more than so many.

@@ -1,10 +1,10 @@
 -- What stands between a front and all its clients at one moment, and what a report makes of that.
-use Rattle.std.specs.Prelude.{◌≡◌, ⊤, ℕ, Bool, List, [], ◌++◌, slice_get, Option, None, Some}
+use Rattle.std.specs.Prelude.{◌≡◌, ⊤, ℕ, Bool, List, [], ◌++◌, length, slice_get, Option, None, Some}
 use Rattle.partition_model.specs.declared.options.Options.{Options}
 use Rattle.stream_io.specs.declared.connections.Event.{Event}
 use Rattle.stream_io.specs.declared.connections.Event.TheVariants.{Opened, Ready}
 use Rattle.stream_io.specs.State.{Entry, held}
-use Rattle.stream_io.specs.Log.{Log, connections_of, received_of, sent_of}
+use Rattle.stream_io.specs.Log.{Log, state_of, connections_of, received_of, sent_of}
 use Rattle.mica_fronts.specs.Session.{Sessions}
 use Rattle.stream_fronts.specs.declared.client.Client.{Client}
 use Rattle.stream_fronts.specs.declared.desk.TheConstants.{MOST_UNSENT}
@@ -13,6 +13,7 @@ use Rattle.stream_fronts.specs.Clients.{at}
 use Rattle.stream_fronts.specs.Going.{GoesByThese}
 use Rattle.stream_fronts.specs.Moments.{TalksThrough}
 use Rattle.stream_fronts.specs.Held.{Holds}
+use Rattle.stream_fronts.specs.Resting.{Tends, TendsBut}
 
 -- nothing was done with the c-th connection yet
 pub record IsUntouched (c : ℕ) (entries : List Entry) (all : List Given) : Type 0 where
@@ -33,20 +34,24 @@ pub record Stands (options : Options) (base : ℕ) (lacking : List ℕ) (log : L
   pub holds : (n : ℕ) (client : Client) → at clients n ≡ Some client → HoldsUnder options base log all n client
   pub to_come : (c : ℕ) → slice_get (connections_of log) c ≡ None → IsUntouched c log.entries all
 
--- and memory lacked for more than these, if need be
-abbrev pub StandsBut : Options → ℕ → List ℕ → Log → List Given → List (Option Client) → Type 0
-StandsBut options base lacking log all clients = (more : List ℕ) × Stands options base (more ++ lacking) log all clients
+-- and memory lacked for so many more than these
+abbrev pub StandsBut : Options → ℕ → List ℕ → ℕ → Log → List Given → List (Option Client) → Type 0
+StandsBut options base lacking count log all clients = (more : List ℕ) × (length more ≡ count) × Stands options base (more ++ lacking) log all clients
 
 -- nothing was done yet with a connection that is reported as new
 abbrev pub IsNew : Event → Log → List Given → Type 0
 IsNew (Opened number) log all = (c : ℕ) → held number (connections_of log) ≡ Some c → IsUntouched c log.entries all
 IsNew (Ready number) log all = ⊤
 
--- Whatever stood as this was reported, stands after it was served, with these answers more.
-pub record StandsOn (options : Options) (base : ℕ) (event : Event) (clients : List (Option Client)) (given : List Given) (now : List (Option Client)) (old new : Log) : Type 0 where
+-- Whatever stood as this was reported, stands after it was served, with these answers more, where memory lacked for so many connections. And where each
+-- other waited, each waits.
+pub record StandsOn (options : Options) (base : ℕ) (event : Event) (clients : List (Option Client)) (count : ℕ) (given : List Given) (now : List (Option Client)) (old new : Log) : Type 0 where
   pub schedule : new.schedule ≡ old.schedule
+  pub piece : new.script.piece ≡ old.script.piece
   pub on : (lacking : List ℕ) (all : List Given) → IsNew event old all → Stands options base lacking old all clients
-      → StandsBut options base lacking new (all ++ given) now
+      → StandsBut options base lacking count new (all ++ given) now
+  pub tends : (lacking : List ℕ) (all : List Given) → Stands options base lacking old all clients 
+      → TendsBut event old.script.piece (state_of old) clients → Tends old.script.piece (state_of new) now
 
 -- They went on by some answers, of which it is told to whom they were given, and of these P holds.
 abbrev pub GoesByGiven : Options → Bool → Sessions → ℕ → ℕ → Sessions → ℕ → ℕ → (List Given → Type 0) → Type 0

@@ -1,12 +1,14 @@
 -- What calls for one connection make of a log.
-use Rattle.std.specs.Prelude.{◌≡◌, ⊤, ℕ, true, List, [], ◌∷◌, ◌++◌, take, slice_get, Option, Some, IfSome, Result, Ok, Err}
+use Rattle.std.specs.Prelude.{◌≡◌, ◌≢◌, ◌⊎◌, ◌<◌, ⊤, ℕ, true, false, List, [], ◌∷◌, ◌++◌, length, take, slice_get, Option, Some, IfSome, Result, Ok, Err}
 use Rattle.std.specs.List.{AllByRecursion}
+use Rattle.stream_io.specs.declared.schedule.Step.{Step}
+use Rattle.stream_io.specs.declared.schedule.Step.TheVariants.{Opens, Reports, Happens}
 use Rattle.stream_io.specs.declared.connections.Broken.{Broken}
 use Rattle.stream_io.specs.declared.connections.Input.{Input}
-use Rattle.stream_io.specs.declared.connections.Input.TheVariants.{Bytes, Ended}
+use Rattle.stream_io.specs.declared.connections.Input.TheVariants.{Bytes, Later, Ended}
 use Rattle.stream_io.specs.Connection.{Connection}
 use Rattle.stream_io.specs.State.{Entry, met, received, sent}
-use Rattle.stream_io.specs.Log.{Log, connections_of, sent_of}
+use Rattle.stream_io.specs.Log.{Log, state_of, connections_of, sent_of}
 use Rattle.stream_io.specs.Calls.{OfHeld}
 
 -- a step was met, or a write took bytes for the c-th connection
@@ -18,6 +20,7 @@ IsSend c _ = ⊥
 -- These bytes were sent on the c-th connection, in pieces, between which steps may have been met.
 pub record Sends (c : ℕ) (text : List ℕ) (old new : Log) : Type 0 where
   pub schedule : new.schedule ≡ old.schedule
+  pub piece : new.script.piece ≡ old.script.piece
   pub more : List Entry
   pub each : AllByRecursion (IsSend c) more
   pub entries : new.entries ≡ more ++ old.entries
@@ -31,6 +34,7 @@ after_receiving c (byte ∷ bytes) entries = received c (byte ∷ bytes) ∷ ent
 -- The c-th connection was read once at most, which gave these bytes. Steps may have been met before.
 pub record Reads (c : ℕ) (bytes : List ℕ) (old new : Log) : Type 0 where
   pub schedule : new.schedule ≡ old.schedule
+  pub piece : new.script.piece ≡ old.script.piece
   pub mets : List Entry
   pub each : AllByRecursion (λ e. e ≡ met) mets
   pub entries : new.entries ≡ after_receiving c bytes (mets ++ old.entries)
@@ -48,6 +52,28 @@ pub record HasEnded (connection : Connection) : Type 0 where
   pub read : connection.waiting ≡ []
   pub none : connection.to_come ≡ []
 
+-- it may send more, and all that came was read
+pub record IsSilent (connection : Connection) : Type 0 where
+  pub read : connection.waiting ≡ []
+  pub whole : connection.is_broken ≡ false
+  pub goes_on : connection.has_ended ≡ false
+
+-- its peer takes no more now
+pub record IsShut (connection : Connection) : Type 0 where
+  pub shut : connection.window ≡ 0
+  pub whole : connection.is_broken ≡ false
+
+-- the same of the c-th connection of a log, where calls can move bytes at all
+abbrev pub IsShutIn : ℕ → Log → Type 0
+IsShutIn c log = 0 < log.script.piece → IsIn IsShut c log
+
+-- a report of the c-th connection is to come
+abbrev pub IsToCome : ℕ → List Step → Type 0
+IsToCome c [] = ⊥
+IsToCome c (Opens window bytes ∷ later) = IsToCome c later
+IsToCome c (Reports d change ∷ later) = (d ≡ c) ⊎ IsToCome c later
+IsToCome c (Happens d change ∷ later) = (d ≡ c) ⊎ IsToCome c later
+
 -- of the connection that was under a number before
 abbrev pub OnHeld : ℕ → (ℕ → Log → Log → Type 0) → Log → Log → Type 0
 OnHeld number P old new = OfHeld number old (λ c. P c old new)
@@ -56,19 +82,20 @@ OnHeld number P old new = OfHeld number old (λ c. P c old new)
 abbrev pub SendsSome : List ℕ → ℕ → Log → Log → Type 0
 SendsSome text c old new = (n : ℕ) × Sends c (take n text) old new
 
--- so much of a text was sent; or the connection is broken
+-- so much of a text was sent, and the peer takes no more where that is not all; or the connection is broken
 abbrev pub SendsOf : List ℕ → Result ℕ Broken → ℕ → Log → Log → Type 0
-SendsOf text (Ok n) c old new = Sends c (take n text) old new
+SendsOf text (Ok n) c old new = Sends c (take n text) old new × (n < length text → IsShutIn c new)
 SendsOf text (Err broken) c old new = SendsSome text c old new × IsIn IsBroken c new
 
--- the rest of a text is left, where so much was sent; or the connection is broken
+-- the rest of a text is left, where so much was sent, and the peer takes none of it; or the connection is broken
 abbrev pub SendsFrom : {X : Type 0} → List ℕ → List ℕ → Result X Broken → ℕ → Log → Log → Type 0
-SendsFrom before after (Ok all) c old new = (text : List ℕ) × Sends c text old new × (before ≡ text ++ after)
+SendsFrom before after (Ok all) c old new = (text : List ℕ) × Sends c text old new × (before ≡ text ++ after) × (after ≢ [] → IsShutIn c new)
 SendsFrom before after (Err broken) c old new = SendsSome before c old new × IsIn IsBroken c new
 
--- where a read told the end
+-- Where a read gave none: the end came, or nothing waits until there is a report.
 abbrev pub EndsBy : Option Input → ℕ → Log → Type 0
 EndsBy (Some Ended) c log = IsIn HasEnded c log
+EndsBy (Some Later) c log = IsToCome c (state_of log).later ⊎ IsIn IsSilent c log
 EndsBy _ c log = ⊤
 
 -- what a read made of a log; where it gave none, it may have said why

@@ -13,7 +13,6 @@ use memcached_text::Next;
 use mica_clock::Clock;
 use mica_fronts::Changes;
 use mica_io::NoMemory;
-use std::alloc::Global;
 use std::sync::Wait;
 use std::thread::Threads;
 
@@ -79,7 +78,6 @@ pub enum Said {
 #[tactic(auto, using(crate::proofs::Going::by_none, crate::proofs::Going::by_answers))]
 fn answer_one<R: Threads + Wait + Sync, F: Changes, K: Clock>(
     rt: &R,
-    alloc: Global,
     front: &mut F,
     clock: &mut K,
     numbering: Numbering,
@@ -108,7 +106,7 @@ fn answer_one<R: Threads + Wait + Sync, F: Changes, K: Clock>(
     }
     let (len, last) = (len_of(&next), is_last(&next));
     let progress = answer_next(
-        rt, alloc, front, clock, numbering, buffers, next, done, LIMITS, out,
+        rt, front, clock, numbering, buffers, next, done, LIMITS, out,
     )?;
     if !progress.is_whole {
         return Ok(Said::Part(progress.done));
@@ -120,7 +118,6 @@ fn answer_one<R: Threads + Wait + Sync, F: Changes, K: Clock>(
 #[tactic(auto, using(crate::proofs::Going::by_none, crate::proofs::Going::by_both))]
 pub fn answer_bytes<R: Threads + Wait + Sync, F: Changes, K: Clock>(
     rt: &R,
-    alloc: Global,
     front: &mut F,
     clock: &mut K,
     numbering: Numbering,
@@ -153,7 +150,7 @@ pub fn answer_bytes<R: Threads + Wait + Sync, F: Changes, K: Clock>(
         }
         *left -= cost;
         let rest = &bytes[taken..];
-        let said = answer_one(rt, alloc, front, clock, numbering, buffers, rest, done, out)?;
+        let said = answer_one(rt, front, clock, numbering, buffers, rest, done, out)?;
         match said {
             Said::Nothing => return Ok(Answered::at(taken, done, Stand::Needs)),
             Said::Part(done) => return Ok(Answered::at(taken, done, Stand::Enough)),

@@ -1,6 +1,8 @@
 //! What a front holds of one connection.
 ghost use Rattle.std.specs.Prelude.{◌≡◌, ℕ, false, []};
 ghost use Rattle.partition_model.specs.declared.options.Options.{Options};
+ghost use Rattle.memcached_text.specs.declared.next.Next.TheVariants.{More};
+ghost use Rattle.memcached_text.specs.Next.{next_of};
 ghost use Rattle.stream_fronts.specs.Clients.{IsClient};
 ghost use Rattle.stream_fronts.specs.Reached.{Reaches, place_of};
 
@@ -30,6 +32,7 @@ impl Client {
         ensures asks { result.asks ≡ 0 }
         ensures reading { result.leaving ≡ false }
         ensures unsent { result.unsent ≡ [] }
+        ensures waits { next_of result.kept.items ≡ More }
         ensures talk { (options : Options) (base : ℕ) → Reaches options base (place_of result) [] [] [] }
     {
         Client {

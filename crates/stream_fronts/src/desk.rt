@@ -4,6 +4,7 @@ ghost use Rattle.memcached_text.specs.declared.limits.TheConstants.{MAX_WAITING_
 
 use crate::answer::LIMITS;
 use memcached_fronts::Buffers;
+use memcached_stats::Board;
 use memcached_text::MAX_WAITING_LEN;
 use mica_io::NoMemory;
 use std::alloc::Global;
@@ -14,22 +15,23 @@ pub const LONGEST_REPLY: usize = 8_704;
 /// The most bytes of replies that are kept of one client, until it takes them.
 pub const MOST_UNSENT: usize = LIMITS.bytes + LONGEST_REPLY;
 
-/// Room for what is looked at of a connection, for replies, and for values.
+/// Room for what is looked at of a connection, for replies, and for values, and what the front counts.
 #[derive(Drop)]
-pub struct Desk {
+pub struct Desk<'a> {
     pub room: Vec<u8>,
     pub replies: Vec<u8>,
-    pub buffers: Buffers,
+    pub buffers: Buffers<'a>,
 }
 
-impl Desk {
-    pub fn new(alloc: Global) -> Result<Desk, NoMemory>
+impl<'a> Desk<'a> {
+    /// That of a front which shows what it counts in this place of the board.
+    pub fn new(alloc: Global, board: &'a Board, place: u32) -> Result<Desk<'a>, NoMemory>
         ensures { IfOk result (λ desk. vec_len desk.room ≡ MAX_WAITING_LEN) }
     {
         Ok(Desk {
             room: Vec::from_elem(alloc, 0, MAX_WAITING_LEN)?,
             replies: Vec::with_capacity(alloc, MOST_UNSENT)?,
-            buffers: Buffers::new(alloc)?,
+            buffers: Buffers::new(alloc, board, place)?,
         })
     }
 }

@@ -19,7 +19,8 @@
 //! what was answered, and what was sent is a beginning of what is due to that (`specs/Talk`, `specs/Moments`). A connection is closed where there is a cause
 //! for it, or no memory (`specs/Closing`). Of one visit this says `specs/Held`, and of what is held of all clients between visits `specs/Standing`.
 //!
-//! What one that is open waits for at the end is defined (`IsDone`), and not yet said by any contract.
+//! Where the end came, each is settled (`IsDone`): it is closed, or waits for its peer to take replies or to send more. Of a connection and its client that is
+//! `specs/Resting`, which goes on as others are served. Connections that there was no memory for are counted.
 #![tactic(auto)]
 
 mod answer;

@@ -77,7 +77,7 @@ pub fn look_at<R: Threads + Wait + Sync, F: Changes, K: Clock>(
 {
     replies.clear();
     let answered = answer_bytes(
-        rt, alloc, front, clock, numbering, left, buffers, bytes, done, replies,
+        rt, front, clock, numbering, left, buffers, bytes, done, replies,
     )?;
     if replies.len() > MOST_UNSENT {
         return Err(NoMemory);

@@ -19,6 +19,7 @@ use crate::desk::Desk;
 use crate::visit::After;
 use crate::visits::visit_on;
 use memcached_fronts::{Numbering, Sweeper, sweep};
+use memcached_stats::{Board, Counter, Tally};
 use mica_clock::Clock;
 use mica_fronts::{Changes, Glances, ServeFault};
 use mica_io::NoMemory;
@@ -27,7 +28,7 @@ use std::sync::Wait;
 use std::thread::Threads;
 use stream_io::{Connections, Event};
 
-/// Visits the connection under a number, where one is held.
+/// Visits the connection under a number, where one is held. Says for how many there was no memory, one at most.
 #[tactic(auto, using(crate::proofs::Going::by_none))]
 fn visit_held<R: Threads + Wait + Sync, F: Changes, K: Clock, C: Connections>(
     rt: &R,
@@ -40,7 +41,7 @@ fn visit_held<R: Threads + Wait + Sync, F: Changes, K: Clock, C: Connections>(
     number: u32,
     clients: &mut Clients,
     desk: &mut Desk,
-)
+) -> u64
     requires room { vec_len desk.old.room ≡ MAX_WAITING_LEN }
     requires clients { AreOpen clients.old.held.items (C.log connections.old) }
     requires partitions { numbering.partitions ≡ (F.options front.old).partitions }
@@ -50,11 +51,11 @@ fn visit_held<R: Threads + Wait + Sync, F: Changes, K: Clock, C: Connections>(
     ensures port { LeavesPort C.log C.has_ended C.faults C.port connections.old connections.new }
     ensures front { MovesFront F.options F.number F.stands F.is_alone F.sessions F.left K.last front.old clock.old front.new clock.new }
     ensures serves { GoesByGiven (F.options front.old) F.is_alone (F.sessions front.old) (F.left front.old) (K.last clock.old) (F.sessions front.new) (F.left front.new) (K.last clock.new)
-        (λ given. OnLogs (StandsOn (F.options front.old) numbering.base (Event.Ready number) clients.old.held.items given clients.new.held.items) (C.log connections.old) (C.log connections.new)) }
+        (λ given. OnLogs (StandsOn (F.options front.old) numbering.base (Event.Ready number) clients.old.held.items result given clients.new.held.items) (C.log connections.old) (C.log connections.new)) }
     ensures left { left.new ≤ F.left front.new }
 {
     let Some(mut client) = clients.take(number) else {
-        return;
+        return 0;
     };
     let asks = client.asks;
     let visited = visit_on(
@@ -71,38 +72,70 @@ fn visit_held<R: Threads + Wait + Sync, F: Changes, K: Clock, C: Connections>(
     );
     let after = match visited {
         Ok(after) => after,
-        Err(NoMemory) => return close(connections, number, asks),
+        Err(NoMemory) => {
+            close(connections, number, asks);
+            return 1;
+        }
     };
     match after {
-        After::Waits => clients.put(number, client),
+        After::Waits => {
+            clients.put(number, client);
+            0
+        }
         After::Again => {
             ask_again(connections, number, client.asks);
             client.asks -= 1;
             clients.put(number, client);
+            0
         }
-        After::Over => close(connections, number, asks),
+        After::Over => {
+            desk.buffers.tally.raise(Counter::Closed, 1);
+            close(connections, number, asks);
+            0
+        }
     }
 }
 
-/// Holds a new connection. Where there is no memory for it, it is closed.
-fn take_in<C: Connections>(alloc: Global, connections: &mut C, number: u32, clients: &mut Clients)
+/// Counts what was reported, and for how many connections there was no memory, which are closed.
+fn count_event(event: Event, lacked: u64, tally: &mut Tally) {
+    match event {
+        Event::Opened(_) => {
+            tally.raise(Counter::Opened, 1);
+            tally.raise(Counter::Rejected, lacked);
+        }
+        Event::Ready(_) => tally.raise(Counter::Lacked, lacked),
+    }
+    tally.raise(Counter::Closed, lacked);
+}
+
+/// Holds a new connection. Where there is no memory for it, it is closed. Says for how many there was none.
+fn take_in<C: Connections>(
+    alloc: Global,
+    connections: &mut C,
+    number: u32,
+    clients: &mut Clients,
+) -> u64
     requires clients { AreOpen clients.old.held.items (C.log connections.old) }
     requires open { IfSome (C.log connections.old) (IsOpen number 0) }
     ensures clients { AreOpen clients.new.held.items (C.log connections.new) }
     ensures port { LeavesPort C.log C.has_ended C.faults C.port connections.old connections.new }
     ensures serves { (options : Options) (base : ℕ)
-        → OnLogs (StandsOn options base (Event.Opened number) clients.old.held.items [] clients.new.held.items) (C.log connections.old) (C.log connections.new) }
+        → OnLogs (StandsOn options base (Event.Opened number) clients.old.held.items result [] clients.new.held.items) (C.log connections.old) (C.log connections.new) }
 {
     match clients.make_room(number) {
-        Ok(()) => clients.put(number, Client::new(alloc)),
+        Ok(()) => {
+            clients.put(number, Client::new(alloc));
+            0
+        }
         Err(NoMemory) => {
             let _gone = clients.take(number);
             close(connections, number, 0);
+            1
         }
     }
 }
 
-/// Serves what is reported.
+/// Serves what is reported. Says for how many connections there was no memory.
 #[tactic(auto, using(crate::proofs::Going::by_none))]
 fn serve_event<R: Threads + Wait + Sync, F: Changes, K: Clock, C: Connections>(
     rt: &R,
@@ -115,7 +148,7 @@ fn serve_event<R: Threads + Wait + Sync, F: Changes, K: Clock, C: Connections>(
     event: Event,
     clients: &mut Clients,
     desk: &mut Desk,
-)
+) -> u64
     requires room { vec_len desk.old.room ≡ MAX_WAITING_LEN }
     requires clients { AreOpen clients.old.held.items (C.log connections.old) }
     requires event { IfSome (C.log connections.old) (IsOpened event) }
@@ -126,7 +159,7 @@ fn serve_event<R: Threads + Wait + Sync, F: Changes, K: Clock, C: Connections>(
     ensures port { LeavesPort C.log C.has_ended C.faults C.port connections.old connections.new }
     ensures front { MovesFront F.options F.number F.stands F.is_alone F.sessions F.left K.last front.old clock.old front.new clock.new }
     ensures serves { GoesByGiven (F.options front.old) F.is_alone (F.sessions front.old) (F.left front.old) (K.last clock.old) (F.sessions front.new) (F.left front.new) (K.last clock.new)
-        (λ given. OnLogs (StandsOn (F.options front.old) numbering.base event clients.old.held.items given clients.new.held.items) (C.log connections.old) (C.log connections.new)) }
+        (λ given. OnLogs (StandsOn (F.options front.old) numbering.base event clients.old.held.items result given clients.new.held.items) (C.log connections.old) (C.log connections.new)) }
     ensures left { left.new ≤ F.left front.new }
 {
     match event {
@@ -146,8 +179,8 @@ fn serve_event<R: Threads + Wait + Sync, F: Changes, K: Clock, C: Connections>(
     }
 }
 
-/// Serves the connections of a port, to its end, or until nearly so many writes were given to the front. A connection that there is no memory for is closed. After
-/// each report it sweeps a few places of the partitions.
+/// Serves the connections of a port, to its end, or until nearly so many writes were given to the front. A connection that there is no memory for is closed,
+/// and `lacked` counts it. What the front counts is shown in this place of the board. After each report it sweeps a few places of the partitions.
 #[tactic(auto, using(crate::proofs::Going::by_none))]
 pub fn serve_connections<R: Threads + Wait + Sync, F: Glances, K: Clock, C: Connections>(
     rt: &R,
@@ -155,15 +188,20 @@ pub fn serve_connections<R: Threads + Wait + Sync, F: Glances, K: Clock, C: Conn
     front: &mut F,
     clock: &mut K,
     numbering: Numbering,
+    board: &Board,
+    place: u32,
     most: u64,
     connections: &mut C,
+    lacked: &mut u64,
 ) -> Result<(), ServeFault>
     requires open { C.has_ended connections.old ≡ false }
     requires partitions { numbering.partitions ≡ (F.options front.old).partitions }
     requires left { most ≤ F.left front.old }
     ensures goes { GoesBy (F.options front.old) F.is_alone (F.sessions front.old) (F.left front.old) (K.last clock.old) (F.sessions front.new) (F.left front.new) (K.last clock.new) }
-    ensures serves { OnLogs (ServesFromNone (F.options front.old) F.is_alone numbering.base MOST_UNSENT (record { sessions = F.sessions front.old; second = K.last clock.old })
-        (record { sessions = F.sessions front.new; second = K.last clock.new })) (C.log connections.old) (C.log connections.new) }
+    ensures serves { OnLogs (ServesFromNone (F.options front.old) F.is_alone numbering.base MOST_UNSENT
+        (record { sessions = F.sessions front.old; second = K.last clock.old; lacked = lacked.old; has_ended = C.has_ended connections.old })
+        (record { sessions = F.sessions front.new; second = K.last clock.new; lacked = lacked.new; has_ended = C.has_ended connections.new }))
+        (C.log connections.old) (C.log connections.new) }
     ensures cause { IsErrOf result ServeFault.Net → Rose (C.faults connections.old) (C.faults connections.new) }
     ensures none_served { IsErrOf result ServeFault.NoMemory → (front.new ≡ front.old) × (connections.new ≡ connections.old) }
     ensures never_fall { C.faults connections.old ≤ C.faults connections.new }
@@ -173,7 +211,7 @@ pub fn serve_connections<R: Threads + Wait + Sync, F: Glances, K: Clock, C: Conn
     ensures number { F.number front.new ≡ F.number front.old }
     ensures stands { F.stands front.new ≡ F.stands front.old }
 {
-    let mut desk = Desk::new(alloc)?;
+    let mut desk = Desk::new(alloc, board, place)?;
     let mut sweeper = Sweeper::new(alloc)?;
     let mut clients = Clients::new(alloc);
     let mut left = most;
@@ -185,7 +223,7 @@ pub fn serve_connections<R: Threads + Wait + Sync, F: Glances, K: Clock, C: Conn
         let Some(event) = connections.next()? else {
             break;
         };
-        serve_event(
+        let count = serve_event(
             rt,
             alloc,
             front,
@@ -197,7 +235,9 @@ pub fn serve_connections<R: Threads + Wait + Sync, F: Glances, K: Clock, C: Conn
             &mut clients,
             &mut desk,
         );
-        sweeper.turn_to(desk.buffers.refused.take(), numbering.partitions);
+        *lacked = lacked.saturating_add(count);
+        count_event(event, count, &mut desk.buffers.tally);
+        desk.buffers.show();
         left -= sweep(rt, front, clock, numbering, left, &mut sweeper);
     }
     Ok(())

@@ -1,5 +1,5 @@
 //! One visit of a connection.
-ghost use Rattle.std.specs.Prelude.{◌≡◌, ◌≢◌, ◌<◌, ◌≤◌, ◌+◌, ◌++◌, true, false, [], length, take, drop, is_some, IfOk, IfSome, MatchResult, vec_len};
+ghost use Rattle.std.specs.Prelude.{◌≡◌, ◌≢◌, ◌<◌, ◌≤◌, ◌+◌, ◌++◌, true, false, [], length, take, drop, Some, is_some, IfOk, IfSome, MatchResult, vec_len};
 ghost use Rattle.memcached_text.specs.declared.limits.TheConstants.{MAX_WAITING_LEN};
 ghost use Rattle.stream_fronts.specs.declared.desk.TheConstants.{MOST_UNSENT};
 ghost use Rattle.stream_fronts.specs.Clients.{IsClient};
@@ -15,6 +15,7 @@ use crate::client::Client;
 use crate::desk::Desk;
 use crate::look::look_at;
 use memcached_fronts::{Buffers, Numbering};
+use memcached_stats::{Counter, Tally};
 use mica_clock::Clock;
 use mica_fronts::Changes;
 use mica_io::NoMemory;
@@ -41,6 +42,7 @@ fn send_unsent<C: Connections>(
     connections: &mut C,
     number: u32,
     client: &mut Client,
+    tally: &mut Tally,
 ) -> Result<bool, Broken>
     requires client { IsClient client.old }
     requires open { IfSome (C.log connections.old) (IsOpen number client.old.asks) }
@@ -49,6 +51,7 @@ fn send_unsent<C: Connections>(
     ensures leaving { client.new.leaving ≡ client.old.leaving }
     ensures asks { client.new.asks ≡ client.old.asks }
     ensures all { IfOk result (λ all. all ≡ true → client.new.unsent ≡ []) }
+    ensures some { IfOk result (λ all. all ≡ false → client.new.unsent ≢ []) }
     ensures sends { OnLogs (OnHeld number (SendsFrom client.old.unsent client.new.unsent result)) (C.log connections.old) (C.log connections.new) }
     ensures keeps { OnLogs Keeps (C.log connections.old) (C.log connections.new) }
     ensures told { is_some (C.log connections.new) ≡ is_some (C.log connections.old) }
@@ -57,6 +60,7 @@ fn send_unsent<C: Connections>(
     ensures port { C.port connections.new ≡ C.port connections.old }
 {
     let sent = send(connections, number, client.asks, client.unsent.bytes())?;
+    tally.raise(Counter::Sent, sent as u64);
     client.unsent.drop_front(sent);
     Ok(client.unsent.bytes().is_empty())
 }
@@ -68,6 +72,7 @@ fn send_new<C: Connections>(
     number: u32,
     client: &mut Client,
     replies: &[u8],
+    tally: &mut Tally,
 ) -> Result<Result<bool, Broken>, NoMemory>
     requires client { IsClient client.old }
     requires none { client.old.unsent ≡ [] }
@@ -77,6 +82,7 @@ fn send_new<C: Connections>(
     ensures leaving { IfOk result (λ _. client.new.leaving ≡ client.old.leaving) }
     ensures asks { client.new.asks ≡ client.old.asks }
     ensures all { IfOk result (λ sent. IfOk sent (λ all. all ≡ true → client.new.unsent ≡ [])) }
+    ensures some { IfOk result (λ sent. IfOk sent (λ all. all ≡ false → client.new.unsent ≢ [])) }
     ensures sends { MatchResult result (λ sent. OnLogs (OnHeld number (SendsFrom replies.now client.new.unsent sent)) (C.log connections.old) (C.log connections.new))
         (λ _. OnLogs (OnHeld number (SendsSome replies.now)) (C.log connections.old) (C.log connections.new)) }
     ensures keeps { OnLogs Keeps (C.log connections.old) (C.log connections.new) }
@@ -89,11 +95,19 @@ fn send_new<C: Connections>(
         Ok(sent) => sent,
         Err(Broken) => return Ok(Err(Broken)),
     };
+    tally.raise(Counter::Sent, sent as u64);
     if sent < replies.len() {
         client.unsent.keep(&replies[sent..])?;
         return Ok(Ok(false));
     }
     Ok(Ok(true))
+}
+
+/// Counts the bytes that a read gave.
+fn count_input(input: Option<Input>, tally: &mut Tally) {
+    if let Some(Input::Bytes(count)) = input {
+        tally.raise(Counter::Received, count as u64);
+    }
 }
 
 /// Reads once behind what was kept, into the room. Says how many bytes lie there, and what the read gave, where there was room for it.
@@ -242,6 +256,7 @@ fn answer_more<R: Threads + Wait + Sync, F: Changes, K: Clock, C: Connections>(
         Ok(filled) => filled,
         Err(Broken) => return Ok(Err(Broken)),
     };
+    count_input(input, &mut buffers.tally);
     let bytes = &room[..len];
     let stand = look_at_room(
         rt, alloc, front, clock, numbering, left, client, bytes, buffers, replies,
@@ -264,6 +279,7 @@ fn leaves_by(stand: Stand, input: Option<Input>) -> bool
 fn after_all(leaving: bool, stand: Stand, input: Option<Input>) -> After
     ensures over { leaving ≡ true → result ≡ After.Over }
     ensures open { leaving ≡ false → result ≢ After.Over }
+    ensures waits { result ≡ After.Waits → (stand ≡ Stand.Needs) × (input ≡ Some Input.Later) }
 {
     if leaving {
         return After::Over;
@@ -311,7 +327,7 @@ pub fn visit_once<R: Threads + Wait + Sync, F: Changes, K: Clock, C: Connections
     ensures number { F.number front.new ≡ F.number front.old }
     ensures stands { F.stands front.new ≡ F.stands front.old }
 {
-    match send_unsent(connections, number, client) {
+    match send_unsent(connections, number, client, &mut desk.buffers.tally) {
         Ok(true) => {}
         Ok(false) => return Ok(After::Waits),
         Err(Broken) => return Ok(After::Over),
@@ -336,7 +352,9 @@ pub fn visit_once<R: Threads + Wait + Sync, F: Changes, K: Clock, C: Connections
         Err(Broken) => return Ok(After::Over),
     };
     client.leaving = leaves_by(stand, input);
-    match send_new(connections, number, client, desk.replies.as_slice())? {
+    let replies = desk.replies.as_slice();
+    let tally = &mut desk.buffers.tally;
+    match send_new(connections, number, client, replies, tally)? {
         Err(Broken) => Ok(After::Over),
         Ok(false) => Ok(After::Waits),
         Ok(true) => Ok(after_all(client.leaving, stand, input)),

@@ -6,6 +6,8 @@ ghost use Rattle.stream_io.specs.Log.{Log, IsHeld, called};
 ghost use Rattle.stream_io.specs.Calls.{ReportsNext, IsOver, FitsRoom, ReadGives, WriteTakes, MayAsk, Asks, Closes};
 
 use mica_io::Failed;
+use std::error::Error;
+use std::fmt;
 
 /// What is reported of the connections at a port.
 #[derive(Clone, Copy, Debug, PartialEq, Eq)]
@@ -30,6 +32,14 @@ pub enum Input {
 /// The connection is broken: nothing more is received, and nothing sent.
 #[derive(Clone, Copy, Debug, PartialEq, Eq)]
 pub struct Broken;
+
+impl fmt::Display for Broken {
+    fn fmt<W: fmt::Write>(&self, f: &mut fmt::Formatter<W>) -> fmt::Result {
+        f.write_str("the connection is broken")
+    }
+}
+
+impl Error for Broken {}
 
 /// The connections at one port, each under a number from when it was made until it is closed here. A number is used again.
 pub trait Connections: Drop {

@@ -2,14 +2,14 @@ use Rattle.std.proofs.Common.{◌+◌, List, length, take, drop, refl, sym, ap, 
 use Rattle.std.proofs.lemmas.Option.{slice_get_read}
 use Rattle.partition_model.specs.declared.write.Write.{Write}
 use Rattle.epoch_core.specs.declared.state.OwnerState.{OwnerState}
-use Rattle.mica_fronts.specs.Flushes.{flushed_in}
+use Rattle.mica_fronts.specs.Flushes.{flushes_in}
 use Rattle.locked_serve.proofs.Fills.{FilledBy, filled_none, filled_more, refuses, taken_more, split_at}
 use Rattle.locked_serve.proofs.filling.fill.Goals as goal
 
 pub loop-write-init : goal.loop-write-init
 loop-write-init g c = record {
   filled = filled_none c.args.options.now c.args.number (g.P.Partition.owner c.args.part.now) c.requires.made;
-  flushed = ap (λ (o : OwnerState). flushed_in o.history) (sym c.requires.made);
+  flushes = ap (λ (o : OwnerState). flushes_in o.history) (sym c.requires.made);
 }
 
 pub loop-write-preserved : goal.loop-write-preserved
@@ -22,7 +22,7 @@ loop-write-preserved g c =
       filled = subst (λ (l : List Write). FilledBy c.args.options.now c.args.number l (g.P.Partition.owner c.fill_one.new.part)) (sym (taken_more writes k write at))
           (filled_more c.args.options.now c.args.number (take k writes) write (g.P.Partition.owner c.loop-write.part) (g.P.Partition.owner c.fill_one.new.part) c.loop-write.invariant.filled
           c.if-not-fill_one.ensures.own c.if-not-fill_one.ensures.other);
-      flushed = c.fill_one.ensures.flushed;
+      flushes = c.fill_one.ensures.flushes;
     }
 
 pub returns-then-not-fill_one-clause-refused : goal.returns-then-not-fill_one-clause-refused

@@ -1,10 +1,10 @@
 use Rattle.std.proofs.Common.{◌≡◌, take}
-use Rattle.mica_fronts.specs.Flushes.{flushed_in}
+use Rattle.mica_fronts.specs.Flushes.{flushes_in}
 use Rattle.locked_serve.proofs.Fills.{FilledBy}
 use Rattle.locked_serve.proofs.filling.fill.Given as goal
 
 abbrev pub invariant-loop-write : goal.invariant-loop-write
 invariant-loop-write g l = record {
   filled : FilledBy l.options l.number (take l.write-index l.filling) (g.P.Partition.owner l.part);
-  flushed : l.flushed ≡ flushed_in (g.P.Partition.owner l.part).history;
+  flushes : l.flushes ≡ flushes_in (g.P.Partition.owner l.part).history;
 }

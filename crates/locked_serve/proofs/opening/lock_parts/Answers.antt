@@ -27,10 +27,10 @@ new-requires-clause-filled g c =
     (first_planned g.J.ServerPlan.plan c.loop-filled.number (map (view g) (into_iter_items c.loop-filled.filled-iterator)) (map (view g) (into_iter_items c.next.new.self)) (view g c.in-Some.filled)
     (ap (map (view g)) c.in-Some.ensures.steps.0) c.loop-filled.invariant.each)
 
-pub new-requires-clause-flushed : goal.new-requires-clause-flushed
-new-requires-clause-flushed g c =
+pub new-requires-clause-flushes : goal.new-requires-clause-flushes
+new-requires-clause-flushes g c =
     (first_planned g.J.ServerPlan.plan c.loop-filled.number (map (view g) (into_iter_items c.loop-filled.filled-iterator)) (map (view g) (into_iter_items c.next.new.self)) (view g c.in-Some.filled)
-    (ap (map (view g)) c.in-Some.ensures.steps.0) c.loop-filled.invariant.each).flushed
+    (ap (map (view g)) c.in-Some.ensures.steps.0) c.loop-filled.invariant.each).flushes
 
 pub overflow_add-number : goal.overflow_add-number
 overflow_add-number g c =

@@ -10,10 +10,13 @@ use Rattle.memcached_commands.specs.Asks.{asks_in}
 use Rattle.memcached_commands.specs.Answers.{unless_quiet}
 use Rattle.memcached_fronts.specs.declared.answer.Progress.{Progress}
 use Rattle.memcached_fronts.specs.AskAnswers.{AnswersAsks}
-use Rattle.memcached_fronts.specs.Exchange.{IsOpenAt, flush_text, flushes_now, wants_numbers}
+use Rattle.memcached_fronts.specs.FlushAnswers.{FlushesFrom, flush_at}
+use Rattle.memcached_fronts.specs.Exchange.{IsOpenAt, flush_due, flush_text, flushes_now, wants_numbers}
 use Rattle.memcached_fronts.specs.Going.{AnswersFirst, RepliesFirst, Replies}
 use Rattle.memcached_fronts.proofs.AskLaws.{none_left, some_left, few_answers}
-use Rattle.memcached_fronts.proofs.ExchangeLaws.{flush_goes, flush_replies, plain_goes, plain_replies, asks_go, asks_reply, is_below}
+use Rattle.memcached_stats.specs.Stats.{stats_text}
+use Rattle.memcached_stats.proofs.Untold.{untold}
+use Rattle.memcached_fronts.proofs.ExchangeLaws.{of_stats, flush_goes, flush_replies, plain_goes, plain_replies, asks_go, asks_reply, is_below}
 use Rattle.memcached_fronts.proofs.answer.answer_next.Goals as goal
 
 if_ok : {T E : Type 0} (P Q : T → Type 0) (r : Result T E) → ((t : T) → P t → Q t) → IfOk r P → IfOk r Q
@@ -33,14 +36,36 @@ returns-then-is_flush-clause-answered g c =
     let next = c.args.next in
     let done = c.args.done in
     let flushes : flushes_now next ≡ true = sym c.is_flush.ensures ∙ c.if-is_flush.true in
-    let r = c.answer_flush.ensures.flushed in (
+    let tells = g.C.Clock.last c.answer_flush.new.clock in
+    let r = c.answer_flush.ensures.flushed in
+    let asked : (second : ℕ) × FlushesFrom options (flush_at second (flush_due next)) 0 r.0 = (r.3.0, subst (λ due. FlushesFrom options (flush_at r.3.0 due) 0 r.0) c.flush_due.ensures r.3.1) in (
       r.0,
-      flush_goes options F.is_alone c.args.numbering.base next done c.requires.open old new told told flushes r.0 r.2 r.1,
+      flush_goes options F.is_alone c.args.numbering.base next done c.requires.open old new told tells flushes r.0 asked r.1 r.2,
       if_ok _ (Replies options c.args.numbering.base next done c.args.limits r.0 c.args.out.now.items c.answer_flush.new.out.items) c.answer_flush.result
-          (λ progress all. flush_replies options F.is_alone c.args.numbering.base next done c.requires.open old new told told flushes r.0 r.2 c.args.limits c.args.out.now.items
-          c.answer_flush.new.out.items progress (all.0 ∙ c.requires.partitions) (all.1 ∙ ap (λ n. progress_of n true) c.requires.partitions)
-          (all.2 ∙ ap (λ q. c.args.out.now.items ++ unless_quiet q (flush_text true r.0)) c.style_of-style.ensures.quiet)) r.3,
-      r.4,
+          (λ progress all. flush_replies options F.is_alone c.args.numbering.base next done c.requires.open old new told tells flushes r.0 asked c.args.limits c.args.out.now.items
+          c.answer_flush.new.out.items progress (r.4 ∙ c.requires.partitions) (all.0 ∙ ap (λ n. progress_of n true) c.requires.partitions)
+          (all.1 ∙ ap (λ q. c.args.out.now.items ++ unless_quiet q (flush_text true r.0)) c.style_of-style.ensures.quiet)) r.5,
+      r.6,
+    )
+
+pub returns-then-is_stats-clause-answered : goal.returns-then-is_stats-clause-answered
+returns-then-is_stats-clause-answered g c =
+    let F = g.F.Front in
+    let options = F.options c.args.front.now in
+    let old = F.sessions c.args.front.now in
+    let last = g.C.Clock.last c.args.clock.now in
+    let next = c.args.next in
+    let is = of_stats next (sym c.is_stats.ensures ∙ c.if-is_stats.true) in
+    let before = c.args.out.now.items in
+    let after = c.answer_stats.new.out.items in (
+      [],
+      plain_goes options F.is_alone c.args.numbering.base next c.args.done c.requires.open old old last last is.keyed is.none,
+      if_ok _ (Replies options c.args.numbering.base next c.args.done c.args.limits [] before after) c.answer_stats.result
+          (λ progress all. subst (Replies options c.args.numbering.base next c.args.done c.args.limits [] before after) (sym all.0)
+          (plain_replies options F.is_alone c.args.numbering.base next c.args.done c.requires.open old old last last is.keyed is.none all.1.0 c.args.limits before after
+          (all.1.1 ∙ ap (λ n. before ++ stats_text n all.1.0) c.requires.partitions ∙ ap (λ text. before ++ text) (sym (is.due options.partitions all.1.0)))))
+          c.answer_stats.ensures.told,
+      omega arith,
     )
 
 pub returns-then-is_empty-clause-answered : goal.returns-then-is_empty-clause-answered
@@ -52,10 +77,12 @@ returns-then-is_empty-clause-answered g c =
     let next = c.args.next in
     let keyed : flushes_now next ≡ false = sym c.is_flush.ensures ∙ c.if-is_flush.false in
     let none : asks_in next ≡ [] = sym c.by-asks.ensures.asks ∙ none_left c.by-asks.result (sym c.is_empty.ensures ∙ c.if-is_empty.true) in
-    let text = c.in-Ok.ensures.ok ∙ (λ i. c.args.out.now.items ++ unless_quiet (c.style_of-style.ensures.quiet i) (c.plain_line-line.ensures i)) in (
+    let text = c.in-Ok.ensures.ok ∙ (λ i. c.args.out.now.items ++ unless_quiet (c.style_of-style.ensures.quiet i)
+    (c.plain_line-line.ensures (sym c.is_stats.ensures ∙ c.if-is_stats.false) options.partitions untold i)) in (
       [],
       plain_goes options F.is_alone c.args.numbering.base next c.args.done c.requires.open old old told told keyed none,
-      plain_replies options F.is_alone c.args.numbering.base next c.args.done c.requires.open old old told told keyed none c.args.limits c.args.out.now.items c.put_line.new.out.items text,
+      plain_replies options F.is_alone c.args.numbering.base next c.args.done c.requires.open old old told told keyed none untold c.args.limits c.args.out.now.items c.put_line.new.out.items
+          text,
       omega arith,
     )
 

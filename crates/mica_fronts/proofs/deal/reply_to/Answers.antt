@@ -17,8 +17,8 @@ touch_empty version want value short is =
     let none : length value ≤ 0 = subst (λ (w : Want). length value ≤ longest_value version (operation_of w)) is short in
     nil_from_length value (omega arith)
 
-pub written-requires-in-Del-clause-value : goal.written-requires-in-Del-clause-value
-written-requires-in-Del-clause-value g c κs within = del_empty _ _ _ c.requires.request.value (sym c.want.ensures ∙ c.in-Del.is)
+pub reply_to_write-requires-in-Del-clause-value : goal.reply_to_write-requires-in-Del-clause-value
+reply_to_write-requires-in-Del-clause-value g c κs within = del_empty _ _ _ c.requires.request.value (sym c.want.ensures ∙ c.in-Del.is)
 
-pub written-requires-in-Touch-clause-value : goal.written-requires-in-Touch-clause-value
-written-requires-in-Touch-clause-value g c κs within = touch_empty _ _ _ c.requires.request.value (sym c.want.ensures ∙ c.in-Touch.is)
+pub reply_to_write-requires-in-Touch-clause-value : goal.reply_to_write-requires-in-Touch-clause-value
+reply_to_write-requires-in-Touch-clause-value g c κs within = touch_empty _ _ _ c.requires.request.value (sym c.want.ensures ∙ c.in-Touch.is)

@@ -5,7 +5,7 @@ use Rattle.std.proofs.lemmas.Result.{err_from_is_err_and}
 use Rattle.stream_fronts.specs.Open.{OnLogs}
 use Rattle.stream_fronts.specs.Traffic.{OnHeld, SendsOf}
 use Rattle.stream_fronts.proofs.Opening.{sends, keeps_on, still_open, same_keeps}
-use Rattle.stream_fronts.proofs.Traffic.{wrote_more, wrote_none}
+use Rattle.stream_fronts.proofs.Traffic.{SendsFirst, WritesMore, on_one, wrote_more, wrote_none, wrote_last}
 use Rattle.stream_fronts.proofs.calls.send.Goals as goal
 
 pub loop-sent-init : goal.loop-sent-init
@@ -51,8 +51,10 @@ loop-sent-preserved g c =
       c.write.ensures.ended ∙ inv.4,
       c.write.ensures.faults ∙ inv.5,
       c.write.ensures.port ∙ inv.6,
-      wrote_more c.args.number c.args.asks text (take (length text - c.loop-sent.sent) (drop c.loop-sent.sent text)) c.loop-sent.sent (Ok c.in_ok-count.count) (log c.args.connections.now)
-          (log c.loop-sent.connections) (log c.write.new.self) (take_rest text c.loop-sent.sent) c.requires.«open» inv.7 c.in_ok-count.ensures.written,
+      on_one c.args.number (WritesMore text c.loop-sent.sent (Ok c.in_ok-count.count)) (SendsFirst text (c.loop-sent.sent + c.in_ok-count.count)) (log c.args.connections.now) (log c.write.new.self)
+          (λ d a b w. w.0)
+          (wrote_more c.args.number c.args.asks text (take (length text - c.loop-sent.sent) (drop c.loop-sent.sent text)) c.loop-sent.sent (Ok c.in_ok-count.count) (log c.args.connections.now)
+          (log c.loop-sent.connections) (log c.write.new.self) (take_rest text c.loop-sent.sent) c.requires.«open» inv.7 c.in_ok-count.ensures.written),
     )
 
 pub returns-then-count-eq0-clause-keeps : goal.returns-then-count-eq0-clause-keeps
@@ -74,8 +76,6 @@ returns-then-count-eq0-clause-sends g c =
     let log = g.C.Connections.log in
     let inv = c.loop-sent.invariant in
     let text = c.args.text.now in
-    let none = c.if-count-eq0.true in
-    let same : c.loop-sent.sent + c.in_ok-count.count ≡ c.loop-sent.sent = omega (arith, none) in
-    subst (λ n. OnLogs (OnHeld c.args.number (SendsOf text (Ok n))) (log c.args.connections.now) (log c.write.new.self)) same
+    wrote_last c.args.number text c.loop-sent.sent c.in_ok-count.count (log c.args.connections.now) (log c.write.new.self) c.if-count-eq0.true
     (wrote_more c.args.number c.args.asks text (take (length text - c.loop-sent.sent) (drop c.loop-sent.sent text)) c.loop-sent.sent (Ok c.in_ok-count.count) (log c.args.connections.now)
     (log c.loop-sent.connections) (log c.write.new.self) (take_rest text c.loop-sent.sent) c.requires.«open» inv.7 c.in_ok-count.ensures.written)

@@ -1,7 +1,8 @@
 use Rattle.std.proofs.Common.{◌≡◌, length, ◌-◌, ◌≤◌}
-use Rattle.std.specs.Prelude.{is_some, IfSome, Ok}
+use Rattle.std.specs.Prelude.{is_some, IfSome}
 use Rattle.stream_fronts.specs.Open.{IsOpen, Keeps, OnLogs}
-use Rattle.stream_fronts.specs.Traffic.{OnHeld, SendsOf}
+use Rattle.stream_fronts.specs.Traffic.{OnHeld}
+use Rattle.stream_fronts.proofs.Traffic.{SendsFirst}
 use Rattle.stream_fronts.proofs.calls.send.Given as goal
 
 abbrev pub invariant-loop-sent : goal.invariant-loop-sent
@@ -13,7 +14,7 @@ invariant-loop-sent g l =
     × (g.C.Connections.has_ended l.connections ≡ g.C.Connections.has_ended l.initial.connections)
     × (g.C.Connections.faults l.connections ≡ g.C.Connections.faults l.initial.connections)
     × (g.C.Connections.port l.connections ≡ g.C.Connections.port l.initial.connections)
-    × OnLogs (OnHeld l.number (SendsOf l.text (Ok l.sent))) (g.C.Connections.log l.initial.connections) (g.C.Connections.log l.connections)
+    × OnLogs (OnHeld l.number (SendsFirst l.text l.sent)) (g.C.Connections.log l.initial.connections) (g.C.Connections.log l.connections)
 
 abbrev pub decreases-loop-sent : goal.decreases-loop-sent
 decreases-loop-sent g l = length l.text - l.sent

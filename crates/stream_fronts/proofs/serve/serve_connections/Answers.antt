@@ -1,4 +1,4 @@
-use Rattle.std.proofs.Common.{◌≡◌, [], refl, sym, ◌∙◌, subst, arith}
+use Rattle.std.proofs.Common.{rules, ◌≡◌, [], refl, sym, ◌∙◌, subst, arith}
 use Rattle.std.specs.Prelude.{is_none, IfSome, IfNone}
 use Rattle.partition_model.specs.declared.options.Options.{Options}
 use Rattle.stream_io.specs.Calls.{ReportsNext, IsOver}
@@ -11,20 +11,20 @@ use Rattle.stream_fronts.specs.Serving.{ServesFromNone}
 use Rattle.stream_fronts.proofs.Going.{by_none, by_both}
 use Rattle.stream_fronts.proofs.Opening.{tells_keeps, tells_opened}
 use Rattle.stream_fronts.proofs.Holding.{all_kept, none_held}
-use Rattle.stream_fronts.proofs.Since.{since_none, since_then, since_swept, since_serves, since_called, over_called}
+use Rattle.stream_fronts.proofs.Since.{since_none, since_then, since_swept, since_serves, since_called, since_over}
 use Rattle.stream_fronts.proofs.Sweeping.{by_sweeps}
 use Rattle.stream_fronts.proofs.serve.serve_connections.Goals as goal
 use Rattle.stream_fronts.proofs.serve.serve_connections.Goals.{in-None, in-Some+then-left-least, in-Some+else-left-least+in_ok-event+in_default}
 
-pub serve_event-requires-clause-clients : goal.serve_event-requires-clause-clients
-serve_event-requires-clause-clients g c κs within =
+pub serve_event-count-requires-clause-clients : goal.serve_event-count-requires-clause-clients
+serve_event-count-requires-clause-clients g c κs within =
     let before = g.C.Connections.log c.loop.connections in
     let after = g.C.Connections.log c.next-in-loop.new.self in
     let reports = subst (λ got. IfSome got (λ event. IfSome before (λ l. ReportsNext l event after))) c.in-Some-2.is c.in_ok-event.ensures.next in
     all_kept c.loop.clients.held.items before after c.loop.invariant.1 c.in_ok-event.ensures.told (tells_keeps c.in-Some-2.event before after reports)
 
-pub serve_event-requires-clause-event : goal.serve_event-requires-clause-event
-serve_event-requires-clause-event g c κs within =
+pub serve_event-count-requires-clause-event : goal.serve_event-count-requires-clause-event
+serve_event-count-requires-clause-event g c κs within =
     let before = g.C.Connections.log c.loop.connections in
     let after = g.C.Connections.log c.next-in-loop.new.self in
     let reports = subst (λ got. IfSome got (λ event. IfSome before (λ l. ReportsNext l event after))) c.in-Some-2.is c.in_ok-event.ensures.next in
@@ -45,7 +45,7 @@ loop-init g c =
       refl,
       refl,
       refl,
-      since_none options g.F.Front.is_alone c.args.numbering.base (g.F.Front.sessions c.args.front.now) (g.F.Front.left c.args.front.now) (g.K.Clock.last c.args.clock.now)
+      since_none options g.F.Front.is_alone c.args.numbering.base (g.F.Front.sessions c.args.front.now) (g.F.Front.left c.args.front.now) (g.K.Clock.last c.args.clock.now) c.args.lacked.now
           c.new-clients.result.held.items c.new-clients.ensures log,
     )
 
@@ -63,8 +63,8 @@ loop-preserved g c =
     let before = log c.loop.connections in
     let after = log c.next-in-loop.new.self in
     let next = c.in_ok-event.ensures in
-    let served = c.serve_event.ensures in
-    let then = c.serve_event.new in
+    let served = c.serve_event-count.ensures in
+    let then = c.serve_event-count.new in
     let now = c.sweep.new in
     let sweep = c.sweep.ensures in
     let reports = subst (λ got. IfSome got (λ event. IfSome before (λ l. ReportsNext l event after))) c.in-Some-2.is next.next in
@@ -86,47 +86,56 @@ loop-preserved g c =
       sweep.number ∙ served.front.same_number ∙ inv.8,
       sweep.stands ∙ served.front.same_stands ∙ inv.9,
       served.port.told ∙ next.told ∙ inv.10,
-      since_swept options F.is_alone base old left told then.clients.held.items (log c.args.connections.now) (log then.connections)
-          (since_then options F.is_alone base old left told c.loop.clients.held.items then.clients.held.items c.in-Some-2.event (log c.args.connections.now) before after (log then.connections) inv.11
-          next.told reports (F.options c.loop.front) inv.7 served.serves) (F.options then.front) same sweep.swept,
+      since_swept options F.is_alone base old left told c.args.lacked.now _ then.clients.held.items (log c.args.connections.now) (log then.connections)
+          (since_then options F.is_alone base old left told c.args.lacked.now c.loop.clients.held.items then.clients.held.items c.in-Some-2.event c.loop.lacked c.serve_event-count.result _ (search rules)
+          (log c.args.connections.now) before after (log then.connections) inv.11 next.told reports (F.options c.loop.front) inv.7 served.serves) (F.options then.front) same sweep.swept,
     )
 
 pub returns-in_err-desk-clause-serves : goal.returns-in_err-desk-clause-serves
 returns-in_err-desk-clause-serves g c =
     let log = g.C.Connections.log c.args.connections.now in
+    let opened = g.C.Connections.has_ended c.args.connections.now in
     let options = g.F.Front.options c.args.front.now in
     let sessions = g.F.Front.sessions c.args.front.now in
     let left = g.F.Front.left c.args.front.now in
     let told = g.K.Clock.last c.args.clock.now in
-    since_serves options g.F.Front.is_alone c.args.numbering.base sessions left told sessions left told [] log log
-    (since_none options g.F.Front.is_alone c.args.numbering.base sessions left told [] refl log)
+    let had = c.args.lacked.now in
+    since_serves options g.F.Front.is_alone c.args.numbering.base sessions left told had opened opened sessions left told had [] c.requires.«open» log log
+    (since_none options g.F.Front.is_alone c.args.numbering.base sessions left told had [] refl log)
 
 pub returns-in_err-event-clause-serves : goal.returns-in_err-event-clause-serves
 returns-in_err-event-clause-serves g c =
     let log = g.C.Connections.log in
+    let ended = g.C.Connections.has_ended in
     since_called (g.F.Front.options c.args.front.now) g.F.Front.is_alone c.args.numbering.base (g.F.Front.sessions c.args.front.now) (g.F.Front.left c.args.front.now) (g.K.Clock.last c.args.clock.now)
-    (g.F.Front.sessions c.loop.front) (g.F.Front.left c.loop.front) (g.K.Clock.last c.loop.clock) c.loop.clients.held.items (log c.args.connections.now) (log c.loop.connections)
-    (log c.next-in-loop.new.self) c.loop.invariant.11 c.in_err-event.ensures.unmoved
+    c.args.lacked.now (ended c.args.connections.now) (ended c.next-in-loop.new.self) (g.F.Front.sessions c.loop.front) (g.F.Front.left c.loop.front) (g.K.Clock.last c.loop.clock) c.loop.lacked
+    c.loop.clients.held.items c.in_err-event.ensures.still_open (log c.args.connections.now) (log c.loop.connections) (log c.next-in-loop.new.self) c.loop.invariant.11 c.in_err-event.ensures.unmoved
 
 pub returns-clause-serves : goal.returns-clause-serves
 returns-clause-serves g c =
     let log = g.C.Connections.log in
+    let ended = g.C.Connections.has_ended in
     let options = g.F.Front.options c.args.front.now in
-    let here = since_serves options g.F.Front.is_alone c.args.numbering.base (g.F.Front.sessions c.args.front.now) (g.F.Front.left c.args.front.now) (g.K.Clock.last c.args.clock.now)
-    (g.F.Front.sessions c.loop.front) (g.F.Front.left c.loop.front) (g.K.Clock.last c.loop.clock) c.loop.clients.held.items (log c.args.connections.now) (log c.loop.connections) c.loop.invariant.11 in
+    let base = c.args.numbering.base in
+    let opened = ended c.args.connections.now in
+    let sessions = g.F.Front.sessions c.args.front.now in
+    let told = g.K.Clock.last c.args.clock.now in
+    let inv = c.loop.invariant in
+    let here = since_serves options g.F.Front.is_alone base sessions (g.F.Front.left c.args.front.now) told c.args.lacked.now opened (ended c.loop.connections) (g.F.Front.sessions c.loop.front)
+    (g.F.Front.left c.loop.front) (g.K.Clock.last c.loop.clock) c.loop.lacked c.loop.clients.held.items inv.2 (log c.args.connections.now) (log c.loop.connections) inv.11 in
     elim c.match-next.branch [
-      | in-None w ↦ subst (λ x. OnLogs (ServesFromNone options g.F.Front.is_alone c.args.numbering.base MOST_UNSENT
-          (record { sessions = g.F.Front.sessions c.args.front.now; second = g.K.Clock.last c.args.clock.now }) (record { sessions = g.F.Front.sessions c.loop.front; second = g.K.Clock.last c.loop.clock }))
-          (log c.args.connections.now) (log x)) (sym w.connections-is) here
-      | in-Some+then-left-least w ↦ subst (λ x. OnLogs (ServesFromNone options g.F.Front.is_alone c.args.numbering.base MOST_UNSENT
-          (record { sessions = g.F.Front.sessions c.args.front.now; second = g.K.Clock.last c.args.clock.now }) (record { sessions = g.F.Front.sessions c.loop.front; second = g.K.Clock.last c.loop.clock }))
-          (log c.args.connections.now) (log x)) (sym w.connections-is) here
-      | in-Some+else-left-least+in_ok-event+in_default w ↦ subst (λ x. OnLogs (ServesFromNone options g.F.Front.is_alone c.args.numbering.base MOST_UNSENT
-          (record { sessions = g.F.Front.sessions c.args.front.now; second = g.K.Clock.last c.args.clock.now }) (record { sessions = g.F.Front.sessions c.loop.front; second = g.K.Clock.last c.loop.clock }))
-          (log c.args.connections.now) (log x)) (sym w.connections-is)
-          (since_called options g.F.Front.is_alone c.args.numbering.base (g.F.Front.sessions c.args.front.now) (g.F.Front.left c.args.front.now) (g.K.Clock.last c.args.clock.now)
-          (g.F.Front.sessions c.loop.front) (g.F.Front.left c.loop.front) (g.K.Clock.last c.loop.clock) c.loop.clients.held.items (log c.args.connections.now) (log c.loop.connections)
-          (log w.next-in-loop.new.self) c.loop.invariant.11
-          (over_called (log c.loop.connections) (log w.next-in-loop.new.self) w.in_ok-event.ensures.told
-          (subst (λ got. IfNone got (IfSome (log c.loop.connections) (λ l. IsOver l (log w.next-in-loop.new.self)))) w.in_default.is w.in_ok-event.ensures.end)))
+      | in-None w ↦ subst (λ x. OnLogs (ServesFromNone options g.F.Front.is_alone base MOST_UNSENT (record { sessions = sessions; second = told; lacked = c.args.lacked.now; has_ended = opened })
+          (record { sessions = g.F.Front.sessions c.loop.front; second = g.K.Clock.last c.loop.clock; lacked = c.loop.lacked; has_ended = ended x })) (log c.args.connections.now) (log x))
+          (sym w.connections-is) here
+      | in-Some+then-left-least w ↦ subst (λ x. OnLogs (ServesFromNone options g.F.Front.is_alone base MOST_UNSENT
+          (record { sessions = sessions; second = told; lacked = c.args.lacked.now; has_ended = opened })
+          (record { sessions = g.F.Front.sessions c.loop.front; second = g.K.Clock.last c.loop.clock; lacked = c.loop.lacked; has_ended = ended x })) (log c.args.connections.now) (log x))
+          (sym w.connections-is) here
+      | in-Some+else-left-least+in_ok-event+in_default w ↦ subst (λ x. OnLogs (ServesFromNone options g.F.Front.is_alone base MOST_UNSENT
+          (record { sessions = sessions; second = told; lacked = c.args.lacked.now; has_ended = opened })
+          (record { sessions = g.F.Front.sessions c.loop.front; second = g.K.Clock.last c.loop.clock; lacked = c.loop.lacked; has_ended = ended x })) (log c.args.connections.now) (log x))
+          (sym w.connections-is)
+          (since_over options g.F.Front.is_alone base sessions (g.F.Front.left c.args.front.now) told c.args.lacked.now opened (ended w.next-in-loop.new.self) (g.F.Front.sessions c.loop.front)
+          (g.F.Front.left c.loop.front) (g.K.Clock.last c.loop.clock) c.loop.lacked c.loop.clients.held.items (log c.args.connections.now) (log c.loop.connections) (log w.next-in-loop.new.self) inv.11 inv.1
+          (subst (λ got. IfNone got (IfSome (log c.loop.connections) (λ l. IsOver l (log w.next-in-loop.new.self)))) w.in_default.is w.in_ok-event.ensures.end))
     ]

@@ -21,4 +21,4 @@ invariant-loop g l =
     × (g.F.Front.stands l.front ≡ g.F.Front.stands l.initial.front)
     × (is_some (g.C.Connections.log l.connections) ≡ is_some (g.C.Connections.log l.initial.connections))
     × OnLogs (StandsSince (g.F.Front.options l.initial.front) g.F.Front.is_alone l.numbering.base (g.F.Front.sessions l.initial.front) (g.F.Front.left l.initial.front) (g.K.Clock.last l.initial.clock)
-    (g.F.Front.sessions l.front) (g.F.Front.left l.front) (g.K.Clock.last l.clock) l.clients.held.items) (g.C.Connections.log l.initial.connections) (g.C.Connections.log l.connections)
+    l.initial.lacked (g.F.Front.sessions l.front) (g.F.Front.left l.front) (g.K.Clock.last l.clock) l.lacked l.clients.held.items) (g.C.Connections.log l.initial.connections) (g.C.Connections.log l.connections)

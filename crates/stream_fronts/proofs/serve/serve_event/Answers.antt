@@ -12,7 +12,7 @@ returns-in-Opened-clause-serves g c =
     let base = c.args.numbering.base in (
       [],
       these_none options g.F.Front.is_alone (g.F.Front.sessions c.args.front.now) (g.F.Front.left c.args.front.now) (g.K.Clock.last c.args.clock.now),
-      subst (λ (e : Event). OnLogs (StandsOn options base e c.args.clients.now.held.items [] c.take_in.new.clients.held.items) (log c.args.connections.now) (log c.take_in.new.connections))
+      subst (λ (e : Event). OnLogs (StandsOn options base e c.args.clients.now.held.items c.take_in.result [] c.take_in.new.clients.held.items) (log c.args.connections.now) (log c.take_in.new.connections))
           (sym c.in-Opened.is) (c.take_in.ensures.serves options base),
     )
 
@@ -24,6 +24,6 @@ returns-in-Ready-clause-serves g c =
     let r = c.visit_held.ensures.serves in (
       r.0,
       r.1,
-      subst (λ (e : Event). OnLogs (StandsOn options base e c.args.clients.now.held.items r.0 c.visit_held.new.clients.held.items) (log c.args.connections.now) (log c.visit_held.new.connections))
+      subst (λ (e : Event). OnLogs (StandsOn options base e c.args.clients.now.held.items c.visit_held.result r.0 c.visit_held.new.clients.held.items) (log c.args.connections.now) (log c.visit_held.new.connections))
           (sym c.in-Ready.is) r.2,
     )

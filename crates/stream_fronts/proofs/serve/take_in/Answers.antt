@@ -23,7 +23,7 @@ returns-in-Err-clause-clients g c =
 pub returns-in-Ok-clause-serves : goal.returns-in-Ok-clause-serves
 returns-in-Ok-clause-serves g c = λ options base.
     takes_in options base c.args.number c.args.clients.now.held.items c.put.new.self.held.items c.new.result (λ n other. c.put.ensures.others n other ∙ c.make_room.ensures.same n)
-    c.put.ensures.here c.new.ensures.reading c.new.ensures.unsent (c.new.ensures.talk options base) (g.C.Connections.log c.args.connections.now) c.requires.«open»
+    c.put.ensures.here c.new.ensures.reading c.new.ensures.unsent (c.new.ensures.talk options base) c.new.ensures.waits (g.C.Connections.log c.args.connections.now) c.requires.«open»
 
 pub returns-in-Err-clause-serves : goal.returns-in-Err-clause-serves
 returns-in-Err-clause-serves g c = λ options base.

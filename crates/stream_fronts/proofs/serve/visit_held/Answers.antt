@@ -64,7 +64,7 @@ returns-in_default-clause-serves g c =
       [],
       these_none options g.F.Front.is_alone (g.F.Front.sessions c.args.front.now) (g.F.Front.left c.args.front.now) (g.K.Clock.last c.args.clock.now),
       serves_none options c.args.numbering.base c.args.number c.args.clients.now.held.items c.take.new.self.held.items c.take.ensures.others c.take.ensures.gone
-          (g.C.Connections.log c.args.connections.now),
+          (sym c.take.ensures.taken ∙ c.in_default.is) (g.C.Connections.log c.args.connections.now),
     )
 
 pub returns-in-Waits-clause-serves : goal.returns-in-Waits-clause-serves

@@ -1,4 +1,4 @@
-use Rattle.std.proofs.Common.{◌≡◌, Bool, true, [], ◌∙◌, subst}
+use Rattle.std.proofs.Common.{◌≡◌, ◌≢◌, Bool, true, false, [], ◌∙◌, subst}
 use Rattle.std.specs.Prelude.{Ok, Err, IfOk}
 use Rattle.stream_fronts.specs.declared.visit.After.TheVariants.{Waits, Over}
 use Rattle.stream_fronts.specs.Open.{OnLogs}
@@ -9,7 +9,7 @@ use Rattle.stream_fronts.proofs.Going.{these_none}
 use Rattle.stream_fronts.proofs.Answering.{match_err}
 use Rattle.stream_fronts.proofs.Traffic.{on_one, on_two, on_three, from_held}
 use Rattle.stream_fronts.proofs.Opening.{keeps_on}
-use Rattle.stream_fronts.proofs.Visited.{looks_held, visit_breaks, visit_waits, visit_leaves, visit_unread, visit_unsent, visit_goes_on, visit_after, visit_lacks, visit_keeps_none, waits_not_over}
+use Rattle.stream_fronts.proofs.Visited.{looks_held, visit_breaks, visit_waits, visit_leaves, visit_unread, visit_unsent, visit_shut, visit_after, visit_lacks, visit_keeps_none}
 use Rattle.stream_fronts.proofs.visit.visit_once.Goals as goal
 
 pub returns-in_err-answered-clause-keeps : goal.returns-in_err-answered-clause-keeps
@@ -66,7 +66,8 @@ returns-in-Ok-false-clause-talks g c =
       [],
       these_none options g.F.Front.is_alone (g.F.Front.sessions c.args.front.now) (g.F.Front.left c.args.front.now) (g.K.Clock.last c.args.clock.now),
       on_one c.args.number (SendsFrom client.unsent now.unsent (Ok c.in-Ok-false.field-0)) (Visits options base client [] now Waits) (log c.args.connections.now)
-          (log c.send_unsent.new.connections) (λ d a b sends. visit_waits options base d c.requires.client now c.in-Ok-false.ensures.place c.in-Ok-false.ensures.leaving c.in-Ok-false.field-0 sends) c.in-Ok-false.ensures.sends,
+          (log c.send_unsent.new.connections) (λ d a b sends. visit_waits options base d c.requires.client now c.in-Ok-false.ensures.place c.in-Ok-false.ensures.leaving c.in-Ok-false.field-0 sends
+          (c.in-Ok-false.ensures.some c.in-Ok-false.field-0-test)) c.in-Ok-false.ensures.sends,
     )
 
 pub returns-in-Err-clause-talks : goal.returns-in-Err-clause-talks
@@ -207,7 +208,8 @@ returns-in-Ok-false-2-clause-talks g c =
     let looks = subst (λ x. OnLogs (OnHeld c.args.number (Looks options base now r.0 replies then x)) (log c.send_unsent.new.connections) (log c.answer_more.new.connections)) c.in-Ok.is r.2 in
     let sends = subst (λ x. OnLogs (OnHeld c.args.number (SendsFrom replies last.unsent x)) (log c.answer_more.new.connections) (log c.send_new.new.connections)) c.in-Ok-false-2.is
     (subst (λ t. OnLogs (OnHeld c.args.number (SendsFrom t last.unsent c.in_ok-send_new.field-0)) (log c.answer_more.new.connections) (log c.send_new.new.connections)) c.as_slice.ensures.value
-    c.in_ok-send_new.ensures.sends) in (
+    c.in_ok-send_new.ensures.sends) in
+    let some = subst (λ x. IfOk x (λ all. all ≡ false → last.unsent ≢ [])) c.in-Ok-false-2.is c.in_ok-send_new.ensures.some c.in-Ok-false-2.field-0-test in (
       r.0,
       r.1,
       on_three c.args.number (SendsFrom client.unsent now.unsent (Ok c.in-Ok-true.field-0)) (Looks options base now r.0 replies then (Ok c.in-Ok.answered))
@@ -215,8 +217,8 @@ returns-in-Ok-false-2-clause-talks g c =
           (log c.answer_more.new.connections) (log c.send_new.new.connections)
           (λ d x y is one. from_held client.unsent now.unsent d x y (Ok c.in-Ok-true.field-0) one c.args.number d is)
           (λ d x y is two. looks_held options base now r.0 replies then (Ok c.in-Ok.answered) d x y two c.args.number d is)
-          (λ d w x y z one two three. visit_goes_on options base d c.requires.client now c.in-Ok-true.ensures.place c.in-Ok-true.ensures.leaving c.in-Ok-true.field-0 one c.in-Ok-true.ensures.client
-          c.if-client.false none then replies c.in-Ok.answered two c.in_ok-answered.ensures.client last c.in_ok-send_new.ensures.place (c.in_ok-send_new.ensures.leaving ∙ c.leaves_by-client.ensures) c.in-Ok-false-2.field-0 three Waits waits_not_over) c.in-Ok-true.ensures.sends looks sends,
+          (λ d w x y z one two three. visit_shut options base d c.requires.client now c.in-Ok-true.ensures.place c.in-Ok-true.ensures.leaving c.in-Ok-true.field-0 one c.in-Ok-true.ensures.client
+          c.if-client.false none then replies c.in-Ok.answered two c.in_ok-answered.ensures.client last c.in_ok-send_new.ensures.place (c.in_ok-send_new.ensures.leaving ∙ c.leaves_by-client.ensures) c.in-Ok-false-2.field-0 three some) c.in-Ok-true.ensures.sends looks sends,
     )
 
 pub returns-in-Ok-true-2-clause-talks : goal.returns-in-Ok-true-2-clause-talks
@@ -245,5 +247,5 @@ returns-in-Ok-true-2-clause-talks g c =
           (λ d x y is two. looks_held options base now r.0 replies then (Ok c.in-Ok.answered) d x y two c.args.number d is)
           (λ d w x y z one two three. visit_after options base d c.requires.client now c.in-Ok-true.ensures.place c.in-Ok-true.ensures.leaving c.in-Ok-true.field-0 one c.in-Ok-true.ensures.client
           c.if-client.false none then replies c.in-Ok.answered two c.in_ok-answered.ensures.client last c.in_ok-send_new.ensures.place (c.in_ok-send_new.ensures.leaving ∙ c.leaves_by-client.ensures) c.in-Ok-true-2.field-0 three c.after_all.result
-          c.after_all.ensures.over c.after_all.ensures.«open» c.in_ok-send_new.ensures.client all_sent) c.in-Ok-true.ensures.sends looks sends,
+          c.after_all.ensures.over c.after_all.ensures.«open» c.after_all.ensures.waits c.in_ok-send_new.ensures.client all_sent) c.in-Ok-true.ensures.sends looks sends,
     )

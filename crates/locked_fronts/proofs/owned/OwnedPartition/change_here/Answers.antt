@@ -1,4 +1,5 @@
-use Rattle.std.proofs.Common.{subst}
+use Rattle.std.proofs.Common.{subst, ap, ◌∙◌}
+use Rattle.mica_fronts.specs.Flushes.{flushed_at, waits_at}
 use Rattle.partition_model.specs.History.{stamp_of}
 use Rattle.mica_fronts.specs.declared.changing.Changed.{Changed}
 use Rattle.mica_fronts.specs.Changing.{written_by}
@@ -14,7 +15,7 @@ returns g c =
     let was : Owned = owned_as c.self.inside.number (g.P.Partition.home c.self.inside.part) (g.P.Partition.owner c.self.inside.part) c.self.inside.book in
     let did = c.do_change-outcome in
     let changed : Changed = record {
-      when = record { second = c.args.second; written = c.accepted.result; flushed = c.self.inside.flushed };
+      when = record { second = c.args.second; written = c.accepted.result; flushed = c.flushed_at.result; until = c.waits_at.result };
       found = c.look-answer.result.0;
       outcome = did.result.0;
       stamp = did.result.1;
@@ -22,4 +23,9 @@ returns g c =
     subst (λ (o : Owned). TookLook plan o.number (stamp_of plan.options o.owner.history) c.args.second o.owner.history c.args.key.now needs becoming c.args.taker.now did.new.taker changed c.look-answer.new.found did.result.2) c.self.view_is
     (looks plan was (g.P.Partition.owner c.look-answer.new.part) c.args.second c.args.key.now needs becoming c.args.taker.now did.new.taker changed c.look-answer.new.found did.result.2
     (written_by c.args.key.now c.look-answer.new.next c.look-answer.result.1) c.self.invariant.0 c.look-answer.ensures.same
-    (λ i. record { second = c.args.second; written = c.accepted.ensures i; flushed = c.self.invariant.1 i }) c.look-answer.ensures.found c.look-answer.ensures.change did.ensures)
+    (λ i. record {
+      second = c.args.second;
+      written = c.accepted.ensures i;
+      flushed = (c.flushed_at.ensures ∙ ap (flushed_at c.args.second) c.self.invariant.1) i;
+      until = (c.waits_at.ensures ∙ ap (waits_at c.args.second) c.self.invariant.1) i;
+    }) c.look-answer.ensures.found c.look-answer.ensures.change did.ensures)

@@ -5,7 +5,7 @@ use Rattle.epoch_core.specs.declared.state.OwnerState.{OwnerState}
 use Rattle.epoch_core.specs.OwnerState.{options_in}
 use Rattle.epoch_core.specs.OwnerStep.{IsOwnerStep}
 use Rattle.epoch_core.specs.Joins.{lent}
-use Rattle.mica_fronts.specs.Flushes.{flushed_in}
+use Rattle.mica_fronts.specs.Flushes.{flushes_in}
 use Rattle.locked_fronts.specs.Owned.{Owned, owned_as, TookTurn}
 use Rattle.locked_fronts.proofs.Turning.{keeps, takes}
 use Rattle.locked_fronts.proofs.owned.OwnedPartition.step.Goals as goal
@@ -19,7 +19,7 @@ invariant_of-self g c =
     let step = subst (λ (o : OwnerState). IsOwnerStep was.owner o write c.write_counted-outcome.result) same c.write_counted-outcome.ensures.step in
     let stamped = c.stamp-stamp.ensures ∙ ap (λ (o : OwnerState). stamp_of (options_in o) o.history) same in (
       keeps g.J.ServerPlan.plan was _ _ _ c.args.taker.now write _ _ c.self.invariant.0 step stamped (c.note-note.ensures.home ∙ c.write_counted-outcome.ensures.home) c.enter.ensures.book,
-      c.write_counted-outcome.ensures.flushed ∙ ap (λ (o : OwnerState). flushed_in o.history) same,
+      c.write_counted-outcome.ensures.flushes ∙ ap (λ (o : OwnerState). flushes_in o.history) same,
       c.self.invariant.2,
     )
 

@@ -3,12 +3,13 @@ use Rattle.mica_words.specs.Hash.{partition_of, hash_partition}
 use Rattle.mica_words.proofs.Hashes.{partition_of_hash, partition_of-below}
 use Rattle.partition_model.specs.Answer.{IsAnswer}
 use Rattle.partition_model.specs.History.{History, answer_of, stamp_of}
+use Rattle.plain_partition.specs.PlainPartition.{owner_of}
 use Rattle.mica_fronts.specs.Solo.{Solo, history_at}
 use Rattle.mica_fronts.proofs.SoloSteps.{read_there, read_back}
 use Rattle.mica_fronts.proofs.solo.Owned.read.Goals as goal
 
 pub returns-clause-answer : goal.returns-clause-answer
-returns-clause-answer g c =
+returns-clause-answer c =
     let options = c.self.inside.options in
     let parts = c.self.inside.parts.items in
     let key = c.args.key.now in
@@ -20,11 +21,11 @@ returns-clause-answer g c =
     let below : at < length parts = omega (arith, number, low, c.self.invariant.1) in
     subst (λ (s : Solo). IsAnswer c.get-answer.result c.get-answer.new.out (answer_of s.options (history_at s.histories (partition_of key s.options.partitions)) key)
     × (c.stamp.result ≡ stamp_of s.options (history_at s.histories (partition_of key s.options.partitions)))) c.self.view_is
-    (read_there g.P.Partition.owner options parts at _ part c.get-answer.new.self key c.get-answer.result c.get-answer.new.out c.stamp.result
+    (read_there owner_of options parts at _ part c.get-answer.new.self key c.get-answer.result c.get-answer.new.out c.stamp.result
     number below c.index_mut-part.ensures.value (c.self.invariant.2 at part below) c.get-answer.ensures.same c.get-answer.ensures.answer c.stamp.ensures)
 
 pub returns-clause-same : goal.returns-clause-same
-returns-clause-same g c =
+returns-clause-same c =
     ap (λ (hs : List History). record { options = c.self.inside.options; histories = hs })
-    (read_back g.P.Partition.owner c.self.inside.parts.items c.partition_of-at.result c.index_mut-part.result.now c.get-answer.new.self
+    (read_back owner_of c.self.inside.parts.items c.partition_of-at.result c.index_mut-part.result.now c.get-answer.new.self
     c.index_mut-part.ensures.value c.get-answer.ensures.same) ∙ c.self.view_is

@@ -3,12 +3,13 @@ use Rattle.mica_words.specs.Hash.{partition_of, hash_partition}
 use Rattle.mica_words.proofs.Hashes.{partition_of_hash, partition_of-below}
 use Rattle.partition_model.specs.Write.{write_of}
 use Rattle.partition_model.specs.Run.{RunStep}
+use Rattle.plain_partition.specs.PlainPartition.{owner_of}
 use Rattle.mica_fronts.specs.Solo.{Solo, StepsPartition}
 use Rattle.mica_fronts.proofs.SoloSteps.{put_back, history_in}
 use Rattle.mica_fronts.proofs.solo.Owned.write.Goals as goal
 
 pub returns : goal.returns
-returns g c =
+returns c =
     let options = c.self.inside.options in
     let parts = c.self.inside.parts.items in
     let key = c.args.key.now in
@@ -19,8 +20,8 @@ returns g c =
     let low = partition_of-below key options.partitions c.self.invariant.0.partitions.0 in
     let below : at < length parts = omega (arith, number, low, c.self.invariant.1) in
     let step : RunStep = record { write = write_of c.args.op key c.args.value.now; outcome = c.write_to-outcome.result; stamp = c.stamp.result } in
-    let taken = put_back g.P.Partition.owner options parts at part c.write_to-outcome.new.part step.write step.outcome step.stamp
+    let taken = put_back owner_of options parts at part c.write_to-outcome.new.part step.write step.outcome step.stamp
     below c.index_mut-part.ensures.value (c.self.invariant.2 at part below) c.write_to-outcome.ensures.step c.stamp.ensures in
-    let old : Solo = record { options = options; histories = map (history_in g.P.Partition.owner) parts } in
-    let new : Solo = record { options = options; histories = map (history_in g.P.Partition.owner) (slice_set parts at c.write_to-outcome.new.part) } in
+    let old : Solo = record { options = options; histories = map (history_in owner_of) parts } in
+    let new : Solo = record { options = options; histories = map (history_in owner_of) (slice_set parts at c.write_to-outcome.new.part) } in
     subst (λ (s : Solo). StepsPartition s (partition_of key s.options.partitions) step new) c.self.view_is (subst (λ (p : ℕ). StepsPartition old p step new) number taken)

@@ -1,5 +1,5 @@
 use Rattle.store_partition.proofs.Words.{AreBytes, IsOwnerStep, [], arith, refl, subst, write_of, ◌+◌}
-use Rattle.store_partition.proofs.Writes.{MarkOnly, marks_only, reply_left}
+use Rattle.store_partition.proofs.Marks.{MarkOnly, marks_only, reply_left}
 use Rattle.store_partition.proofs.Parts.{held}
 use Rattle.store_partition.proofs.partition.StorePartition.mark_only.Given.{Over}
 use Rattle.store_partition.proofs.partition.StorePartition.mark_only.Goals.{Start}

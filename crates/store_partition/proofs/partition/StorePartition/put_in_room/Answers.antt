@@ -1,6 +1,6 @@
 use Rattle.store_partition.proofs.Words.{AreBytes, Put, ap, arith, item_events, plays, refl, write_of, ◌+◌, ◌∙◌}
 use Rattle.store_partition.proofs.Held.{known}
-use Rattle.store_partition.proofs.Writes.{HasPut, PutInRoom, in_room}
+use Rattle.store_partition.proofs.Puts.{HasPut, PutInRoom, in_room}
 use Rattle.store_partition.proofs.Parts.{held}
 use Rattle.store_partition.proofs.partition.StorePartition.put_in_room.Given.{Over}
 use Rattle.store_partition.proofs.partition.StorePartition.put_in_room.Goals.{After-rewrite_item, Start}

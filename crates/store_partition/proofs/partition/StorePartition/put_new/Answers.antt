@@ -4,7 +4,7 @@ use Rattle.store_partition.proofs.Words.{item_size, marked_in_bucket, plays, ref
 use Rattle.store_partition.proofs.Words.{◌++◌, ◌+◌, ◌∙◌, ◌∷◌, ◌≡◌}
 use Rattle.store_partition.proofs.Held.{Held, main_at, full_block, full_spare, new_needs}
 use Rattle.store_partition.proofs.Events.{Closes}
-use Rattle.store_partition.proofs.Writes.{HasPut, PutNew, new, with_value}
+use Rattle.store_partition.proofs.Puts.{HasPut, PutNew, new, with_value}
 use Rattle.store_partition.proofs.Parts.{held}
 use Rattle.store_partition.proofs.partition.StorePartition.put_new.Given.{Over}
 use Rattle.store_partition.proofs.partition.StorePartition.put_new.Goals.{After-place, After-write_item_hashed, In-Some, Start}

@@ -1,0 +1,8 @@
+use Rattle.std.proofs.Common.{◌≡◌, ◌++◌, OnOk, subst}
+use Rattle.memcached_stats.proofs.WearLaws.{wear_parts}
+use Rattle.memcached_stats.proofs.lines.put_wear.Goals as goal
+
+pub returns-clause-ok : goal.returns-clause-ok
+returns-clause-ok c =
+    subst (λ text. OnOk c.put_parts.result (c.put_parts.new.out.items ≡ c.args.out.now.items ++ text))
+    (wear_parts c.args.partition c.args.wear c.as_bytes-place.result.now c.as_bytes-writes.result.now c.as_bytes-left.result.now (cc) (cc) (cc)) c.put_parts.ensures.ok

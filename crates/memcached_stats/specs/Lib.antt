@@ -1,0 +1,4 @@
+pub mod Counted
+pub mod Figures
+pub mod Stats
+pub mod Lines

@@ -1,0 +1,176 @@
+//! What a server tells of itself, and where its fronts show what they count.
+ghost use Rattle.std.specs.Prelude.{◌≡◌, ◌++◌, OnOk, OnErr};
+ghost use Rattle.memcached_stats.specs.Stats.{Told, stats_text};
+
+use crate::counter::COUNTERS;
+use crate::figures::{About, Counts, Wear};
+use crate::lines::put_stats;
+use crate::tally::{Tally, place_of};
+use mica_io::NoMemory;
+use mica_words::tail_of;
+use partition_model::{LAST_TAIL, MOST_PARTITIONS, Mode, Options};
+use std::alloc::Global;
+use std::sync::atomic::{AtomicU64, Ordering};
+
+// The words of the largest item, which is the most that a write takes of a log.
+const LARGEST_ITEM: u64 = 1_058;
+
+/// What a server is told of itself as it begins.
+#[derive(Clone, Copy, Debug, PartialEq, Eq)]
+pub struct Server {
+    pub pid: u64,
+    /// The second in which it began.
+    pub since: u64,
+    /// How many fronts it has, of both kinds.
+    pub fronts: u32,
+    /// How many connections it holds at most at a time.
+    pub connections: u64,
+}
+
+// What one front shows of its tally, number by number. All may read it.
+#[derive(Drop)]
+struct Shown {
+    numbers: Vec<AtomicU64>,
+}
+
+impl Shown {
+    fn new(alloc: Global, partitions: u32) -> Result<Shown, NoMemory> {
+        let len = place_of(partitions);
+        let mut numbers = Vec::with_capacity(alloc, len)?;
+        for _ in 0..len {
+            numbers.push(AtomicU64::new(0))?;
+        }
+        Ok(Shown { numbers })
+    }
+
+    // Shows what has changed.
+    fn show(&self, tally: &Tally) {
+        for (shown, number) in self.numbers.iter().zip(&tally.numbers) {
+            if shown.load(Ordering::Relaxed) != *number {
+                shown.store(*number, Ordering::Relaxed);
+            }
+        }
+    }
+
+    fn number(&self, place: usize) -> u64 {
+        match self.numbers.get(place) {
+            Some(number) => number.load(Ordering::Relaxed),
+            None => 0,
+        }
+    }
+}
+
+/// What a server tells of itself, and where its fronts show what they count.
+#[derive(Drop)]
+pub struct Board {
+    server: Server,
+    options: Options,
+    fronts: Vec<Shown>,
+}
+
+impl Board {
+    /// With room for so many that count.
+    pub fn new(
+        alloc: Global,
+        server: Server,
+        options: &Options,
+        count: u32,
+    ) -> Result<Board, NoMemory> {
+        let mut fronts = Vec::with_capacity(alloc, count as usize)?;
+        for _ in 0..count {
+            fronts.push(Shown::new(alloc, options.partitions)?)?;
+        }
+        Ok(Board {
+            server,
+            options: *options,
+            fronts,
+        })
+    }
+
+    /// Shows what the front of this number has counted.
+    pub fn show(&self, front: u32, tally: &Tally) {
+        if let Some(shown) = self.fronts.get(front as usize) {
+            shown.show(tally);
+        }
+    }
+
+    // At this second.
+    fn about(&self, second: u64) -> About {
+        let words = u64::from(self.options.partitions) * u64::from(self.options.words);
+        About {
+            pid: self.server.pid,
+            uptime: second.saturating_sub(self.server.since),
+            time: second,
+            threads: u64::from(self.server.fronts),
+            limit_maxbytes: words.saturating_mul(8),
+            max_connections: self.server.connections,
+        }
+    }
+
+    // Added up over those that count.
+    fn counts(&self) -> Counts {
+        let mut numbers = [0u64; COUNTERS];
+        for front in self.fronts.iter() {
+            for (place, number) in numbers.iter_mut().enumerate() {
+                *number = number.saturating_add(front.number(place));
+            }
+        }
+        Counts { numbers }
+    }
+
+    // What a partition bears, by how many writes it accepted and its stamp. In cache mode its log also comes to an end.
+    fn left(&self, writes: u64, stamp: u64) -> u64 {
+        let writes_left = self.options.wear.saturating_sub(writes);
+        match self.options.mode {
+            Mode::Store => writes_left,
+            Mode::Cache => {
+                let words_left = LAST_TAIL.saturating_sub(tail_of(stamp));
+                writes_left.min(words_left / LARGEST_ITEM)
+            }
+        }
+    }
+
+    // By what was seen of a partition last.
+    fn wear(&self, partition: u32) -> Wear {
+        let place = place_of(partition);
+        let (mut writes, mut stamp) = (0, 0);
+        for front in self.fronts.iter() {
+            writes = front.number(place).max(writes);
+            stamp = front.number(place + 1).max(stamp);
+        }
+        Wear {
+            writes,
+            writes_left: self.left(writes, stamp),
+        }
+    }
+
+    fn wears(&self) -> [Wear; 64] {
+        let mut wears = [Wear {
+            writes: 0,
+            writes_left: 0,
+        }; 64];
+        for partition in 0..MOST_PARTITIONS {
+            wears[partition as usize] = self.wear(partition);
+        }
+        wears
+    }
+
+    /// Appends what the server tells of itself at this second. After want of memory nothing is appended.
+    pub fn put_stats(
+        &self,
+        second: u64,
+        partitions: u32,
+        out: &mut Vec<u8>,
+    ) -> Result<(), NoMemory>
+        ensures ok { OnOk result ((told : Told) × (out.new.items ≡ out.old.items ++ stats_text partitions told)) }
+        ensures err { OnErr result (out.new.items ≡ out.old.items) }
+    {
+        put_stats(
+            out,
+            partitions,
+            &self.about(second),
+            &self.counts(),
+            self.wears().as_slice(),
+        )
+    }
+}

@@ -1,0 +1,10 @@
+//! What is to become of a value, where one look at it and the write that follows are one.
+
+/// What is to become of a value that was looked at.
+#[derive(Clone, Copy, Debug, PartialEq, Eq)]
+pub enum Change {
+    Stay,
+    /// It is to be what a buffer has.
+    Become,
+    Go,
+}

@@ -1,0 +1,82 @@
+-- Where each waits and nothing is to come, each is settled.
+use Rattle.std.proofs.Common.{◌≡◌, ◌≢◌, inl, inr, ℕ, ◌==◌, ◌<◌, Bool, true, false, true≢false, List, [], ◌∷◌, ◌++◌, length, refl, sym, ap, ◌∙◌, subst, arith, length-append}
+use Rattle.std.specs.Prelude.{◌&&◌, not, slice_get, Option, None, Some, IfSome}
+use Rattle.std.proofs.lemmas.List.{append-nil}
+use Rattle.std.proofs.lemmas.Bool.{eq-eqb}
+use Rattle.partition_model.specs.declared.options.Options.{Options}
+use Rattle.memcached_text.specs.declared.limits.TheConstants.{MAX_WAITING_LEN}
+use Rattle.stream_io.specs.Connection.{Connection}
+use Rattle.stream_io.specs.State.{is_under, held}
+use Rattle.stream_io.specs.Log.{Log, state_of, connections_of, received_of, sent_of}
+use Rattle.mica_fronts.specs.Answered.{Answered}
+use Rattle.stream_fronts.specs.declared.client.Client.{Client}
+use Rattle.stream_fronts.specs.declared.desk.TheConstants.{MOST_UNSENT}
+use Rattle.stream_fronts.specs.Given.{Given, given_to}
+use Rattle.stream_fronts.specs.Clients.{IsClient, AreOpen}
+use Rattle.stream_fronts.specs.Reached.{Reaches, place_of}
+use Rattle.stream_fronts.specs.Closing.{IsSettled}
+use Rattle.stream_fronts.specs.Closing.{shut as waits_shut, idle as waits_idle}
+use Rattle.stream_fronts.specs.Traffic.{IsShut, IsToCome}
+use Rattle.stream_fronts.specs.Resting.{IsAtRest, shut, idle, is_there, Tends}
+use Rattle.stream_fronts.specs.Held.{Holds, goes_on, left, ended}
+use Rattle.stream_fronts.specs.Standing.{Stands}
+use Rattle.stream_fronts.specs.Serving.{IsDone}
+use Rattle.stream_fronts.proofs.Talking.{Told, talk_at, talk_ends, all_answered}
+use Rattle.stream_fronts.proofs.Standing.{holds_at}
+use Rattle.stream_fronts.proofs.Visited.{held_reaches}
+
+module _ (options : Options) (base : ℕ) where
+  module _ (c : ℕ) (log : Log) (given : List Answered) (client : Client) (is : IsClient client) (x : Connection) (holds : Holds options base MOST_UNSENT c log given client) where
+    abbrev came : List ℕ
+    came = received_of c log.entries
+
+    abbrev went : List ℕ
+    went = sent_of c log.entries
+
+    some_due : {most : ℕ} → client.unsent ≢ [] → IsShut x → Told options base came went given (went ++ client.unsent) most → IsSettled options base x came went given
+    some_due some is_shut told =
+        let len = ap length told.due_is ∙ length-append went client.unsent in
+        let more = some_length client.unsent some in
+        inr (is_shut.whole, told.talk, waits_shut (omega (arith, len, more)) is_shut.shut)
+      where
+        some_length : (l : List ℕ) → l ≢ [] → 0 < length l
+        some_length [] none = absurd (none refl)
+        some_length (b ∷ l) none = omega arith
+
+    settled_at : IsAtRest client x → IsSettled options base x came went given
+    settled_at rest = elim rest as (λ _. IsSettled options base x came went given) [
+      | shut some is_shut ↦ elim holds as (λ _. IsSettled options base x came went given) [
+        | goes_on stays few at ↦ some_due some is_shut (talk_at options base at is.begun went (client.unsent, refl))
+        | left leaves few ends ↦ some_due some is_shut (talk_ends options base ends went (client.unsent, refl))
+        | ended leaves few at none over ↦ some_due some is_shut (talk_at options base at is.begun went (client.unsent, refl))
+      ]
+      | idle none reading more silent ↦
+        let at = held_reaches options base MOST_UNSENT c holds reading none in
+        let a = all_answered options base (subst (λ due. Reaches options base (place_of client) came given due) (append-nil went) at) is.begun more in
+        inr (silent.whole, a.talk, waits_idle a.due_is silent.read silent.goes_on a.answered)
+    ]
+
+  -- so the front is done
+  pub done_all : (lacking : List ℕ) (log : Log) (all : List Given) (clients : List (Option Client)) → AreOpen clients (Some log) → Stands options base lacking log all clients
+      → Tends log.script.piece (state_of log) clients → 0 < log.script.piece → (state_of log).later ≡ [] → IsDone options base log all
+  done_all lacking log all clients are stands tends moving over = record {
+    over = over;
+    settled = λ c. by c (slice_get (connections_of log) c) refl;
+  }
+    where
+      one : (c : ℕ) (x : Connection) → slice_get (connections_of log) c ≡ Some x → (b : Bool) → x.is_closed ≡ b → IsSettled options base x (received_of c log.entries) (sent_of c log.entries) (given_to c all)
+      one c x is true closed = inl closed
+      one c x is false alive =
+          let n = x.number in
+          let under : is_under n x ≡ true = ap (λ b. b && not x.is_closed) (eq-eqb n n refl) ∙ ap not alive in
+          let here : held n (connections_of log) ≡ Some c = tends.apart n c (ap (is_there n) is ∙ under) in
+          let t = tends.each n c here in
+          let holds = holds_at options base c here (stands.holds n t.client t.is_held) in
+          elim t.rests as (λ _. IsSettled options base x (received_of c log.entries) (sent_of c log.entries) (given_to c all)) [
+            | inl come ↦ absurd (subst (IsToCome c) over come)
+            | inr waits ↦ settled_at c log (given_to c all) t.client (are n t.client t.is_held).0 x holds (subst (λ o. IfSome o (IsAtRest t.client)) is (waits moving))
+          ]
+
+      by : (c : ℕ) (o : Option Connection) → slice_get (connections_of log) c ≡ o → IfSome o (λ x. IsSettled options base x (received_of c log.entries) (sent_of c log.entries) (given_to c all))
+      by c None is = tt
+      by c (Some x) is = one c x is x.is_closed refl
