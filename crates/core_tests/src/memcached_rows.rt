@@ -359,8 +359,16 @@ pub static OTHER: [&[Turn]; 9] = [
     )],
     // A flush at its second: memcached flushes one to two seconds too early.
     &[
-        (0, b"set k 5 0 1\r\na\r\nflush_all 2\r\n", b"STORED\r\nOK\r\n"),
-        (1, b"get k\r\nset k 6 100 1\r\nb\r\n", b"VALUE k 5 1\r\na\r\nEND\r\nSTORED\r\n"),
+        (
+            0,
+            b"set k 5 0 1\r\na\r\nflush_all 2\r\n",
+            b"STORED\r\nOK\r\n",
+        ),
+        (
+            1,
+            b"get k\r\nset k 6 100 1\r\nb\r\n",
+            b"VALUE k 5 1\r\na\r\nEND\r\nSTORED\r\n",
+        ),
         (
             1,
             b"get k\r\nset k 7 0 1\r\nc\r\nflush_all 2000000004\r\n",
@@ -370,13 +378,11 @@ pub static OTHER: [&[Turn]; 9] = [
         (1, b"get k\r\n", b"END\r\n"),
     ],
     // What was flushed does not come back.
-    &[
-        (
-            0,
-            b"set k 5 0 1\r\na\r\nflush_all\r\nflush_all 100\r\nget k\r\n",
-            b"STORED\r\nOK\r\nOK\r\nEND\r\n",
-        ),
-    ],
+    &[(
+        0,
+        b"set k 5 0 1\r\na\r\nflush_all\r\nflush_all 100\r\nget k\r\n",
+        b"STORED\r\nOK\r\nOK\r\nEND\r\n",
+    )],
     // What was stored while one waited goes with it, though a later one took its place.
     &[
         (

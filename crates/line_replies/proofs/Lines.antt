@@ -8,12 +8,9 @@ use Rattle.partition_model.specs.declared.write.Outcome.{Outcome}
 use Rattle.partition_model.specs.Write.{write_of, is_accepted}
 use Rattle.partition_model.specs.Run.{IsRunFrom, history_of}
 use Rattle.partition_model.specs.History.{History, stamp_of}
-use Rattle.mica_trace.specs.declared.line.TraceOp.{TraceOp}
-use Rattle.mica_trace.specs.declared.line.TraceOp.TheVariants.{Put, Add, Touch, Del, Get, Sync}
 use Rattle.mica_trace.specs.declared.line.TraceLine.{TraceLine}
 use Rattle.mica_trace.specs.declared.report.Line.{Line}
 use Rattle.mica_trace.specs.declared.report.Line.TheVariants.{Wrote}
-use Rattle.mica_trace.specs.TraceGrammar.{is_sync_op}
 use Rattle.mica_trace.specs.Rounds.{op_of}
 use Rattle.mica_trace.specs.LawfulReport.{IsReplyTo, step_by}
 use Rattle.mica_trace.specs.LineReply.{steps_at}

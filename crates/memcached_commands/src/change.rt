@@ -62,7 +62,12 @@ fn join(at: &Moment, side: Side, more: &[u8], found: Option<&Item>, next: &mut I
     if value.len() + more.len() > MAX_TEXT_LEN {
         return Change::Stay;
     }
-    begin_item(next, item.flags, ended_by(at.until, item.expires), at.unique);
+    begin_item(
+        next,
+        item.flags,
+        ended_by(at.until, item.expires),
+        at.unique,
+    );
     match side {
         Side::Front => {
             next.extend(more);
@@ -96,7 +101,12 @@ fn count(
     };
     let mut digits = Buffer::new();
     let digits = digits.format(counted(direction, delta, number)).as_bytes();
-    begin_item(next, item.flags, ended_by(at.until, item.expires), at.unique);
+    begin_item(
+        next,
+        item.flags,
+        ended_by(at.until, item.expires),
+        at.unique,
+    );
     next.extend(digits);
     put_spaces(next, value.len().saturating_sub(digits.len()));
     Change::Become

@@ -1,5 +1,5 @@
 -- Partitions that are flushed one after another.
-use Rattle.std.proofs.Common.{◌≡◌, ◌<◌, ◌≤◌, ◌+◌, ◌^◌, ◌&&◌, ℕ, zero, suc, Bool, true, false, cond, List, [], ◌∷◌, ◌++◌, length, drop, nat_lt, Option, Some, None, option_to_list, refl, sym, ap, ◌∙◌, subst, arith, length-append}
+use Rattle.std.proofs.Common.{◌≡◌, ◌<◌, ◌≤◌, ◌+◌, ◌^◌, ◌&&◌, ℕ, suc, Bool, true, false, cond, List, [], ◌∷◌, ◌++◌, length, drop, nat_lt, Option, Some, None, option_to_list, refl, sym, ap, ◌∙◌, subst, arith, length-append}
 use Rattle.std.specs.Int.{w64, to_le_bytes, from_le_bytes}
 use Rattle.std.specs.List.{list_all, cons_option}
 use Rattle.std.proofs.lemmas.Bool.{le-ltb}
@@ -92,22 +92,16 @@ module _ (options : Options) (flush : Flush) where
           subst (λ o. ToldFrom told (cons_option o (seconds_of answers)) tells) (sym (one_asked 0 a is.0 ∙ here))
           (at.0, same_told 1 second answers tells here at.1 is.1)
 
--- the second that a clock told last is told by the flush that was asked for then
-pub told_then : (told second : ℕ) → told ≤ second → ToldFrom told (option_to_list (cond (nat_lt 0 second) (Some second) None)) second
-told_then told zero falls = omega (arith, falls)
-told_then told (suc n) falls = (falls, refl)
-
 -- all partitions tell the second at which they were asked, where there are any
 pub all_told : (options : Options) (flush : Flush) (answers : List Answered) (told tells partitions : ℕ) (due : Due) → length answers ≡ partitions
     → FlushesFrom options flush 0 answers → (0 < partitions → (second : ℕ) × (flush ≡ flush_at second due)) → (partitions ≡ 0 → tells ≡ told)
     → ToldFrom told (option_to_list (second_asked flush)) tells
     → ToldFrom told (seconds_of answers) tells × ((second : ℕ) × FlushesFrom options (flush_at second due) 0 answers)
-all_told options flush [] told tells partitions due many is asked none at = (none (sym many), 0, tt)
+all_told options flush [] told tells partitions due many is asked none at = (none (sym many), (0, tt))
 all_told options flush (a ∷ answers) told tells partitions due many is asked none at =
     let here = asked (omega (arith, many)) in (
       flush_told options flush (a ∷ answers) told tells (omega arith) is at,
-      here.0,
-      subst (λ f. FlushesFrom options f 0 (a ∷ answers)) here.1 is,
+      (here.0, subst (λ f. FlushesFrom options f 0 (a ∷ answers)) here.1 is),
     )
 
 -- Writes
@@ -137,6 +131,14 @@ key_says due asked rest due_low asked_low =
     let from : from_le_bytes w64 (drop 9 key) ≡ asked = from_le_bytes-to_le_bytes_8 asked asked_low in
     let long : nat_lt (length key) FLUSH_LEN ≡ false = le-ltb _ _ (omega arith) in
     rw (long, at, from) refl
+
+-- of a key that is made piece by piece
+pub made_key : (none feed with_due with_both key rest : List ℕ) (due asked : ℕ) → due < 2 ^ 64 → asked < 2 ^ 64 → none ≡ [] → feed ≡ none ++ 10 ∷ []
+    → with_due ≡ feed ++ to_le_bytes w64 due → with_both ≡ with_due ++ to_le_bytes w64 asked → key ≡ with_both ++ rest
+    → flush_in key ≡ record { due = due; asked = asked }
+made_key none feed with_due with_both key rest due asked due_low asked_low none_is feed_is due_is both_is key_is =
+    ap flush_in (key_is ∙ ap (λ b. b ++ rest) (both_is ∙ ap (λ d. d ++ to_le_bytes w64 asked) (due_is ∙ ap (λ f. f ++ to_le_bytes w64 due) (feed_is ∙ ap (λ n. n ++ 10 ∷ []) none_is))))
+    ∙ key_says due asked rest due_low asked_low
 
 -- the write of a partition's flush
 pub one_flush : (options : Options) (flush : Flush) (is_alone : Bool) (old new : Sessions) (partition : ℕ) (key : List ℕ) (outcome : Outcome) (stamp : ℕ) → begins_with_feed key ≡ true

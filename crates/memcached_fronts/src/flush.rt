@@ -44,19 +44,26 @@ pub fn ask_flush<C: Clock>(clock: &mut C, partitions: u32, due: Due) -> Flush
 
 // Makes a key of the partition that no line can spell, and that says when it flushes.
 #[tactic(auto, unfolding(mica_words::specs::Hash::partition_of))]
-fn make_key<R: Wait>(rt: &R, partitions: u32, partition: u32, flush: Flush, key: &mut ItemBuf)
+fn make_key<R: Wait>(
+    rt: &R,
+    partitions: u32,
+    partition: u32,
+    due: u64,
+    asked: u64,
+    key: &mut ItemBuf,
+)
     requires { 1 ≤ partitions }
     ensures feed { begins_with_feed key.new ≡ true }
     ensures fits { KeyFits key.new }
-    ensures flush { flush_in key.new ≡ flush }
+    ensures flush { flush_in key.new ≡ record { due = due; asked = asked } }
     ensures partition { partition_of key.new partitions ≡ partition }
 {
     let mut number: u32 = 0;
     for _ in rt.forever() {
         key.clear();
         key.extend(b"\n");
-        key.push_word(flush.due);
-        key.push_word(flush.asked);
+        key.push_word(due);
+        key.push_word(asked);
         key.extend(&number.to_le_bytes());
         if partition_of(key_hash(key.value()), partitions) == partition {
             return;
@@ -85,7 +92,7 @@ fn flush_one<R: Threads + Wait + Sync, F: Changes>(
     ensures number { F.number front.new ≡ F.number front.old }
     ensures stands { F.stands front.new ≡ F.stands front.old }
 {
-    make_key(rt, partitions, partition, flush, key);
+    make_key(rt, partitions, partition, flush.due, flush.asked, key);
     let (outcome, _stamp) = front.delete(rt, key.value());
     outcome.is_accepted()
 }

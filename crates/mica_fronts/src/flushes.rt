@@ -63,11 +63,7 @@ impl Flushes {
     pub fn waits_at(&self, second: u64) -> u64
         ensures { result ≡ waits_at second self.now }
     {
-        if second < self.due {
-            self.due
-        } else {
-            0
-        }
+        if second < self.due { self.due } else { 0 }
     }
 
     /// One flush more, as the write with which there are so many.

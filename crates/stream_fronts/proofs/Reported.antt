@@ -1,13 +1,13 @@
 -- What a report makes of what stands.
-use Rattle.std.proofs.Common.{◌≡◌, ℕ, zero, suc, true, true≢false, List, [], ◌∷◌, ◌++◌, length, refl, sym, ap, ◌∙◌, subst, arith}
-use Rattle.std.specs.Prelude.{slice_get, Option, None, Some, is_some, IfSome}
+use Rattle.std.proofs.Common.{◌≡◌, ℕ, true, List, [], ◌∷◌, length, refl, sym, ap, ◌∙◌, subst, arith}
+use Rattle.std.specs.Prelude.{slice_get, Option, Some, is_some, IfSome}
 use Rattle.std.proofs.lemmas.Option.{same_Some, slice_get_past}
 use Rattle.partition_model.specs.declared.options.Options.{Options}
 use Rattle.stream_io.specs.declared.schedule.Step.{Step}
 use Rattle.stream_io.specs.declared.schedule.Step.TheVariants.{Opens, Reports, Happens}
 use Rattle.stream_io.specs.declared.connections.Event.{Event}
 use Rattle.stream_io.specs.declared.connections.Event.TheVariants.{Opened, Ready}
-use Rattle.stream_io.specs.Connection.{Connection, after_change}
+use Rattle.stream_io.specs.Connection.{after_change}
 use Rattle.stream_io.specs.State.{State, opened, reported, held, after_report}
 use Rattle.stream_io.specs.Log.{Log, connections_of, state_of, logged, called}
 use Rattle.stream_io.specs.Calls.{IsNext, ReportsNext}

@@ -13,7 +13,7 @@ use Rattle.stream_fronts.specs.declared.client.Client.{Client}
 use Rattle.stream_fronts.specs.declared.desk.TheConstants.{MOST_UNSENT}
 use Rattle.stream_fronts.specs.declared.visit.After.{After}
 use Rattle.stream_fronts.specs.declared.visit.After.TheVariants.{Waits, Again, Over}
-use Rattle.stream_fronts.specs.Given.{Given, answers_in, given_to}
+use Rattle.stream_fronts.specs.Given.{Given, answers_in}
 use Rattle.stream_fronts.specs.Open.{IsOpen, OnLogs}
 use Rattle.stream_fronts.specs.Clients.{at}
 use Rattle.stream_fronts.specs.Closing.{MayClose}

@@ -1,10 +1,9 @@
 -- Where each waits and nothing is to come, each is settled.
-use Rattle.std.proofs.Common.{◌≡◌, ◌≢◌, inl, inr, ℕ, ◌==◌, ◌<◌, Bool, true, false, true≢false, List, [], ◌∷◌, ◌++◌, length, refl, sym, ap, ◌∙◌, subst, arith, length-append}
+use Rattle.std.proofs.Common.{◌≡◌, ◌≢◌, inl, inr, ℕ, ◌<◌, Bool, true, false, List, [], ◌∷◌, ◌++◌, length, refl, ap, ◌∙◌, subst, arith, length-append}
 use Rattle.std.specs.Prelude.{◌&&◌, not, slice_get, Option, None, Some, IfSome}
 use Rattle.std.proofs.lemmas.List.{append-nil}
 use Rattle.std.proofs.lemmas.Bool.{eq-eqb}
 use Rattle.partition_model.specs.declared.options.Options.{Options}
-use Rattle.memcached_text.specs.declared.limits.TheConstants.{MAX_WAITING_LEN}
 use Rattle.stream_io.specs.Connection.{Connection}
 use Rattle.stream_io.specs.State.{is_under, held}
 use Rattle.stream_io.specs.Log.{Log, state_of, connections_of, received_of, sent_of}
@@ -51,9 +50,9 @@ module _ (options : Options) (base : ℕ) where
         | ended leaves few at none over ↦ some_due some is_shut (talk_at options base at is.begun went (client.unsent, refl))
       ]
       | idle none reading more silent ↦
-        let at = held_reaches options base MOST_UNSENT c holds reading none in
-        let a = all_answered options base (subst (λ due. Reaches options base (place_of client) came given due) (append-nil went) at) is.begun more in
-        inr (silent.whole, a.talk, waits_idle a.due_is silent.read silent.goes_on a.answered)
+          let at = held_reaches options base MOST_UNSENT c holds reading none in
+          let a = all_answered options base (subst (λ due. Reaches options base (place_of client) came given due) (append-nil went) at) is.begun more in
+          inr (silent.whole, a.talk, waits_idle a.due_is silent.read silent.goes_on a.answered)
     ]
 
   -- so the front is done

@@ -1,6 +1,6 @@
 -- What stands since a front began to serve a port.
-use Rattle.std.proofs.Common.{◌≡◌, ℕ, ◌+◌, ◌<◌, ◌≤◌, Bool, true, false, true≢false, List, [], ◌∷◌, ◌++◌, length, inl, refl, sym, ap, ◌∙◌, subst, arith, length-append}
-use Rattle.std.specs.Prelude.{min, slice_get, Option, None, Some, is_some, IfSome, option_map}
+use Rattle.std.proofs.Common.{◌≡◌, ℕ, ◌+◌, ◌<◌, Bool, true, false, true≢false, List, [], ◌++◌, length, inl, refl, sym, ◌∙◌, subst, arith, length-append}
+use Rattle.std.specs.Prelude.{min, Option, None, Some, is_some, IfSome, option_map}
 use Rattle.std.proofs.lemmas.List.{append-nil, map-append}
 use Rattle.std.proofs.lemmas.Option.{none-some}
 use Rattle.partition_model.specs.declared.options.Options.{Options}
@@ -66,13 +66,19 @@ module _ (options : Options) (is_alone : Bool) (base : ℕ) (old : Sessions) (le
   pub since_none : (clients : List (Option Client)) → clients ≡ [] → (log : Option Log)
       → OnLogs (StandsSince options is_alone base old left told had old left told had clients) log log
   since_none clients empty None = tt
-  since_none clients empty (Some log) = λ none. ([], [], refl, these_none options is_alone old left told, record {
-    schedule = refl;
-    lacking = [];
-    counted = omega arith;
-    stands = begun_stands log clients empty none;
-    tends = begun_tends log.script.piece log.schedule log.entries clients none;
-  })
+  since_none clients empty (Some log) = λ none. (
+    [],
+    [],
+    refl,
+    these_none options is_alone old left told,
+    record {
+      schedule = refl;
+      lacking = [];
+      counted = omega arith;
+      stands = begun_stands log clients empty none;
+      tends = begun_tends log.script.piece log.schedule log.entries clients none;
+    },
+  )
 
   module _ {between new : Sessions} {then_left left_after then_told tells : ℕ} (clients now : List (Option Client)) where
     -- one report more was served
@@ -128,10 +134,10 @@ module _ (options : Options) (is_alone : Bool) (base : ℕ) (old : Sessions) (le
 
   module _ (opened ended : Bool) (new : Sessions) (left_after tells lacked : ℕ) (clients : List (Option Client)) where
     abbrev pub first : FrontAt
-    first = record { sessions = old; second = told; lacked = had; has_ended = opened }
+    first = record { sessions = old; left = left; second = told; lacked = had; has_ended = opened }
 
     abbrev pub last : FrontAt
-    last = record { sessions = new; second = tells; lacked = lacked; has_ended = ended }
+    last = record { sessions = new; left = left_after; second = tells; lacked = lacked; has_ended = ended }
 
     -- what the front served, by what stands
     serves_by : {before now : Log} (after : Log) → after.schedule ≡ now.schedule → after.entries ≡ now.entries
@@ -146,6 +152,7 @@ module _ (options : Options) (is_alone : Bool) (base : ℕ) (old : Sessions) (le
             sweeps = f.2;
             in_order = f.3.in_order;
             seconds = f.3.seconds;
+            few = f.3.few;
             lacking = by.lacking;
             counted = by.counted;
             through = subst (λ (s : List Step). TalksThrough options base MOST_UNSENT s by.lacking after.entries f.0) (sym schedule)

@@ -8,7 +8,7 @@ use Rattle.memcached_text.specs.declared.next.Next.TheVariants.{More}
 use Rattle.memcached_text.specs.Next.{next_of}
 use Rattle.stream_io.specs.declared.connections.Event.TheVariants.{Opened}
 use Rattle.stream_io.specs.State.{closed, held}
-use Rattle.stream_io.specs.Log.{Log, state_of, connections_of, received_of, sent_of, logged}
+use Rattle.stream_io.specs.Log.{Log, state_of, connections_of, sent_of, logged}
 use Rattle.stream_io.specs.Calls.{Closes}
 use Rattle.stream_fronts.specs.declared.client.Client.{Client}
 use Rattle.stream_fronts.specs.Given.{Given, given_to}

@@ -1,6 +1,6 @@
 -- Those that wait for their peers go on waiting as another is reported.
-use Rattle.std.proofs.Common.{◌≡◌, ◌≢◌, ◌⊎◌, inl, inr, ℕ, zero, suc, ◌==◌, ◌<◌, ◌≤◌, Bool, true, false, true≢false, List, [], ◌∷◌, ◌++◌, length, refl, sym, ap, ◌∙◌, subst, arith}
-use Rattle.std.specs.Prelude.{◌&&◌, not, slice_get, Option, None, Some, is_some, IfSome}
+use Rattle.std.proofs.Common.{◌≡◌, ◌≢◌, ◌⊎◌, inl, inr, ℕ, zero, suc, true, true≢false, List, [], ◌∷◌, ◌++◌, length, refl, sym, ap, ◌∙◌, subst, arith}
+use Rattle.std.specs.Prelude.{slice_get, Option, None, Some, is_some, IfSome}
 use Rattle.std.proofs.lemmas.Option.{none-some, same_Some}
 use Rattle.std.proofs.lemmas.Grind.{common_steps}
 use Rattle.stream_io.specs.declared.schedule.Change.{Change}
@@ -12,9 +12,8 @@ use Rattle.stream_io.specs.Connection.{Connection, new_connection, after_change}
 use Rattle.stream_io.specs.State.{State, changed, is_under, held, number_or, number_at, after_report}
 use Rattle.stream_io.specs.Calls.{IsNext}
 use Rattle.stream_fronts.specs.declared.client.Client.{Client}
-use Rattle.stream_fronts.specs.Clients.{at}
 use Rattle.stream_fronts.specs.Traffic.{IsSilent, IsToCome}
-use Rattle.stream_fronts.specs.Resting.{IsAtRest, Rests, is_there, AreApart, Tended, Tends, TendsBut, number_in}
+use Rattle.stream_fronts.specs.Resting.{IsAtRest, Rests, is_there, AreApart, Tends, TendsBut, number_in}
 use Rattle.stream_fronts.proofs.Places.{there, pushed, pushed_here, elsewhere, if_pushed}
 use Rattle.stream_fronts.proofs.Moving.{there_changed, held_changed, apart_as}
 
@@ -83,8 +82,8 @@ module _ (piece : ℕ) (clients : List (Option Client)) (s : State) (tends : Ten
         by (Some y) some here = elim (which s.connections one d y some) as (λ _. held n all ≡ Some d) [
           | inl found ↦ held_old n d (tends.apart n d (ap (is_there n) found ∙ here))
           | inr last ↦
-            let own : number ≡ n = own_number n one (subst (λ (z : Connection). is_under n z ≡ true) last.1 here) in
-            ap (λ m. held m all) (sym own) ∙ held_new ∙ ap Some (sym last.0)
+              let own : number ≡ n = own_number n one (subst (λ (z : Connection). is_under n z ≡ true) last.1 here) in
+              ap (λ m. held m all) (sym own) ∙ held_new ∙ ap Some (sym last.0)
         ]
 
     -- those under other numbers were there

@@ -1,6 +1,6 @@
 -- Those that wait for their peers go on waiting, as others are served.
-use Rattle.std.proofs.Common.{◌≡◌, ◌≢◌, ◌⊎◌, inl, inr, ℕ, ◌==◌, ◌<◌, Bool, true, false, true≢false, List, [], ◌∷◌, ◌++◌, refl, sym, ap, ◌∙◌, subst}
-use Rattle.std.specs.Prelude.{◌&&◌, not, slice_get, Option, None, Some, IfSome}
+use Rattle.std.proofs.Common.{◌≡◌, ◌≢◌, inl, inr, ℕ, ◌==◌, Bool, true, false, true≢false, List, refl, sym, ap, ◌∙◌, subst}
+use Rattle.std.specs.Prelude.{◌&&◌, slice_get, Option, Some, IfSome}
 use Rattle.std.proofs.lemmas.Option.{same_Some}
 use Rattle.std.proofs.lemmas.Bool.{cases_eq, ne_eqb}
 use Rattle.stream_io.specs.Connection.{Connection, after_close}
@@ -37,8 +37,8 @@ module _ (piece number c : ℕ) {old new : State} (clients now : List (Option Cl
     apart = apart_as old.connections new.connections moves.there moves.same apart;
     each = λ n d is. elim (cases_eq n number) as (λ _. Tended piece n d new now) [
       | inl same ↦
-        let place = same_Some c d (sym here ∙ sym (moves.same number) ∙ ap (λ m. held m new.connections) (sym same) ∙ is) in
-        subst (λ m. Tended piece m d new now) (sym same) (subst (λ e. Tended piece number e new now) place mine)
+          let place = same_Some c d (sym here ∙ sym (moves.same number) ∙ ap (λ m. held m new.connections) (sym same) ∙ is) in
+          subst (λ m. Tended piece m d new now) (sym same) (subst (λ e. Tended piece number e new now) place mine)
       | inr other ↦ (tended_other n d other is).1
     ];
   }

@@ -451,4 +451,3 @@ module _ (options : Options) (base : ℕ) where
                     by : (b : Bool) → last.leaving ≡ b → Visits options base client answers last becomes c old new
                     by true is_over = subst (λ (a : After). Visits options base client answers last a c old new) (sym (over is_over)) (visit_ends is_last is_over none_left)
                     by false is_open = visit_goes_on becomes (stays is_open) (waits_idle becomes is_open none_left waits)
-

@@ -120,9 +120,6 @@ module _ (options : Options) (base most c : ℕ) where
     module _ (client : Client) {old new : Log} {bytes : List ℕ} (stage : Stage schedule lacking old all []) (reads : Reads c bytes old new)
         (at : Reaches options base (place_of client) (received_of c old.entries) (given_to c all) (sent_of c old.entries ++ []))
         (first : client.done ≡ 0) (short : length (client.kept.items ++ bytes) ≤ MAX_WAITING_LEN) where
-      now : Place
-      now = record { bytes = drop client.dropping (client.kept.items ++ bytes); done = 0; dropping = client.dropping - length (client.kept.items ++ bytes) }
-
       entries_received : (b : List ℕ) (entries : List Entry) → received_of c (after_receiving c b entries) ≡ received_of c entries ++ b
       entries_received [] entries = sym (append-nil (received_of c entries))
       entries_received (byte ∷ b) entries = own_received c (byte ∷ b) entries

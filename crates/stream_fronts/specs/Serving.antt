@@ -1,9 +1,9 @@
 -- What a front made of the connections at its port.
-use Rattle.std.specs.Prelude.{◌≡◌, ℕ, ◌+◌, ◌<◌, Bool, true, List, [], length, min, slice_get, IfSome}
+use Rattle.std.specs.Prelude.{◌≡◌, ℕ, ◌+◌, ◌<◌, ◌≤◌, Bool, true, List, [], length, min, slice_get, IfSome}
 use Rattle.partition_model.specs.declared.options.Options.{Options}
 use Rattle.mica_io.specs.Faults.{LAST_COUNT}
 use Rattle.stream_io.specs.Log.{Log, state_of, connections_of, received_of, sent_of}
-use Rattle.mica_fronts.specs.Answered.{Answered}
+use Rattle.mica_fronts.specs.Answered.{Answered, count_of_writes}
 use Rattle.mica_fronts.specs.Session.{Sessions, AnswersInOrder}
 use Rattle.memcached_fronts.specs.Seconds.{seconds_of, ToldFrom}
 use Rattle.memcached_fronts.specs.Sweeps.{HasSweeps}
@@ -11,9 +11,11 @@ use Rattle.stream_fronts.specs.Given.{Given, answers_in, given_to}
 use Rattle.stream_fronts.specs.Closing.{IsSettled}
 use Rattle.stream_fronts.specs.Moments.{TalksThrough}
 
--- What contracts see of a front, its clock and its port at one moment; and a count of connections that there was no memory for.
+-- What contracts see of a front, its clock and its port at one moment: among them how many writes it may still be given; and a count of connections that there
+-- was no memory for.
 pub record FrontAt : Type 0 where
   pub sessions : Sessions
+  pub left : ℕ
   pub second : ℕ
   pub lacked : ℕ
   pub has_ended : Bool
@@ -24,14 +26,15 @@ pub record IsDone (options : Options) (base : ℕ) (log : Log) (all : List Given
   pub settled : (c : ℕ) → IfSome (slice_get (connections_of log) c)
       (λ connection. IsSettled options base connection (received_of c log.entries) (sent_of c log.entries) (given_to c all))
 
--- All answers of the front are one list: its sessions went on by them in this order, and the clock told their seconds. They are those to clients, and between
--- them sweeps and nothing else. At each moment of the log those to clients are what it talked with them. For some connections there was no memory, as many as were counted. Where the end came, and calls can move bytes at all, the front
--- is done.
+-- All answers of the front are one list: its sessions went on by them in this order, and the clock told their seconds; it was given no writes but those among
+-- them. They are those to clients, and between them sweeps and nothing else. At each moment of the log those to clients are what it talked with them. For some
+-- connections there was no memory, as many as were counted. Where the end came, and calls can move bytes at all, the front is done.
 pub record Serves (options : Options) (is_alone : Bool) (base most : ℕ) (old new : FrontAt) (log : Log) (all : List Given) : Type 0 where
   pub answers : List Answered
   pub sweeps : HasSweeps base (answers_in all) answers
   pub in_order : AnswersInOrder options is_alone old.sessions answers new.sessions
   pub seconds : ToldFrom old.second (seconds_of answers) new.second
+  pub few : old.left ≤ new.left + count_of_writes answers
   pub lacking : List ℕ
   pub counted : min new.lacked LAST_COUNT ≡ min (old.lacked + length lacking) LAST_COUNT
   pub through : TalksThrough options base most log.schedule lacking log.entries all

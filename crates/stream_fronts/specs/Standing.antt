@@ -50,7 +50,7 @@ pub record StandsOn (options : Options) (base : ℕ) (event : Event) (clients : 
   pub piece : new.script.piece ≡ old.script.piece
   pub on : (lacking : List ℕ) (all : List Given) → IsNew event old all → Stands options base lacking old all clients
       → StandsBut options base lacking count new (all ++ given) now
-  pub tends : (lacking : List ℕ) (all : List Given) → Stands options base lacking old all clients 
+  pub tends : (lacking : List ℕ) (all : List Given) → Stands options base lacking old all clients
       → TendsBut event old.script.piece (state_of old) clients → Tends old.script.piece (state_of new) now
 
 -- They went on by some answers, of which it is told to whom they were given, and of these P holds.

@@ -199,8 +199,8 @@ pub fn serve_connections<R: Threads + Wait + Sync, F: Glances, K: Clock, C: Conn
     requires left { most ≤ F.left front.old }
     ensures goes { GoesBy (F.options front.old) F.is_alone (F.sessions front.old) (F.left front.old) (K.last clock.old) (F.sessions front.new) (F.left front.new) (K.last clock.new) }
     ensures serves { OnLogs (ServesFromNone (F.options front.old) F.is_alone numbering.base MOST_UNSENT
-        (record { sessions = F.sessions front.old; second = K.last clock.old; lacked = lacked.old; has_ended = C.has_ended connections.old })
-        (record { sessions = F.sessions front.new; second = K.last clock.new; lacked = lacked.new; has_ended = C.has_ended connections.new }))
+        (record { sessions = F.sessions front.old; left = F.left front.old; second = K.last clock.old; lacked = lacked.old; has_ended = C.has_ended connections.old })
+        (record { sessions = F.sessions front.new; left = F.left front.new; second = K.last clock.new; lacked = lacked.new; has_ended = C.has_ended connections.new }))
         (C.log connections.old) (C.log connections.new) }
     ensures cause { IsErrOf result ServeFault.Net → Rose (C.faults connections.old) (C.faults connections.new) }
     ensures none_served { IsErrOf result ServeFault.NoMemory → (front.new ≡ front.old) × (connections.new ≡ connections.old) }

@@ -352,9 +352,8 @@ pub fn visit_once<R: Threads + Wait + Sync, F: Changes, K: Clock, C: Connections
         Err(Broken) => return Ok(After::Over),
     };
     client.leaving = leaves_by(stand, input);
-    let replies = desk.replies.as_slice();
     let tally = &mut desk.buffers.tally;
-    match send_new(connections, number, client, replies, tally)? {
+    match send_new(connections, number, client, desk.replies.as_slice(), tally)? {
         Err(Broken) => Ok(After::Over),
         Ok(false) => Ok(After::Waits),
         Ok(true) => Ok(after_all(client.leaving, stand, input)),

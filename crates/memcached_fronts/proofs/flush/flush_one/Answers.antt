@@ -1,5 +1,6 @@
 use Rattle.std.proofs.Common.{◌∙◌, ap, sym}
 use Rattle.mica_words.specs.Hash.{partition_of}
+use Rattle.mica_fronts.specs.Flushes.{begins_with_feed, flush_in}
 use Rattle.memcached_fronts.proofs.Flushing.{one_flush}
 use Rattle.memcached_fronts.proofs.flush.flush_one.Goals as goal
 
@@ -7,8 +8,11 @@ pub returns-clause-flushed : goal.returns-clause-flushed
 returns-clause-flushed g c =
     let F = g.F.Front in
     let options = F.options c.args.front.now in
-    let key = c.make_key.new.key in
-    let one = one_flush options c.args.flush F.is_alone (F.sessions c.args.front.now) (F.sessions c.delete.new.self) c.args.partition key c.delete.result.0 c.delete.result.1
-    c.make_key.ensures.feed c.make_key.ensures.flush (ap (partition_of key) (sym c.requires.partitions) ∙ c.make_key.ensures.partition) c.delete.ensures.written
-    c.delete.ensures.others in
+    let key = c.value.result.now in
+    let made = c.make_key.ensures in
+    let same = c.value.ensures.value in
+    let one = one_flush options c.args.flush F.is_alone (F.sessions c.args.front.now) (F.sessions c.delete-outcome.new.self) c.args.partition key c.delete-outcome.result.0
+    c.delete-outcome.result.1 (ap begins_with_feed same ∙ made.feed) (ap flush_in same ∙ made.flush)
+    (ap (partition_of key) (sym c.requires.partitions) ∙ ap (λ k. partition_of k c.args.partitions) same ∙ made.partition) c.delete-outcome.ensures.written
+    c.delete-outcome.ensures.others in
     (one.0, one.1, one.2, c.is_accepted.ensures ∙ one.3)

@@ -124,16 +124,16 @@ returns-clause-serves g c =
     let here = since_serves options g.F.Front.is_alone base sessions (g.F.Front.left c.args.front.now) told c.args.lacked.now opened (ended c.loop.connections) (g.F.Front.sessions c.loop.front)
     (g.F.Front.left c.loop.front) (g.K.Clock.last c.loop.clock) c.loop.lacked c.loop.clients.held.items inv.2 (log c.args.connections.now) (log c.loop.connections) inv.11 in
     elim c.match-next.branch [
-      | in-None w ↦ subst (λ x. OnLogs (ServesFromNone options g.F.Front.is_alone base MOST_UNSENT (record { sessions = sessions; second = told; lacked = c.args.lacked.now; has_ended = opened })
-          (record { sessions = g.F.Front.sessions c.loop.front; second = g.K.Clock.last c.loop.clock; lacked = c.loop.lacked; has_ended = ended x })) (log c.args.connections.now) (log x))
+      | in-None w ↦ subst (λ x. OnLogs (ServesFromNone options g.F.Front.is_alone base MOST_UNSENT (record { sessions = sessions; left = g.F.Front.left c.args.front.now; second = told; lacked = c.args.lacked.now; has_ended = opened })
+          (record { sessions = g.F.Front.sessions c.loop.front; left = g.F.Front.left c.loop.front; second = g.K.Clock.last c.loop.clock; lacked = c.loop.lacked; has_ended = ended x })) (log c.args.connections.now) (log x))
           (sym w.connections-is) here
       | in-Some+then-left-least w ↦ subst (λ x. OnLogs (ServesFromNone options g.F.Front.is_alone base MOST_UNSENT
-          (record { sessions = sessions; second = told; lacked = c.args.lacked.now; has_ended = opened })
-          (record { sessions = g.F.Front.sessions c.loop.front; second = g.K.Clock.last c.loop.clock; lacked = c.loop.lacked; has_ended = ended x })) (log c.args.connections.now) (log x))
+          (record { sessions = sessions; left = g.F.Front.left c.args.front.now; second = told; lacked = c.args.lacked.now; has_ended = opened })
+          (record { sessions = g.F.Front.sessions c.loop.front; left = g.F.Front.left c.loop.front; second = g.K.Clock.last c.loop.clock; lacked = c.loop.lacked; has_ended = ended x })) (log c.args.connections.now) (log x))
           (sym w.connections-is) here
       | in-Some+else-left-least+in_ok-event+in_default w ↦ subst (λ x. OnLogs (ServesFromNone options g.F.Front.is_alone base MOST_UNSENT
-          (record { sessions = sessions; second = told; lacked = c.args.lacked.now; has_ended = opened })
-          (record { sessions = g.F.Front.sessions c.loop.front; second = g.K.Clock.last c.loop.clock; lacked = c.loop.lacked; has_ended = ended x })) (log c.args.connections.now) (log x))
+          (record { sessions = sessions; left = g.F.Front.left c.args.front.now; second = told; lacked = c.args.lacked.now; has_ended = opened })
+          (record { sessions = g.F.Front.sessions c.loop.front; left = g.F.Front.left c.loop.front; second = g.K.Clock.last c.loop.clock; lacked = c.loop.lacked; has_ended = ended x })) (log c.args.connections.now) (log x))
           (sym w.connections-is)
           (since_over options g.F.Front.is_alone base sessions (g.F.Front.left c.args.front.now) told c.args.lacked.now opened (ended w.next-in-loop.new.self) (g.F.Front.sessions c.loop.front)
           (g.F.Front.left c.loop.front) (g.K.Clock.last c.loop.clock) c.loop.lacked c.loop.clients.held.items (log c.args.connections.now) (log c.loop.connections) (log w.next-in-loop.new.self) inv.11 inv.1

@@ -1,4 +1,4 @@
-use Rattle.std.proofs.Common.{◌≡◌, [], sym, ap, ◌∙◌, subst}
+use Rattle.std.proofs.Common.{[], sym, ap, ◌∙◌, subst}
 use Rattle.memcached_text.specs.Next.{next_of}
 use Rattle.stream_fronts.specs.Reached.{Reaches, place_at}
 use Rattle.stream_fronts.proofs.Reaching.{begins_none, nothing_next}
