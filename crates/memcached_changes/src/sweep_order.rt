@@ -5,8 +5,8 @@ ghost use Rattle.memcached_changes.specs.Over.{is_over, sweeping};
 use crate::order::moment_at;
 use memcached_commands::is_there;
 use memcached_text::read_item;
-use mica_fronts::{Change, Decide, When};
-use partition_model::ItemBuf;
+use mica_fronts::{Decide, When};
+use partition_model::{Change, ItemBuf};
 use std::marker::Model;
 
 /// Takes away what is over, where the first value that its partition accepts has this unique number.
