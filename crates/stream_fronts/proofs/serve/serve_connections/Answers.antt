@@ -103,6 +103,18 @@ returns-in_err-desk-clause-serves g c =
     since_serves options g.F.Front.is_alone c.args.numbering.base sessions left told had opened opened sessions left told had [] c.requires.«open» log log
     (since_none options g.F.Front.is_alone c.args.numbering.base sessions left told had [] refl log)
 
+pub returns-in_err-sweeper-clause-serves : goal.returns-in_err-sweeper-clause-serves
+returns-in_err-sweeper-clause-serves g c =
+    let log = g.C.Connections.log c.args.connections.now in
+    let opened = g.C.Connections.has_ended c.args.connections.now in
+    let options = g.F.Front.options c.args.front.now in
+    let sessions = g.F.Front.sessions c.args.front.now in
+    let left = g.F.Front.left c.args.front.now in
+    let told = g.K.Clock.last c.args.clock.now in
+    let had = c.args.lacked.now in
+    since_serves options g.F.Front.is_alone c.args.numbering.base sessions left told had opened opened sessions left told had [] c.requires.«open» log log
+    (since_none options g.F.Front.is_alone c.args.numbering.base sessions left told had [] refl log)
+
 pub returns-in_err-event-clause-serves : goal.returns-in_err-event-clause-serves
 returns-in_err-event-clause-serves g c =
     let log = g.C.Connections.log in
