@@ -28,7 +28,7 @@ def free_port(ports=1):
                 pass
 
 
-def await_port(running, port, seconds=60):
+def await_port(running, port, seconds=300):
     end = time.monotonic() + seconds
     while time.monotonic() < end and running.poll() is None:
         with contextlib.suppress(OSError):
@@ -50,11 +50,11 @@ def started(command, ports):
 
 
 @contextlib.contextmanager
-def micad(*words, fronts=1, mode="store", memory="64M"):
+def micad(*words, fronts=1, mode="store", memory="64M", build=MICAD):
     """The process, and the ports of its fronts."""
     port = free_port(fronts)
     ports = range(port, port + fronts)
-    command = [MICAD, "--mode", mode, "--memory", memory, "--memcached", port, "--memcached-fronts", fronts, *words]
+    command = [build, "--mode", mode, "--memory", memory, "--memcached", port, "--memcached-fronts", fronts, *words]
     with started(command, ports) as running:
         yield running, ports
 

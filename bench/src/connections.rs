@@ -20,6 +20,10 @@ struct Mix {
     gets: u64,
     /// How many of 100 commands count one key up, or a drawn key where `keys` are many.
     counts: u64,
+    /// Whether sets have a time at which they end.
+    ends: bool,
+    /// Whether writes of `gets` and of `cas` with the numbers that came take turns.
+    swaps: bool,
     per: usize,
 }
 
@@ -45,15 +49,23 @@ impl Mix {
 
     fn put_set(&self, key: u64, out: &mut Vec<u8>) {
         if self.is_redis {
-            out.extend_from_slice(b"*3\r\n$3\r\nSET\r\n$16\r\n");
+            out.extend_from_slice(if self.ends { b"*5\r\n$3\r\nSET\r\n$16\r\n" } else { b"*3\r\n$3\r\nSET\r\n$16\r\n" });
             Mix::put_key(key, out);
             write!(out, "\r\n${}\r\n", self.value).unwrap_or_default();
         } else {
             out.extend_from_slice(b"set ");
             Mix::put_key(key, out);
-            write!(out, " 0 0 {}\r\n", self.value).unwrap_or_default();
+            write!(out, " 0 {} {}\r\n", if self.ends { 1_000 } else { 0 }, self.value).unwrap_or_default();
         }
         out.resize(out.len() + self.value, b'v');
+        out.extend_from_slice(if self.is_redis && self.ends { b"\r\n$2\r\nEX\r\n$4\r\n1000\r\n" } else { b"\r\n" });
+    }
+
+    fn put_swap(&self, seen: &Seen, out: &mut Vec<u8>) {
+        out.extend_from_slice(b"cas ");
+        out.extend_from_slice(&seen.key);
+        write!(out, " 0 0 {} {}\r\n", self.value, seen.unique).unwrap_or_default();
+        out.resize(out.len() + self.value, b'w');
         out.extend_from_slice(b"\r\n");
     }
 
@@ -68,7 +80,11 @@ impl Mix {
         out.clear();
         for _ in 0..self.per {
             let (key, kind) = (draws.next() % self.keys, draws.next() % 100);
-            if kind < self.counts {
+            if self.swaps {
+                out.extend_from_slice(b"gets ");
+                Mix::put_key(key, out);
+                out.extend_from_slice(b"\r\n");
+            } else if kind < self.counts {
                 self.put_count(key, out);
             } else if kind < self.counts + self.gets {
                 self.put_get(key, out);
@@ -90,12 +106,29 @@ impl Mix {
     }
 }
 
+/// A key of 16 bytes, and the unique number that `gets` told of it.
+struct Seen {
+    key: Vec<u8>,
+    unique: u64,
+}
+
+impl Seen {
+    /// What the first line of a hit tells.
+    fn of(bytes: &[u8]) -> Option<Seen> {
+        let line = bytes.split(|&byte| byte == b'\r').next()?;
+        let key = line.split(|&byte| byte == b' ').nth(1)?.to_vec();
+        let unique = std::str::from_utf8(line.rsplit(|&byte| byte == b' ').next()?).ok()?.parse().ok()?;
+        Some(Seen { key, unique })
+    }
+}
+
 struct Connection {
     stream: TcpStream,
     unsent: Vec<u8>,
     sent: usize,
     kept: Vec<u8>,
     due: usize,
+    seen: Vec<Seen>,
 }
 
 #[derive(Default)]
@@ -109,13 +142,19 @@ impl Connection {
         let stream = TcpStream::connect(("127.0.0.1", port))?;
         stream.set_nodelay(true)?;
         stream.set_nonblocking(true)?;
-        Ok(Connection { stream, unsent: Vec::new(), sent: 0, kept: Vec::new(), due: 0 })
+        Ok(Connection { stream, unsent: Vec::new(), sent: 0, kept: Vec::new(), due: 0, seen: Vec::new() })
     }
 
     fn ask(&mut self, mix: &Mix, draws: &mut Pcg) -> io::Result<()> {
-        mix.batch(draws, &mut self.unsent);
         self.sent = 0;
         self.due = mix.per;
+        if self.seen.is_empty() {
+            mix.batch(draws, &mut self.unsent);
+        } else {
+            self.due = self.seen.len();
+            self.unsent.clear();
+            self.seen.drain(..).for_each(|seen| mix.put_swap(&seen, &mut self.unsent));
+        }
         self.send()
     }
 
@@ -144,6 +183,9 @@ impl Connection {
             while self.due > 0
                 && let Some((len, is_hit)) = mix.reply(&self.kept[at..])
             {
+                if is_hit && mix.swaps {
+                    self.seen.extend(Seen::of(&self.kept[at..at + len]));
+                }
                 at += len;
                 self.due -= 1;
                 done.replies += 1;
@@ -160,12 +202,15 @@ impl Connection {
     }
 }
 
+/// How many keys are stored by one write.
+const FILLED: usize = 128;
+
 /// Stores all keys: zeros, where they are to be counted up.
 fn fill(port: u16, mix: &Mix) -> io::Result<()> {
     let mut stream = TcpStream::connect(("127.0.0.1", port))?;
     let (mut text, mut room) = (Vec::new(), [0; 4096]);
-    for first in (0..mix.keys).step_by(32) {
-        let last = mix.keys.min(first + 32);
+    for first in (0..mix.keys).step_by(FILLED) {
+        let last = mix.keys.min(first + FILLED as u64);
         text.clear();
         for key in first..last {
             if mix.counts == 0 {
@@ -221,10 +266,14 @@ pub fn load(words: &HashMap<&str, &str>) -> Result<Vec<u8>, Box<dyn Error>> {
         value: number("value-len", 64)? as usize,
         gets: number("gets", 100)?,
         counts: number("counts", 0)?,
+        ends: number("ends", 0)? > 0,
+        swaps: number("swaps", 0)? > 0,
         per: number("size", 1)? as usize,
     };
     let (connections, threads) = (number("connections", 1)? as usize, number("threads", 1)? as usize);
-    fill(port, &mix)?;
+    if number("fill", 1)? > 0 {
+        fill(port, &mix)?;
+    }
     let begin = Instant::now();
     let end = begin + Duration::from_millis(number("milliseconds", 1_000)?);
     let parts: Vec<io::Result<Done>> = thread::scope(|scope| {

@@ -243,7 +243,7 @@ impl Waits {
     }
 }
 
-/// The most batches that are made before the first is sent. Then they come again.
+/// The most batches that are made before the first is sent. Then they come again, but for those that fill: each is made as it is sent.
 const MADE: u64 = 20_000;
 
 struct Load {
@@ -287,12 +287,14 @@ pub fn load(words: &Words<'_>) -> Result<Vec<u8>, Box<dyn Error>> {
     };
     let peer = Peer::of(words)?;
     let mut draws = Pcg::new(number("seed", 1)?);
-    let made: Vec<_> = (0..batches.min(MADE)).map(|number| load.batch(peer, number, &mut draws)).collect();
+    let first = if load.fills { 1 } else { batches.min(MADE) };
+    let made: Vec<_> = (0..first).map(|number| load.batch(peer, number, &mut draws)).collect();
     let mut line = connect(peer, port)?;
     let (mut answered, mut waits) = (Answered::default(), Waits::default());
     let begin = Instant::now();
     let mut sent = 0;
     for texts in made.iter().cycle() {
+        let fresh = (load.fills && sent > 0).then(|| load.batch(peer, sent, &mut draws));
         if sent == batches || begin.elapsed() > most {
             break;
         }
@@ -304,7 +306,7 @@ pub fn load(words: &Words<'_>) -> Result<Vec<u8>, Box<dyn Error>> {
             waits.settle(answered.settled() / load.size);
         }
         waits.sent.push_back(Instant::now());
-        for text in texts {
+        for text in fresh.as_ref().unwrap_or(texts) {
             line.send(text)?;
         }
         sent += 1;

@@ -12,18 +12,32 @@ use std::net::UdpSocket;
 use std::sync::Mutex;
 use std::thread;
 
+/// Tables of more words than this, 16 MiB, are larger than the caches.
+const CACHED_WORDS: usize = 1 << 21;
+
 /// What a front has of each partition.
 struct Part<'a> {
     table: &'a Table,
     owner: &'a Mutex<Owner<'a>>,
 }
 
-fn replies_to(parts: &[Part<'_>], datagram: &[u8], value: &mut Vec<u8>) -> Replies {
+/// Loads what the gets of a batch will look at, so that they miss the caches beside each other.
+fn load_ahead(parts: &[Part<'_>], requests: &[(u32, Request<'_>)]) {
+    let hashes: Vec<u64> = requests.iter().map(|(_, request)| key_hash(request.key())).collect();
+    let part_of = |hash| parts[partition_of(hash, parts.len())].table;
+    let loaded = hashes.iter().fold(0, |all, &hash| all ^ part_of(hash).bucket_ahead(hash));
+    std::hint::black_box(hashes.iter().fold(loaded, |all, &hash| all ^ part_of(hash).item_ahead(hash)));
+}
+
+fn replies_to(parts: &[Part<'_>], is_ahead: bool, datagram: &[u8], value: &mut Vec<u8>) -> Replies {
     let mut replies = Replies::default();
     let Some((head, requests)) = read_batch(datagram) else {
         replies.push(&Head { version: 1, number: 0 }, 9, 0, 0, b"");
         return replies;
     };
+    if is_ahead {
+        load_ahead(parts, &requests);
+    }
     for (ticket, request) in requests {
         let (Request::Get { key } | Request::Put { key, .. } | Request::Del { key }) = request;
         let hash = key_hash(key);
@@ -53,9 +67,10 @@ fn replies_to(parts: &[Part<'_>], datagram: &[u8], value: &mut Vec<u8>) -> Repli
 fn run_front(parts: &[Part<'_>], socket: &UdpSocket, batches: u64) -> io::Result<()> {
     let mut room = [0; LONGEST + 1];
     let mut value = Vec::with_capacity(LONGEST_VALUE);
+    let is_ahead = parts.iter().map(|part| part.table.size()).sum::<usize>() > CACHED_WORDS;
     for _ in 0..batches {
         let (len, peer) = socket.recv_from(&mut room)?;
-        for reply in replies_to(parts, &room[..len], &mut value).datagrams {
+        for reply in replies_to(parts, is_ahead, &room[..len], &mut value).datagrams {
             socket.send_to(&reply, peer)?;
         }
     }

@@ -14,6 +14,13 @@ pub enum Request<'a> {
     Del { key: &'a [u8] },
 }
 
+impl Request<'_> {
+    pub fn key(&self) -> &[u8] {
+        let (Request::Get { key } | Request::Put { key, .. } | Request::Del { key }) = self;
+        key
+    }
+}
+
 fn number_at(bytes: &[u8], at: usize) -> Option<u32> {
     Some(u32::from_le_bytes(bytes.get(at..at + 4)?.try_into().ok()?))
 }

@@ -35,6 +35,11 @@ impl Table {
         }
     }
 
+    /// How many words it has.
+    pub fn size(&self) -> usize {
+        self.table.len()
+    }
+
     fn load(&self, at: usize) -> u64 {
         self.table[at].load(SeqCst)
     }
@@ -68,6 +73,22 @@ impl Table {
 
     fn is_live(&self, offset: u64, stamp: u64) -> bool {
         self.mode == Mode::Store || stamp >> 16 <= offset + self.words
+    }
+
+    /// A word that a get of the hash will look at: of its bucket, so that misses of several gets lie beside each other.
+    pub fn bucket_ahead(&self, hash: u64) -> u64 {
+        let main = bucket_of(hash, self.buckets);
+        self.load(self.epoch_at(main)) ^ self.load(self.entry_at(main, 7)) ^ self.load(self.entry_at(main, 14))
+    }
+
+    /// The same of the first item whose entry has the tag of the hash.
+    pub fn item_ahead(&self, hash: u64) -> u64 {
+        let (main, tag) = (bucket_of(hash, self.buckets), tag_of(hash));
+        let entries = (0..SLOTS).map(|slot| self.load(self.entry_at(main, slot)));
+        match entries.map(|entry| (entry >> 48 == tag).then_some(entry & OFFSET)).find_map(|offset| offset) {
+            Some(offset) => self.load(self.item_at(offset)) ^ self.load(self.item_at(offset + 8)),
+            None => 0,
+        }
     }
 
     /// The length of the value, where the item at the offset has this key.

@@ -19,55 +19,65 @@ use Rattle.locked_serve.specs.Streams.{StreamFacts, ListenFacts, AreNewStreams, 
 use Rattle.locked_serve.specs.Causes.{CameTo, ComesBeside}
 use Rattle.locked_serve.proofs.Unheard.{no_answers, none_answered, as_heard, none_heard}
 
-came_to_fault : (before after : ListenFacts) (fault : ServeFault) → CameTo (Err (Fault fault)) before after (Some (Err fault))
+came_to_fault : (before after : ℕ) (fault : ServeFault) → CameTo (Err (Fault fault)) before after (Some (Err fault))
 came_to_fault before after Net = inl refl
 came_to_fault before after NoMemory = refl
 
-module _ (says : Others → Option (Result Totals ServeFault) → Type 0) (streams : StreamPorts) (clocks : List ℕ) (before after : ListenFacts) where
+-- those that have no port answered nothing
+pub silent : (streams : StreamPorts) (olds news : List StreamFacts) → HaveAnsweredNothing (others_of (no_answers streams.fronts) olds news)
+silent streams olds news k own at = none_answered streams.fronts k own at
+
+module _ (says : Others → Option (Result Totals ServeFault) → Type 0) (leaves : List StreamFacts → Type 0) (options : Options) (base : ℕ) (streams : StreamPorts) (clocks : List ℕ) (before after : ListenFacts) where
   -- a port of datagrams could not be bound
-  pub unbound : says (others_of (no_answers streams.fronts) [] []) (Some (Err Net)) → ComesBeside says (Err (Fault Net)) streams clocks before after
-  unbound said = record {
+  pub unbound : leaves [] → says (others_of (no_answers streams.fronts) [] []) (Some (Err Net)) → ComesBeside says leaves (Err (Fault Net)) options base streams clocks before after
+  unbound left said = record {
     answers = no_answers streams.fronts;
     olds = [];
     news = [];
-    are = none_heard streams before.ports clocks;
+    are = none_heard options base streams before.ports clocks;
+    left = left;
     all = tt;
     came = Some (Err Net);
     came_is = inl refl;
+    unserved = tt;
     said = said;
   }
 
   module _ (heard : List StreamFacts) (new : AreNewStreams before.ports streams.port heard) (within : length heard ≤ streams.fronts) where
     -- these were listened at, and nothing was served: the next could not be
-    pub unheard : Rose before.faults after.faults → says (others_of (no_answers streams.fronts) heard heard) None → ComesBeside says (Err (Fault Net)) streams clocks before after
-    unheard rose said = record {
+    pub unheard : leaves heard → Rose before.faults after.faults → says (others_of (no_answers streams.fronts) heard heard) None → ComesBeside says leaves (Err (Fault Net)) options base streams clocks before after
+    unheard left rose said = record {
       answers = no_answers streams.fronts;
       olds = heard;
       news = heard;
-      are = as_heard streams before.ports clocks heard new within;
+      are = as_heard options base streams before.ports clocks heard new within;
+      left = left;
       all = tt;
       came = None;
       came_is = inr (refl, rose);
+      unserved = (refl, silent streams heard heard);
       said = said;
     }
 
     -- or it could not be told
-    pub untold : says (others_of (no_answers streams.fronts) heard heard) None → ComesBeside says (Err Unannounced) streams clocks before after
-    untold said = record {
+    pub untold : leaves heard → says (others_of (no_answers streams.fronts) heard heard) None → ComesBeside says leaves (Err Unannounced) options base streams clocks before after
+    untold left said = record {
       answers = no_answers streams.fronts;
       olds = heard;
       news = heard;
-      are = as_heard streams before.ports clocks heard new within;
+      are = as_heard options base streams before.ports clocks heard new within;
+      left = left;
       all = tt;
       came = None;
       came_is = refl;
+      unserved = (refl, silent streams heard heard);
       said = said;
     }
 
     -- all fronts were served
-    module _ {options : Options} {begun : ℕ → History} {batches : ℕ} {kept : List KeptSeat} {ends_before ends_after : List EndFacts} (full : length heard ≡ streams.fronts) where
-      are : {answer : Result Totals ServeFault} (b : ServesBeside options begun batches clocks answer kept ends_before ends_after heard)
-          → AreStreams streams before.ports clocks b.answers heard b.news
+    module _ {begun : ℕ → History} {batches : ℕ} {kept : List KeptSeat} {ends_before ends_after : List EndFacts} {news : List StreamFacts} (full : length heard ≡ streams.fronts) where
+      are : {answer : Result Totals ServeFault} (b : ServesBeside options begun batches base clocks answer kept ends_before ends_after heard news)
+          → AreStreams options base streams before.ports clocks b.answers heard news
       are b = record {
         are_new = new;
         within = within;
@@ -76,16 +86,12 @@ module _ (says : Others → Option (Result Totals ServeFault) → Type 0) (strea
         unheard = λ k own at past. absurd (let low = slice_get_within b.answers k own at in omega (arith, low, past, b.many));
       }
 
-      pub came_ok : (totals : Totals) (b : ServesBeside options begun batches clocks (Ok totals) kept ends_before ends_after heard)
-          → says (others_of b.answers heard b.news) (Some (Ok totals)) → ComesBeside says (Ok totals) streams clocks before after
-      came_ok totals b said =
-          record { answers = b.answers; olds = heard; news = b.news; are = are b; all = full; came = Some (Ok totals); came_is = refl; said = said }
+      pub came_ok : (totals : Totals) (b : ServesBeside options begun batches base clocks (Ok totals) kept ends_before ends_after heard news)
+          → leaves news → says (others_of b.answers heard news) (Some (Ok totals)) → ComesBeside says leaves (Ok totals) options base streams clocks before after
+      came_ok totals b left said =
+          record { answers = b.answers; olds = heard; news = news; are = are b; left = left; all = full; came = Some (Ok totals); came_is = refl; unserved = tt; said = said }
 
-      pub came_err : (fault : ServeFault) (b : ServesBeside options begun batches clocks (Err fault) kept ends_before ends_after heard)
-          → says (others_of b.answers heard b.news) (Some (Err fault)) → ComesBeside says (Err (Fault fault)) streams clocks before after
-      came_err fault b said =
-          record { answers = b.answers; olds = heard; news = b.news; are = are b; all = tt; came = Some (Err fault); came_is = came_to_fault before after fault; said = said }
-
--- those that have no port answered nothing
-pub silent : (streams : StreamPorts) (olds news : List StreamFacts) → HaveAnsweredNothing (others_of (no_answers streams.fronts) olds news)
-silent streams olds news k own at = none_answered streams.fronts k own at
+      pub came_err : (fault : ServeFault) (b : ServesBeside options begun batches base clocks (Err fault) kept ends_before ends_after heard news)
+          → leaves news → says (others_of b.answers heard news) (Some (Err fault)) → ComesBeside says leaves (Err (Fault fault)) options base streams clocks before after
+      came_err fault b left said =
+          record { answers = b.answers; olds = heard; news = news; are = are b; left = left; all = tt; came = Some (Err fault); came_is = came_to_fault before.faults after.faults fault; unserved = tt; said = said }

@@ -44,7 +44,8 @@ streams_more waited first all one are new k stream at =
 
 -- nothing was listened at
 pub kept_unheard : (streams : StreamPorts) (all : ListenFacts) → KeepsListeners streams all all
-kept_unheard streams all = record { never_fall = omega arith; others = leaves_few streams.port 0 streams.fronts all.ports all.ports (omega arith) (leaves_none streams.port all.ports) }
+kept_unheard streams all =
+    record { never_fall = omega arith; others = leaves_few streams.port 0 streams.fronts all.ports all.ports (omega arith) (leaves_none streams.port all.ports); place = refl; unneeded = λ none. refl }
 
 -- the ports are new, whatever waited at them
 pub new_untold : (waited : Option Ports) (first : ℕ) (all : List StreamFacts) → AreNewStreams waited first all → AreNewStreams None first all

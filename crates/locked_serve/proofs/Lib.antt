@@ -4,7 +4,9 @@ pub mod Lending
 mod Joined
 pub mod Taken
 mod Heard
+mod Released
 pub mod Ran
+mod Streamed
 mod RanBeside
 mod Faults
 mod Came

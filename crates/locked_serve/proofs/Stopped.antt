@@ -17,8 +17,9 @@ use Rattle.locked_serve.specs.declared.filling.OpenFault.TheVariants as open_fau
 use Rattle.locked_serve.specs.declared.stop.Stop.{Stop}
 use Rattle.locked_serve.specs.declared.stop.Stop.TheVariants.{Refused, Unannounced, Fault}
 use Rattle.locked_serve.specs.Filled.{begun_by, RefusesFilling}
-use Rattle.locked_serve.specs.Streams.{ListenFacts}
-use Rattle.locked_serve.specs.Causes.{PortFacts, HasPorts, LacksPort, ComesBeside, HasCause, stop_of, IsCauseOfStop, HasAnnounced}
+use Rattle.locked_serve.specs.Streams.{StreamFacts, ListenFacts}
+use Rattle.locked_serve.specs.Causes.{PortFacts, HasPorts, LacksPort, CameTo, ComesBeside, HasCause, stop_of, IsCauseOfStop, HasAnnounced}
+use Rattle.locked_serve.proofs.Released.{none_released}
 use Rattle.locked_serve.proofs.Unheard.{no_answers, none_heard}
 
 -- a fault that came once that was told
@@ -46,39 +47,53 @@ still_told (Err (Fault Net)) says fails before mid after old new refused faults 
     ]
 still_told (Err (Fault NoMemory)) says fails before mid after old new refused faults told = told
 
--- what is said of the fronts of datagrams, said otherwise
-pub says_then : {P Q : Others → Option (Result Totals ServeFault) → Type 0} {answer : Result Totals Stop} {streams : StreamPorts} {clocks : List ℕ} {before after : ListenFacts}
-    → ((others : Others) (came : Option (Result Totals ServeFault)) → P others came → Q others came) → ComesBeside P answer streams clocks before after
-    → ComesBeside Q answer streams clocks before after
-says_then then it = record { answers = it.answers; olds = it.olds; news = it.news; are = it.are; all = it.all; came = it.came; came_is = it.came_is; said = then _ _ it.said }
+-- what is said of the fronts of datagrams and of the ports that are left, said otherwise once these were let go
+pub says_then : {P Q : Others → Option (Result Totals ServeFault) → Type 0} {A B : List StreamFacts → Type 0} {answer : Result Totals Stop} {options : Options} {base : ℕ}
+    {streams : StreamPorts} {clocks : List ℕ} {before between after : ListenFacts} → after.faults ≡ between.faults → ((news : List StreamFacts) → A news → B news)
+    → ((others : Others) (came : Option (Result Totals ServeFault)) → P others came → Q others came)
+    → ComesBeside P A answer options base streams clocks before between → ComesBeside Q B answer options base streams clocks before after
+says_then {answer = answer} {before = before} same gone then it = record {
+  answers = it.answers;
+  olds = it.olds;
+  news = it.news;
+  are = it.are;
+  left = gone it.news it.left;
+  all = it.all;
+  came = it.came;
+  came_is = subst (λ (n : ℕ). CameTo answer before.faults n it.came) (sym same) it.came_is;
+  unserved = it.unserved;
+  said = then _ _ it.said;
+}
 
 -- there was no memory before any port was bound
-pub no_memory : (options : Options) (begun : ℕ → History) (ports : PortOptions) (streams : StreamPorts) (clocks : List ℕ) (kept : List KeptSeat) (before after : PortFacts) → kept ≡ []
-    → HasCause (Err (Fault NoMemory)) options begun ports streams clocks kept before after
-no_memory options begun ports streams clocks kept before after none = record {
+pub no_memory : (options : Options) (begun : ℕ → History) (base : ℕ) (ports : PortOptions) (streams : StreamPorts) (clocks : List ℕ) (kept : List KeptSeat) (all : PortFacts) → kept ≡ []
+    → HasCause (Err (Fault NoMemory)) options begun base ports streams clocks kept all all
+no_memory options begun base ports streams clocks kept all none = record {
   answers = no_answers streams.fronts;
   olds = [];
   news = [];
-  are = none_heard streams before.listens.ports clocks;
+  are = none_heard options base streams all.listens.ports clocks;
+  left = none_released all.listens.released;
   all = tt;
   came = Some (Err NoMemory);
   came_is = refl;
+  unserved = tt;
   said = none;
 }
 
 -- a server that these writes filled
-pub cause_filled : (options : Options) (writes : List Write) (ports : PortOptions) (streams : StreamPorts) (clocks : List ℕ) (kept : List KeptSeat) (before after : PortFacts)
-    (answer : Result Totals Stop) → answer ≢ Err Refused → HasCause answer options (begun_by options writes) ports streams clocks kept before after
-    → IsCauseOfStop answer options writes ports streams clocks kept before after
-cause_filled options writes ports streams clocks kept before after (Ok totals) filled is = is
-cause_filled options writes ports streams clocks kept before after (Err (Fault fault)) filled is = is
-cause_filled options writes ports streams clocks kept before after (Err Unannounced) filled is = is
-cause_filled options writes ports streams clocks kept before after (Err Refused) filled is = absurd (filled refl)
+pub cause_filled : (options : Options) (writes : List Write) (base : ℕ) (ports : PortOptions) (streams : StreamPorts) (clocks : List ℕ) (kept : List KeptSeat) (before after : PortFacts)
+    (answer : Result Totals Stop) → answer ≢ Err Refused → HasCause answer options (begun_by options writes) base ports streams clocks kept before after
+    → IsCauseOfStop answer options writes base ports streams clocks kept before after
+cause_filled options writes base ports streams clocks kept before after (Ok totals) filled is = is
+cause_filled options writes base ports streams clocks kept before after (Err (Fault fault)) filled is = is
+cause_filled options writes base ports streams clocks kept before after (Err Unannounced) filled is = is
+cause_filled options writes base ports streams clocks kept before after (Err Refused) filled is = absurd (filled refl)
 
 -- a server whose partitions could not be made and filled
-pub not_opened : {A : Type 0} (fault : OpenFault) (options : Options) (writes : List Write) (ports : PortOptions) (streams : StreamPorts) (clocks : List ℕ) (kept : List KeptSeat)
+pub not_opened : {A : Type 0} (fault : OpenFault) (options : Options) (writes : List Write) (base : ℕ) (ports : PortOptions) (streams : StreamPorts) (clocks : List ℕ) (kept : List KeptSeat)
     (all : PortFacts) → kept ≡ [] → (fault ≡ open_fault.Refused → RefusesFilling options writes) → (says fails : A → A → Type 0) (a : A)
-    → IsCauseOfStop (Err (stop_of fault)) options writes ports streams clocks kept all all × HasAnnounced says fails (Err (stop_of fault)) all all a a
-not_opened open_fault.Refused options writes ports streams clocks kept all none why says fails a = ((none, refl, why refl), refl)
-not_opened open_fault.NoMemory options writes ports streams clocks kept all none why says fails a =
-    (no_memory options (begun_by options writes) ports streams clocks kept all all none, inl refl)
+    → IsCauseOfStop (Err (stop_of fault)) options writes base ports streams clocks kept all all × HasAnnounced says fails (Err (stop_of fault)) all all a a
+not_opened open_fault.Refused options writes base ports streams clocks kept all none why says fails a = ((none, refl, why refl), refl)
+not_opened open_fault.NoMemory options writes base ports streams clocks kept all none why says fails a =
+    (no_memory options (begun_by options writes) base ports streams clocks kept all none, inl refl)

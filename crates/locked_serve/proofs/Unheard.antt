@@ -1,10 +1,18 @@
 -- Fronts of connections that were not served.
-use Rattle.std.proofs.Common.{◌≡◌, ℕ, zero, suc, ◌≤◌, List, [], ◌∷◌, length, Option, Some, slice_get, replicate, refl, sym, ap, ◌∙◌, subst, arith}
+use Rattle.std.proofs.Common.{◌≡◌, ℕ, zero, suc, ◌≤◌, inl, List, [], ◌∷◌, length, false, true≢false, Option, None, Some, slice_get, replicate, refl, sym, ap, ◌∙◌, subst, arith}
+use Rattle.std.specs.Prelude.{IfSome}
 use Rattle.std.proofs.lemmas.Option.{slice_get_within, same_Some}
+use Rattle.stream_io.specs.State.{Entry}
+use Rattle.stream_io.specs.Log.{Log}
 use Rattle.stream_io.specs.Ports.{Ports}
+use Rattle.partition_model.specs.declared.options.Options.{Options}
 use Rattle.mica_fronts.specs.Answered.{Answered}
 use Rattle.stream_fronts.specs.declared.ports.StreamPorts.{StreamPorts}
-use Rattle.locked_serve.specs.Streams.{StreamFacts, AreNewStreams, ServesStream, AreServed, AreStreams}
+use Rattle.stream_fronts.specs.Open.{OnLogs}
+use Rattle.stream_fronts.specs.Serving.{FrontAt}
+use Rattle.stream_fronts.specs.declared.desk.TheConstants.{MOST_UNSENT}
+use Rattle.stream_fronts.specs.Moments.{TalksThrough}
+use Rattle.locked_serve.specs.Streams.{StreamFacts, IsUnserved, AreNewStreams, ServesClients, ServesStream, AreServed, AreStreams}
 
 -- each of so many answered nothing
 abbrev pub no_answers : ℕ → List (List Answered)
@@ -19,25 +27,50 @@ none_answered zero k own at = absurd (let low = slice_get_within [] k own at in 
 none_answered (suc n) zero own at = sym (same_Some [] own at)
 none_answered (suc n) (suc k) own at = none_answered n k own at
 
-serves_none : (told : ℕ) (own : List Answered) (b a : StreamFacts) → own ≡ [] → a ≡ b → ServesStream told own b a
-serves_none told own b a none same =
-    subst (λ (y : List Answered × StreamFacts). ServesStream told y.0 b y.1) (λ i. (sym none i, sym same i))
-    (record { port = refl; never_fall = omega arith; tells = told; seconds = refl })
+-- a front that was told this second, and did nothing
+unmoved : ℕ → FrontAt
+unmoved told = record { sessions = λ q. record { seen = []; done = []; last = 0; told = None }; left = 0; second = told; lacked = 0; has_ended = false }
 
--- the ports that were listened at are as they were
-pub as_heard : (streams : StreamPorts) (waited : Option Ports) (clocks : List ℕ) (heard : List StreamFacts) → AreNewStreams waited streams.port heard → length heard ≤ streams.fronts
-    → AreStreams streams waited clocks (no_answers streams.fronts) heard heard
-as_heard streams waited clocks heard new within = record {
-  are_new = new;
-  within = within;
-  fronts = no_answers_long streams.fronts;
-  served = record {
-    many = refl;
-    each = λ k told own b a told_at own_at b_at a_at. serves_none told own b a (none_answered streams.fronts k own own_at) (same_Some _ _ (sym a_at ∙ b_at));
-  };
-  unheard = λ k own at past. none_answered streams.fronts k own at;
-}
+module _ (options : Options) (base : ℕ) where
+  none_told : (told : ℕ) (log : Option Log) → IfSome log (λ l. l.entries ≡ []) → OnLogs (ServesClients options base (unmoved told) (unmoved told) []) log log
+  none_told told None fresh = tt
+  none_told told (Some log) fresh = (record {
+    same = refl;
+    all = [];
+    serves = record {
+      in_order = λ q. refl;
+      seconds = refl;
+      few = omega arith;
+      lacking = [];
+      counted = refl;
+      through = subst (λ (entries : List Entry). TalksThrough options base MOST_UNSENT log.schedule [] entries []) (sym fresh)
+          (λ c. inl (record { said = []; rest = []; spells = refl; answered = refl; begins = ([], refl) }, record { kept = omega arith; unsent = omega arith }));
+      done = λ ended. absurd (true≢false (sym ended));
+    };
+  }, refl)
 
--- there are none
-pub none_heard : (streams : StreamPorts) (waited : Option Ports) (clocks : List ℕ) → AreStreams streams waited clocks (no_answers streams.fronts) [] []
-none_heard streams waited clocks = as_heard streams waited clocks [] (λ k s at. absurd (let low = slice_get_within [] k s at in omega arith)) (omega arith)
+  serves_none : (told : ℕ) (own : List Answered) (b a : StreamFacts) → IsUnserved b → own ≡ [] → a ≡ b
+      → (old new : FrontAt) × (old.second ≡ told) × ServesStream options base old new own b a
+  serves_none told own b a unserved none same = (unmoved told, unmoved told, refl,
+  subst (λ (y : List Answered × StreamFacts). ServesStream options base (unmoved told) (unmoved told) y.0 b y.1) (λ i. (sym none i, sym same i))
+  (record { port = refl; never_fall = omega arith; seconds = refl; ended = sym unserved.unended; clients = none_told told b.log unserved.fresh }))
+
+  -- the ports that were listened at are as they were
+  pub as_heard : (streams : StreamPorts) (waited : Option Ports) (clocks : List ℕ) (heard : List StreamFacts) → AreNewStreams waited streams.port heard → length heard ≤ streams.fronts
+      → AreStreams options base streams waited clocks (no_answers streams.fronts) heard heard
+  as_heard streams waited clocks heard new within = record {
+    are_new = new;
+    within = within;
+    fronts = no_answers_long streams.fronts;
+    served = record {
+      many = refl;
+      each = λ k told own b a told_at own_at b_at a_at.
+          let fresh = new k b b_at in
+          serves_none told own b a (record { unended = fresh.unended; fresh = fresh.fresh }) (none_answered streams.fronts k own own_at) (same_Some _ _ (sym a_at ∙ b_at));
+    };
+    unheard = λ k own at past. none_answered streams.fronts k own at;
+  }
+
+  -- there are none
+  pub none_heard : (streams : StreamPorts) (waited : Option Ports) (clocks : List ℕ) → AreStreams options base streams waited clocks (no_answers streams.fronts) [] []
+  none_heard streams waited clocks = as_heard streams waited clocks [] (λ k s at. absurd (let low = slice_get_within [] k s at in omega arith)) (omega arith)

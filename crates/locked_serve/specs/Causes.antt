@@ -1,5 +1,5 @@
 -- What each answer of a server says that was filled, and that tells once it listens at its ports.
-use Rattle.std.specs.Prelude.{◌≡◌, ◌⊎◌, ◌<◌, ℕ, List, [], length, Option, Some, None, Result, Ok, Err, OnOk}
+use Rattle.std.specs.Prelude.{◌≡◌, ◌⊎◌, ◌<◌, ℕ, List, [], length, Option, Some, None, option_map, Result, Ok, Err, OnOk}
 use Rattle.mica_io.specs.Faults.{Rose}
 use Rattle.partition_model.specs.declared.options.Options.{Options}
 use Rattle.partition_model.specs.declared.write.Write.{Write}
@@ -18,7 +18,7 @@ use Rattle.locked_serve.specs.declared.filling.OpenFault.TheVariants as open_fau
 use Rattle.locked_serve.specs.declared.stop.Stop.{Stop}
 use Rattle.locked_serve.specs.declared.stop.Stop.TheVariants.{Refused, Unannounced, Fault}
 use Rattle.locked_serve.specs.Filled.{begun_by, RefusesFilling}
-use Rattle.locked_serve.specs.Streams.{StreamFacts, ListenFacts, AreStreams, others_of}
+use Rattle.locked_serve.specs.Streams.{StreamFacts, ListenFacts, AreStreams, LeavesStreams, others_of, with_ports}
 
 -- what contracts see of all ports at one moment: those of datagrams, and what listens at those of connections
 pub record PortFacts : Type 0 where
@@ -28,36 +28,39 @@ pub record PortFacts : Type 0 where
 abbrev pub port_facts : NetFacts → ListenFacts → PortFacts
 port_facts net listens = record { net = net; listens = listens }
 
--- What the fronts came to where a server came to this: nothing where they were not served, as where a port could not be listened at.
-abbrev pub CameTo : Result Totals Stop → ListenFacts → ListenFacts → Option (Result Totals ServeFault) → Type 0
+-- What the fronts came to where a server came to this: nothing where they were not served, as where a port could not be listened at, and the faults of what listens rose.
+abbrev pub CameTo : Result Totals Stop → ℕ → ℕ → Option (Result Totals ServeFault) → Type 0
 CameTo (Ok totals) before after came = came ≡ Some (Ok totals)
-CameTo (Err (Fault Net)) before after came = (came ≡ Some (Err Net)) ⊎ ((came ≡ None) × Rose before.faults after.faults)
+CameTo (Err (Fault Net)) before after came = (came ≡ Some (Err Net)) ⊎ ((came ≡ None) × Rose before after)
 CameTo (Err (Fault NoMemory)) before after came = came ≡ Some (Err NoMemory)
 CameTo (Err Unannounced) before after came = came ≡ None
 CameTo (Err Refused) before after came = ⊥
 
--- The fronts of connections answered this, and those of datagrams came to what is said of them, beside each other. Where they came to totals, each of them all had
--- its port.
-pub record ComesBeside (says : Others → Option (Result Totals ServeFault) → Type 0) (answer : Result Totals Stop) (streams : StreamPorts) (clocks : List ℕ)
-    (before after : ListenFacts) : Type 0 where
+-- The fronts of connections answered this and left this of their ports, and those of datagrams came to what is said of them, beside each other. Where they came to
+-- totals, each of them all had its port.
+pub record ComesBeside (says : Others → Option (Result Totals ServeFault) → Type 0) (leaves : List StreamFacts → Type 0) (answer : Result Totals Stop) (options : Options) (base : ℕ) (streams : StreamPorts)
+    (clocks : List ℕ) (before after : ListenFacts) : Type 0 where
   pub answers : List (List Answered)
   pub olds : List StreamFacts
   pub news : List StreamFacts
-  pub are : AreStreams streams before.ports clocks answers olds news
+  pub are : AreStreams options base streams before.ports clocks answers olds news
+  pub left : leaves news
   pub all : OnOk answer (length olds ≡ streams.fronts)
   pub came : Option (Result Totals ServeFault)
-  pub came_is : CameTo answer before after came
+  pub came_is : CameTo answer before.faults after.faults came
+  pub unserved : LeavesStreams came answers olds news
   pub said : says (others_of answers olds news) came
 
-abbrev pub HasCause : Result Totals Stop → Options → (ℕ → History) → PortOptions → StreamPorts → List ℕ → List KeptSeat → PortFacts → PortFacts → Type 0
-HasCause answer options begun ports streams clocks kept before after =
-    ComesBeside (λ others came. IsCauseOnceBound others came options begun ports kept before.net after.net) answer streams clocks before.listens after.listens
+abbrev pub HasCause : Result Totals Stop → Options → (ℕ → History) → ℕ → PortOptions → StreamPorts → List ℕ → List KeptSeat → PortFacts → PortFacts → Type 0
+HasCause answer options begun base ports streams clocks kept before after =
+    ComesBeside (λ others came. IsCauseOnceBound others came options begun ports kept before.net after.net)
+    (λ news. after.listens.released ≡ option_map (with_ports news) before.listens.released) answer options base streams clocks before.listens after.listens
 
 -- What each answer says of a server that these writes fill. Where one of them was refused, there is no port. One that could not tell that it listens has
 -- received nothing.
-abbrev pub IsCauseOfStop : Result Totals Stop → Options → List Write → PortOptions → StreamPorts → List ℕ → List KeptSeat → PortFacts → PortFacts → Type 0
-IsCauseOfStop (Err Refused) options writes ports streams clocks kept before after = (kept ≡ []) × (after ≡ before) × RefusesFilling options writes
-IsCauseOfStop answer options writes ports streams clocks kept before after = HasCause answer options (begun_by options writes) ports streams clocks kept before after
+abbrev pub IsCauseOfStop : Result Totals Stop → Options → List Write → ℕ → PortOptions → StreamPorts → List ℕ → List KeptSeat → PortFacts → PortFacts → Type 0
+IsCauseOfStop (Err Refused) options writes base ports streams clocks kept before after = (kept ≡ []) × (after ≡ before) × RefusesFilling options writes
+IsCauseOfStop answer options writes base ports streams clocks kept before after = HasCause answer options (begun_by options writes) base ports streams clocks kept before after
 
 -- the answer where the partitions could not be made and filled
 abbrev pub stop_of : OpenFault → Stop

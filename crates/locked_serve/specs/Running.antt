@@ -10,7 +10,8 @@ use Rattle.mica_fronts.specs.declared.totals.Totals.{Totals}
 use Rattle.mica_fronts.specs.declared.totals.ServeFault.{ServeFault}
 use Rattle.mica_fronts.specs.declared.totals.ServeFault.TheVariants.{Net, NoMemory}
 use Rattle.mica_fronts.specs.Answered.{Answered, count_of_writes}
-use Rattle.mica_fronts.specs.Session.{Sessions, AnswersInOrder}
+use Rattle.mica_fronts.specs.Session.{AnswersInOrder}
+use Rattle.stream_fronts.specs.Serving.{FrontAt}
 use Rattle.locked_fronts.specs.declared.part.LockedPart.{LockedPart}
 use Rattle.locked_fronts.specs.Plan.{Plan}
 use Rattle.locked_fronts.specs.Parts.{IsLockedFront, locked_view, sessions_of, turns_left}
@@ -19,7 +20,7 @@ use Rattle.mica_serve.specs.FrontRuns.{FrontRun, RunsFront, RanAll, SumsUp}
 use Rattle.locked_serve.specs.declared.worker.FrontTask.{FrontTask}
 use Rattle.locked_serve.specs.declared.streams.StreamTask.{StreamTask}
 use Rattle.locked_serve.specs.Opening.{AreNewParts}
-use Rattle.locked_serve.specs.Streams.{StreamFacts, ServesStream, AreServed, StopsStream, others_of}
+use Rattle.locked_serve.specs.Streams.{StreamFacts, IsUnserved, ServesStream, AreServed, StopsStream, others_of}
 
 -- Fronts of datagrams
 
@@ -50,60 +51,51 @@ module _ {D : Type 0} (plan : Plan) (batches : ℕ) (facts : D → EndFacts) whe
 
 -- Fronts of connections
 
--- A front before and after it was served: its sessions, how many writes it could still be given, and the second that its clock told last.
-pub record StreamRun : Type 0 where
-  pub old : Sessions
-  pub new : Sessions
-  pub left : ℕ
-  pub left_after : ℕ
-  pub told : ℕ
-  pub tells : ℕ
-
--- It was served behind its port. Its sessions and its clock went on by these answers, and it was given no writes but those among them.
-pub record RunsStream (options : Options) (run : StreamRun) (answered : List Answered) (answer : Result ⊤ ServeFault) (before after : StreamFacts) : Type 0 where
-  pub serves : ServesStream run.told answered before after
-  pub in_order : AnswersInOrder options false run.old answered run.new
-  pub few : run.left ≤ run.left_after + count_of_writes answered
+-- A front was served behind its port. Its sessions went on by these answers, and it was given no writes but those among them.
+pub record RunsStream (options : Options) (base : ℕ) (old new : FrontAt) (answered : List Answered) (answer : Result ⊤ ServeFault) (before after : StreamFacts) : Type 0 where
+  pub serves : ServesStream options base old new answered before after
+  pub in_order : AnswersInOrder options false old.sessions answered new.sessions
+  pub few : old.left ≤ new.left + count_of_writes answered
   pub cause : IsErrOf answer Net → Rose before.faults after.faults
 
-module _ {C K : Type 0} (plan : Plan) (facts : C → StreamFacts) (last : K → ℕ) where
-  abbrev pub stream_run : StreamTask C K → StreamTask C K → StreamRun
-  stream_run old new = record {
-    old = sessions_of old.parts.items;
-    new = sessions_of new.parts.items;
-    left = turns_left old.parts.items;
-    left_after = turns_left new.parts.items;
-    told = last old.clock;
-    tells = last new.clock;
-  }
+-- as what it has in hand, its clock and its port tell it
+abbrev pub front_at : {C K : Type 0} → (C → StreamFacts) → (K → ℕ) → StreamTask C K → FrontAt
+front_at facts last task = record {
+  sessions = sessions_of task.parts.items;
+  left = turns_left task.parts.items;
+  second = last task.clock;
+  lacked = task.lacked;
+  has_ended = (facts task.port).has_ended;
+}
 
-  -- new parts, and a new port
+module _ {C K : Type 0} (plan : Plan) (facts : C → StreamFacts) (last : K → ℕ) where
+  -- new parts, and a port with which nothing was done
   pub record IsReadyStream (k : ℕ) (task : StreamTask C K) : Type 0 where
     pub parts : AreNewParts plan k task.parts.items
-    pub unended : (facts task.port).has_ended ≡ false
-
-  -- the front was served behind its port, and has its parts still
-  pub record StreamRan (k : ℕ) (old new : StreamTask C K) : Type 0 where
-    pub is : IsLockedFront plan (locked_view plan.options k new.parts.items)
-    pub answered : List Answered
-    pub run : RunsStream plan.options (stream_run old new) answered new.answer (facts old.port) (facts new.port)
+    pub unserved : IsUnserved (facts task.port)
 
   abbrev pub AreReadyStreams : List (StreamTask C K) → Type 0
   AreReadyStreams tasks = (k : ℕ) (d : StreamTask C K) → k < length tasks → IsReadyStream k (slice_index_or tasks k d)
 
-  abbrev pub StreamsRan : List (StreamTask C K) → List (StreamTask C K) → Type 0
-  StreamsRan olds news =
-      (length news ≡ length olds) × ((k : ℕ) (d : StreamTask C K) → k < length olds → StreamRan k (slice_index_or olds k d) (slice_index_or news k d))
+  module _ (base : ℕ) where
+    -- the front was served behind its port, and has its parts still
+    pub record StreamRan (k : ℕ) (old new : StreamTask C K) : Type 0 where
+      pub is : IsLockedFront plan (locked_view plan.options k new.parts.items)
+      pub answered : List Answered
+      pub run : RunsStream plan.options base (front_at facts last old) (front_at facts last new) answered new.answer (facts old.port) (facts new.port)
+
+    abbrev pub StreamsRan : List (StreamTask C K) → List (StreamTask C K) → Type 0
+    StreamsRan olds news =
+        (length news ≡ length olds) × ((k : ℕ) (d : StreamTask C K) → k < length olds → StreamRan k (slice_index_or olds k d) (slice_index_or news k d))
 
 -- All fronts
 
 -- All ran beside each other and came to these answers, and these are the seats that the partitions may leave.
-pub record RanBeside (options : Options) (begun : ℕ → History) (batches : ℕ) (clocks : List ℕ) (kept : List KeptSeat) (streams : List (Result ⊤ ServeFault))
-    (fronts : List (Result Totals ServeFault)) (before after : List EndFacts) (olds : List StreamFacts) : Type 0 where
+pub record RanBeside (options : Options) (begun : ℕ → History) (batches base : ℕ) (clocks : List ℕ) (kept : List KeptSeat) (streams : List (Result ⊤ ServeFault))
+    (fronts : List (Result Totals ServeFault)) (before after : List EndFacts) (olds news : List StreamFacts) : Type 0 where
   pub answers : List (List Answered)
-  pub news : List StreamFacts
   pub many : length answers ≡ length olds
-  pub served : AreServed clocks answers olds news
+  pub served : AreServed options base clocks answers olds news
   pub stopped : (k : ℕ) → slice_get streams k ≡ Some (Err Net) → StopsStream olds news
   pub ran : RanAll (others_of answers olds news) options begun batches kept fronts before after
 

@@ -17,6 +17,7 @@ module _ {P D C K : Type 0} where
   pub record IsRoom (streams fronts partitions : ℕ) (room : Room P D C K) : Type 0 where
     pub streams_row : IsRow streams room.streams
     pub fronts_row : IsRow fronts room.fronts
+    pub ports : (room.ports.items ≡ []) × (streams ≤ vec_capacity room.ports)
     pub ends : (room.ends.items ≡ []) × (fronts ≤ vec_capacity room.ends)
     pub parts : (room.parts.items ≡ []) × (partitions ≤ vec_capacity room.parts)
 

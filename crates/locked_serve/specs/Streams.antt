@@ -1,8 +1,8 @@
 -- The ports of connections, as contracts see them, and what their fronts make of them.
-use Rattle.std.specs.Prelude.{◌≡◌, ◌≢◌, ◌+◌, ◌<◌, ◌≤◌, ⊤, ℕ, Bool, false, List, [], length, slice_get, Option, None, Some, IfSome, Result}
+use Rattle.std.specs.Prelude.{◌≡◌, ◌≢◌, ◌+◌, ◌<◌, ◌≤◌, ⊤, ℕ, Bool, false, List, [], ◌∷◌, length, slice_get, Option, None, Some, IfSome, option_map, Result}
 use Rattle.mica_io.specs.Faults.{Rose}
 use Rattle.stream_io.specs.Log.{Log}
-use Rattle.stream_io.specs.Ports.{Ports}
+use Rattle.stream_io.specs.Ports.{Place, Ports, with_port}
 use Rattle.partition_model.specs.declared.options.Options.{Options}
 use Rattle.partition_model.specs.History.{History}
 use Rattle.partition_table.specs.declared.tables.KeptSeat.{KeptSeat}
@@ -10,8 +10,12 @@ use Rattle.mica_fronts.specs.Answered.{Answered}
 use Rattle.mica_fronts.specs.declared.totals.Totals.{Totals}
 use Rattle.mica_fronts.specs.declared.totals.ServeFault.{ServeFault}
 use Rattle.memcached_fronts.specs.Seconds.{seconds_of, ToldFrom}
+use Rattle.stream_fronts.specs.declared.desk.TheConstants.{MOST_UNSENT}
 use Rattle.stream_fronts.specs.declared.ports.StreamPorts.{StreamPorts}
-use Rattle.mica_serve.specs.Others.{Others}
+use Rattle.stream_fronts.specs.Given.{answers_in}
+use Rattle.stream_fronts.specs.Open.{OnLogs}
+use Rattle.stream_fronts.specs.Serving.{FrontAt, ServesLog}
+use Rattle.mica_serve.specs.Others.{Others, HaveAnsweredNothing}
 use Rattle.mica_serve.specs.Ends.{EndFacts, ServesFronts}
 
 -- what contracts see of a port of connections at one moment
@@ -29,9 +33,11 @@ stream_facts port faults has_ended log = λ c. record { port = port c; faults = 
 pub record ListenFacts : Type 0 where
   pub faults : ℕ
   pub ports : Option Ports
+  pub released : Option Ports
+  pub place : Place
 
-abbrev pub listen_facts : {L : Type 0} → (L → ℕ) → (L → Option Ports) → L → ListenFacts
-listen_facts faults ports = λ l. record { faults = faults l; ports = ports l }
+abbrev pub listen_facts : {L : Type 0} → (L → ℕ) → (L → Option Ports) → (L → Option Ports) → (L → Place) → L → ListenFacts
+listen_facts faults ports released place = λ l. record { faults = faults l; ports = ports l; released = released l; place = place l }
 
 -- Before any connection came
 
@@ -47,9 +53,13 @@ pub record IsNewStream (waited : Option Ports) (port : ℕ) (stream : StreamFact
 abbrev pub AreNewStreams : Option Ports → ℕ → List StreamFacts → Type 0
 AreNewStreams waited first streams = (k : ℕ) (stream : StreamFacts) → slice_get streams k ≡ Some stream → IsNewStream waited (first + k) stream
 
--- no port has come to its end
+-- nothing was done with a port yet
+pub record IsUnserved (stream : StreamFacts) : Type 0 where
+  pub unended : stream.has_ended ≡ false
+  pub fresh : IfSome stream.log (λ l. l.entries ≡ [])
+
 abbrev pub AreUnserved : List StreamFacts → Type 0
-AreUnserved streams = (k : ℕ) (stream : StreamFacts) → slice_get streams k ≡ Some stream → stream.has_ended ≡ false
+AreUnserved streams = (k : ℕ) (stream : StreamFacts) → slice_get streams k ≡ Some stream → IsUnserved stream
 
 -- What listens tells each port that it told before but these, or goes on telling none.
 abbrev pub LeavesOthers : ℕ → ℕ → Option Ports → Option Ports → Type 0
@@ -57,32 +67,52 @@ LeavesOthers first count None after = after ≡ None
 LeavesOthers first count (Some before) None = ⊥
 LeavesOthers first count (Some before) (Some after) = (port : ℕ) → ((k : ℕ) → k < count → port ≢ first + k) → after port ≡ before port
 
--- whatever the answer: only at the fronts' ports was listened
+-- Whatever the answer: only at the fronts' ports was listened, where there are any, and all at one place.
 pub record KeepsListeners (streams : StreamPorts) (before after : ListenFacts) : Type 0 where
   pub never_fall : before.faults ≤ after.faults
   pub others : LeavesOthers streams.port streams.fronts before.ports after.ports
+  pub place : after.place ≡ before.place
+  pub unneeded : streams.fronts ≡ 0 → after ≡ before
+
+-- these ports were let go, and what was left at each is told
+abbrev pub with_ports : List StreamFacts → Ports → Ports
+with_ports [] ports = ports
+with_ports (stream ∷ later) ports = with_ports later (with_port stream.port stream.log ports)
+
+-- and nothing else became of what listens
+pub record ReleasesStreams (streams : List StreamFacts) (before after : ListenFacts) : Type 0 where
+  pub released : after.released ≡ option_map (with_ports streams) before.released
+  pub ports : after.ports ≡ before.ports
+  pub place : after.place ≡ before.place
+  pub faults : after.faults ≡ before.faults
 
 -- Served
 
--- A front answered so, behind its port: its clock, which had told this second, told those of the answers one after another.
-pub record ServesStream (told : ℕ) (answers : List Answered) (before after : StreamFacts) : Type 0 where
+-- By just these answers the front served what the log tells: what was sent to each client is due to what came of it, at each moment.
+abbrev pub ServesClients : Options → ℕ → FrontAt → FrontAt → List Answered → Log → Log → Type 0
+ServesClients options base old new answers before after = (served : ServesLog options false base MOST_UNSENT old new before after) × (answers_in served.all ≡ answers)
+
+-- A front answered so, behind its port: its clock told the seconds of these answers one after another. It knows whether the end came.
+pub record ServesStream (options : Options) (base : ℕ) (old new : FrontAt) (answers : List Answered) (before after : StreamFacts) : Type 0 where
   pub port : after.port ≡ before.port
   pub never_fall : before.faults ≤ after.faults
-  pub tells : ℕ
-  pub seconds : ToldFrom told (seconds_of answers) tells
+  pub seconds : ToldFrom old.second (seconds_of answers) new.second
+  pub ended : new.has_ended ≡ after.has_ended
+  pub clients : OnLogs (ServesClients options base old new answers) before.log after.log
 
--- each front was served behind the port of its place
-pub record AreServed (clocks : List ℕ) (answers : List (List Answered)) (olds news : List StreamFacts) : Type 0 where
+-- Each front was served behind the port of its place, where its clock had told this second. The first unique number of a value is that of the base.
+pub record AreServed (options : Options) (base : ℕ) (clocks : List ℕ) (answers : List (List Answered)) (olds news : List StreamFacts) : Type 0 where
   pub many : length news ≡ length olds
   pub each : (k told : ℕ) (own : List Answered) (b a : StreamFacts) → slice_get clocks k ≡ Some told → slice_get answers k ≡ Some own
-      → slice_get olds k ≡ Some b → slice_get news k ≡ Some a → ServesStream told own b a
+      → slice_get olds k ≡ Some b → slice_get news k ≡ Some a → (old new : FrontAt) × (old.second ≡ told) × ServesStream options base old new own b a
 
 -- The ports that were listened at, before and after, and what each front answered. One that has no port answered nothing.
-pub record AreStreams (streams : StreamPorts) (waited : Option Ports) (clocks : List ℕ) (answers : List (List Answered)) (olds news : List StreamFacts) : Type 0 where
+pub record AreStreams (options : Options) (base : ℕ) (streams : StreamPorts) (waited : Option Ports) (clocks : List ℕ) (answers : List (List Answered))
+    (olds news : List StreamFacts) : Type 0 where
   pub are_new : AreNewStreams waited streams.port olds
   pub within : length olds ≤ streams.fronts
   pub fronts : length answers ≡ streams.fronts
-  pub served : AreServed clocks answers olds news
+  pub served : AreServed options base clocks answers olds news
   pub unheard : (k : ℕ) (own : List Answered) → slice_get answers k ≡ Some own → length olds ≤ k → own ≡ []
 
 -- a fault came to one of them
@@ -98,11 +128,15 @@ pub record StopsStream (olds news : List StreamFacts) : Type 0 where
 abbrev pub others_of : List (List Answered) → List StreamFacts → List StreamFacts → Others
 others_of answers olds news = record { answers = answers; stopped = StopsStream olds news }
 
+-- where no front was served, those of connections answered nothing, and their ports are as they were
+abbrev pub LeavesStreams : Option (Result Totals ServeFault) → List (List Answered) → List StreamFacts → List StreamFacts → Type 0
+LeavesStreams None answers olds news = (news ≡ olds) × HaveAnsweredNothing (others_of answers olds news)
+LeavesStreams (Some came) answers olds news = ⊤
+
 -- Each front was served, those of connections beside those of datagrams, which came to this all together.
-pub record ServesBeside (options : Options) (begun : ℕ → History) (batches : ℕ) (clocks : List ℕ) (answer : Result Totals ServeFault) (kept : List KeptSeat)
-    (before after : List EndFacts) (olds : List StreamFacts) : Type 0 where
+pub record ServesBeside (options : Options) (begun : ℕ → History) (batches base : ℕ) (clocks : List ℕ) (answer : Result Totals ServeFault) (kept : List KeptSeat)
+    (before after : List EndFacts) (olds news : List StreamFacts) : Type 0 where
   pub answers : List (List Answered)
-  pub news : List StreamFacts
   pub many : length answers ≡ length olds
-  pub streams : AreServed clocks answers olds news
+  pub streams : AreServed options base clocks answers olds news
   pub fronts : ServesFronts (others_of answers olds news) options begun batches answer kept before after

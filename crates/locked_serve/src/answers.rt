@@ -2,6 +2,7 @@
 ghost use Rattle.std.specs.Prelude.{◌≡◌, ◌≤◌, ℕ, Some, Ok, length, slice_get};
 ghost use Rattle.mica_fronts.specs.declared.totals.TheConstants.{MAX_BATCHES};
 ghost use Rattle.mica_fronts.specs.Totals.{IsUpTo};
+ghost use Rattle.locked_serve.specs.declared.serve.TheConstants.{MOST_FRONTS};
 ghost use Rattle.locked_serve.specs.Running.{IsFaultOf, SumsUpBeside};
 
 use mica_fronts::{ServeFault, Totals};
@@ -27,7 +28,7 @@ pub(crate) fn sum_up_beside(
     streams: &[Result<(), ServeFault>],
     fronts: &[Result<Totals, ServeFault>],
 ) -> Result<Totals, ServeFault>
-    requires few { length fronts.now ≤ 64 }
+    requires few { length fronts.now ≤ MOST_FRONTS }
     requires small { (f : ℕ) (totals : Totals) → slice_get fronts.now f ≡ Some (Ok totals) → IsUpTo MAX_BATCHES totals }
     ensures { SumsUpBeside streams.now fronts.now result }
 {

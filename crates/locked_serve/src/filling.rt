@@ -17,6 +17,8 @@ use mica_io::NoMemory;
 use mica_words::{key_hash, partition_of};
 use partition_model::{Options, Write};
 use std::alloc::{AllocError, AllocFailed};
+use std::error::Error;
+use std::fmt;
 
 /// Why the partitions could not be made and filled.
 #[derive(Clone, Copy, Debug, PartialEq, Eq)]
@@ -25,6 +27,17 @@ pub enum OpenFault {
     Refused,
     NoMemory,
 }
+
+impl fmt::Display for OpenFault {
+    fn fmt<W: fmt::Write>(&self, f: &mut fmt::Formatter<W>) -> fmt::Result {
+        match self {
+            OpenFault::Refused => f.write_str("a write that was to fill a partition was refused"),
+            OpenFault::NoMemory => fmt::Display::fmt(&NoMemory, f),
+        }
+    }
+}
+
+impl Error for OpenFault {}
 
 impl From<NoMemory> for OpenFault {
     ghost use Rattle.locked_serve.specs.declared.filling.OpenFault.TheVariants.{NoMemory};

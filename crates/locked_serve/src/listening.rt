@@ -1,8 +1,8 @@
-//! The ports of connections, listened at one after another.
+//! The ports of connections, listened at one after another and let go.
 ghost use Rattle.std.specs.Prelude.{◌≡◌, ◌+◌, ◌≤◌, [], map, vec_len, vec_capacity, OnOk, OnErr};
 ghost use Rattle.mica_io.specs.Faults.{Rose};
 ghost use Rattle.stream_fronts.specs.StreamPorts.{IsPossibleStreams};
-ghost use Rattle.locked_serve.specs.Streams.{AreNewStreams, KeepsListeners, listen_facts, stream_facts};
+ghost use Rattle.locked_serve.specs.Streams.{AreNewStreams, KeepsListeners, ReleasesStreams, listen_facts, stream_facts};
 
 use mica_io::Failed;
 use stream_fronts::StreamPorts;
@@ -20,7 +20,8 @@ pub(crate) fn listen_all<L: Listeners>(
     ensures new { AreNewStreams (L.ports listeners.old) streams.now.port (map (stream_facts L.Port.port L.Port.faults L.Port.has_ended L.Port.log) connections.new.items) }
     ensures all { OnOk result (vec_len connections.new ≡ streams.now.fronts) }
     ensures few { vec_len connections.new ≤ streams.now.fronts }
-    ensures kept { KeepsListeners streams.now (listen_facts L.faults L.ports listeners.old) (listen_facts L.faults L.ports listeners.new) }
+    ensures kept { KeepsListeners streams.now (listen_facts L.faults L.ports L.released L.place listeners.old) (listen_facts L.faults L.ports L.released L.place listeners.new) }
+    ensures unreleased { L.released listeners.new ≡ L.released listeners.old }
     ensures steady { OnOk result (L.faults listeners.new ≡ L.faults listeners.old) }
     ensures cause { OnErr result (Rose (L.faults listeners.old) (L.faults listeners.new)) }
 {
@@ -29,4 +30,14 @@ pub(crate) fn listen_all<L: Listeners>(
         connections.push_reserved(port);
     }
     Ok(())
+}
+
+/// Lets all ports go, in order.
+pub(crate) fn release_streams<L: Listeners>(listeners: &mut L, connections: Vec<L::Port>)
+    ensures { ReleasesStreams (map (stream_facts L.Port.port L.Port.faults L.Port.has_ended L.Port.log) connections.items)
+        (listen_facts L.faults L.ports L.released L.place listeners.old) (listen_facts L.faults L.ports L.released L.place listeners.new) }
+{
+    for port in connections {
+        listeners.release(port);
+    }
 }

@@ -1,11 +1,13 @@
 //! Partitions as filled, the fronts' parts of them, and their locks, before any front runs.
 ghost use Rattle.std.specs.Prelude.{◌≡◌, ◌+◌, ◌<◌, ◌≤◌, ℕ, [], All, IfOk, OnOk, IsErrOf, Some, length, map, slice_get, vec_len};
+ghost use Rattle.partition_model.specs.declared.options.TheConstants.{MOST_PARTITIONS};
 ghost use Rattle.partition_model.specs.Options.{IsPossible};
 ghost use Rattle.partition_model.specs.Write.{IsWrite};
 ghost use Rattle.epoch_core.specs.OwnerState.{as_made};
 ghost use Rattle.epoch_core.specs.Shape.{shape_of};
 ghost use Rattle.partition_table.specs.Seats.{note_state, note_home};
 ghost use Rattle.locked_fronts.specs.Owned.{NotesAre};
+ghost use Rattle.locked_serve.specs.declared.serve.TheConstants.{MOST_FRONTS};
 ghost use Rattle.locked_serve.specs.Filled.{RefusesFilling};
 ghost use Rattle.locked_serve.specs.Opening.{IsFilled, AreFilled, ArePlanned, LendsOne, AreNewParts, AreNewHands, filled_view};
 
@@ -117,7 +119,7 @@ pub(crate) fn lend_hands<J: ServerPlan, P: LendPartition<Reader = ReaderSeat, No
     first: u32,
     fronts: u32,
 ) -> Result<Vec<Vec<LockedPart>>, NoMemory>
-    requires few { first + fronts ≤ 64 }
+    requires few { first + fronts ≤ MOST_FRONTS }
     requires of { ArePlanned J.plan first (map (λ f. filled_view P.owner P.home f) parts.old.items) }
     ensures lent { IfOk result (λ hands. AreNewHands J.plan first fronts (map (λ hand. hand.items) hands.items)) }
     ensures of { OnOk result (ArePlanned J.plan (first + fronts) (map (λ f. filled_view P.owner P.home f) parts.new.items)) }
@@ -136,7 +138,7 @@ pub fn lock_parts<J: ServerPlan, P: LendPartition<Reader = ReaderSeat, Note = No
 ) -> Result<Vec<Mutex<OwnedPartition<J, P>>>, NoMemory>
     requires notes { NotesAre P.noted P.note_home note_state note_home }
     requires of { ArePlanned J.plan J.plan.fronts (map (λ f. filled_view P.owner P.home f) parts.items) }
-    requires few { J.plan.options.partitions ≤ 64 }
+    requires few { J.plan.options.partitions ≤ MOST_PARTITIONS }
     ensures { IfOk result (λ locks. length locks.items ≡ length parts.items) }
 {
     let mut locks = Vec::with_capacity(alloc, parts.len())?;

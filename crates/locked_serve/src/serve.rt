@@ -10,19 +10,20 @@ ghost use Rattle.mica_serve.specs.PossiblePorts.{IsPossiblePorts};
 ghost use Rattle.mica_serve.specs.Ends.{end_facts};
 ghost use Rattle.mica_serve.specs.NetRun.{BindsAndServes, KeepsNet, net_facts};
 ghost use Rattle.locked_serve.specs.declared.serve.TheConstants.{MOST_FRONTS};
-ghost use Rattle.locked_serve.specs.Streams.{KeepsListeners, listen_facts};
+ghost use Rattle.locked_serve.specs.Streams.{KeepsListeners, listen_facts, stream_facts};
 ghost use Rattle.locked_serve.specs.Causes.{ComesBeside, HasCause, IsCauseOfStop, HasAnnounced, port_facts};
 ghost use Rattle.locked_serve.specs.Opening.{ArePlanned, filled_view};
 ghost use Rattle.locked_serve.specs.Server.{IsLockedServer};
 
 use crate::announce::Announce;
-use crate::listening::listen_all;
+use crate::listening::{listen_all, release_streams};
 use crate::opening::{FilledPart, open_parts};
 use crate::server::{LockedServer, serve_all};
 use crate::stop::Stop;
 use cache_partition::CachePartition;
 use epoch_core::LendPartition;
 use locked_fronts::ServerPlan;
+use memcached_stats::Board;
 use mica_clock::Clock;
 use mica_fronts::{Ports, Totals};
 use mica_io::{Gate, Net};
@@ -59,11 +60,12 @@ fn bind_and_serve<
     ports: &Ports,
     streams: &StreamPorts,
     base: u64,
+    board: &Board,
     server: LockedServer<J, P, N::End, L::Port, K>,
     net: &mut N,
     ends: &mut Vec<N::End>,
     listeners: &mut L,
-    connections: Vec<L::Port>,
+    connections: &mut Vec<L::Port>,
     clocks: Vec<K>,
     gate: &G,
     tables: &mut Tables,
@@ -85,21 +87,22 @@ fn bind_and_serve<
     requires unbound { N.binds net.old ≡ 0 }
     requires none { ends.old.items ≡ [] }
     requires room { ports.now.fronts ≤ vec_capacity ends.old }
-    requires no_streams { connections.items ≡ [] }
-    requires room_of_streams { streams.now.fronts ≤ vec_capacity connections }
+    requires no_streams { connections.old.items ≡ [] }
+    requires room_of_streams { streams.now.fronts ≤ vec_capacity connections.old }
     ensures served { ComesBeside (λ others came. BindsAndServes others options.now J.plan.begun ports.now came tables.new
         (net_facts N.faults N.binds N.first N.refused N.ports N.fails net.old) (net_facts N.faults N.binds N.first N.refused N.ports N.fails net.new)
-        (map (end_facts N.End.port N.End.traffic N.End.faults N.End.has_ended N.End.script) ends.new.items)) result streams.now (map K.last clocks.items)
-        (listen_facts L.faults L.ports listeners.old) (listen_facts L.faults L.ports listeners.new) }
+        (map (end_facts N.End.port N.End.traffic N.End.faults N.End.has_ended N.End.script) ends.new.items))
+        (λ news. news ≡ map (stream_facts L.Port.port L.Port.faults L.Port.has_ended L.Port.log) connections.new.items) result options.now base streams.now (map K.last clocks.items)
+        (listen_facts L.faults L.ports L.released L.place listeners.old) (listen_facts L.faults L.ports L.released L.place listeners.new) }
     ensures unrefused { result ≢ Err Stop.Refused }
-    ensures heard { KeepsListeners streams.now (listen_facts L.faults L.ports listeners.old) (listen_facts L.faults L.ports listeners.new) }
+    ensures unreleased { L.released listeners.new ≡ L.released listeners.old }
+    ensures heard { KeepsListeners streams.now (listen_facts L.faults L.ports L.released L.place listeners.old) (listen_facts L.faults L.ports L.released L.place listeners.new) }
     ensures announced { HasAnnounced (A.says ports.now streams.now) (A.fails ports.now streams.now) result
-        (port_facts (net_facts N.faults N.binds N.first N.refused N.ports N.fails net.old) (listen_facts L.faults L.ports listeners.old))
-        (port_facts (net_facts N.faults N.binds N.first N.refused N.ports N.fails net.new) (listen_facts L.faults L.ports listeners.new)) announce.old announce.new }
+        (port_facts (net_facts N.faults N.binds N.first N.refused N.ports N.fails net.old) (listen_facts L.faults L.ports L.released L.place listeners.old))
+        (port_facts (net_facts N.faults N.binds N.first N.refused N.ports N.fails net.new) (listen_facts L.faults L.ports L.released L.place listeners.new)) announce.old announce.new }
 {
-    let mut connections = connections;
     bind_all(net, ports, ends)?;
-    listen_all(listeners, streams, &mut connections)?;
+    listen_all(listeners, streams, connections)?;
     announce.ready(ports, streams, ends.as_slice(), connections.as_slice())?;
     let totals = serve_all(
         rt,
@@ -107,6 +110,7 @@ fn bind_and_serve<
         options,
         ports.batches,
         base,
+        board,
         server,
         ends,
         connections,
@@ -134,6 +138,7 @@ fn serve_named<
     ports: &Ports,
     streams: &StreamPorts,
     base: u64,
+    board: &Board,
     parts: Vec<FilledPart<P>>,
     net: &mut N,
     listeners: &mut L,
@@ -156,20 +161,20 @@ fn serve_named<
     requires unbound { N.binds net.old ≡ 0 }
     requires tables { tables.old ≡ [] }
     ensures unrefused { result ≢ Err Stop.Refused }
-    ensures cause { HasCause result options.now J.plan.begun ports.now streams.now (map K.last clocks.items) tables.new
-        (port_facts (net_facts N.faults N.binds N.first N.refused N.ports N.fails net.old) (listen_facts L.faults L.ports listeners.old))
-        (port_facts (net_facts N.faults N.binds N.first N.refused N.ports N.fails net.new) (listen_facts L.faults L.ports listeners.new)) }
+    ensures cause { HasCause result options.now J.plan.begun base ports.now streams.now (map K.last clocks.items) tables.new
+        (port_facts (net_facts N.faults N.binds N.first N.refused N.ports N.fails net.old) (listen_facts L.faults L.ports L.released L.place listeners.old))
+        (port_facts (net_facts N.faults N.binds N.first N.refused N.ports N.fails net.new) (listen_facts L.faults L.ports L.released L.place listeners.new)) }
     ensures kept { KeepsNet ports.now
         (net_facts N.faults N.binds N.first N.refused N.ports N.fails net.old)
         (net_facts N.faults N.binds N.first N.refused N.ports N.fails net.new) }
-    ensures heard { KeepsListeners streams.now (listen_facts L.faults L.ports listeners.old) (listen_facts L.faults L.ports listeners.new) }
+    ensures heard { KeepsListeners streams.now (listen_facts L.faults L.ports L.released L.place listeners.old) (listen_facts L.faults L.ports L.released L.place listeners.new) }
     ensures announced { HasAnnounced (A.says ports.now streams.now) (A.fails ports.now streams.now) result
-        (port_facts (net_facts N.faults N.binds N.first N.refused N.ports N.fails net.old) (listen_facts L.faults L.ports listeners.old))
-        (port_facts (net_facts N.faults N.binds N.first N.refused N.ports N.fails net.new) (listen_facts L.faults L.ports listeners.new)) announce.old announce.new }
+        (port_facts (net_facts N.faults N.binds N.first N.refused N.ports N.fails net.old) (listen_facts L.faults L.ports L.released L.place listeners.old))
+        (port_facts (net_facts N.faults N.binds N.first N.refused N.ports N.fails net.new) (listen_facts L.faults L.ports L.released L.place listeners.new)) announce.old announce.new }
 {
     let server = LockedServer::<J, P, N::End, L::Port, K>::new(alloc, ports, streams, parts)?;
     let mut ends = Vec::with_capacity(alloc, ports.fronts as usize)?;
-    let connections = Vec::with_capacity(alloc, streams.fronts as usize)?;
+    let mut connections = Vec::with_capacity(alloc, streams.fronts as usize)?;
     let answer = bind_and_serve(
         rt,
         alloc,
@@ -177,17 +182,19 @@ fn serve_named<
         ports,
         streams,
         base,
+        board,
         server,
         net,
         &mut ends,
         listeners,
-        connections,
+        &mut connections,
         clocks,
         gate,
         tables,
         announce,
     );
     release_all(net, ends, ports.port);
+    release_streams(listeners, connections);
     answer
 }
 
@@ -207,6 +214,7 @@ fn serve_on<
     ports: &Ports,
     streams: &StreamPorts,
     base: u64,
+    board: &Board,
     filling: Vec<Write>,
     net: &mut N,
     listeners: &mut L,
@@ -227,22 +235,22 @@ fn serve_on<
     requires filling { All IsWrite filling.items }
     requires unbound { N.binds net.old ≡ 0 }
     requires tables { tables.old ≡ [] }
-    ensures cause { IsCauseOfStop result options.now filling.items ports.now streams.now (map K.last clocks.items) tables.new
-        (port_facts (net_facts N.faults N.binds N.first N.refused N.ports N.fails net.old) (listen_facts L.faults L.ports listeners.old))
-        (port_facts (net_facts N.faults N.binds N.first N.refused N.ports N.fails net.new) (listen_facts L.faults L.ports listeners.new)) }
+    ensures cause { IsCauseOfStop result options.now filling.items base ports.now streams.now (map K.last clocks.items) tables.new
+        (port_facts (net_facts N.faults N.binds N.first N.refused N.ports N.fails net.old) (listen_facts L.faults L.ports L.released L.place listeners.old))
+        (port_facts (net_facts N.faults N.binds N.first N.refused N.ports N.fails net.new) (listen_facts L.faults L.ports L.released L.place listeners.new)) }
     ensures kept { KeepsNet ports.now
         (net_facts N.faults N.binds N.first N.refused N.ports N.fails net.old)
         (net_facts N.faults N.binds N.first N.refused N.ports N.fails net.new) }
-    ensures heard { KeepsListeners streams.now (listen_facts L.faults L.ports listeners.old) (listen_facts L.faults L.ports listeners.new) }
+    ensures heard { KeepsListeners streams.now (listen_facts L.faults L.ports L.released L.place listeners.old) (listen_facts L.faults L.ports L.released L.place listeners.new) }
     ensures announced { HasAnnounced (A.says ports.now streams.now) (A.fails ports.now streams.now) result
-        (port_facts (net_facts N.faults N.binds N.first N.refused N.ports N.fails net.old) (listen_facts L.faults L.ports listeners.old))
-        (port_facts (net_facts N.faults N.binds N.first N.refused N.ports N.fails net.new) (listen_facts L.faults L.ports listeners.new)) announce.old announce.new }
+        (port_facts (net_facts N.faults N.binds N.first N.refused N.ports N.fails net.old) (listen_facts L.faults L.ports L.released L.place listeners.old))
+        (port_facts (net_facts N.faults N.binds N.first N.refused N.ports N.fails net.new) (listen_facts L.faults L.ports L.released L.place listeners.new)) announce.old announce.new }
 {
     rehearse(rt, alloc, streams.fronts + ports.fronts)?;
     let parts = open_parts::<P>(alloc, options, filling.as_slice())?;
     drop(filling);
     serve_named::<Brand, W, P, N, L, K, G, A>(
-        rt, alloc, options, ports, streams, base, parts, net, listeners, clocks, gate, tables,
+        rt, alloc, options, ports, streams, base, board, parts, net, listeners, clocks, gate, tables,
         announce,
     )
 }
@@ -269,6 +277,7 @@ pub fn serve_locked<
     listeners: &mut L,
     clocks: Vec<K>,
     base: u64,
+    board: &Board,
     gate: &G,
     tables: &mut Tables,
     announce: &mut A,
@@ -283,24 +292,24 @@ pub fn serve_locked<
     requires unbound { N.binds net.old ≡ 0 }
     requires tables { tables.old ≡ [] }
 
-    ensures cause { IsCauseOfStop result options.now filling.items ports.now streams.now (map K.last clocks.items) tables.new
-        (port_facts (net_facts N.faults N.binds N.first N.refused N.ports N.fails net.old) (listen_facts L.faults L.ports listeners.old))
-        (port_facts (net_facts N.faults N.binds N.first N.refused N.ports N.fails net.new) (listen_facts L.faults L.ports listeners.new)) }
+    ensures cause { IsCauseOfStop result options.now filling.items base ports.now streams.now (map K.last clocks.items) tables.new
+        (port_facts (net_facts N.faults N.binds N.first N.refused N.ports N.fails net.old) (listen_facts L.faults L.ports L.released L.place listeners.old))
+        (port_facts (net_facts N.faults N.binds N.first N.refused N.ports N.fails net.new) (listen_facts L.faults L.ports L.released L.place listeners.new)) }
     ensures kept { KeepsNet ports.now
         (net_facts N.faults N.binds N.first N.refused N.ports N.fails net.old)
         (net_facts N.faults N.binds N.first N.refused N.ports N.fails net.new) }
-    ensures heard { KeepsListeners streams.now (listen_facts L.faults L.ports listeners.old) (listen_facts L.faults L.ports listeners.new) }
+    ensures heard { KeepsListeners streams.now (listen_facts L.faults L.ports L.released L.place listeners.old) (listen_facts L.faults L.ports L.released L.place listeners.new) }
     ensures announced { HasAnnounced (A.says ports.now streams.now) (A.fails ports.now streams.now) result
-        (port_facts (net_facts N.faults N.binds N.first N.refused N.ports N.fails net.old) (listen_facts L.faults L.ports listeners.old))
-        (port_facts (net_facts N.faults N.binds N.first N.refused N.ports N.fails net.new) (listen_facts L.faults L.ports listeners.new)) announce.old announce.new }
+        (port_facts (net_facts N.faults N.binds N.first N.refused N.ports N.fails net.old) (listen_facts L.faults L.ports L.released L.place listeners.old))
+        (port_facts (net_facts N.faults N.binds N.first N.refused N.ports N.fails net.new) (listen_facts L.faults L.ports L.released L.place listeners.new)) announce.old announce.new }
 {
     match options.mode {
         Mode::Cache => serve_on::<W, CachePartition<OwnerSeat>, N, L, K, G, A>(
-            rt, alloc, options, ports, streams, base, filling, net, listeners, clocks, gate,
+            rt, alloc, options, ports, streams, base, board, filling, net, listeners, clocks, gate,
             tables, announce,
         ),
         Mode::Store => serve_on::<W, StorePartition<OwnerSeat>, N, L, K, G, A>(
-            rt, alloc, options, ports, streams, base, filling, net, listeners, clocks, gate,
+            rt, alloc, options, ports, streams, base, board, filling, net, listeners, clocks, gate,
             tables, announce,
         ),
     }

@@ -1,5 +1,6 @@
 //! The partitions under their locks and the fronts before them, opened and run.
 ghost use Rattle.std.specs.Prelude.{◌≡◌, ◌+◌, ◌<◌, ◌≤◌, ℕ, [], IfOk, Some, length, map, slice_get, vec_len};
+ghost use Rattle.partition_model.specs.declared.options.TheConstants.{MOST_PARTITIONS};
 ghost use Rattle.partition_model.specs.Options.{IsPossible};
 ghost use Rattle.partition_model.specs.History.{IsHistory};
 ghost use Rattle.epoch_core.specs.declared.state.Phase.TheVariants.{Idle};
@@ -8,6 +9,7 @@ ghost use Rattle.partition_table.specs.Seats.{note_state, note_home};
 ghost use Rattle.locked_fronts.specs.Owned.{Owned, NotesAre};
 ghost use Rattle.mica_fronts.specs.declared.totals.TheConstants.{MAX_BATCHES};
 ghost use Rattle.mica_serve.specs.Ends.{AreOpen, end_facts};
+ghost use Rattle.locked_serve.specs.declared.serve.TheConstants.{MOST_FRONTS};
 ghost use Rattle.locked_serve.specs.Opening.{ArePlanned, filled_view};
 ghost use Rattle.locked_serve.specs.Streams.{AreUnserved, ServesBeside, stream_facts};
 ghost use Rattle.locked_serve.specs.Running.{RanBeside};
@@ -21,6 +23,7 @@ use crate::taking::{keep_all, take_all_back, take_hands};
 use crate::worker::{FrontTask, pair_up, part_fronts, run_workers};
 use epoch_core::LendPartition;
 use locked_fronts::{LockedPart, OwnedPartition, Returned, ServerPlan};
+use memcached_stats::Board;
 use mica_clock::Clock;
 use mica_fronts::{Ports, ServeFault, Totals};
 use mica_io::{Datagrams, Gate, NoMemory};
@@ -44,7 +47,7 @@ pub struct Row<T, A> {
 
 impl<T: Drop, A: Drop> Row<T, A> {
     fn new(alloc: Global, fronts: usize) -> Result<Row<T, A>, NoMemory>
-        requires fronts { fronts ≤ 64 }
+        requires fronts { fronts ≤ MOST_FRONTS }
         ensures { IfOk result (IsRow fronts) }
     {
         Ok(Row {
@@ -60,6 +63,7 @@ impl<T: Drop, A: Drop> Row<T, A> {
 pub struct Room<P: LendPartition<Reader = ReaderSeat, Note = Note> + Drop, D, C, K> {
     pub streams: Row<StreamTask<C, K>, ()>,
     pub fronts: Row<FrontTask<D>, Totals>,
+    pub ports: Vec<C>,
     pub ends: Vec<D>,
     pub parts: Vec<Returned<P>>,
 }
@@ -76,14 +80,15 @@ impl<P: LendPartition<Reader = ReaderSeat, Note = Note> + Drop, D: Drop, C: Drop
         fronts: usize,
         partitions: usize,
     ) -> Result<Room<P, D, C, K>, NoMemory>
-        requires streams { streams ≤ 64 }
-        requires fronts { fronts ≤ 64 }
-        requires partitions { partitions ≤ 64 }
+        requires streams { streams ≤ MOST_FRONTS }
+        requires fronts { fronts ≤ MOST_FRONTS }
+        requires partitions { partitions ≤ MOST_PARTITIONS }
         ensures { IfOk result (IsRoom streams fronts partitions) }
     {
         Ok(Room {
             streams: Row::new(alloc, streams)?,
             fronts: Row::new(alloc, fronts)?,
+            ports: Vec::with_capacity(alloc, streams)?,
             ends: Vec::with_capacity(alloc, fronts)?,
             parts: Vec::with_capacity(alloc, partitions)?,
         })
@@ -121,9 +126,9 @@ impl<
         parts: Vec<FilledPart<P>>,
     ) -> Result<LockedServer<J, P, D, C, K>, NoMemory>
         requires notes { NotesAre P.noted P.note_home note_state note_home }
-        requires few { streams.now.fronts + ports.now.fronts ≤ 64 }
+        requires few { streams.now.fronts + ports.now.fronts ≤ MOST_FRONTS }
         requires takers { J.plan.fronts ≡ streams.now.fronts + ports.now.fronts }
-        requires partitions { J.plan.options.partitions ≤ 64 }
+        requires partitions { J.plan.options.partitions ≤ MOST_PARTITIONS }
         requires of { ArePlanned J.plan 0 (map (λ f. filled_view P.owner P.home f) parts.items) }
         ensures { IfOk result (λ server. IsLockedServer J.plan streams.now.fronts ports.now.fronts (length server.locks.items)
             (map (λ hand. hand.items) server.stream_hands.items) (map (λ hand. hand.items) server.hands.items) server.room) }
@@ -170,28 +175,29 @@ fn run_all<
     options: &Options,
     batches: u64,
     base: u64,
+    board: &Board,
     server: LockedServer<J, P, D, C, K>,
     ends: &mut Vec<D>,
-    connections: Vec<C>,
+    connections: &mut Vec<C>,
     clocks: Vec<K>,
     gate: &G,
 ) -> Came<P>
     requires options { IsPossible options.now }
     requires named { options.now ≡ J.plan.options }
     requires some { 1 ≤ J.plan.fronts }
-    requires few { J.plan.fronts ≤ 64 }
-    requires takers { J.plan.fronts ≡ length connections.items + length ends.old.items }
-    requires clocks { length clocks.items ≡ length connections.items }
+    requires few { J.plan.fronts ≤ MOST_FRONTS }
+    requires takers { J.plan.fronts ≡ length connections.old.items + length ends.old.items }
+    requires clocks { length clocks.items ≡ length connections.old.items }
     requires batches { batches ≤ MAX_BATCHES }
     requires filled { (p : ℕ) → p < options.now.partitions → IsHistory options.now (J.plan.begun p) }
-    requires server { IsLockedServer J.plan (length connections.items) (length ends.old.items) (length server.locks.items)
+    requires server { IsLockedServer J.plan (length connections.old.items) (length ends.old.items) (length server.locks.items)
         (map (λ hand. hand.items) server.stream_hands.items) (map (λ hand. hand.items) server.hands.items) server.room }
     requires unserved { AreOpen (map (end_facts D.port D.traffic D.faults D.has_ended D.script) ends.old.items) }
-    requires fresh { AreUnserved (map (stream_facts C.port C.faults C.has_ended C.log) connections.items) }
-    ensures ran { RanBeside options.now J.plan.begun batches (map K.last clocks.items)
+    requires fresh { AreUnserved (map (stream_facts C.port C.faults C.has_ended C.log) connections.old.items) }
+    ensures ran { RanBeside options.now J.plan.begun batches base (map K.last clocks.items)
         (map (λ left. kept_seat_in left.owner) (map (λ part. left_view P.owner P.home part) result.parts.items)) result.streams.items result.fronts.items
         (map (end_facts D.port D.traffic D.faults D.has_ended D.script) ends.old.items) (map (end_facts D.port D.traffic D.faults D.has_ended D.script) ends.new.items)
-        (map (stream_facts C.port C.faults C.has_ended C.log) connections.items) }
+        (map (stream_facts C.port C.faults C.has_ended C.log) connections.old.items) (map (stream_facts C.port C.faults C.has_ended C.log) connections.new.items) }
     ensures idle { (p : ℕ) (left : Owned) → slice_get (map (λ part. left_view P.owner P.home part) result.parts.items) p ≡ Some left → left.owner.phase ≡ Idle }
 {
     let LockedServer {
@@ -203,13 +209,15 @@ fn run_all<
     let Room {
         streams,
         fronts,
+        ports: room_of_ports,
         ends: room_of_ends,
         parts,
     } = room;
+    let ports_before = mem::replace(connections, room_of_ports);
     let ends_before = mem::replace(ends, room_of_ends);
     let mut stream_tasks = streams.tasks;
     let mut tasks = fronts.tasks;
-    pair_streams(stream_hands, connections, clocks, &mut stream_tasks);
+    pair_streams(stream_hands, ports_before, clocks, &mut stream_tasks);
     pair_up(hands, ends_before, &mut tasks);
     let first = stream_tasks.len() as u32;
     let (stream_tasks, tasks) = run_workers(
@@ -218,6 +226,7 @@ fn run_all<
         options,
         batches,
         base,
+        board,
         locks.as_slice(),
         gate,
         first,
@@ -226,7 +235,12 @@ fn run_all<
     );
     let mut stream_hands = streams.hands;
     let mut stream_answers = streams.answers;
-    part_streams(stream_tasks, &mut stream_hands, &mut stream_answers);
+    part_streams(
+        stream_tasks,
+        connections,
+        &mut stream_hands,
+        &mut stream_answers,
+    );
     let mut hands = fronts.hands;
     let mut answers = fronts.answers;
     part_fronts(tasks, ends, &mut hands, &mut answers);
@@ -256,9 +270,10 @@ pub(crate) fn serve_all<
     options: &Options,
     batches: u64,
     base: u64,
+    board: &Board,
     server: LockedServer<J, P, D, C, K>,
     ends: &mut Vec<D>,
-    connections: Vec<C>,
+    connections: &mut Vec<C>,
     clocks: Vec<K>,
     gate: &G,
     tables: &mut Tables,
@@ -267,19 +282,19 @@ pub(crate) fn serve_all<
     requires options { IsPossible options.now }
     requires named { options.now ≡ J.plan.options }
     requires some { 1 ≤ J.plan.fronts }
-    requires few { J.plan.fronts ≤ 64 }
-    requires takers { J.plan.fronts ≡ length connections.items + length ends.old.items }
-    requires clocks { length clocks.items ≡ length connections.items }
+    requires few { J.plan.fronts ≤ MOST_FRONTS }
+    requires takers { J.plan.fronts ≡ length connections.old.items + length ends.old.items }
+    requires clocks { length clocks.items ≡ length connections.old.items }
     requires batches { batches ≤ MAX_BATCHES }
     requires filled { (p : ℕ) → p < options.now.partitions → IsHistory options.now (J.plan.begun p) }
-    requires server { IsLockedServer J.plan (length connections.items) (length ends.old.items) (length server.locks.items)
+    requires server { IsLockedServer J.plan (length connections.old.items) (length ends.old.items) (length server.locks.items)
         (map (λ hand. hand.items) server.stream_hands.items) (map (λ hand. hand.items) server.hands.items) server.room }
     requires tables { tables.old ≡ [] }
     requires unserved { AreOpen (map (end_facts D.port D.traffic D.faults D.has_ended D.script) ends.old.items) }
-    requires fresh { AreUnserved (map (stream_facts C.port C.faults C.has_ended C.log) connections.items) }
-    ensures { ServesBeside options.now J.plan.begun batches (map K.last clocks.items) result tables.new
+    requires fresh { AreUnserved (map (stream_facts C.port C.faults C.has_ended C.log) connections.old.items) }
+    ensures { ServesBeside options.now J.plan.begun batches base (map K.last clocks.items) result tables.new
         (map (end_facts D.port D.traffic D.faults D.has_ended D.script) ends.old.items) (map (end_facts D.port D.traffic D.faults D.has_ended D.script) ends.new.items)
-        (map (stream_facts C.port C.faults C.has_ended C.log) connections.items) }
+        (map (stream_facts C.port C.faults C.has_ended C.log) connections.old.items) (map (stream_facts C.port C.faults C.has_ended C.log) connections.new.items) }
 {
     let Came {
         parts,
@@ -291,6 +306,7 @@ pub(crate) fn serve_all<
         options,
         batches,
         base,
+        board,
         server,
         ends,
         connections,

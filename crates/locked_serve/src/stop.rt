@@ -25,7 +25,7 @@ pub struct Untold;
 impl fmt::Display for Stop {
     fn fmt<W: fmt::Write>(&self, f: &mut fmt::Formatter<W>) -> fmt::Result {
         match self {
-            Stop::Refused => f.write_str("a write that was to fill a partition was refused"),
+            Stop::Refused => fmt::Display::fmt(&OpenFault::Refused, f),
             Stop::Unannounced => fmt::Display::fmt(&Untold, f),
             Stop::Fault(fault) => fmt::Display::fmt(fault, f),
         }

@@ -1,12 +1,14 @@
 //! The fronts of connections side by side, each in a thread of its own.
 ghost use Rattle.std.specs.Prelude.{◌≡◌, ◌<◌, ◌≤◌, [], length, map, vec_len, vec_capacity};
 ghost use Rattle.partition_model.specs.Options.{IsPossible};
+ghost use Rattle.locked_serve.specs.declared.serve.TheConstants.{MOST_FRONTS};
 ghost use Rattle.locked_serve.specs.Streams.{stream_facts};
 ghost use Rattle.locked_serve.specs.Running.{IsReadyStream, StreamRan, AreReadyStreams, StreamsRan};
 
 use epoch_core::LendPartition;
 use locked_fronts::{LockedFront, LockedPart, OwnedPartition, ServerPlan};
 use memcached_fronts::Numbering;
+use memcached_stats::Board;
 use mica_clock::Clock;
 use mica_fronts::ServeFault;
 use partition_model::Options;
@@ -24,6 +26,8 @@ pub struct StreamTask<C, K> {
     pub parts: Vec<LockedPart>,
     pub port: C,
     pub clock: K,
+    /// How many connections there was no memory for.
+    pub lacked: u64,
     pub answer: Result<(), ServeFault>,
 }
 
@@ -39,6 +43,7 @@ impl<C: Connections, K: Clock> StreamTask<C, K> {
         alloc: Global,
         options: &Options,
         base: u64,
+        board: &Board,
         locks: &[Mutex<OwnedPartition<J, P>>],
         number: u32,
     )
@@ -47,7 +52,7 @@ impl<C: Connections, K: Clock> StreamTask<C, K> {
         requires locks { length locks.now ≡ options.now.partitions }
         requires low { number < J.plan.fronts }
         requires ready { IsReadyStream J.plan (stream_facts C.port C.faults C.has_ended C.log) K.last number self.old }
-        ensures { StreamRan J.plan (stream_facts C.port C.faults C.has_ended C.log) K.last number self.old self.new }
+        ensures { StreamRan J.plan (stream_facts C.port C.faults C.has_ended C.log) K.last base number self.old self.new }
     {
         let parts = mem::replace(&mut self.parts, Vec::new(alloc));
         let mut front = LockedFront::new(options, locks, number, parts);
@@ -61,8 +66,11 @@ impl<C: Connections, K: Clock> StreamTask<C, K> {
             &mut front,
             &mut self.clock,
             numbering,
+            board,
+            number,
             u64::MAX,
             &mut self.port,
+            &mut self.lacked,
         );
         self.parts = front.into_parts();
     }
@@ -80,16 +88,17 @@ pub(crate) fn run_streams<
     alloc: Global,
     options: &Options,
     base: u64,
+    board: &Board,
     locks: &[Mutex<OwnedPartition<J, P>>],
     streams: &mut Vec<StreamTask<C, K>>,
 )
     requires valid { IsPossible options.now }
     requires options { options.now ≡ J.plan.options }
     requires locks { length locks.now ≡ options.now.partitions }
-    requires few { J.plan.fronts ≤ 64 }
+    requires few { J.plan.fronts ≤ MOST_FRONTS }
     requires many { length streams.old.items ≤ J.plan.fronts }
     requires ready { AreReadyStreams J.plan (stream_facts C.port C.faults C.has_ended C.log) K.last streams.old.items }
-    ensures { StreamsRan J.plan (stream_facts C.port C.faults C.has_ended C.log) K.last streams.old.items streams.new.items }
+    ensures { StreamsRan J.plan (stream_facts C.port C.faults C.has_ended C.log) K.last base streams.old.items streams.new.items }
 {
     let threads = streams.len().max(1);
     for_each_mut(
@@ -97,10 +106,10 @@ pub(crate) fn run_streams<
         streams.as_mut_slice(),
         threads,
         &|number, stream|
-            requires { (number < J.plan.fronts) × (J.plan.fronts ≤ 64) × IsPossible options.now × (options.now ≡ J.plan.options) × (length locks.now ≡ options.now.partitions)
+            requires { (number < J.plan.fronts) × (J.plan.fronts ≤ MOST_FRONTS) × IsPossible options.now × (options.now ≡ J.plan.options) × (length locks.now ≡ options.now.partitions)
                 × IsReadyStream J.plan (stream_facts C.port C.faults C.has_ended C.log) K.last number stream.now }
-            ensures { StreamRan J.plan (stream_facts C.port C.faults C.has_ended C.log) K.last number stream.entry.now stream.exit.now }
-        { stream.run(rt, alloc, options, base, locks, number as u32) },
+            ensures { StreamRan J.plan (stream_facts C.port C.faults C.has_ended C.log) K.last base number stream.entry.now stream.exit.now }
+        { stream.run(rt, alloc, options, base, board, locks, number as u32) },
     );
 }
 
@@ -132,24 +141,29 @@ pub(crate) fn pair_streams<C: Drop, K: Drop>(
             parts,
             port,
             clock,
+            lacked: 0,
             answer: Err(ServeFault::NoMemory),
         });
     }
 }
 
-/// The hands and the answers of the fronts, in order. Their ports are let go.
+/// The ports, the hands and the answers of the fronts, in order.
 pub(crate) fn part_streams<C: Drop, K: Drop>(
     streams: Vec<StreamTask<C, K>>,
+    ports: &mut Vec<C>,
     hands: &mut Vec<Vec<LockedPart>>,
     answers: &mut Vec<Result<(), ServeFault>>,
 )
-    requires none { (hands.old.items ≡ []) × (answers.old.items ≡ []) }
+    requires none { (ports.old.items ≡ []) × (hands.old.items ≡ []) × (answers.old.items ≡ []) }
+    requires ports { vec_len streams ≤ vec_capacity ports.old }
     requires hands { vec_len streams ≤ vec_capacity hands.old }
     requires answers { vec_len streams ≤ vec_capacity answers.old }
+    ensures ports { ports.new.items ≡ map (λ t. t.port) streams.items }
     ensures hands { hands.new.items ≡ map (λ t. t.parts) streams.items }
     ensures answers { answers.new.items ≡ map (λ t. t.answer) streams.items }
 {
     for stream in streams {
+        ports.push_reserved(stream.port);
         hands.push_reserved(stream.parts);
         answers.push_reserved(stream.answer);
     }

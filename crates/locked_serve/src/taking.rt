@@ -1,5 +1,6 @@
 //! The partitions taken back from their locks, with what the fronts have in hand.
 ghost use Rattle.std.specs.Prelude.{◌≡◌, ◌+◌, ◌++◌, ◌≤◌, ℕ, [], Some, length, map, slice_get, vec_len, vec_capacity};
+ghost use Rattle.partition_model.specs.declared.options.TheConstants.{MOST_PARTITIONS};
 ghost use Rattle.epoch_core.specs.declared.state.Phase.TheVariants.{Idle};
 ghost use Rattle.partition_table.specs.Tabled.{kept_seat_in};
 ghost use Rattle.locked_fronts.specs.Owned.{Owned, IsOwned};
@@ -37,7 +38,7 @@ pub(crate) fn take_all_back<
 >(rt: &R, locks: Vec<Mutex<OwnedPartition<J, P>>>, parts: &mut Vec<Returned<P>>)
     requires none { parts.old.items ≡ [] }
     requires room { vec_len locks ≤ vec_capacity parts.old }
-    requires few { vec_len locks ≤ 64 }
+    requires few { vec_len locks ≤ MOST_PARTITIONS }
     ensures many { length parts.new.items ≡ length locks.items }
     ensures each { AreTakenBack J.plan (map (λ part. left_view P.owner P.home part) parts.new.items) }
 {
@@ -83,7 +84,7 @@ pub(crate) fn keep_all<P: OnTable + LendPartition<Reader = ReaderSeat, Note = No
     tables: &mut Tables,
 )
     requires same { (p : P) → P.state p ≡ P.owner p }
-    requires room { length tables.old + length parts.items ≤ 64 }
+    requires room { length tables.old + length parts.items ≤ MOST_PARTITIONS }
     requires idle { (p : ℕ) (left : Owned) → slice_get (map (λ part. left_view P.owner P.home part) parts.items) p ≡ Some left → left.owner.phase ≡ Idle }
     ensures { tables.new ≡ tables.old ++ map (λ left. kept_seat_in left.owner) (map (λ part. left_view P.owner P.home part) parts.items) }
 {

@@ -3,12 +3,14 @@ ghost use Rattle.std.specs.Prelude.{◌≡◌, ◌+◌, ◌<◌, ◌≤◌, [], 
 ghost use Rattle.std.specs.Thread.{IsSync};
 ghost use Rattle.partition_model.specs.Options.{IsPossible};
 ghost use Rattle.mica_serve.specs.Ends.{end_facts};
+ghost use Rattle.locked_serve.specs.declared.serve.TheConstants.{MOST_FRONTS};
 ghost use Rattle.locked_serve.specs.Streams.{stream_facts};
 ghost use Rattle.locked_serve.specs.Running.{IsReadyTask, TaskRan, AreReadyTasks, TasksRan, AreReadyStreams, StreamsRan};
 
 use crate::streams::{StreamTask, run_streams};
 use epoch_core::LendPartition;
 use locked_fronts::{LockedFront, LockedPart, OwnedPartition, ServerPlan};
+use memcached_stats::Board;
 use mica_clock::Clock;
 use mica_fronts::{ServeFault, Totals, serve_end};
 use mica_io::{Datagrams, Gate};
@@ -49,7 +51,7 @@ impl<D: Datagrams> FrontTask<D> {
         requires options { options.now ≡ J.plan.options }
         requires locks { length locks.now ≡ options.now.partitions }
         requires low { number < J.plan.fronts }
-        requires few { J.plan.fronts ≤ 64 }
+        requires few { J.plan.fronts ≤ MOST_FRONTS }
         requires ready { IsReadyTask J.plan batches (end_facts D.port D.traffic D.faults D.has_ended D.script) number self.old }
         ensures { TaskRan J.plan batches (end_facts D.port D.traffic D.faults D.has_ended D.script) number self.old self.new }
     {
@@ -88,7 +90,7 @@ fn run_fronts<
     requires valid { IsPossible options.now }
     requires options { options.now ≡ J.plan.options }
     requires locks { length locks.now ≡ options.now.partitions }
-    requires few { J.plan.fronts ≤ 64 }
+    requires few { J.plan.fronts ≤ MOST_FRONTS }
     requires many { first + length fronts.old.items ≡ J.plan.fronts }
     requires ready { AreReadyTasks J.plan batches (end_facts D.port D.traffic D.faults D.has_ended D.script) first fronts.old.items }
     ensures { TasksRan J.plan batches (end_facts D.port D.traffic D.faults D.has_ended D.script) first fronts.old.items fronts.new.items }
@@ -99,7 +101,7 @@ fn run_fronts<
         fronts.as_mut_slice(),
         threads,
         &|at, front|
-            requires { (first + at < J.plan.fronts) × (J.plan.fronts ≤ 64) × IsPossible options.now × (options.now ≡ J.plan.options) × (length locks.now ≡ options.now.partitions)
+            requires { (first + at < J.plan.fronts) × (J.plan.fronts ≤ MOST_FRONTS) × IsPossible options.now × (options.now ≡ J.plan.options) × (length locks.now ≡ options.now.partitions)
                 × IsReadyTask J.plan batches (end_facts D.port D.traffic D.faults D.has_ended D.script) (first + at) front.now }
             ensures { TaskRan J.plan batches (end_facts D.port D.traffic D.faults D.has_ended D.script) (first + at) front.entry.now front.exit.now }
         { front.run(rt, alloc, options, batches, locks, gate, first + at as u32) },
@@ -118,19 +120,20 @@ fn serve_streams<
     alloc: Global,
     options: &Options,
     base: u64,
+    board: &Board,
     locks: &[Mutex<OwnedPartition<J, P>>],
     streams: Vec<StreamTask<C, K>>,
 ) -> Vec<StreamTask<C, K>>
     requires valid { IsPossible options.now }
     requires options { options.now ≡ J.plan.options }
     requires locks { length locks.now ≡ options.now.partitions }
-    requires few { J.plan.fronts ≤ 64 }
+    requires few { J.plan.fronts ≤ MOST_FRONTS }
     requires many { length streams.items ≤ J.plan.fronts }
     requires ready { AreReadyStreams J.plan (stream_facts C.port C.faults C.has_ended C.log) K.last streams.items }
-    ensures { StreamsRan J.plan (stream_facts C.port C.faults C.has_ended C.log) K.last streams.items result.items }
+    ensures { StreamsRan J.plan (stream_facts C.port C.faults C.has_ended C.log) K.last base streams.items result.items }
 {
     let mut tasks = streams;
-    run_streams(rt, alloc, options, base, locks, &mut tasks);
+    run_streams(rt, alloc, options, base, board, locks, &mut tasks);
     tasks
 }
 
@@ -153,7 +156,7 @@ fn serve_fronts<
     requires valid { IsPossible options.now }
     requires options { options.now ≡ J.plan.options }
     requires locks { length locks.now ≡ options.now.partitions }
-    requires few { J.plan.fronts ≤ 64 }
+    requires few { J.plan.fronts ≤ MOST_FRONTS }
     requires many { first + length fronts.items ≡ J.plan.fronts }
     requires ready { AreReadyTasks J.plan batches (end_facts D.port D.traffic D.faults D.has_ended D.script) first fronts.items }
     ensures { TasksRan J.plan batches (end_facts D.port D.traffic D.faults D.has_ended D.script) first fronts.items result.items }
@@ -178,6 +181,7 @@ pub(crate) fn run_workers<
     options: &Options,
     batches: u64,
     base: u64,
+    board: &Board,
     locks: &[Mutex<OwnedPartition<J, P>>],
     gate: &G,
     first: u32,
@@ -187,24 +191,24 @@ pub(crate) fn run_workers<
     requires valid { IsPossible options.now }
     requires options { options.now ≡ J.plan.options }
     requires locks { length locks.now ≡ options.now.partitions }
-    requires few { J.plan.fronts ≤ 64 }
+    requires few { J.plan.fronts ≤ MOST_FRONTS }
     requires first { length streams.items ≤ first }
     requires many { first + length fronts.items ≡ J.plan.fronts }
     requires ready_streams { AreReadyStreams J.plan (stream_facts C.port C.faults C.has_ended C.log) K.last streams.items }
     requires ready { AreReadyTasks J.plan batches (end_facts D.port D.traffic D.faults D.has_ended D.script) first fronts.items }
-    ensures streams { StreamsRan J.plan (stream_facts C.port C.faults C.has_ended C.log) K.last streams.items result.0.items }
+    ensures streams { StreamsRan J.plan (stream_facts C.port C.faults C.has_ended C.log) K.last base streams.items result.0.items }
     ensures fronts { TasksRan J.plan batches (end_facts D.port D.traffic D.faults D.has_ended D.script) first fronts.items result.1.items }
 {
     join(
         rt,
         move || -> Vec<StreamTask<C, K>>
-            requires { IsSync W.row × IsSync J.row × IsPossible options.now × (options.now ≡ J.plan.options) × (length locks.now ≡ options.now.partitions) × (J.plan.fronts ≤ 64)
+            requires { IsSync W.row × IsSync J.row × IsPossible options.now × (options.now ≡ J.plan.options) × (length locks.now ≡ options.now.partitions) × (J.plan.fronts ≤ MOST_FRONTS)
                 × (length streams.items ≤ J.plan.fronts) × AreReadyStreams J.plan (stream_facts C.port C.faults C.has_ended C.log) K.last streams.items }
-            ensures { StreamsRan J.plan (stream_facts C.port C.faults C.has_ended C.log) K.last streams.items result.items }
-        { serve_streams(rt, alloc, options, base, locks, streams) },
+            ensures { StreamsRan J.plan (stream_facts C.port C.faults C.has_ended C.log) K.last base streams.items result.items }
+        { serve_streams(rt, alloc, options, base, board, locks, streams) },
         move || -> Vec<FrontTask<D>>
             requires { IsSync W.row × IsSync J.row × IsSync G.row × IsPossible options.now × (options.now ≡ J.plan.options) × (length locks.now ≡ options.now.partitions)
-                × (J.plan.fronts ≤ 64) × (first + length fronts.items ≡ J.plan.fronts)
+                × (J.plan.fronts ≤ MOST_FRONTS) × (first + length fronts.items ≡ J.plan.fronts)
                 × AreReadyTasks J.plan batches (end_facts D.port D.traffic D.faults D.has_ended D.script) first fronts.items }
             ensures { TasksRan J.plan batches (end_facts D.port D.traffic D.faults D.has_ended D.script) first fronts.items result.items }
         { serve_fronts(rt, alloc, options, batches, locks, gate, first, fronts) },

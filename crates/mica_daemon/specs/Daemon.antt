@@ -3,6 +3,7 @@ use Rattle.std.specs.Prelude.{◌≡◌, ◌+◌, ◌-◌, ◌<◌, ◌≤◌, �
 use Rattle.std.specs.Fmt.{decimal}
 use Rattle.std.specs.Io.KnownBytes.{Appends}
 use Rattle.mica_io.specs.Faults.{Rose}
+use Rattle.stream_io.specs.Ports.{Place, place_at}
 use Rattle.partition_model.specs.declared.options.Options.{Options}
 use Rattle.partition_model.specs.declared.write.Write.{Write}
 use Rattle.partition_sizes.specs.Bytes.{start_bytes}
@@ -16,6 +17,7 @@ use Rattle.mica_serve.specs.NetRun.{NetFacts, KeepsNet}
 use Rattle.stream_fronts.specs.declared.ports.StreamPorts.{StreamPorts}
 use Rattle.locked_serve.specs.Streams.{ListenFacts, KeepsListeners}
 use Rattle.locked_serve.specs.Causes.{IsCauseOfStop, HasAnnounced, PortFacts, port_facts}
+use Rattle.mica_commands.specs.declared.stream_words.StreamOptions.{StreamOptions}
 use Rattle.mica_commands.specs.DaemonWords.{Service}
 use Rattle.mica_cmd.specs.declared.status.Status.{Status}
 use Rattle.mica_cmd.specs.declared.status.Status.TheVariants.{Done, Usage, NoMemory, NetFault, WriteFault, ImageRefused}
@@ -60,11 +62,11 @@ WritesLast (Err Refused) old new status = IsWritten ImageRefused (with_line_feed
 WritesLast (Err Unannounced) old new status = (status ≡ WriteFault) × (new ≡ old)
 
 -- The server, which these writes filled, came to this answer, for the cause that it names. It said that its ports are had where they were, and wrote what is due at its end.
--- The clocks of its fronts behind connections had told these seconds before.
-pub record Serves (options : Options) (ports : Ports) (streams : StreamPorts) (seconds : List ℕ) (writes : List Write) (old new : Outside) (status : Status) : Type 0 where
+-- The clocks of its fronts behind connections had told these seconds before, and unique numbers of values begin at the base.
+pub record Serves (options : Options) (ports : Ports) (streams : StreamPorts) (seconds : List ℕ) (base : ℕ) (writes : List Write) (old new : Outside) (status : Status) : Type 0 where
   pub answer : Result Totals Stop
   pub said : SinkFacts
-  pub cause : IsCauseOfStop answer options writes ports streams seconds new.tables old.ports new.ports
+  pub cause : IsCauseOfStop answer options writes base ports streams seconds new.tables old.ports new.ports
   pub announced : HasAnnounced (Says (ready_text ports streams)) (FailsToSay (ready_text ports streams)) answer old.ports new.ports old.sink said
   pub last : WritesLast answer said new.sink status
   pub kept : KeepsNet ports old.ports.net new.ports.net
@@ -75,23 +77,36 @@ pub record BindsNothing (old new : Outside) : Type 0 where
   pub ports : new.ports ≡ old.ports
   pub tables : new.tables ≡ old.tables
 
--- it served, or had no memory before it began
-abbrev pub ServesOrNot : Options → Ports → StreamPorts → List ℕ → List Write → Outside → Outside → Status → Type 0
-ServesOrNot options ports streams seconds writes old new status =
-    Serves options ports streams seconds writes old new status ⊎ (IsUnwritten old.sink new.sink status × BindsNothing old new)
+-- where words have ports of connections listened at
+abbrev pub place_of : StreamOptions → Place
+place_of streams = place_at streams.address streams.connections
+
+-- the listeners were told a place
+abbrev pub placed : Place → Outside → Outside
+placed place old = record old { ports = record old.ports { listens = record old.ports.listens { place = place } } }
+
+-- It served, and all ports of connections were listened at where the words say. Of the clocks each of their fronts took one.
+abbrev pub ServesPlaced : Options → Ports → StreamOptions → List ℕ → ℕ → List Write → Outside → Outside → Status → Type 0
+ServesPlaced options ports streams seconds base writes old new status =
+    Serves options ports streams.ports (take streams.ports.fronts seconds) base writes (placed (place_of streams) old) new status
+
+-- it served so, or had no memory before it began
+abbrev pub ServesOrNot : Options → Ports → StreamOptions → List ℕ → ℕ → List Write → Outside → Outside → Status → Type 0
+ServesOrNot options ports streams seconds base writes old new status =
+    ServesPlaced options ports streams seconds base writes old new status ⊎ (IsUnwritten old.sink new.sink status × BindsNothing old new)
 
 -- the partitions take no more memory than is free, where that is told
 abbrev pub HasMemory : FilesFacts → Options → Type 0
 HasMemory files options = IfSome files.free (λ free. start_bytes options ≤ free)
 
 -- It served with partitions that there is memory for, and that were filled as it was asked; or it wrote why there is nothing to fill them with, or had no memory, before it began.
-abbrev pub FillsAndServes : Service → List ℕ → FilesFacts → FilesFacts → Outside → Outside → Status → Type 0
-FillsAndServes service seconds before after old new status =
+abbrev pub FillsAndServes : Service → List ℕ → ℕ → FilesFacts → FilesFacts → Outside → Outside → Status → Type 0
+FillsAndServes service seconds base before after old new status =
     ((writes : List Write) × HasMemory before service.options × Fills before service.image writes
-    × Serves service.options service.ports service.streams.ports (take service.streams.ports.fronts seconds) writes old new status)
+    × ServesPlaced service.options service.ports service.streams seconds base writes old new status)
     ⊎ (WritesDue (IsDueOfFile before after service.image) old.sink new.sink status × BindsNothing old new)
 
 -- What a run promises by its words: it served as they ask, or said that they are none of its own.
-abbrev pub KeepsUp : Option Service → List ℕ → FilesFacts → FilesFacts → Outside → Outside → Status → Type 0
-KeepsUp (Some service) seconds before after old new status = FillsAndServes service seconds before after old new status × KeepsFiles service.image before after
-KeepsUp None seconds before after old new status = IsTold Usage (with_line_feed (codes "usage")) old.sink new.sink status × BindsNothing old new × KeepsFiles None before after
+abbrev pub KeepsUp : Option Service → List ℕ → ℕ → FilesFacts → FilesFacts → Outside → Outside → Status → Type 0
+KeepsUp (Some service) seconds base before after old new status = FillsAndServes service seconds base before after old new status × KeepsFiles service.image before after
+KeepsUp None seconds base before after old new status = IsTold Usage (with_line_feed (codes "usage")) old.sink new.sink status × BindsNothing old new × KeepsFiles None before after

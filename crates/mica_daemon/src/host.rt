@@ -49,6 +49,7 @@ fn clocks_of<'a, R: time::Clock>(rt: &'a R, alloc: Global) -> Result<Vec<StdCloc
 fn run_words<R: Threads + Wait + Sync + AllocGlobal + Files + Print + Sockets + time::Clock>(
     rt: &R,
     words: &[String],
+    pid: u32,
 ) -> Result<Status, NoMemory> {
     let alloc = rt.alloc();
     let has_failed = AtomicBool::new(false);
@@ -66,19 +67,20 @@ fn run_words<R: Threads + Wait + Sync + AllocGlobal + Files + Print + Sockets + 
         &mut TcpListeners::failing_whole(rt, alloc, Ipv4Addr::LOCALHOST, 0, &has_failed),
         clocks_of(rt, alloc)?,
         first_number(StdClock::new(rt).second()),
+        pid,
         &FreeGate,
         &mut Tables::new(),
     ))
 }
 
-/// The program as `main` runs it: with the words that it was started with.
+/// The program as `main` runs it: with the words that it was started with, and the number of its process.
 pub fn run_on_host<
     R: Threads + Wait + Sync + AllocGlobal + Env + Files + Print + Sockets + time::Clock,
->(rt: &R) -> ExitCode
+>(rt: &R, pid: u32) -> ExitCode
     ensures { (status : Status) × (exit_status result ≡ exit_number status) }
 {
     match all_words(rt.alloc(), env::args(rt)) {
-        Ok(words) => exit_code(run_words(rt, words.as_slice()).unwrap_or(Status::NoMemory)),
+        Ok(words) => exit_code(run_words(rt, words.as_slice(), pid).unwrap_or(Status::NoMemory)),
         Err(NoMemory) => exit_code(Status::NoMemory),
     }
 }

@@ -6,6 +6,7 @@
 //! the sink took by what the server came to, and `specs/Filling.antt` what it took where there was no image.
 #![tactic(auto)]
 
+mod board;
 mod files;
 mod filling;
 mod free_memory;

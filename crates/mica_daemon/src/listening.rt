@@ -1,5 +1,6 @@
 //! What listens at the ports of connections.
 ghost use Rattle.std.specs.Prelude.{◌≡◌};
+ghost use Rattle.stream_io.specs.Ports.{place_at};
 
 use std::net::{Ipv4Addr, Net as Sockets};
 use stream_io::{Listeners, TcpListeners};
@@ -8,6 +9,8 @@ use stream_io::{Listeners, TcpListeners};
 pub trait PlacedListeners: Listeners {
     /// From now on it listens there.
     fn set_place(&mut self, address: Ipv4Addr, most: u32)
+        ensures place { Self.place self.new ≡ place_at address most }
+        ensures released { Self.released self.new ≡ Self.released self.old }
         ensures ports { Self.ports self.new ≡ Self.ports self.old }
         ensures faults { Self.faults self.new ≡ Self.faults self.old };
 }

@@ -1,5 +1,5 @@
 //! The top call: from words to a server that stays up, and to its status.
-ghost use Rattle.std.specs.Prelude.{◌≡◌, ◌≤◌, [], All, length, take, map, string_bytes, Err, IsTrue};
+ghost use Rattle.std.specs.Prelude.{◌≡◌, ◌≤◌, [], All, length, map, string_bytes, Err, IsTrue};
 ghost use Rattle.partition_model.specs.Options.{IsPossible};
 ghost use Rattle.partition_model.specs.Write.{IsWrite};
 ghost use Rattle.locked_serve.specs.declared.stop.Stop.TheVariants.{Fault};
@@ -12,10 +12,12 @@ ghost use Rattle.mica_daemon.specs.Files.{files_facts};
 ghost use Rattle.mica_daemon.specs.Daemon.{HasMemory, WritesLast, Serves, ServesOrNot, KeepsUp, outside, ready_text};
 
 use crate::Files;
+use crate::board::board_of;
 use crate::filling::filling_of;
 use crate::listening::PlacedListeners;
 use crate::speaker::{Speaker, ready_line};
 use locked_serve::{Stop, serve_locked};
+use memcached_stats::Board;
 use mica_clock::Clock;
 use mica_cmd::{Status, print_totals, write_due};
 use mica_commands::{DaemonOptions, StreamOptions, WordsFault, read_daemon};
@@ -60,6 +62,7 @@ fn serve_aloud<
     listeners: &mut L,
     clocks: Vec<C>,
     base: u64,
+    board: &Board,
     gate: &G,
     tables: &mut Tables,
 ) -> Status
@@ -70,13 +73,13 @@ fn serve_aloud<
     requires line { string_bytes speaker.old.line ≡ ready_text ports.now streams.now }
     requires unbound { N.binds net.old ≡ 0 }
     requires tables { tables.old ≡ [] }
-    ensures { Serves options.now ports.now streams.now (map C.last clocks.items) filling.items
-        (outside (sink_facts K.taken K.faults speaker.old.sink) (net_facts N.faults N.binds N.first N.refused N.ports N.fails net.old) (listen_facts L.faults L.ports listeners.old) tables.old)
-        (outside (sink_facts K.taken K.faults speaker.new.sink) (net_facts N.faults N.binds N.first N.refused N.ports N.fails net.new) (listen_facts L.faults L.ports listeners.new) tables.new)
+    ensures { Serves options.now ports.now streams.now (map C.last clocks.items) base filling.items
+        (outside (sink_facts K.taken K.faults speaker.old.sink) (net_facts N.faults N.binds N.first N.refused N.ports N.fails net.old) (listen_facts L.faults L.ports L.released L.place listeners.old) tables.old)
+        (outside (sink_facts K.taken K.faults speaker.new.sink) (net_facts N.faults N.binds N.first N.refused N.ports N.fails net.new) (listen_facts L.faults L.ports L.released L.place listeners.new) tables.new)
         result }
 {
     match serve_locked(
-        rt, alloc, options, ports, streams, filling, net, listeners, clocks, base, gate, tables,
+        rt, alloc, options, ports, streams, filling, net, listeners, clocks, base, board, gate, tables,
         speaker,
     ) {
         Ok(totals) => print_totals(alloc, totals, &mut speaker.sink),
@@ -106,6 +109,7 @@ fn stay_up<
     listeners: &mut L,
     clocks: Vec<C>,
     base: u64,
+    pid: u32,
     gate: &G,
     tables: &mut Tables,
 ) -> Status
@@ -115,11 +119,22 @@ fn stay_up<
     requires filling { All IsWrite filling.items }
     requires unbound { N.binds net.old ≡ 0 }
     requires tables { tables.old ≡ [] }
-    ensures { ServesOrNot options.now ports.now streams.now.ports (take streams.now.ports.fronts (map C.last clocks.items)) filling.items
-        (outside (sink_facts K.taken K.faults speaker.old.sink) (net_facts N.faults N.binds N.first N.refused N.ports N.fails net.old) (listen_facts L.faults L.ports listeners.old) tables.old)
-        (outside (sink_facts K.taken K.faults speaker.new.sink) (net_facts N.faults N.binds N.first N.refused N.ports N.fails net.new) (listen_facts L.faults L.ports listeners.new) tables.new)
+    ensures { ServesOrNot options.now ports.now streams.now (map C.last clocks.items) base filling.items
+        (outside (sink_facts K.taken K.faults speaker.old.sink) (net_facts N.faults N.binds N.first N.refused N.ports N.fails net.old) (listen_facts L.faults L.ports L.released L.place listeners.old) tables.old)
+        (outside (sink_facts K.taken K.faults speaker.new.sink) (net_facts N.faults N.binds N.first N.refused N.ports N.fails net.new) (listen_facts L.faults L.ports L.released L.place listeners.new) tables.new)
         result }
 {
+    let Ok(board) = board_of(
+        alloc,
+        options,
+        ports,
+        streams,
+        clocks.as_slice(),
+        filling.as_slice(),
+        pid,
+    ) else {
+        return Status::NoMemory;
+    };
     match ready_line(alloc, ports, &streams.ports) {
         Ok(line) => {
             speaker.line = line;
@@ -138,6 +153,7 @@ fn stay_up<
                 listeners,
                 clocks,
                 base,
+                &board,
                 gate,
                 tables,
             )
@@ -177,15 +193,16 @@ pub fn daemon<
     listeners: &mut L,
     clocks: Vec<C>,
     base: u64,
+    pid: u32,
     gate: &G,
     tables: &mut Tables,
 ) -> Status
     requires net { N.binds net.old ≡ 0 }
     requires clocks { MOST_FRONTS ≤ length clocks.items }
     requires tables { tables.old ≡ [] }
-    ensures { KeepsUp (daemon_of (map string_bytes words.now)) (map C.last clocks.items) (files_facts F.file F.free F.faults files.old) (files_facts F.file F.free F.faults files.new)
-        (outside (sink_facts K.taken K.faults speaker.old.sink) (net_facts N.faults N.binds N.first N.refused N.ports N.fails net.old) (listen_facts L.faults L.ports listeners.old) tables.old)
-        (outside (sink_facts K.taken K.faults speaker.new.sink) (net_facts N.faults N.binds N.first N.refused N.ports N.fails net.new) (listen_facts L.faults L.ports listeners.new) tables.new)
+    ensures { KeepsUp (daemon_of (map string_bytes words.now)) (map C.last clocks.items) base (files_facts F.file F.free F.faults files.old) (files_facts F.file F.free F.faults files.new)
+        (outside (sink_facts K.taken K.faults speaker.old.sink) (net_facts N.faults N.binds N.first N.refused N.ports N.fails net.old) (listen_facts L.faults L.ports L.released L.place listeners.old) tables.old)
+        (outside (sink_facts K.taken K.faults speaker.new.sink) (net_facts N.faults N.binds N.first N.refused N.ports N.fails net.new) (listen_facts L.faults L.ports L.released L.place listeners.new) tables.new)
         result }
 {
     let DaemonOptions {
@@ -204,7 +221,7 @@ pub fn daemon<
     match filling_of(alloc, files, image, &mut speaker.sink) {
         Ok(filling) => stay_up(
             rt, alloc, &options, &ports, &streams, filling, speaker, net, listeners, clocks, base,
-            gate, tables,
+            pid, gate, tables,
         ),
         Err(status) => status,
     }

@@ -57,6 +57,7 @@ fn run_whole<W: Threads + Wait + Sync, F: Files, N: Net, L: PlacedListeners, G: 
         listeners,
         clocks_of(alloc)?,
         1,
+        1,
         gate,
         &mut tables,
     );

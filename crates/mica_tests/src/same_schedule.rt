@@ -1,5 +1,6 @@
 //! Ports of connections in memory, at each of which the same schedule happens.
 ghost use Rattle.std.specs.Prelude.{◌≡◌};
+ghost use Rattle.stream_io.specs.Ports.{place_at};
 
 use mica_daemon::PlacedListeners;
 use mica_io::Failed;
@@ -14,6 +15,8 @@ pub struct SameSchedule<'a> {
     schedule: &'a [Step],
     /// The port that can't be listened at, if there is one.
     taken: Option<u16>,
+    address: Ipv4Addr,
+    most: u32,
     faults: u64,
 }
 
@@ -23,6 +26,8 @@ impl<'a> SameSchedule<'a> {
             alloc,
             schedule,
             taken,
+            address: Ipv4Addr::LOCALHOST,
+            most: 0,
             faults: 0,
         }
     }
@@ -36,6 +41,10 @@ impl<'a> Listeners for SameSchedule<'a> {
     ghost faults = { λ l. l.faults };
 
     ghost ports = { λ _. None };
+
+    ghost released = { λ _. None };
+
+    ghost place = { λ l. place_at l.address l.most };
 
     fn listen(&mut self, port: u16) -> Result<MemConnections<'a>, Failed> {
         if self.taken != Some(port) {
@@ -52,8 +61,13 @@ impl<'a> Listeners for SameSchedule<'a> {
         self.faults = self.faults.saturating_add(1);
         Err(Failed)
     }
+
+    fn release(&mut self, _connections: MemConnections<'a>) {}
 }
 
 impl<'a> PlacedListeners for SameSchedule<'a> {
-    fn set_place(&mut self, _address: Ipv4Addr, _most: u32) {}
+    fn set_place(&mut self, address: Ipv4Addr, most: u32) {
+        self.address = address;
+        self.most = most;
+    }
 }

@@ -2,8 +2,8 @@
 #![tactic(auto)]
 
 use mica_daemon::run_on_host;
-use std::process::ExitCode;
+use std::process::{self, ExitCode};
 
 fn main(rt: HostRuntime) -> ExitCode {
-    run_on_host(&rt)
+    run_on_host(&rt, process::id(rt.process()))
 }

@@ -1,6 +1,7 @@
 //! The TCP ports of this machine.
 ghost use Rattle.std.specs.Prelude.{◌≡◌, ◌≤◌, false, None, is_err, IfOk, IfSome, OnErr};
 ghost use Rattle.mica_io.specs.Faults.{Rose, faults_after};
+ghost use Rattle.stream_io.specs.Ports.{place_at};
 
 use crate::{Listeners, TcpConnections};
 use mica_io::Failed;
@@ -21,7 +22,8 @@ pub struct TcpListeners<'a, R> {
 
 impl<'a, R: Sockets> TcpListeners<'a, R> {
     pub fn new(rt: &'a R, alloc: Global, address: Ipv4Addr, most: u32) -> TcpListeners<'a, R>
-        ensures { ⟦<TcpListeners<'a, R> as Listeners>⟧.faults result ≡ 0 }
+        ensures place { ⟦<TcpListeners<'a, R> as Listeners>⟧.place result ≡ place_at address most }
+        ensures faults { ⟦<TcpListeners<'a, R> as Listeners>⟧.faults result ≡ 0 }
     {
         TcpListeners {
             rt,
@@ -42,7 +44,8 @@ impl<'a, R: Sockets> TcpListeners<'a, R> {
         most: u32,
         has_failed: &'a AtomicBool,
     ) -> TcpListeners<'a, R>
-        ensures { ⟦<TcpListeners<'a, R> as Listeners>⟧.faults result ≡ 0 }
+        ensures place { ⟦<TcpListeners<'a, R> as Listeners>⟧.place result ≡ place_at address most }
+        ensures faults { ⟦<TcpListeners<'a, R> as Listeners>⟧.faults result ≡ 0 }
     {
         TcpListeners {
             rt,
@@ -56,7 +59,8 @@ impl<'a, R: Sockets> TcpListeners<'a, R> {
 
     /// From now on it listens at this address, where a port has at most so many connections at a time.
     pub fn set_place(&mut self, address: Ipv4Addr, most: u32)
-        ensures { ⟦<TcpListeners<'a, R> as Listeners>⟧.faults self.new ≡ ⟦<TcpListeners<'a, R> as Listeners>⟧.faults self.old }
+        ensures place { ⟦<TcpListeners<'a, R> as Listeners>⟧.place self.new ≡ place_at address most }
+        ensures faults { ⟦<TcpListeners<'a, R> as Listeners>⟧.faults self.new ≡ ⟦<TcpListeners<'a, R> as Listeners>⟧.faults self.old }
     {
         self.address = address;
         self.most = most;
@@ -69,6 +73,10 @@ impl<'a, R: Sockets> Listeners for TcpListeners<'a, R> {
     ghost faults = { λ l. l.faults };
 
     ghost ports = { λ _. None };
+
+    ghost released = { λ _. None };
+
+    ghost place = { λ l. place_at l.address l.most };
 
     fn listen(&mut self, port: u16) -> Result<TcpConnections<'a>, Failed> {
         let opened = TcpConnections::open(
@@ -87,4 +95,6 @@ impl<'a, R: Sockets> Listeners for TcpListeners<'a, R> {
             }
         }
     }
+
+    fn release(&mut self, _connections: TcpConnections<'a>) {}
 }

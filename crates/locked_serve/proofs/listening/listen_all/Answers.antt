@@ -6,13 +6,16 @@ use Rattle.std.proofs.lemmas.List.{length-map, map-append}
 use Rattle.std.proofs.lemmas.Option.{slice_get_within}
 use Rattle.mica_io.specs.Faults.{Rose}
 use Rattle.stream_io.specs.Ports.{Ports, without_port}
-use Rattle.locked_serve.specs.Streams.{StreamFacts, AreNewStreams, LeavesOthers, stream_facts}
+use Rattle.locked_serve.specs.Streams.{StreamFacts, ListenFacts, AreNewStreams, LeavesOthers, listen_facts, stream_facts}
 use Rattle.locked_serve.proofs.Heard.{waits_still, leaves_none, leaves_more, leaves_few, streams_more}
 use Rattle.locked_serve.proofs.listening.listen_all.Given as given
 use Rattle.locked_serve.proofs.listening.listen_all.Goals as goal
 
 abbrev facts : (g : given.Over) → g.row.L-Port.Denot → StreamFacts
 facts g = stream_facts g.L.Port.Connections.port g.L.Port.Connections.faults g.L.Port.Connections.has_ended g.L.Port.Connections.log
+
+abbrev listens_at : (g : given.Over) → g.row.L.Denot → ListenFacts
+listens_at g = listen_facts g.L.Listeners.faults g.L.Listeners.ports g.L.Listeners.released g.L.Listeners.place
 
 pub loop-k-init : goal.loop-k-init
 loop-k-init g c =
@@ -23,6 +26,9 @@ loop-k-init g c =
       new = λ k stream at. absurd (let low = slice_get_within (map (facts g) c.args.connections.now.items) k stream at in omega (arith, low, ap length none));
       others = leaves_none c.args.streams.now.port (g.L.Listeners.ports c.args.listeners.now);
       faults = refl;
+      released = refl;
+      place = refl;
+      untouched = λ none. refl;
     }
 
 pub loop-k-preserved : goal.loop-k-preserved
@@ -56,6 +62,9 @@ loop-k-preserved g c =
           }));
       others = leaves_more first c.loop-k.k before now (g.L.Listeners.ports c.listen.new.self) inv.others listens;
       faults = heard.counted ∙ inv.faults;
+      released = c.listen.ensures.same_released ∙ inv.released;
+      place = c.listen.ensures.same_place ∙ inv.place;
+      untouched = λ none. absurd (omega (arith, none));
     }
 
 pub returns-clause-kept : goal.returns-clause-kept
@@ -65,6 +74,8 @@ returns-clause-kept g c =
       never_fall = omega (arith, inv.faults);
       others = leaves_few c.args.streams.now.port c.loop-k.k c.args.streams.now.fronts (g.L.Listeners.ports c.args.listeners.now) (g.L.Listeners.ports c.loop-k.listeners)
           (omega (arith, c.loop-k-test.false, c.loop-k.auto.k-end)) inv.others;
+      place = inv.place;
+      unneeded = λ none. ap (listens_at g) (inv.untouched (omega (arith, none, c.loop-k.auto.k-end)));
     }
 
 pub returns-in_err-port-clause-kept : goal.returns-in_err-port-clause-kept
@@ -76,6 +87,8 @@ returns-in_err-port-clause-kept g c =
       never_fall = omega (arith, inv.faults, c.listen.ensures.never_fall);
       others = subst (LeavesOthers c.args.streams.now.port c.args.streams.now.fronts before) (sym failed.unmoved)
           (leaves_few c.args.streams.now.port c.loop-k.k c.args.streams.now.fronts before (g.L.Listeners.ports c.loop-k.listeners) (omega (arith, c.loop-k-test.true)) inv.others);
+      place = c.listen.ensures.same_place ∙ inv.place;
+      unneeded = λ none. absurd (omega (arith, none, c.loop-k-test.true));
     }
 
 pub returns-in_err-port-clause-cause : goal.returns-in_err-port-clause-cause

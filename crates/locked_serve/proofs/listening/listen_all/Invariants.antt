@@ -10,4 +10,7 @@ invariant-loop-k g l = record {
       (map (stream_facts g.L.Port.Connections.port g.L.Port.Connections.faults g.L.Port.Connections.has_ended g.L.Port.Connections.log) l.connections.items);
   others : LeavesOthers l.streams.port l.k (g.L.Listeners.ports l.initial.listeners) (g.L.Listeners.ports l.listeners);
   faults : g.L.Listeners.faults l.listeners ≡ g.L.Listeners.faults l.initial.listeners;
+  released : g.L.Listeners.released l.listeners ≡ g.L.Listeners.released l.initial.listeners;
+  place : g.L.Listeners.place l.listeners ≡ g.L.Listeners.place l.initial.listeners;
+  untouched : l.k ≡ 0 → l.listeners ≡ l.initial.listeners;
 }

@@ -30,7 +30,7 @@ abbrev net_at : (g : given.Over) → g.row.N.Denot → NetFacts
 net_at g = net_facts g.N.Net.faults g.N.Net.binds g.N.Net.first g.N.Net.refused g.N.Net.ports g.N.Net.fails
 
 abbrev listens_at : (g : given.Over) → g.row.L.Denot → ListenFacts
-listens_at g = listen_facts g.L.Listeners.faults g.L.Listeners.ports
+listens_at g = listen_facts g.L.Listeners.faults g.L.Listeners.ports g.L.Listeners.released g.L.Listeners.place
 
 abbrev ports_at : (g : given.Over) → g.row.N.Denot → g.row.L.Denot → PortFacts
 ports_at g net listeners = port_facts (net_at g net) (listens_at g listeners)
@@ -39,7 +39,7 @@ pub serve_all-requires-clause-unserved : goal.serve_all-requires-clause-unserved
 serve_all-requires-clause-unserved g c _ _ i e is = let new = c.bind_all.ensures.new i e is in (new.unended, new.fresh)
 
 pub serve_all-requires-clause-fresh : goal.serve_all-requires-clause-fresh
-serve_all-requires-clause-fresh g c _ _ k s is = (c.listen_all.ensures.new k s is).unended
+serve_all-requires-clause-fresh g c _ _ k s is = let new = c.listen_all.ensures.new k s is in record { unended = new.unended; fresh = new.fresh }
 
 pub ready-requires-clause-new : goal.ready-requires-clause-new
 ready-requires-clause-new g c =
@@ -59,12 +59,13 @@ returns-in_err-bind_all-clause-served g c =
     let many = length-map c.bind_all.new.ends.items (facts g) in
     let size : vec_len c.bind_all.new.ends ≡ length c.bind_all.new.ends.items = search rules in
     let is = err_from_is_err_and c.from_residual.result c.from_residual.ensures.1 in
+    let leaves = λ (news : List StreamFacts). news ≡ map (of_stream g) c.args.connections.now.items in
     let says = λ (others : Others) (came : Option (Result Totals ServeFault)). BindsAndServes others c.args.options.now g.J.ServerPlan.plan.begun c.args.ports.now came c.args.tables.now
     (net_at g c.args.net.now) (net_at g c.bind_all.new.net) (map (facts g) c.bind_all.new.ends.items) in
     let listens = listens_at g c.args.listeners.now in
     let clocks = map g.K.Clock.last c.args.clocks.items in
-    subst (λ (r : Result Totals Stop). ComesBeside says r c.args.streams.now clocks listens listens) (sym (is.1 ∙ ap Err is.2))
-    (unbound says c.args.streams.now clocks listens listens
+    subst (λ (r : Result Totals Stop). ComesBeside says leaves r c.args.options.now c.args.base c.args.streams.now clocks listens listens) (sym (is.1 ∙ ap Err is.2))
+    (unbound says leaves c.args.options.now c.args.base c.args.streams.now clocks listens listens (sym (ap (map (of_stream g)) c.requires.no_streams))
     (run_failed c.args.ports.now (net_at g c.args.net.now) (net_at g c.bind_all.new.net) (map (facts g) c.bind_all.new.ends.items)
     bound.new bound.bound (omega (arith, bound.few, many, size)) bound.never_fall bound.fails bound.binds bound.first
     _ c.args.options.now g.J.ServerPlan.plan.begun c.requires.filled (Some (Err Net)) c.args.tables.now refl c.requires.tables failed.cause failed.refused (silent c.args.streams.now [] [])))
@@ -94,14 +95,15 @@ returns-in_err-listen_all-clause-served g c =
     let size : vec_len c.bind_all.new.ends ≡ length c.bind_all.new.ends.items = search rules in
     let heard_many = length-map c.listen_all.new.connections.items (of_stream g) in
     let is = err_from_is_err_and c.from_residual-in_err-listen_all.result c.from_residual-in_err-listen_all.ensures.1 in
+    let leaves = λ (news : List StreamFacts). news ≡ map (of_stream g) c.listen_all.new.connections.items in
     let says = λ (others : Others) (came : Option (Result Totals ServeFault)). BindsAndServes others c.args.options.now g.J.ServerPlan.plan.begun c.args.ports.now came c.args.tables.now
     (net_at g c.args.net.now) (net_at g c.bind_all.new.net) (map (facts g) c.bind_all.new.ends.items) in
     let before = listens_at g c.args.listeners.now in
     let after = listens_at g c.listen_all.new.listeners in
     let clocks = map g.K.Clock.last c.args.clocks.items in
-    subst (λ (r : Result Totals Stop). ComesBeside says r c.args.streams.now clocks before after) (sym (is.1 ∙ ap Err is.2))
-    (unheard says c.args.streams.now clocks before after (map (of_stream g) c.listen_all.new.connections.items) heard.new
-    (omega (arith, heard.few, heard_many, c.listen_all.new.connections.ok)) c.in_err-listen_all.ensures.cause
+    subst (λ (r : Result Totals Stop). ComesBeside says leaves r c.args.options.now c.args.base c.args.streams.now clocks before after) (sym (is.1 ∙ ap Err is.2))
+    (unheard says leaves c.args.options.now c.args.base c.args.streams.now clocks before after (map (of_stream g) c.listen_all.new.connections.items) heard.new
+    (omega (arith, heard.few, heard_many, c.listen_all.new.connections.ok)) refl c.in_err-listen_all.ensures.cause
     (run_left c.args.ports.now (net_at g c.args.net.now) (net_at g c.bind_all.new.net) (map (facts g) c.bind_all.new.ends.items)
     bound.new bound.bound (omega (arith, bound.few, many, size)) bound.never_fall bound.fails bound.binds bound.first
     _ c.args.options.now g.J.ServerPlan.plan.begun c.requires.filled None c.args.tables.now refl c.requires.tables (many ∙ sym size ∙ c.in_ok-bind_all.ensures.all)))
@@ -128,14 +130,15 @@ returns-in_err-ready-clause-served g c =
     let size : vec_len c.bind_all.new.ends ≡ length c.bind_all.new.ends.items = search rules in
     let heard_many = length-map c.listen_all.new.connections.items (of_stream g) in
     let is = err_from_is_err_and c.from_residual-in_err-ready.result c.from_residual-in_err-ready.ensures.1 in
+    let leaves = λ (news : List StreamFacts). news ≡ map (of_stream g) c.listen_all.new.connections.items in
     let says = λ (others : Others) (came : Option (Result Totals ServeFault)). BindsAndServes others c.args.options.now g.J.ServerPlan.plan.begun c.args.ports.now came c.args.tables.now
     (net_at g c.args.net.now) (net_at g c.bind_all.new.net) (map (facts g) c.bind_all.new.ends.items) in
     let before = listens_at g c.args.listeners.now in
     let after = listens_at g c.listen_all.new.listeners in
     let clocks = map g.K.Clock.last c.args.clocks.items in
-    subst (λ (r : Result Totals Stop). ComesBeside says r c.args.streams.now clocks before after) (sym (is.1 ∙ ap Err is.2))
-    (untold says c.args.streams.now clocks before after (map (of_stream g) c.listen_all.new.connections.items) heard.new
-    (omega (arith, heard.few, heard_many, c.listen_all.new.connections.ok))
+    subst (λ (r : Result Totals Stop). ComesBeside says leaves r c.args.options.now c.args.base c.args.streams.now clocks before after) (sym (is.1 ∙ ap Err is.2))
+    (untold says leaves c.args.options.now c.args.base c.args.streams.now clocks before after (map (of_stream g) c.listen_all.new.connections.items) heard.new
+    (omega (arith, heard.few, heard_many, c.listen_all.new.connections.ok)) refl
     (run_left c.args.ports.now (net_at g c.args.net.now) (net_at g c.bind_all.new.net) (map (facts g) c.bind_all.new.ends.items)
     bound.new bound.bound (omega (arith, bound.few, many, size)) bound.never_fall bound.fails bound.binds bound.first
     _ c.args.options.now g.J.ServerPlan.plan.begun c.requires.filled None c.args.tables.now refl c.requires.tables (many ∙ sym size ∙ c.in_ok-bind_all.ensures.all)))
@@ -164,13 +167,14 @@ returns-in_err-totals-clause-served g c =
     let full : length (map (of_stream g) c.listen_all.new.connections.items) ≡ c.args.streams.now.fronts =
     omega (arith, c.in_ok-listen_all.ensures.all, heard_many, c.listen_all.new.connections.ok) in
     let is = err_from_is_err_and c.from_residual-in_err-totals.result c.from_residual-in_err-totals.ensures.1 in
+    let leaves = λ (news : List StreamFacts). news ≡ map (of_stream g) c.serve_all.new.connections.items in
     let says = λ (others : Others) (came : Option (Result Totals ServeFault)). BindsAndServes others c.args.options.now g.J.ServerPlan.plan.begun c.args.ports.now came c.serve_all.new.tables
     (net_at g c.args.net.now) (net_at g c.bind_all.new.net) (map (facts g) c.serve_all.new.ends.items) in
     let before = listens_at g c.args.listeners.now in
     let after = listens_at g c.listen_all.new.listeners in
     let clocks = map g.K.Clock.last c.args.clocks.items in
-    subst (λ (r : Result Totals Stop). ComesBeside says r c.args.streams.now clocks before after) (sym (is.1 ∙ ap Err is.2))
-    (came_err says c.args.streams.now clocks before after (map (of_stream g) c.listen_all.new.connections.items) heard.new (omega (arith, full)) full c.in_err-totals.field-0.0 c.in_err-totals.ensures
+    subst (λ (r : Result Totals Stop). ComesBeside says leaves r c.args.options.now c.args.base c.args.streams.now clocks before after) (sym (is.1 ∙ ap Err is.2))
+    (came_err says leaves c.args.options.now c.args.base c.args.streams.now clocks before after (map (of_stream g) c.listen_all.new.connections.items) heard.new (omega (arith, full)) full c.in_err-totals.field-0.0 c.in_err-totals.ensures refl
     (run_served c.args.ports.now (net_at g c.args.net.now) (net_at g c.bind_all.new.net) (map (facts g) c.bind_all.new.ends.items)
     bound.new bound.bound (omega (arith, bound.few, many, size)) bound.never_fall bound.fails bound.binds bound.first
     _ c.args.options.now g.J.ServerPlan.plan.begun c.requires.filled (Err c.in_err-totals.field-0.0) c.serve_all.new.tables (map (facts g) c.serve_all.new.ends.items)
@@ -203,10 +207,11 @@ returns-clause-served g c =
     let heard_many = length-map c.listen_all.new.connections.items (of_stream g) in
     let full : length (map (of_stream g) c.listen_all.new.connections.items) ≡ c.args.streams.now.fronts =
     omega (arith, c.in_ok-listen_all.ensures.all, heard_many, c.listen_all.new.connections.ok) in
+    let leaves = λ (news : List StreamFacts). news ≡ map (of_stream g) c.serve_all.new.connections.items in
     let says = λ (others : Others) (came : Option (Result Totals ServeFault)). BindsAndServes others c.args.options.now g.J.ServerPlan.plan.begun c.args.ports.now came c.serve_all.new.tables
     (net_at g c.args.net.now) (net_at g c.bind_all.new.net) (map (facts g) c.serve_all.new.ends.items) in
-    came_ok says c.args.streams.now (map g.K.Clock.last c.args.clocks.items) (listens_at g c.args.listeners.now) (listens_at g c.listen_all.new.listeners)
-    (map (of_stream g) c.listen_all.new.connections.items) heard.new (omega (arith, full)) full c.in_ok-totals.totals c.in_ok-totals.ensures
+    came_ok says leaves c.args.options.now c.args.base c.args.streams.now (map g.K.Clock.last c.args.clocks.items) (listens_at g c.args.listeners.now) (listens_at g c.listen_all.new.listeners)
+    (map (of_stream g) c.listen_all.new.connections.items) heard.new (omega (arith, full)) full c.in_ok-totals.totals c.in_ok-totals.ensures refl
     (run_served c.args.ports.now (net_at g c.args.net.now) (net_at g c.bind_all.new.net) (map (facts g) c.bind_all.new.ends.items)
     bound.new bound.bound (omega (arith, bound.few, many, size)) bound.never_fall bound.fails bound.binds bound.first
     _ c.args.options.now g.J.ServerPlan.plan.begun c.requires.filled (Ok c.in_ok-totals.totals) c.serve_all.new.tables (map (facts g) c.serve_all.new.ends.items)

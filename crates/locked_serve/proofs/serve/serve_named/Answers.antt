@@ -1,5 +1,5 @@
-use Rattle.std.proofs.Common.{rules, ◌≡◌, ◌+◌, ◌<◌, ℕ, List, length, vec_len, map, refl, sym, ap, ◌∙◌, subst}
-use Rattle.std.specs.Prelude.{IfSome, Option, Result, Ok, Err}
+use Rattle.std.proofs.Common.{rules, ◌≡◌, ◌+◌, ◌<◌, ℕ, List, length, vec_len, map, refl, sym, ap, ◌∙◌, subst, arith}
+use Rattle.std.specs.Prelude.{IfSome, Option, option_map, Result, Ok, Err}
 use Rattle.std.proofs.lemmas.List.{length-map}
 use Rattle.std.proofs.lemmas.Result.{err_from_is_err_and}
 use Rattle.mica_io.specs.Ports.{out}
@@ -14,9 +14,10 @@ use Rattle.partition_model.specs.declared.options.Options.{Options}
 use Rattle.partition_model.specs.History.{IsHistory}
 use Rattle.locked_serve.specs.declared.stop.Stop.{Stop}
 use Rattle.locked_serve.specs.Opening.{filled_view}
-use Rattle.locked_serve.specs.Streams.{ListenFacts, listen_facts}
+use Rattle.locked_serve.specs.Streams.{StreamFacts, ListenFacts, listen_facts, stream_facts, with_ports}
 use Rattle.locked_serve.specs.Causes.{PortFacts, HasCause, port_facts}
 use Rattle.locked_serve.proofs.Heard.{kept_unheard}
+use Rattle.locked_serve.proofs.Released.{kept_released}
 use Rattle.locked_serve.proofs.Named.{accepted}
 use Rattle.locked_serve.proofs.Stopped.{says_then, still_told, no_memory}
 use Rattle.locked_serve.proofs.serve.serve_named.Given as given
@@ -25,11 +26,14 @@ use Rattle.locked_serve.proofs.serve.serve_named.Goals as goal
 abbrev facts : (g : given.Over) → g.row.N-End.Denot → EndFacts
 facts g = end_facts g.N.End.Datagrams.port g.N.End.Datagrams.traffic g.N.End.Datagrams.faults g.N.End.Datagrams.has_ended g.N.End.Datagrams.script
 
+abbrev of_stream : (g : given.Over) → g.row.L-Port.Denot → StreamFacts
+of_stream g = stream_facts g.L.Port.Connections.port g.L.Port.Connections.faults g.L.Port.Connections.has_ended g.L.Port.Connections.log
+
 abbrev net_at : (g : given.Over) → g.row.N.Denot → NetFacts
 net_at g = net_facts g.N.Net.faults g.N.Net.binds g.N.Net.first g.N.Net.refused g.N.Net.ports g.N.Net.fails
 
 abbrev listens_at : (g : given.Over) → g.row.L.Denot → ListenFacts
-listens_at g = listen_facts g.L.Listeners.faults g.L.Listeners.ports
+listens_at g = listen_facts g.L.Listeners.faults g.L.Listeners.ports g.L.Listeners.released g.L.Listeners.place
 
 abbrev ports_at : (g : given.Over) → g.row.N.Denot → g.row.L.Denot → PortFacts
 ports_at g net listeners = port_facts (net_at g net) (listens_at g listeners)
@@ -54,7 +58,8 @@ release_all-requires-clause-tell g c _ _ =
 
 pub returns-clause-cause : goal.returns-clause-cause
 returns-clause-cause g c =
-    says_then (λ (others : Others) (came : Option (Result Totals ServeFault)).
+    let listens = c.release_streams.ensures in
+    says_then listens.faults (λ news is. listens.released ∙ (λ i. option_map (with_ports (sym is i)) (c.bind_and_serve-answer.ensures.unreleased i))) (λ (others : Others) (came : Option (Result Totals ServeFault)).
     cause others c.args.options.now c.requires.options.partitions.0 g.J.ServerPlan.plan.begun c.args.ports.now c.bind_and_serve-answer.new.tables (net_at g c.args.net.now)
     (net_at g c.bind_and_serve-answer.new.net) (net_at g c.release_all.new.net) (map (facts g) c.bind_and_serve-answer.new.ends.items) c.release_all.ensures came) c.bind_and_serve-answer.ensures.served
 
@@ -64,12 +69,19 @@ returns-clause-kept g c =
     keeps _ c.args.options.now c.requires.options.partitions.0 g.J.ServerPlan.plan.begun c.args.ports.now c.bind_and_serve-answer.new.tables (net_at g c.args.net.now)
     (net_at g c.bind_and_serve-answer.new.net) (net_at g c.release_all.new.net) (map (facts g) c.bind_and_serve-answer.new.ends.items) c.release_all.ensures served.came served.said
 
+pub returns-clause-heard : goal.returns-clause-heard
+returns-clause-heard g c =
+    let served = c.bind_and_serve-answer.ensures.served in
+    let news = map (of_stream g) c.bind_and_serve-answer.new.connections.items in
+    kept_released c.args.streams.now news (listens_at g c.args.listeners.now) (listens_at g c.bind_and_serve-answer.new.listeners) (listens_at g c.release_streams.new.listeners)
+    (omega (arith, ap length served.left, served.are.served.many, served.are.within)) c.bind_and_serve-answer.ensures.heard c.release_streams.ensures
+
 pub returns-clause-announced : goal.returns-clause-announced
 returns-clause-announced g c =
-    let listeners = c.bind_and_serve-answer.new.listeners in
     still_told c.bind_and_serve-answer.result (g.A.Announce.says c.args.ports.now c.args.streams.now) (g.A.Announce.fails c.args.ports.now c.args.streams.now)
-    (ports_at g c.args.net.now c.args.listeners.now) (ports_at g c.bind_and_serve-answer.new.net listeners) (ports_at g c.release_all.new.net listeners)
-    c.args.announce.now c.bind_and_serve-answer.new.announce c.release_all.ensures.refused refl c.bind_and_serve-answer.ensures.announced
+    (ports_at g c.args.net.now c.args.listeners.now) (ports_at g c.bind_and_serve-answer.new.net c.bind_and_serve-answer.new.listeners)
+    (ports_at g c.release_all.new.net c.release_streams.new.listeners)
+    c.args.announce.now c.bind_and_serve-answer.new.announce c.release_all.ensures.refused c.release_streams.ensures.faults c.bind_and_serve-answer.ensures.announced
 
 pub bind_and_serve-answer-requires-clause-filled : goal.bind_and_serve-answer-requires-clause-filled
 bind_and_serve-answer-requires-clause-filled g c κs within =
@@ -87,8 +99,8 @@ returns-in_err-server-clause-cause g c =
     let is = err_from_is_err_and c.from_residual.result c.from_residual.ensures.1 in
     let all = ports_at g c.args.net.now c.args.listeners.now in
     let clocks = map g.K.Clock.last c.args.clocks.items in
-    subst (λ (r : Result Totals Stop). HasCause r c.args.options.now g.J.ServerPlan.plan.begun c.args.ports.now c.args.streams.now clocks c.args.tables.now all all) (sym (is.1 ∙ ap Err is.2))
-    (no_memory c.args.options.now g.J.ServerPlan.plan.begun c.args.ports.now c.args.streams.now clocks c.args.tables.now all all c.requires.tables)
+    subst (λ (r : Result Totals Stop). HasCause r c.args.options.now g.J.ServerPlan.plan.begun c.args.base c.args.ports.now c.args.streams.now clocks c.args.tables.now all all) (sym (is.1 ∙ ap Err is.2))
+    (no_memory c.args.options.now g.J.ServerPlan.plan.begun c.args.base c.args.ports.now c.args.streams.now clocks c.args.tables.now all c.requires.tables)
 
 pub returns-in_err-ends-clause-kept : goal.returns-in_err-ends-clause-kept
 returns-in_err-ends-clause-kept g c = net_kept c.args.ports.now (net_at g c.args.net.now) c.requires.unbound
@@ -101,8 +113,8 @@ returns-in_err-ends-clause-cause g c =
     let is = err_from_is_err_and c.from_residual-in_err-ends.result c.from_residual-in_err-ends.ensures.1 in
     let all = ports_at g c.args.net.now c.args.listeners.now in
     let clocks = map g.K.Clock.last c.args.clocks.items in
-    subst (λ (r : Result Totals Stop). HasCause r c.args.options.now g.J.ServerPlan.plan.begun c.args.ports.now c.args.streams.now clocks c.args.tables.now all all) (sym (is.1 ∙ ap Err is.2))
-    (no_memory c.args.options.now g.J.ServerPlan.plan.begun c.args.ports.now c.args.streams.now clocks c.args.tables.now all all c.requires.tables)
+    subst (λ (r : Result Totals Stop). HasCause r c.args.options.now g.J.ServerPlan.plan.begun c.args.base c.args.ports.now c.args.streams.now clocks c.args.tables.now all all) (sym (is.1 ∙ ap Err is.2))
+    (no_memory c.args.options.now g.J.ServerPlan.plan.begun c.args.base c.args.ports.now c.args.streams.now clocks c.args.tables.now all c.requires.tables)
 
 pub returns-in_err-connections-clause-kept : goal.returns-in_err-connections-clause-kept
 returns-in_err-connections-clause-kept g c = net_kept c.args.ports.now (net_at g c.args.net.now) c.requires.unbound
@@ -115,5 +127,5 @@ returns-in_err-connections-clause-cause g c =
     let is = err_from_is_err_and c.from_residual-in_err-connections.result c.from_residual-in_err-connections.ensures.1 in
     let all = ports_at g c.args.net.now c.args.listeners.now in
     let clocks = map g.K.Clock.last c.args.clocks.items in
-    subst (λ (r : Result Totals Stop). HasCause r c.args.options.now g.J.ServerPlan.plan.begun c.args.ports.now c.args.streams.now clocks c.args.tables.now all all) (sym (is.1 ∙ ap Err is.2))
-    (no_memory c.args.options.now g.J.ServerPlan.plan.begun c.args.ports.now c.args.streams.now clocks c.args.tables.now all all c.requires.tables)
+    subst (λ (r : Result Totals Stop). HasCause r c.args.options.now g.J.ServerPlan.plan.begun c.args.base c.args.ports.now c.args.streams.now clocks c.args.tables.now all all) (sym (is.1 ∙ ap Err is.2))
+    (no_memory c.args.options.now g.J.ServerPlan.plan.begun c.args.base c.args.ports.now c.args.streams.now clocks c.args.tables.now all c.requires.tables)

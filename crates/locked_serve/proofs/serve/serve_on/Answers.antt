@@ -25,7 +25,7 @@ abbrev net_at : (g : given.Over) → g.row.N.Denot → NetFacts
 net_at g = net_facts g.N.Net.faults g.N.Net.binds g.N.Net.first g.N.Net.refused g.N.Net.ports g.N.Net.fails
 
 abbrev ports_at : (g : given.Over) → g.row.N.Denot → g.row.L.Denot → PortFacts
-ports_at g net listeners = port_facts (net_at g net) (listen_facts g.L.Listeners.faults g.L.Listeners.ports listeners)
+ports_at g net listeners = port_facts (net_at g net) (listen_facts g.L.Listeners.faults g.L.Listeners.ports g.L.Listeners.released g.L.Listeners.place listeners)
 
 abbrev views : (g : given.Over) → List (FilledPart g.row.P.Denot) → List FilledView
 views g parts = map (λ f. filled_view g.P.Partition.owner g.P.Partition.home f) parts
@@ -40,8 +40,8 @@ returns-clause-cause g c =
     let before = ports_at g c.args.net.now c.args.listeners.now in
     let after = ports_at g c.serve_named.new.net c.serve_named.new.listeners in
     let clocks = map g.K.Clock.last c.args.clocks.items in
-    cause_filled c.args.options.now c.args.filling.items c.args.ports.now c.args.streams.now clocks c.serve_named.new.tables before after c.serve_named.result c.serve_named.ensures.unrefused
-    (subst (λ (b : ℕ → History). HasCause c.serve_named.result c.args.options.now b c.args.ports.now c.args.streams.now clocks c.serve_named.new.tables before after)
+    cause_filled c.args.options.now c.args.filling.items c.args.base c.args.ports.now c.args.streams.now clocks c.serve_named.new.tables before after c.serve_named.result c.serve_named.ensures.unrefused
+    (subst (λ (b : ℕ → History). HasCause c.serve_named.result c.args.options.now b c.args.base c.args.ports.now c.args.streams.now clocks c.serve_named.new.tables before after)
     (begun_is c.args.options.now (c.args.streams.now.fronts + c.args.ports.now.fronts) c.args.filling.items (views g c.in_ok-parts.parts.items) c.requires.options.partitions.0 filled)
     c.serve_named.ensures.cause)
 
@@ -52,8 +52,8 @@ returns-in_err-parts-clause-cause g c =
     let all = ports_at g c.args.net.now c.args.listeners.now in
     let clocks = map g.K.Clock.last c.args.clocks.items in
     let refused = λ (e : fault ≡ open_fault.Refused). subst (λ l. RefusesFilling c.args.options.now l) c.as_slice.ensures.value (c.in_err-parts.ensures.refused (ap Err e)) in
-    subst (λ (r : Result Totals Stop). IsCauseOfStop r c.args.options.now c.args.filling.items c.args.ports.now c.args.streams.now clocks c.args.tables.now all all) (sym (is.1 ∙ ap Err is.2))
-    (not_opened fault c.args.options.now c.args.filling.items c.args.ports.now c.args.streams.now clocks c.args.tables.now all c.requires.tables refused
+    subst (λ (r : Result Totals Stop). IsCauseOfStop r c.args.options.now c.args.filling.items c.args.base c.args.ports.now c.args.streams.now clocks c.args.tables.now all all) (sym (is.1 ∙ ap Err is.2))
+    (not_opened fault c.args.options.now c.args.filling.items c.args.base c.args.ports.now c.args.streams.now clocks c.args.tables.now all c.requires.tables refused
     (g.A.Announce.says c.args.ports.now c.args.streams.now) (g.A.Announce.fails c.args.ports.now c.args.streams.now) c.args.announce.now).0
 
 pub returns-in_err-parts-clause-announced : goal.returns-in_err-parts-clause-announced
@@ -66,24 +66,24 @@ returns-in_err-parts-clause-announced g c =
     let fails = g.A.Announce.fails c.args.ports.now c.args.streams.now in
     let refused = λ (e : fault ≡ open_fault.Refused). subst (λ l. RefusesFilling c.args.options.now l) c.as_slice.ensures.value (c.in_err-parts.ensures.refused (ap Err e)) in
     subst (λ (r : Result Totals Stop). HasAnnounced says fails r all all c.args.announce.now c.args.announce.now) (sym (is.1 ∙ ap Err is.2))
-    (not_opened fault c.args.options.now c.args.filling.items c.args.ports.now c.args.streams.now clocks c.args.tables.now all c.requires.tables refused says fails c.args.announce.now).1
+    (not_opened fault c.args.options.now c.args.filling.items c.args.base c.args.ports.now c.args.streams.now clocks c.args.tables.now all c.requires.tables refused says fails c.args.announce.now).1
 
 pub returns-in_err-parts-clause-kept : goal.returns-in_err-parts-clause-kept
 returns-in_err-parts-clause-kept g c = net_kept c.args.ports.now (net_at g c.args.net.now) c.requires.unbound
 
 pub returns-in_err-parts-clause-heard : goal.returns-in_err-parts-clause-heard
-returns-in_err-parts-clause-heard g c = kept_unheard c.args.streams.now (listen_facts g.L.Listeners.faults g.L.Listeners.ports c.args.listeners.now)
+returns-in_err-parts-clause-heard g c = kept_unheard c.args.streams.now (listen_facts g.L.Listeners.faults g.L.Listeners.ports g.L.Listeners.released g.L.Listeners.place c.args.listeners.now)
 
 pub returns-in_err-rehearse-clause-kept : goal.returns-in_err-rehearse-clause-kept
 returns-in_err-rehearse-clause-kept g c = net_kept c.args.ports.now (net_at g c.args.net.now) c.requires.unbound
 
 pub returns-in_err-rehearse-clause-heard : goal.returns-in_err-rehearse-clause-heard
-returns-in_err-rehearse-clause-heard g c = kept_unheard c.args.streams.now (listen_facts g.L.Listeners.faults g.L.Listeners.ports c.args.listeners.now)
+returns-in_err-rehearse-clause-heard g c = kept_unheard c.args.streams.now (listen_facts g.L.Listeners.faults g.L.Listeners.ports g.L.Listeners.released g.L.Listeners.place c.args.listeners.now)
 
 pub returns-in_err-rehearse-clause-cause : goal.returns-in_err-rehearse-clause-cause
 returns-in_err-rehearse-clause-cause g c =
     let is = err_from_is_err_and c.from_residual.result c.from_residual.ensures.1 in
     let all = ports_at g c.args.net.now c.args.listeners.now in
     let clocks = map g.K.Clock.last c.args.clocks.items in
-    subst (λ (r : Result Totals Stop). IsCauseOfStop r c.args.options.now c.args.filling.items c.args.ports.now c.args.streams.now clocks c.args.tables.now all all) (sym (is.1 ∙ ap Err is.2))
-    (no_memory c.args.options.now (begun_by c.args.options.now c.args.filling.items) c.args.ports.now c.args.streams.now clocks c.args.tables.now all all c.requires.tables)
+    subst (λ (r : Result Totals Stop). IsCauseOfStop r c.args.options.now c.args.filling.items c.args.base c.args.ports.now c.args.streams.now clocks c.args.tables.now all all) (sym (is.1 ∙ ap Err is.2))
+    (no_memory c.args.options.now (begun_by c.args.options.now c.args.filling.items) c.args.base c.args.ports.now c.args.streams.now clocks c.args.tables.now all c.requires.tables)

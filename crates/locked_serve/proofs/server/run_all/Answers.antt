@@ -66,26 +66,33 @@ module _ (g : given.Over) (c : After-pair_up g) where
   hands : map (λ own. own.items) c.args.server.hands.items ≡ map hand_of c.pair_up.new.tasks.items
   hands = ap (map (λ own. own.items)) (sym c.pair_up.ensures.hands) ∙ map-map (λ own. own.items) (λ (t : FrontTask g.row.D.Denot). t.parts) c.pair_up.new.tasks.items
 
-  opened_streams : AreNewHands (plan_of g) 0 (length c.args.connections.items) (map stream_hand c.pair_streams.new.tasks.items)
-  opened_streams = subst (AreNewHands (plan_of g) 0 (length c.args.connections.items)) stream_hands c.requires.server.lent_streams
+  opened_streams : AreNewHands (plan_of g) 0 (length c.args.connections.now.items) (map stream_hand c.pair_streams.new.tasks.items)
+  opened_streams = subst (AreNewHands (plan_of g) 0 (length c.args.connections.now.items)) stream_hands c.requires.server.lent_streams
 
-  opened : AreNewHands (plan_of g) (length c.args.connections.items) (length c.args.ends.now.items) (map hand_of c.pair_up.new.tasks.items)
-  opened = subst (AreNewHands (plan_of g) (length c.args.connections.items) (length c.args.ends.now.items)) hands c.requires.server.lent
+  opened : AreNewHands (plan_of g) (length c.args.connections.now.items) (length c.args.ends.now.items) (map hand_of c.pair_up.new.tasks.items)
+  opened = subst (AreNewHands (plan_of g) (length c.args.connections.now.items) (length c.args.ends.now.items)) hands c.requires.server.lent
 
   own : map (λ (t : FrontTask g.row.D.Denot). t.end) c.pair_up.new.tasks.items ≡ c.args.ends.now.items
   own = c.pair_up.ensures.ends ∙ (λ i. (c.replace-ends_before.ensures.value i).items)
 
-  streams_many : length c.pair_streams.new.tasks.items ≡ length c.args.connections.items
-  streams_many = sym (length-map c.pair_streams.new.tasks.items (λ (t : StreamTask g.row.C.Denot g.row.K.Denot). t.port)) ∙ ap length c.pair_streams.ensures.ports
+  own_streams : map (λ (t : StreamTask g.row.C.Denot g.row.K.Denot). t.port) c.pair_streams.new.tasks.items ≡ c.args.connections.now.items
+  own_streams = c.pair_streams.ensures.ports ∙ (λ i. (c.replace-ports_before.ensures.value i).items)
+
+  streams_many : length c.pair_streams.new.tasks.items ≡ length c.args.connections.now.items
+  streams_many = sym (length-map c.pair_streams.new.tasks.items (λ (t : StreamTask g.row.C.Denot g.row.K.Denot). t.port)) ∙ ap length own_streams
 
   tasks_many : length c.pair_up.new.tasks.items ≡ length c.args.ends.now.items
   tasks_many = sym (length-map c.pair_up.new.tasks.items (λ (t : FrontTask g.row.D.Denot). t.end)) ∙ ap length own
 
 pub pair_streams-requires-clause-hands : goal.pair_streams-requires-clause-hands
-pair_streams-requires-clause-hands g c = omega (arith, length-map c.args.server.stream_hands.items (λ own. own.items), c.requires.server.lent_streams.many)
+pair_streams-requires-clause-hands g c =
+    omega (arith, length-map c.args.server.stream_hands.items (λ own. own.items), c.requires.server.lent_streams.many, ap (λ v. length v.items) c.replace-ports_before.ensures.value)
+
+pub pair_streams-requires-clause-clocks : goal.pair_streams-requires-clause-clocks
+pair_streams-requires-clause-clocks g c = c.requires.clocks ∙ ap (λ v. length v.items) (sym c.replace-ports_before.ensures.value)
 
 pub pair_streams-requires-clause-room : goal.pair_streams-requires-clause-room
-pair_streams-requires-clause-room g c = omega (arith, c.args.connections.ok, c.requires.server.has_room.streams_row.tasks.1)
+pair_streams-requires-clause-room g c = omega (arith, ap vec_len c.replace-ports_before.ensures.value, c.args.connections.now.ok, c.requires.server.has_room.streams_row.tasks.1)
 
 pub pair_up-requires-clause-many : goal.pair_up-requires-clause-many
 pair_up-requires-clause-many g c =
@@ -108,15 +115,20 @@ run_workers-stream_tasks-requires-clause-many g c κs within =
 pub run_workers-stream_tasks-requires-clause-ready_streams : goal.run_workers-stream_tasks-requires-clause-ready_streams
 run_workers-stream_tasks-requires-clause-ready_streams g c κs within =
     let z = (goal.at.run_workers-stream_tasks-requires-clause-ready_streams g c).After-pair_up in
-    ready_streams (plan_of g) (of_stream g) g.K.Clock.last (length c.args.connections.items) c.args.connections.items c.pair_streams.new.tasks.items (opened_streams g z) c.pair_streams.ensures.ports
+    ready_streams (plan_of g) (of_stream g) g.K.Clock.last (length c.args.connections.now.items) c.args.connections.now.items c.pair_streams.new.tasks.items (opened_streams g z) (own_streams g z)
     c.requires.fresh
 
 pub run_workers-stream_tasks-requires-clause-ready : goal.run_workers-stream_tasks-requires-clause-ready
 run_workers-stream_tasks-requires-clause-ready g c κs within =
     let z = (goal.at.run_workers-stream_tasks-requires-clause-ready g c).After-pair_up in
     subst (λ (n : ℕ). AreReadyTasks (plan_of g) c.args.batches (facts g) n c.pair_up.new.tasks.items) (omega (arith, streams_many g z, c.len-first.ensures, c.pair_streams.new.tasks.ok))
-    (ready (plan_of g) c.args.batches (facts g) c.requires.batches (length c.args.connections.items) (length c.args.ends.now.items) c.args.ends.now.items c.pair_up.new.tasks.items
+    (ready (plan_of g) c.args.batches (facts g) c.requires.batches (length c.args.connections.now.items) (length c.args.ends.now.items) c.args.ends.now.items c.pair_up.new.tasks.items
     (opened g z) (own g z) c.requires.unserved)
+
+pub part_streams-requires-clause-ports : goal.part_streams-requires-clause-ports
+part_streams-requires-clause-ports g c =
+    let z = (goal.at.part_streams-requires-clause-ports g c).After-pair_up in
+    omega (arith, streams_many g z, c.run_workers-stream_tasks.ensures.streams.0, c.run_workers-stream_tasks.result.0.ok, c.requires.server.has_room.ports.1, ap vec_capacity c.replace-ports_before.ensures.after)
 
 pub part_streams-requires-clause-hands : goal.part_streams-requires-clause-hands
 part_streams-requires-clause-hands g c =
@@ -157,7 +169,7 @@ module _ (g : given.Over) (c : After-take_all_back g) where
       (omega (arith, c.len-first.ensures, c.pair_streams.new.tasks.ok)) c.run_workers-stream_tasks.ensures.fronts
 
   are : AreHands (plan_of g) (map stream_hand c.run_workers-stream_tasks.result.0.items ++ map hand_of c.run_workers-stream_tasks.result.1.items)
-  are = both_are (plan_of g) (of_stream g) g.K.Clock.last c.pair_streams.new.tasks.items c.run_workers-stream_tasks.result.0.items c.args.batches (facts g) c.pair_up.new.tasks.items
+  are = both_are (plan_of g) (of_stream g) g.K.Clock.last c.args.base c.pair_streams.new.tasks.items c.run_workers-stream_tasks.result.0.items c.args.batches (facts g) c.pair_up.new.tasks.items
       c.run_workers-stream_tasks.result.1.items c.run_workers-stream_tasks.ensures.streams ran_fronts
 
   lefts_many : length (map (view g) c.take_all_back.new.parts.items) ≡ (plan_of g).options.partitions
@@ -194,8 +206,8 @@ take_hands-requires-2 g c =
     subst (MayTakeHands mids) (sym (front_news g z))
     (may_behind lefts mids streams fronts (took_streams g at.After-take_hands (stream_news g z)) (may_right lefts streams fronts (may g z)))
 
-module _ (g : given.Over) (c : After-take_hands-2 g) (open_streams : AreNewHands (plan_of g) 0 (length c.args.connections.items) (map stream_hand c.pair_streams.new.tasks.items))
-    (open_fronts : AreNewHands (plan_of g) (length c.args.connections.items) (length c.args.ends.now.items) (map hand_of c.pair_up.new.tasks.items))
+module _ (g : given.Over) (c : After-take_hands-2 g) (open_streams : AreNewHands (plan_of g) 0 (length c.args.connections.now.items) (map stream_hand c.pair_streams.new.tasks.items))
+    (open_fronts : AreNewHands (plan_of g) (length c.args.connections.now.items) (length c.args.ends.now.items) (map hand_of c.pair_up.new.tasks.items))
     (hands_are : AreHands (plan_of g) (map stream_hand c.run_workers-stream_tasks.result.0.items ++ map hand_of c.run_workers-stream_tasks.result.1.items))
     (lefts_long : length (map (view g) c.take_all_back.new.parts.items) ≡ (plan_of g).options.partitions)
     (took_first : TakesHands (map (view g) c.take_all_back.new.parts.items) (map (view g) c.take_hands.new.parts.items) (map stream_hand c.run_workers-stream_tasks.result.0.items))
@@ -203,7 +215,7 @@ module _ (g : given.Over) (c : After-take_hands-2 g) (open_streams : AreNewHands
   opens : AreNewHands (plan_of g) 0 (plan_of g).fronts (map stream_hand c.pair_streams.new.tasks.items ++ map hand_of c.pair_up.new.tasks.items)
   opens =
       subst (λ (n : ℕ). AreNewHands (plan_of g) 0 n (map stream_hand c.pair_streams.new.tasks.items ++ map hand_of c.pair_up.new.tasks.items)) (sym c.requires.takers)
-      (hands_both (plan_of g) (length c.args.connections.items) (length c.args.ends.now.items) (map stream_hand c.pair_streams.new.tasks.items) (map hand_of c.pair_up.new.tasks.items)
+      (hands_both (plan_of g) (length c.args.connections.now.items) (length c.args.ends.now.items) (map stream_hand c.pair_streams.new.tasks.items) (map hand_of c.pair_up.new.tasks.items)
       open_streams open_fronts)
 
   news_long : length (map stream_hand c.run_workers-stream_tasks.result.0.items ++ map hand_of c.run_workers-stream_tasks.result.1.items)
@@ -233,7 +245,7 @@ returns-clause-ran g c =
     let streams = c.run_workers-stream_tasks.result.0.items in
     let stream_olds = c.pair_streams.new.tasks.items in
     let some = subst (λ (o : Options). 1 ≤ o.partitions) c.requires.named c.requires.options.partitions.0 in
-    let it = ran_beside plan some (of_stream g) g.K.Clock.last stream_olds streams c.args.batches (facts g) c.pair_up.new.tasks.items c.run_workers-stream_tasks.result.1.items c.run_workers-stream_tasks.ensures.streams
+    let it = ran_beside plan some (of_stream g) g.K.Clock.last c.args.base stream_olds streams c.args.batches (facts g) c.pair_up.new.tasks.items c.run_workers-stream_tasks.result.1.items c.run_workers-stream_tasks.ensures.streams
     (ran_fronts g at.After-take_all_back)
     (all g at.After-take_hands-2 (opened_streams g at.After-pair_up) (opened g at.After-pair_up) (are g at.After-take_all_back) (lefts_many g at.After-take_all_back)
     (took_streams g at.After-take_hands (stream_news g at.After-take_all_back)) (front_news g at.After-take_all_back)) in
@@ -244,11 +256,13 @@ returns-clause-ran g c =
     sym (map-map (facts g) (λ (t : FrontTask g.row.D.Denot). t.end) c.pair_up.new.tasks.items) ∙ ap (map (facts g)) (own g at.After-pair_up) in
     let after : map (λ (t : FrontTask g.row.D.Denot). facts g t.end) c.run_workers-stream_tasks.result.1.items ≡ map (facts g) c.part_fronts.new.ends.items =
     sym (map-map (facts g) (λ (t : FrontTask g.row.D.Denot). t.end) c.run_workers-stream_tasks.result.1.items) ∙ ap (map (facts g)) (sym c.part_fronts.ensures.ends) in
-    let ports : map (λ (t : StreamTask g.row.C.Denot g.row.K.Denot). of_stream g t.port) stream_olds ≡ map (of_stream g) c.args.connections.items =
-    sym (map-map (of_stream g) (λ (t : StreamTask g.row.C.Denot g.row.K.Denot). t.port) stream_olds) ∙ ap (map (of_stream g)) c.pair_streams.ensures.ports in
-    subst (λ (y : Options × List ℕ × List (Result ⊤ ServeFault) × List (Result Totals ServeFault) × List EndFacts × List EndFacts × List StreamFacts).
-    RanBeside y.0 plan.begun c.args.batches y.1 kept y.2 y.3 y.4 y.5 y.6)
-    (λ i. (sym c.requires.named i, clocks i, sym c.part_streams.ensures.answers i, sym c.part_fronts.ensures.answers i, before i, after i, ports i)) it
+    let ports : map (λ (t : StreamTask g.row.C.Denot g.row.K.Denot). of_stream g t.port) stream_olds ≡ map (of_stream g) c.args.connections.now.items =
+    sym (map-map (of_stream g) (λ (t : StreamTask g.row.C.Denot g.row.K.Denot). t.port) stream_olds) ∙ ap (map (of_stream g)) (own_streams g at.After-pair_up) in
+    let left : map (λ (t : StreamTask g.row.C.Denot g.row.K.Denot). of_stream g t.port) streams ≡ map (of_stream g) c.part_streams.new.ports.items =
+    sym (map-map (of_stream g) (λ (t : StreamTask g.row.C.Denot g.row.K.Denot). t.port) streams) ∙ ap (map (of_stream g)) (sym c.part_streams.ensures.ports) in
+    subst (λ (y : Options × List ℕ × List (Result ⊤ ServeFault) × List (Result Totals ServeFault) × List EndFacts × List EndFacts × List StreamFacts × List StreamFacts).
+    RanBeside y.0 plan.begun c.args.batches c.args.base y.1 kept y.2 y.3 y.4 y.5 y.6 y.7)
+    (λ i. (sym c.requires.named i, clocks i, sym c.part_streams.ensures.answers i, sym c.part_fronts.ensures.answers i, before i, after i, ports i, left i)) it
 
 pub returns-clause-idle : goal.returns-clause-idle
 returns-clause-idle g c =

@@ -3,10 +3,13 @@ use Rattle.locked_serve.proofs.streams.part_streams.Given as goal
 
 abbrev pub invariant-loop-stream : goal.invariant-loop-stream
 invariant-loop-stream g l = record {
+  ports : l.ports.items ≡ map (λ t. t.port) l.yielded;
   hands : l.hands.items ≡ map (λ t. t.parts) l.yielded;
   answers : l.answers.items ≡ map (λ t. t.answer) l.yielded;
+  ports_len : vec_len l.ports ≡ length l.yielded;
   hands_len : vec_len l.hands ≡ length l.yielded;
   answers_len : vec_len l.answers ≡ length l.yielded;
+  ports_room : vec_len l.fn.streams ≤ vec_capacity l.ports;
   hands_room : vec_len l.fn.streams ≤ vec_capacity l.hands;
   answers_room : vec_len l.fn.streams ≤ vec_capacity l.answers;
 }

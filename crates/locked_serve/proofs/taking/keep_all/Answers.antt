@@ -2,6 +2,7 @@ use Rattle.std.proofs.Common.{◌≡◌, ℕ, suc, ◌+◌, ◌≤◌, ◌++◌,
 use Rattle.std.specs.Option.{option_to_list}
 use Rattle.std.specs.Vec.Iter.{into_iter_items}
 use Rattle.std.proofs.lemmas.List.{length_push}
+use Rattle.partition_model.specs.declared.options.TheConstants.{MOST_PARTITIONS}
 use Rattle.epoch_core.specs.declared.state.Phase.TheVariants.{Idle}
 use Rattle.epoch_core.specs.declared.state.OwnerState.{OwnerState}
 use Rattle.partition_table.specs.declared.tables.KeptSeat.{KeptSeat}
@@ -22,7 +23,7 @@ pub loop-left-init : goal.loop-left-init
 loop-left-init g c =
     let all = sym c.into_iter-rest.ensures.rest in
     record {
-      room = subst (λ (l : List (Returned g.row.P.Denot)). length c.args.tables.now + length l ≤ 64) all c.requires.room;
+      room = subst (λ (l : List (Returned g.row.P.Denot)). length c.args.tables.now + length l ≤ MOST_PARTITIONS) all c.requires.room;
       idle = subst (λ (l : List (Returned g.row.P.Denot)). (p : ℕ) (left : Owned) → slice_get (map (view g) l) p ≡ Some left → left.owner.phase ≡ Idle) all c.requires.idle;
       kept = refl;
     }

@@ -1,5 +1,6 @@
 use Rattle.std.proofs.Common.{◌≡◌, ◌≤◌, ◌+◌, ◌++◌, ℕ, Some, map, length, slice_get}
 use Rattle.std.specs.Vec.Iter.{into_iter_items, into_iter_len}
+use Rattle.partition_model.specs.declared.options.TheConstants.{MOST_PARTITIONS}
 use Rattle.epoch_core.specs.declared.state.Phase.TheVariants.{Idle}
 use Rattle.partition_table.specs.Tabled.{kept_seat_in}
 use Rattle.locked_fronts.specs.Owned.{Owned}
@@ -8,7 +9,7 @@ use Rattle.locked_serve.proofs.taking.keep_all.Given as goal
 
 abbrev pub invariant-loop-left : goal.invariant-loop-left
 invariant-loop-left g l = record {
-  room : length l.tables + length (into_iter_items l.rest) ≤ 64;
+  room : length l.tables + length (into_iter_items l.rest) ≤ MOST_PARTITIONS;
   idle : (p : ℕ) (left : Owned) → slice_get (map (λ part. left_view g.P.Partition.owner g.P.Partition.home part) (into_iter_items l.rest)) p ≡ Some left → left.owner.phase ≡ Idle;
   kept : l.tables ++ map (λ left. kept_seat_in left.owner) (map (λ part. left_view g.P.Partition.owner g.P.Partition.home part) (into_iter_items l.rest))
       ≡ l.initial.tables ++ map (λ left. kept_seat_in left.owner) (map (λ part. left_view g.P.Partition.owner g.P.Partition.home part) (into_iter_items l.initial.rest));

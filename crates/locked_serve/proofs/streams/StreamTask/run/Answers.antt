@@ -1,11 +1,10 @@
-use Rattle.std.proofs.Common.{◌≡◌, ℕ, false, List, length, slice_get, Some, refl, sym, ap, ◌∙◌, subst, arith}
-use Rattle.mica_fronts.specs.Session.{Sessions}
+use Rattle.std.proofs.Common.{◌≡◌, ℕ, Bool, List, length, slice_get, Some, refl, sym, ap, ◌∙◌, subst, arith}
 use Rattle.locked_fronts.specs.declared.part.LockedPart.{LockedPart}
 use Rattle.locked_fronts.specs.Parts.{LockedView, IsLockedFront, locked_view, turns_taken, turns_left, sessions_of}
-use Rattle.stream_fronts.specs.Going.{GoesBy}
+use Rattle.stream_fronts.specs.Serving.{FrontAt}
 use Rattle.locked_serve.specs.Streams.{StreamFacts, stream_facts}
-use Rattle.locked_serve.specs.Running.{StreamRun, RunsStream}
 use Rattle.locked_serve.proofs.Ran.{none_taken}
+use Rattle.locked_serve.proofs.Streamed.{GoesAndServes, both_by}
 use Rattle.locked_serve.proofs.streams.StreamTask.run.Goals as goal
 
 pub new-front-requires-clause-none : goal.new-front-requires-clause-none
@@ -22,6 +21,10 @@ serve_connections-self-requires-clause-left g c =
     ap (λ (v : LockedView). turns_taken v.parts) c.new-front.ensures ∙ ap (λ v. turns_taken v.items) c.replace-parts.ensures.value in
     omega (arith, none, same)
 
+-- as a view of it, its clock, a count and its port tell it
+abbrev told_by : LockedView → ℕ → ℕ → Bool → FrontAt
+told_by view second lacked has_ended = record { sessions = sessions_of view.parts; left = turns_left view.parts; second = second; lacked = lacked; has_ended = has_ended }
+
 pub returns : goal.returns
 returns g c =
     let plan = g.J.ServerPlan.plan in
@@ -30,20 +33,22 @@ returns g c =
     let old : LockedView = c.new-front.result in
     let new : LockedView = c.serve_connections-self.new.front in
     let served = c.serve_connections-self.ensures in
-    let told = last c.args.self.now.clock in
-    let tells = last c.serve_connections-self.new.clock in
+    let b = facts c.args.self.now.port in
+    let a = facts c.serve_connections-self.new.connections in
+    let before : LockedView → FrontAt = λ v. told_by v (last c.args.self.now.clock) c.args.self.now.lacked b.has_ended in
+    let after : LockedView → FrontAt = λ v. told_by v (last c.serve_connections-self.new.clock) c.serve_connections-self.new.lacked a.has_ended in
     let old_is : old ≡ locked_view plan.options c.args.number c.args.self.now.parts.items = c.new-front.ensures ∙ (λ i. locked_view (c.requires.options i) c.args.number (c.replace-parts.ensures.value i).items) in
     let new_is : new ≡ locked_view plan.options c.args.number c.into_parts.result.items =
     λ i. locked_view ((served.options ∙ ap (λ (v : LockedView). v.options) old_is) i) ((served.number ∙ ap (λ (v : LockedView). v.number) old_is) i) (sym c.into_parts.ensures.same i) in
-    let goes = subst (λ (y : LockedView × LockedView). GoesBy y.0.options false (sessions_of y.0.parts) (turns_left y.0.parts) told (sessions_of y.1.parts) (turns_left y.1.parts) tells)
-    (λ i. (old_is i, new_is i)) served.goes in
+    let it = subst (λ (y : LockedView × LockedView). GoesAndServes y.0.options c.args.base (before y.0) (after y.1) b.log a.log) (λ i. (old_is i, new_is i))
+    (both_by old.options c.args.base (before old) (after new) b.log a.log c.requires.ready.unserved.fresh served.goes served.serves) in
     record {
       is = subst (IsLockedFront plan) new_is c.into_parts.ensures.front;
-      answered = goes.answers;
+      answered = it.answers;
       run = record {
-        serves = record { port = served.port; never_fall = served.never_fall; tells = tells; seconds = goes.seconds };
-        in_order = goes.in_order;
-        few = goes.few;
+        serves = record { port = served.port; never_fall = served.never_fall; seconds = it.goes.seconds; ended = refl; clients = it.clients };
+        in_order = it.goes.in_order;
+        few = it.goes.few;
         cause = served.cause;
       };
     }
