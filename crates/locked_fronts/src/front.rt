@@ -165,13 +165,7 @@ impl<'a, J: ServerPlan, P: LendPartition<Reader = ReaderSeat, Note = Note> + Dro
 
 impl<'a, J: ServerPlan, P: LendPartition<Reader = ReaderSeat, Note = Note> + Drop> Glances
     for LockedFront<'a, J, P> {
-    fn glance(
-        &self,
-        partition: u32,
-        place: u64,
-        key: &mut ItemBuf,
-        head: &mut ItemBuf,
-    ) -> Glimpse {
+    fn glance(&self, partition: u32, place: u64, key: &mut ItemBuf, head: &mut ItemBuf) -> Glimpse {
         seat_loads::glance(&self.parts[partition as usize].seat, place, key, head)
     }
 }

@@ -127,7 +127,10 @@ fn sweep_item<R: Threads + Wait + Sync, F: Changes, C: Clock>(
         return false;
     }
     let Sweeper {
-        key, found, next, ..
+        key,
+        found,
+        next,
+        ..
     } = sweeper;
     let changed = sweep_key(rt, front, clock, base, key.value(), found, next);
     sweeper.when = Some(changed.when);

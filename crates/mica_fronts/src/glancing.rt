@@ -18,13 +18,7 @@ pub enum Glimpse {
 pub trait Glances: Changes {
     /// Loads what stands at a place of a partition's index: the key of an item, and the first bytes of its value. Nothing rests on what it finds, which may change
     /// meanwhile. In cache mode, where items make room by themselves, it finds no places.
-    fn glance(
-        &self,
-        partition: u32,
-        place: u64,
-        key: &mut ItemBuf,
-        head: &mut ItemBuf,
-    ) -> Glimpse
+    fn glance(&self, partition: u32, place: u64, key: &mut ItemBuf, head: &mut ItemBuf) -> Glimpse
         requires partition { partition < (Self.options self.now).partitions }
         ensures key { result ≡ Glimpse.Item → KeyFits key.new };
 }

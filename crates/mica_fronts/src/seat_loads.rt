@@ -7,7 +7,8 @@ ghost use Rattle.partition_model.specs.declared.options.TheConstants.{MOST_PARTI
 use crate::glancing::Glimpse;
 use epoch_core::{ReaderWords, Shape, WordAt};
 use mica_words::{
-    MAX_KEY_LEN, SLOTS, bucket_of, entry_offset, entry_tag, header_key_len, header_value_len, tag_of,
+    MAX_KEY_LEN, SLOTS, bucket_of, entry_offset, entry_tag, header_key_len, header_value_len,
+    tag_of,
 };
 use partition_model::{ItemBuf, Mode, Options};
 use partition_table::ReaderSeat;
@@ -67,12 +68,7 @@ fn load_bytes(seat: &ReaderSeat, offset: u64, len: usize, out: &mut ItemBuf)
 }
 
 // Loads the key of an item, and the first bytes of its value.
-fn glance_at(
-    seat: &ReaderSeat,
-    offset: u64,
-    key: &mut ItemBuf,
-    head: &mut ItemBuf,
-) -> Glimpse
+fn glance_at(seat: &ReaderSeat, offset: u64, key: &mut ItemBuf, head: &mut ItemBuf) -> Glimpse
     requires offset { offset < 2 ^ 48 }
     ensures key { result ≡ Glimpse.Item → KeyFits key.new }
 {
