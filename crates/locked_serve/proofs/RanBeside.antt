@@ -97,12 +97,9 @@ module _ {C K : Type 0} (plan : Plan) (facts : C → StreamFacts) (last : K → 
         let s = all_at.2 k own own_at in
         let one : last s.old.clock ≡ told = same_Some _ _ (sym (at_map last_of olds k s.old s.was) ∙ told_at) in
         let two : facts s.old.port ≡ b = same_Some _ _ (sym (at_map port_of olds k s.old s.was) ∙ b_at) in
-        let three : facts s.new.port ≡ a = same_Some _ _ (sym (at_map port_of news k s.new s.is) ∙ a_at) in (
-          front_at facts last s.old,
-          front_at facts last s.new,
-          one,
-          subst (λ (y : StreamFacts × StreamFacts). ServesStream plan.options base (front_at facts last s.old) (front_at facts last s.new) own y.0 y.1) (λ i. (two i, three i)) s.run.serves,
-        );
+        let three : facts s.new.port ≡ a = same_Some _ _ (sym (at_map port_of news k s.new s.is) ∙ a_at) in
+        (front_at facts last s.old, front_at facts last s.new, one,
+        subst (λ (y : StreamFacts × StreamFacts). ServesStream plan.options base (front_at facts last s.old) (front_at facts last s.new) own y.0 y.1) (λ i. (two i, three i)) s.run.serves);
   }
 
   pub stopped : (k : ℕ) → slice_get (map (λ (t : StreamTask C K). t.answer) news) k ≡ Some (Err Net) → StopsStream (map port_of olds) (map port_of news)
