@@ -336,7 +336,11 @@ fn count_up<R: Threads + Wait + Sync, F: Changes + Drop>(rt: &R, front: F, room:
 }
 
 // A front that has taken no turn.
-fn front_of<'a, J: ServerPlan, P: LendPartition<Reader = ReaderSeat, Note = Note> + Drop>(
+pub(crate) fn front_of<
+    'a,
+    J: ServerPlan,
+    P: LendPartition<Reader = ReaderSeat, Note = Note> + Drop,
+>(
     options: &Options,
     locks: &'a [Mutex<OwnedPartition<J, P>>],
     number: u32,

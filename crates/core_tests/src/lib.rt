@@ -42,6 +42,8 @@ mod scripts;
 #[cfg(test)]
 mod sizes;
 #[cfg(test)]
+mod sweeps;
+#[cfg(test)]
 mod torn_get;
 #[cfg(test)]
 mod traces;

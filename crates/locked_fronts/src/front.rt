@@ -7,7 +7,7 @@ ghost use Rattle.locked_fronts.specs.Parts.{IsPartOf, IsLockedFront, locked_view
 use crate::owned::{OwnedPartition, ServerPlan};
 use crate::part::LockedPart;
 use epoch_core::LendPartition;
-use mica_fronts::{Changed, Changes, Decide, Front, seat_loads};
+use mica_fronts::{Changed, Changes, Decide, Front, Glances, Glimpse, seat_loads};
 use mica_io::NoMemory;
 use mica_words::{key_hash, partition_of};
 use partition_model::{Answer, ItemBuf, Op, Options, Outcome};
@@ -160,5 +160,12 @@ impl<'a, J: ServerPlan, P: LendPartition<Reader = ReaderSeat, Note = Note> + Dro
         let at = number as usize;
         let lock = &self.locks[at];
         self.parts[at].write(rt, lock, number, Op::Del, key, &[])
+    }
+}
+
+impl<'a, J: ServerPlan, P: LendPartition<Reader = ReaderSeat, Note = Note> + Drop> Glances
+    for LockedFront<'a, J, P> {
+    fn glance(&self, partition: u32, place: u64, key: &mut ItemBuf, head: &mut ItemBuf) -> Glimpse {
+        seat_loads::glance(&self.parts[partition as usize].seat, place, key, head)
     }
 }

@@ -4,7 +4,6 @@ use Rattle.std.specs.Prelude.{IfSome}
 use Rattle.partition_model.specs.declared.options.Options.{Options}
 use Rattle.stream_io.specs.Log.{Log}
 use Rattle.mica_fronts.specs.Answered.{Answered}
-use Rattle.stream_fronts.specs.Given.{answers_in}
 use Rattle.stream_fronts.specs.Going.{GoesBy, GoesByThese}
 use Rattle.stream_fronts.specs.Open.{OnLogs}
 use Rattle.stream_fronts.specs.Serving.{FrontAt, ServesFromNone}
@@ -26,4 +25,4 @@ both_by options base old new (Some before) None fresh goes serves = absurd serve
 both_by options base old new (Some before) (Some after) fresh goes serves =
     let log = serves fresh in
     let all = log.serves in
-    record { answers = answers_in log.all; goes = record { in_order = all.in_order; seconds = all.seconds; few = all.few }; clients = (log, refl) }
+    record { answers = all.answers; goes = record { in_order = all.in_order; seconds = all.seconds; few = all.few }; clients = (log, refl) }

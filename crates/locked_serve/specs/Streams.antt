@@ -12,7 +12,6 @@ use Rattle.mica_fronts.specs.declared.totals.ServeFault.{ServeFault}
 use Rattle.memcached_fronts.specs.Seconds.{seconds_of, ToldFrom}
 use Rattle.stream_fronts.specs.declared.desk.TheConstants.{MOST_UNSENT}
 use Rattle.stream_fronts.specs.declared.ports.StreamPorts.{StreamPorts}
-use Rattle.stream_fronts.specs.Given.{answers_in}
 use Rattle.stream_fronts.specs.Open.{OnLogs}
 use Rattle.stream_fronts.specs.Serving.{FrontAt, ServesLog}
 use Rattle.mica_serve.specs.Others.{Others, HaveAnsweredNothing}
@@ -88,9 +87,9 @@ pub record ReleasesStreams (streams : List StreamFacts) (before after : ListenFa
 
 -- Served
 
--- By just these answers the front served what the log tells: what was sent to each client is due to what came of it, at each moment.
+-- By just these answers the front served what the log tells: those among them to clients are due to what came of them, at each moment, and the others are sweeps.
 abbrev pub ServesClients : Options → ℕ → FrontAt → FrontAt → List Answered → Log → Log → Type 0
-ServesClients options base old new answers before after = (served : ServesLog options false base MOST_UNSENT old new before after) × (answers_in served.all ≡ answers)
+ServesClients options base old new answers before after = (served : ServesLog options false base MOST_UNSENT old new before after) × (served.serves.answers ≡ answers)
 
 -- A front answered so, behind its port: its clock told the seconds of these answers one after another. It knows whether the end came.
 pub record ServesStream (options : Options) (base : ℕ) (old new : FrontAt) (answers : List Answered) (before after : StreamFacts) : Type 0 where

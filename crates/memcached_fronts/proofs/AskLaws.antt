@@ -20,7 +20,7 @@ pub told_then : (told between tells : ℕ) (one two : List ℕ) → ToldFrom tol
 told_then told between tells [] two first then = subst (λ t. ToldFrom t two tells) first then
 told_then told between tells (second ∷ one) two first then = (first.0, told_then second between tells one two first.1 then)
 
-one_second : (a : Answered) (second : ℕ) → second_in a ≡ Some second → seconds_of (a ∷ []) ≡ second ∷ []
+pub one_second : (a : Answered) (second : ℕ) → second_in a ≡ Some second → seconds_of (a ∷ []) ≡ second ∷ []
 one_second a second is = ap (λ o. cons_option o []) is
 
 -- one more second was told

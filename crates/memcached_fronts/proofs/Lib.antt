@@ -1,5 +1,6 @@
 pub mod AskLaws
 pub mod Looking
+pub mod Sweeping
 pub mod Asking
 pub mod Flushing
 pub mod ExchangeLaws

@@ -4,4 +4,5 @@ pub mod FlushAnswers
 pub mod Exchange
 pub mod Spells
 pub mod Going
+pub mod Sweeps
 pub mod Laws

@@ -11,7 +11,9 @@ mod buffers;
 mod flush;
 mod laws;
 mod plain;
+mod sweeper;
 
 pub use answer::{Limits, Numbering, Progress, answer_next};
 pub use buffers::Buffers;
 pub use laws::spells_on;
+pub use sweeper::{Sweeper, sweep};

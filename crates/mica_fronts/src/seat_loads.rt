@@ -1,10 +1,16 @@
-//! Loads by a reader's seat ahead of its gets, so that what they will look at is at hand.
-ghost use Rattle.std.specs.Prelude.{◌≤◌};
+//! Loads by a reader's seat outside its gets: ahead of them, so that what they will look at is at hand, and of what stands in an index.
+ghost use Rattle.std.specs.Prelude.{◌≡◌, ◌≤◌, ◌<◌, ◌^◌, length};
+ghost use Rattle.mica_words.specs.declared.item.TheConstants.{MAX_KEY_LEN};
+ghost use Rattle.mica_words.specs.Item.{KeyFits};
 ghost use Rattle.partition_model.specs.declared.options.TheConstants.{MOST_PARTITIONS};
 
+use crate::glancing::Glimpse;
 use epoch_core::{ReaderWords, Shape, WordAt};
-use mica_words::{SLOTS, bucket_of, entry_offset, entry_tag, tag_of};
-use partition_model::Options;
+use mica_words::{
+    MAX_KEY_LEN, SLOTS, bucket_of, entry_offset, entry_tag, header_key_len, header_value_len,
+    tag_of,
+};
+use partition_model::{ItemBuf, Mode, Options};
 use partition_table::ReaderSeat;
 
 /// What is in use of tables of as many words, 16 MiB, is mostly in the caches: there a load ahead costs more than it gains.
@@ -42,4 +48,56 @@ pub fn load_item(seat: &ReaderSeat, hash: u64) {
             return;
         }
     }
+}
+
+/// So many bytes of a value are loaded at a glance.
+const HEAD_LEN: usize = 16;
+
+// Loads so many bytes of an item.
+fn load_bytes(seat: &ReaderSeat, offset: u64, len: usize, out: &mut ItemBuf)
+    requires offset { offset < 2 ^ 63 }
+    requires len { len ≤ MAX_KEY_LEN }
+    ensures { length out.new ≡ len }
+{
+    out.clear();
+    for at in 0..len.div_ceil(8) {
+        let word = seat.peek(WordAt::Item(offset + at as u64));
+        out.push_word(word);
+    }
+    out.truncate(len);
+}
+
+// Loads the key of an item, and the first bytes of its value.
+fn glance_at(seat: &ReaderSeat, offset: u64, key: &mut ItemBuf, head: &mut ItemBuf) -> Glimpse
+    requires offset { offset < 2 ^ 48 }
+    ensures key { result ≡ Glimpse.Item → KeyFits key.new }
+{
+    let header = seat.peek(WordAt::Item(offset));
+    let key_len = header_key_len(header) as usize;
+    if key_len == 0 || key_len > MAX_KEY_LEN {
+        return Glimpse::Nothing;
+    }
+    let value_at = offset + 2 + key_len.div_ceil(8) as u64;
+    let head_len = (header_value_len(header) as usize).min(HEAD_LEN);
+    load_bytes(seat, offset + 2, key_len, key);
+    load_bytes(seat, value_at, head_len, head);
+    Glimpse::Item
+}
+
+/// Loads what stands at a place of the index. In cache mode there are no places.
+pub fn glance(seat: &ReaderSeat, place: u64, key: &mut ItemBuf, head: &mut ItemBuf) -> Glimpse
+    ensures key { result ≡ Glimpse.Item → KeyFits key.new }
+{
+    let shape = seat.shape();
+    let buckets = u64::from(shape.buckets) + u64::from(shape.spares);
+    let bucket = place / u64::from(SLOTS);
+    if !matches!(shape.mode, Mode::Store) || bucket >= buckets {
+        return Glimpse::Beyond;
+    }
+    let slot = (place % u64::from(SLOTS)) as u32;
+    let entry = seat.peek(WordAt::Entry(bucket as u32, slot));
+    if entry == 0 {
+        return Glimpse::Nothing;
+    }
+    glance_at(seat, entry_offset(entry), key, head)
 }

@@ -1,6 +1,7 @@
 pub mod Places
 pub mod Opening
 pub mod Going
+pub mod Sweeping
 pub mod Few
 pub mod Holding
 pub mod Reaching

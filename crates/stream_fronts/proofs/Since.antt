@@ -1,7 +1,7 @@
 -- What stands since a front began to serve a port.
 use Rattle.std.proofs.Common.{◌≡◌, ℕ, ◌+◌, ◌<◌, Bool, true, false, true≢false, List, [], ◌++◌, length, inl, refl, sym, ◌∙◌, subst, arith, length-append}
 use Rattle.std.specs.Prelude.{min, Option, None, Some, is_some, IfSome, option_map}
-use Rattle.std.proofs.lemmas.List.{map-append}
+use Rattle.std.proofs.lemmas.List.{append-nil, map-append}
 use Rattle.std.proofs.lemmas.Option.{none-some}
 use Rattle.partition_model.specs.declared.options.Options.{Options}
 use Rattle.mica_io.specs.Faults.{LAST_COUNT}
@@ -10,17 +10,21 @@ use Rattle.stream_io.specs.declared.connections.Event.{Event}
 use Rattle.stream_io.specs.State.{Entry, state_after}
 use Rattle.stream_io.specs.Log.{Log, state_of, called}
 use Rattle.stream_io.specs.Calls.{ReportsNext, IsOver}
+use Rattle.mica_fronts.specs.Answered.{Answered}
 use Rattle.mica_fronts.specs.Session.{Sessions}
+use Rattle.memcached_fronts.specs.Sweeps.{HasSweeps, SweepsBy}
 use Rattle.stream_fronts.specs.declared.client.Client.{Client}
 use Rattle.stream_fronts.specs.declared.desk.TheConstants.{MOST_UNSENT}
 use Rattle.stream_fronts.specs.Given.{Given, answers_in}
+use Rattle.stream_fronts.specs.Going.{GoesByThese}
 use Rattle.stream_fronts.specs.Open.{OnLogs}
 use Rattle.stream_fronts.specs.Moments.{TalksThrough}
 use Rattle.stream_fronts.specs.Clients.{AreOpen}
 use Rattle.stream_fronts.specs.Resting.{Tends, TendsBut}
 use Rattle.stream_fronts.specs.Serving.{FrontAt, IsDone, ServesLog, ServesFromNone}
 use Rattle.stream_fronts.specs.Standing.{IsUntouched, Stands, StandsOn, GoesByGiven}
-use Rattle.stream_fronts.proofs.Going.{these_none, these_then, these_given}
+use Rattle.stream_fronts.proofs.Going.{these_none, these_then}
+use Rattle.stream_fronts.proofs.Sweeping.{unswept, only_swept, has_both, these_sweeps}
 use Rattle.stream_fronts.proofs.Reported.{event_told}
 use Rattle.stream_fronts.proofs.Settling.{done_all}
 
@@ -32,10 +36,15 @@ pub record StandsBy (options : Options) (base had lacked : ℕ) (clients : List 
   pub stands : Stands options base lacking now given clients
   pub tends : Tends now.script.piece (state_of now) clients
 
+-- They went on by answers that were given to clients and by sweeps, and of the first P holds.
+abbrev pub GoesBySwept : Options → Bool → ℕ → Sessions → ℕ → ℕ → Sessions → ℕ → ℕ → (List Given → Type 0) → Type 0
+GoesBySwept options is_alone base old left told new left_after tells P =
+    (given : List Given) × (answers : List Answered) × HasSweeps base (answers_in given) answers × GoesByThese options is_alone old left told answers new left_after tells × P given
+
 -- Where nothing had been done before, sessions and clock went on by answers by which all stands.
 abbrev pub StandsSince : Options → Bool → ℕ → Sessions → ℕ → ℕ → ℕ → Sessions → ℕ → ℕ → ℕ → List (Option Client) → Log → Log → Type 0
 StandsSince options is_alone base old left told had new left_after tells lacked clients before now =
-    before.entries ≡ [] → GoesByGiven options is_alone old left told new left_after tells (StandsBy options base had lacked clients before now)
+    before.entries ≡ [] → GoesBySwept options is_alone base old left told new left_after tells (StandsBy options base had lacked clients before now)
 
 module _ (options : Options) (is_alone : Bool) (base : ℕ) (old : Sessions) (left told had : ℕ) where
   begun_through : (schedule : List Step) (entries : List Entry) → entries ≡ [] → TalksThrough options base MOST_UNSENT schedule [] entries []
@@ -59,6 +68,8 @@ module _ (options : Options) (is_alone : Bool) (base : ℕ) (old : Sessions) (le
   since_none clients empty None = tt
   since_none clients empty (Some log) = λ none. (
     [],
+    [],
+    refl,
     these_none options is_alone old left told,
     record {
       schedule = refl;
@@ -82,13 +93,17 @@ module _ (options : Options) (is_alone : Bool) (base : ℕ) (old : Sessions) (le
     since_then event then_lacked count lacked more_lacked (Some x) (Some y) (Some z) None first same reports o is more = absurd more.2
     since_then event then_lacked count lacked more_lacked (Some x) (Some y) (Some z) (Some w) first same reports o is more = λ none.
         let f = first none in
-        let by = f.2 in
+        let by = f.4 in
         let second = subst (λ (p : Options). GoesByGiven p is_alone between then_left then_told new left_after tells (λ given. StandsOn p base event clients count given now z w)) is more in
         let t = event_told options base by.lacking f.0 clients event y z reports by.stands in
         let s = second.2.on by.lacking f.0 t.is_new t.stands in
-        let piece = second.2.piece ∙ t.piece in (
+        let piece = second.2.piece ∙ t.piece in
+        let here = answers_in second.0 in (
           f.0 ++ second.0,
-          these_given options is_alone (answers_in f.0 ++ answers_in second.0) (f.0 ++ second.0) (map-append (λ (g : Given). g.answered) f.0 second.0) (these_then options is_alone f.1 second.1),
+          f.1 ++ here,
+          subst (λ (a : List Answered). HasSweeps base a (f.1 ++ here)) (sym (map-append (λ (g : Given). g.answered) f.0 second.0))
+              (has_both base f.1 here (answers_in f.0) here f.2 (unswept base here)),
+          these_then options is_alone f.3 second.1,
           record {
             schedule = second.2.schedule ∙ t.schedule ∙ by.schedule;
             lacking = s.0 ++ by.lacking;
@@ -97,6 +112,24 @@ module _ (options : Options) (is_alone : Bool) (base : ℕ) (old : Sessions) (le
             tends = subst (λ p. Tends p (state_of w) now) (sym piece)
                 (subst (λ p. Tends p (state_of w) now) t.piece (second.2.tends by.lacking f.0 t.stands (subst (λ p. TendsBut event p (state_of z) clients) (sym t.piece) (t.tends by.tends))));
           },
+        )
+
+  module _ {between new : Sessions} {then_left left_after then_told tells : ℕ} (lacked : ℕ) (clients : List (Option Client)) where
+    -- and the partitions were swept
+    pub since_swept : (before now : Option Log) → OnLogs (StandsSince options is_alone base old left told had between then_left then_told lacked clients) before now
+        → (o : Options) → o ≡ options → SweepsBy o is_alone base between then_left then_told new left_after tells
+        → OnLogs (StandsSince options is_alone base old left told had new left_after tells lacked clients) before now
+    since_swept None now first o is more = tt
+    since_swept (Some x) None first o is more = first
+    since_swept (Some x) (Some y) first o is more = λ none.
+        let f = first none in
+        let sweeps = subst (λ (p : Options). SweepsBy p is_alone base between then_left then_told new left_after tells) is more in (
+          f.0,
+          f.1 ++ sweeps.answers,
+          subst (λ (a : List Answered). HasSweeps base a (f.1 ++ sweeps.answers)) (append-nil (answers_in f.0))
+              (has_both base f.1 sweeps.answers (answers_in f.0) [] f.2 (only_swept base sweeps.answers sweeps.sweeps)),
+          these_then options is_alone f.3 (these_sweeps sweeps),
+          f.4,
         )
 
   module _ (opened ended : Bool) (new : Sessions) (left_after tells lacked : ℕ) (clients : List (Option Client)) where
@@ -108,16 +141,18 @@ module _ (options : Options) (is_alone : Bool) (base : ℕ) (old : Sessions) (le
 
     -- what the front served, by what stands
     serves_by : {before now : Log} (after : Log) → after.schedule ≡ now.schedule → after.entries ≡ now.entries
-        → (f : GoesByGiven options is_alone old left told new left_after tells (StandsBy options base had lacked clients before now))
+        → (f : GoesBySwept options is_alone base old left told new left_after tells (StandsBy options base had lacked clients before now))
         → (ended ≡ true → 0 < after.script.piece → IsDone options base after f.0) → ServesLog options is_alone base MOST_UNSENT first last before after
     serves_by {before} {now} after schedule entries f done =
-        let by = f.2 in record {
+        let by = f.4 in record {
           same = schedule ∙ by.schedule;
           all = f.0;
           serves = record {
-            in_order = f.1.in_order;
-            seconds = f.1.seconds;
-            few = f.1.few;
+            answers = f.1;
+            sweeps = f.2;
+            in_order = f.3.in_order;
+            seconds = f.3.seconds;
+            few = f.3.few;
             lacking = by.lacking;
             counted = by.counted;
             through = subst (λ (s : List Step). TalksThrough options base MOST_UNSENT s by.lacking after.entries f.0) (sym schedule)
@@ -150,7 +185,7 @@ module _ (options : Options) (is_alone : Bool) (base : ℕ) (old : Sessions) (le
     since_over (Some x) (Some y) after since are over =
         subst (λ o. OnLogs (ServesFromNone options is_alone base MOST_UNSENT first last) (Some x) o) (sym over.result)
         (λ none. let f = since none in
-        serves_by (called y) refl refl f (λ ends moving. done_called (done_all options base f.2.lacking y f.0 clients are f.2.stands f.2.tends moving over.over)))
+        serves_by (called y) refl refl f (λ ends moving. done_called (done_all options base f.4.lacking y f.0 clients are f.4.stands f.4.tends moving over.over)))
       where
         done_called : {log : Log} {all : List Given} → IsDone options base log all → IsDone options base (called log) all
         done_called done = record { over = done.over; settled = done.settled }

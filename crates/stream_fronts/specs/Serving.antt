@@ -3,9 +3,10 @@ use Rattle.std.specs.Prelude.{◌≡◌, ℕ, ◌+◌, ◌<◌, ◌≤◌, Bool,
 use Rattle.partition_model.specs.declared.options.Options.{Options}
 use Rattle.mica_io.specs.Faults.{LAST_COUNT}
 use Rattle.stream_io.specs.Log.{Log, state_of, connections_of, received_of, sent_of}
-use Rattle.mica_fronts.specs.Answered.{count_of_writes}
+use Rattle.mica_fronts.specs.Answered.{Answered, count_of_writes}
 use Rattle.mica_fronts.specs.Session.{Sessions, AnswersInOrder}
 use Rattle.memcached_fronts.specs.Seconds.{seconds_of, ToldFrom}
+use Rattle.memcached_fronts.specs.Sweeps.{HasSweeps}
 use Rattle.stream_fronts.specs.Given.{Given, answers_in, given_to}
 use Rattle.stream_fronts.specs.Closing.{IsSettled}
 use Rattle.stream_fronts.specs.Moments.{TalksThrough}
@@ -26,12 +27,14 @@ pub record IsDone (options : Options) (base : ℕ) (log : Log) (all : List Given
       (λ connection. IsSettled options base connection (received_of c log.entries) (sent_of c log.entries) (given_to c all))
 
 -- All answers of the front are one list: its sessions went on by them in this order, and the clock told their seconds; it was given no writes but those among
--- them. At each moment of the log they are what it talked with its clients. For some connections there was no memory, as many as were counted. Where the end
--- came, and calls can move bytes at all, the front is done.
+-- them. They are those to clients, and between them sweeps and nothing else. At each moment of the log those to clients are what it talked with them. For some
+-- connections there was no memory, as many as were counted. Where the end came, and calls can move bytes at all, the front is done.
 pub record Serves (options : Options) (is_alone : Bool) (base most : ℕ) (old new : FrontAt) (log : Log) (all : List Given) : Type 0 where
-  pub in_order : AnswersInOrder options is_alone old.sessions (answers_in all) new.sessions
-  pub seconds : ToldFrom old.second (seconds_of (answers_in all)) new.second
-  pub few : old.left ≤ new.left + count_of_writes (answers_in all)
+  pub answers : List Answered
+  pub sweeps : HasSweeps base (answers_in all) answers
+  pub in_order : AnswersInOrder options is_alone old.sessions answers new.sessions
+  pub seconds : ToldFrom old.second (seconds_of answers) new.second
+  pub few : old.left ≤ new.left + count_of_writes answers
   pub lacking : List ℕ
   pub counted : min new.lacked LAST_COUNT ≡ min (old.lacked + length lacking) LAST_COUNT
   pub through : TalksThrough options base most log.schedule lacking log.entries all

@@ -18,10 +18,10 @@ use crate::clients::Clients;
 use crate::desk::Desk;
 use crate::visit::After;
 use crate::visits::visit_on;
-use memcached_fronts::Numbering;
+use memcached_fronts::{Numbering, Sweeper, sweep};
 use memcached_stats::{Board, Counter, Tally};
 use mica_clock::Clock;
-use mica_fronts::{Changes, ServeFault};
+use mica_fronts::{Changes, Glances, ServeFault};
 use mica_io::NoMemory;
 use std::alloc::Global;
 use std::sync::Wait;
@@ -180,9 +180,9 @@ fn serve_event<R: Threads + Wait + Sync, F: Changes, K: Clock, C: Connections>(
 }
 
 /// Serves the connections of a port, to its end, or until nearly so many writes were given to the front. A connection that there is no memory for is closed,
-/// and `lacked` counts it. What the front counts is shown in this place of the board.
+/// and `lacked` counts it. What the front counts is shown in this place of the board. After each report it sweeps a few places of the partitions.
 #[tactic(auto, using(crate::proofs::Going::by_none))]
-pub fn serve_connections<R: Threads + Wait + Sync, F: Changes, K: Clock, C: Connections>(
+pub fn serve_connections<R: Threads + Wait + Sync, F: Glances, K: Clock, C: Connections>(
     rt: &R,
     alloc: Global,
     front: &mut F,
@@ -212,6 +212,7 @@ pub fn serve_connections<R: Threads + Wait + Sync, F: Changes, K: Clock, C: Conn
     ensures stands { F.stands front.new ≡ F.stands front.old }
 {
     let mut desk = Desk::new(alloc, board, place)?;
+    let mut sweeper = Sweeper::new(alloc)?;
     let mut clients = Clients::new(alloc);
     let mut left = most;
     let least = LIMITS.asks as u64 + u64::from(numbering.partitions);
@@ -237,6 +238,7 @@ pub fn serve_connections<R: Threads + Wait + Sync, F: Changes, K: Clock, C: Conn
         *lacked = lacked.saturating_add(count);
         count_event(event, count, &mut desk.buffers.tally);
         desk.buffers.show();
+        left -= sweep(rt, front, clock, numbering, left, &mut sweeper);
     }
     Ok(())
 }

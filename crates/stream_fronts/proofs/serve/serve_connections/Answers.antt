@@ -3,6 +3,7 @@ use Rattle.std.specs.Prelude.{is_none, IfSome, IfNone}
 use Rattle.partition_model.specs.declared.options.Options.{Options}
 use Rattle.stream_io.specs.Calls.{ReportsNext, IsOver}
 use Rattle.stream_fronts.specs.declared.desk.TheConstants.{MOST_UNSENT}
+use Rattle.memcached_fronts.specs.Sweeps.{SweepsBy}
 use Rattle.stream_fronts.specs.Clients.{AreOpen}
 use Rattle.stream_fronts.specs.Going.{GoesBy}
 use Rattle.stream_fronts.specs.Open.{OnLogs}
@@ -10,7 +11,8 @@ use Rattle.stream_fronts.specs.Serving.{ServesFromNone}
 use Rattle.stream_fronts.proofs.Going.{by_none, by_both}
 use Rattle.stream_fronts.proofs.Opening.{tells_keeps, tells_opened}
 use Rattle.stream_fronts.proofs.Holding.{all_kept, none_held}
-use Rattle.stream_fronts.proofs.Since.{since_none, since_then, since_serves, since_called, since_over}
+use Rattle.stream_fronts.proofs.Since.{since_none, since_then, since_swept, since_serves, since_called, since_over}
+use Rattle.stream_fronts.proofs.Sweeping.{by_sweeps}
 use Rattle.stream_fronts.proofs.serve.serve_connections.Goals as goal
 use Rattle.stream_fronts.proofs.serve.serve_connections.Goals.{in-None, in-Some+then-left-least, in-Some+else-left-least+in_ok-event+in_default}
 
@@ -49,37 +51,60 @@ loop-init g c =
 
 pub loop-preserved : goal.loop-preserved
 loop-preserved g c =
+    let F = g.F.Front in
+    let last = g.K.Clock.last in
     let log = g.C.Connections.log in
-    let options = g.F.Front.options c.args.front.now in
+    let options = F.options c.args.front.now in
+    let old = F.sessions c.args.front.now in
+    let left = F.left c.args.front.now in
+    let told = last c.args.clock.now in
+    let base = c.args.numbering.base in
     let inv = c.loop.invariant in
     let before = log c.loop.connections in
     let after = log c.next-in-loop.new.self in
     let next = c.in_ok-event.ensures in
     let served = c.serve_event-count.ensures in
+    let then = c.serve_event-count.new in
+    let now = c.sweep.new in
+    let sweep = c.sweep.ensures in
     let reports = subst (λ got. IfSome got (λ event. IfSome before (λ l. ReportsNext l event after))) c.in-Some-2.is next.next in
     let on = subst (λ got. g.C.Connections.has_ended c.next-in-loop.new.self ≡ is_none got) c.in-Some-2.is next.ended in
-    let more = subst
-    (λ (o : Options). GoesBy o g.F.Front.is_alone (g.F.Front.sessions c.loop.front) (g.F.Front.left c.loop.front) (g.K.Clock.last c.loop.clock) (g.F.Front.sessions c.serve_event-count.new.front)
-    (g.F.Front.left c.serve_event-count.new.front) (g.K.Clock.last c.serve_event-count.new.clock)) inv.7 served.front.goes in (
+    let same = served.front.same_options ∙ inv.7 in
+    let more = subst (λ (o : Options). GoesBy o F.is_alone (F.sessions c.loop.front) (F.left c.loop.front) (last c.loop.clock) (F.sessions then.front) (F.left then.front) (last then.clock)) inv.7
+    served.front.goes in
+    let swept = subst (λ (o : Options). SweepsBy o F.is_alone base (F.sessions then.front) (F.left then.front) (last then.clock) (F.sessions now.front) (F.left now.front) (last now.clock)) same sweep.swept in (
       served.room,
       served.clients,
       served.port.ended ∙ on,
-      by_both options g.F.Front.is_alone (g.F.Front.sessions c.args.front.now) (g.F.Front.sessions c.loop.front) (g.F.Front.sessions c.serve_event-count.new.front) (g.F.Front.left c.args.front.now)
-          (g.F.Front.left c.loop.front) (g.F.Front.left c.serve_event-count.new.front) (g.K.Clock.last c.args.clock.now) (g.K.Clock.last c.loop.clock) (g.K.Clock.last c.serve_event-count.new.clock) inv.3 more,
-      served.left,
+      by_both options F.is_alone old (F.sessions then.front) (F.sessions now.front) left (F.left then.front) (F.left now.front) told (last then.clock) (last now.clock)
+          (by_both options F.is_alone old (F.sessions c.loop.front) (F.sessions then.front) left (F.left c.loop.front) (F.left then.front) told (last c.loop.clock) (last then.clock) inv.3 more)
+          (by_sweeps swept),
+      (let first = served.left in let second = sweep.left in let few = sweep.few in omega (arith, first, second, few)),
       (let first = inv.5 in let second = next.never_fall in let third = served.port.no_fault in omega (arith, first, second, third)),
       served.port.same_port ∙ next.port ∙ inv.6,
-      served.front.same_options ∙ inv.7,
-      served.front.same_number ∙ inv.8,
-      served.front.same_stands ∙ inv.9,
+      sweep.options ∙ same,
+      sweep.number ∙ served.front.same_number ∙ inv.8,
+      sweep.stands ∙ served.front.same_stands ∙ inv.9,
       served.port.told ∙ next.told ∙ inv.10,
-      since_then options g.F.Front.is_alone c.args.numbering.base (g.F.Front.sessions c.args.front.now) (g.F.Front.left c.args.front.now) (g.K.Clock.last c.args.clock.now) c.args.lacked.now
-          c.loop.clients.held.items c.serve_event-count.new.clients.held.items c.in-Some-2.event c.loop.lacked c.serve_event-count.result _ (search rules) (log c.args.connections.now) before after (log c.serve_event-count.new.connections) inv.11 next.told reports
-          (g.F.Front.options c.loop.front) inv.7 served.serves,
+      since_swept options F.is_alone base old left told c.args.lacked.now _ then.clients.held.items (log c.args.connections.now) (log then.connections)
+          (since_then options F.is_alone base old left told c.args.lacked.now c.loop.clients.held.items then.clients.held.items c.in-Some-2.event c.loop.lacked c.serve_event-count.result _ (search rules)
+          (log c.args.connections.now) before after (log then.connections) inv.11 next.told reports (F.options c.loop.front) inv.7 served.serves) (F.options then.front) same sweep.swept,
     )
 
 pub returns-in_err-desk-clause-serves : goal.returns-in_err-desk-clause-serves
 returns-in_err-desk-clause-serves g c =
+    let log = g.C.Connections.log c.args.connections.now in
+    let opened = g.C.Connections.has_ended c.args.connections.now in
+    let options = g.F.Front.options c.args.front.now in
+    let sessions = g.F.Front.sessions c.args.front.now in
+    let left = g.F.Front.left c.args.front.now in
+    let told = g.K.Clock.last c.args.clock.now in
+    let had = c.args.lacked.now in
+    since_serves options g.F.Front.is_alone c.args.numbering.base sessions left told had opened opened sessions left told had [] c.requires.«open» log log
+    (since_none options g.F.Front.is_alone c.args.numbering.base sessions left told had [] refl log)
+
+pub returns-in_err-sweeper-clause-serves : goal.returns-in_err-sweeper-clause-serves
+returns-in_err-sweeper-clause-serves g c =
     let log = g.C.Connections.log c.args.connections.now in
     let opened = g.C.Connections.has_ended c.args.connections.now in
     let options = g.F.Front.options c.args.front.now in

@@ -1,0 +1,89 @@
+-- Sweeps that are made one after another.
+use Rattle.std.proofs.Common.{◌≡◌, ◌≤◌, ◌+◌, ℕ, Bool, true, false, cond, List, [], ◌∷◌, ◌++◌, length, Option, Some, None, refl, sym, ap, ◌∙◌, subst, arith, length-append}
+use Rattle.std.specs.List.{AllByRecursion}
+use Rattle.std.proofs.lemmas.List.Elements.{filter_map-append}
+use Rattle.std.proofs.lemmas.Option.{same_Some}
+use Rattle.mica_words.specs.Hash.{partition_of}
+use Rattle.partition_model.specs.declared.options.Options.{Options}
+use Rattle.partition_model.specs.declared.write.Op.TheVariants.{Del}
+use Rattle.partition_model.specs.declared.write.Outcome.{Outcome}
+use Rattle.partition_model.specs.declared.write.Write.{Write}
+use Rattle.partition_model.specs.Write.{write_of}
+use Rattle.partition_model.specs.Run.{RunStep}
+use Rattle.memcached_changes.specs.Over.{is_over, sweeping}
+use Rattle.mica_fronts.specs.declared.changing.Changed.{Changed}
+use Rattle.mica_fronts.specs.declared.changing.When.{When}
+use Rattle.mica_fronts.specs.Answered.{Answered, changed, kept, step_in, steps_of, count_of_writes}
+use Rattle.mica_fronts.specs.Changing.{stays, goes, write_for, write_by, DoesWrite, ComesTo, count_of}
+use Rattle.mica_fronts.specs.Looks.{Look}
+use Rattle.mica_fronts.specs.Session.{Sessions, Answers, AnswersOne, ChangesOnly}
+use Rattle.mica_fronts.proofs.InOrder.{answers_append}
+use Rattle.memcached_fronts.specs.Seconds.{second_in, seconds_of, ToldFrom}
+use Rattle.memcached_fronts.specs.Sweeps.{IsSweep, SweepsBy}
+use Rattle.memcached_fronts.proofs.AskLaws.{told_then, one_second}
+
+-- what a sweep writes is a delete of what is over
+takes : (base : ℕ) (when : When) (key : List ℕ) (value : Option (List ℕ)) (write : Write) → write_for key value (sweeping base when value) ≡ Some write
+    → (write ≡ write_of Del key []) × ((stored : List ℕ) × (value ≡ Some stored) × (is_over base when stored ≡ true))
+takes base when key None write is = absurd (cc)
+takes base when key (Some stored) write is = go (is_over base when stored) refl is
+  where
+    go : (over : Bool) → is_over base when stored ≡ over → write_for key (Some stored) (cond over goes stays) ≡ Some write
+        → (write ≡ write_of Del key []) × ((s : List ℕ) × (Some stored ≡ Some s) × (is_over base when s ≡ true))
+    go true over is = (sym (same_Some _ _ is), (stored, refl, over))
+    go false over is = absurd (cc)
+
+all_both : (P : Answered → Type 0) (one two : List Answered) → AllByRecursion P one → AllByRecursion P two → AllByRecursion P (one ++ two)
+all_both P [] two first then = then
+all_both P (a ∷ one) two first then = (first.0, all_both P one two first.1 then)
+
+module _ (options : Options) (is_alone : Bool) (base : ℕ) where
+  pub none_swept : (old : Sessions) (left told : ℕ) → SweepsBy options is_alone base old left told old left told
+  none_swept old left told = record { answers = []; sweeps = tt; in_order = λ q. refl; seconds = refl; few = omega arith }
+
+  pub swept_then : {old between new : Sessions} {left then_left left_after told then tells : ℕ} → SweepsBy options is_alone base old left told between then_left then
+      → SweepsBy options is_alone base between then_left then new left_after tells → SweepsBy options is_alone base old left told new left_after tells
+  swept_then {old} {between} {new} {told = told} {then = then} {tells = tells} one two =
+      let writes = ap length (filter_map-append step_in one.answers two.answers) ∙ length-append (steps_of one.answers) (steps_of two.answers) in record {
+        answers = one.answers ++ two.answers;
+        sweeps = all_both (IsSweep base) one.answers two.answers one.sweeps two.sweeps;
+        in_order = answers_append options is_alone one.answers two.answers old between new one.in_order two.in_order;
+        seconds = subst (λ s. ToldFrom told s tells) (sym (filter_map-append second_in one.answers two.answers))
+            (told_then told then tells (seconds_of one.answers) (seconds_of two.answers) one.seconds two.seconds);
+        few = omega (arith, one.few, two.few, writes);
+      }
+
+  -- a key that was looked at
+  module _ (old new : Sessions) (left left_after told second : ℕ) (key : List ℕ) (c : Changed) (buffer : List ℕ) (falls : told ≤ second) where
+    one_by : (a : Answered) → Answers options is_alone old a new → IsSweep base a → second_in a ≡ Some second → left ≤ left_after + count_of_writes (a ∷ [])
+        → SweepsBy options is_alone base old left told new left_after second
+    one_by a here is at few = record {
+      answers = a ∷ [];
+      sweeps = (is, tt);
+      in_order = (new, here, λ q. refl);
+      seconds = subst (λ s. ToldFrom told s second) (sym (one_second a second at)) (falls, refl);
+      few = few;
+    }
+
+    pub one_swept : let p = partition_of key options.partitions in ComesTo options is_alone second key true (sweeping base) (old p) c buffer (new p)
+        → ChangesOnly (partition_of key options.partitions) old new → left ≤ left_after + count_of c.outcome → SweepsBy options is_alone base old left told new left_after second
+    one_swept comes others few = go (write_by (sweeping base) key look) c.outcome refl refl comes.does
+      where
+        look : Look
+        look = record { when = c.when; value = comes.value }
+
+        go : (write : Option Write) (outcome : Option Outcome) → write_by (sweeping base) key look ≡ write → c.outcome ≡ outcome
+            → DoesWrite options is_alone (old (partition_of key options.partitions)) key write outcome c.stamp look (new (partition_of key options.partitions))
+            → SweepsBy options is_alone base old left told new left_after second
+        go None None writes is does =
+            one_by (kept key c.stamp look) (record { one = does; others = others }) tt (ap Some comes.at) (subst (λ o. left ≤ left_after + count_of o) is few)
+        go None (Some outcome) writes is does = absurd does
+        go (Some write) None writes is does = absurd does
+        go (Some write) (Some outcome) writes is does =
+            let t = takes base c.when key comes.value write writes in
+            let same : write.key ≡ key = ap (λ (w : Write). w.key) t.0 in
+            let step : RunStep = record { write = write; outcome = outcome; stamp = c.stamp } in
+            one_by (changed step look) (record {
+              one = subst (λ (k : List ℕ). AnswersOne options is_alone (old (partition_of k options.partitions)) (changed step look) (new (partition_of k options.partitions))) (sym same) does;
+              others = subst (λ (k : List ℕ). ChangesOnly (partition_of k options.partitions) old new) (sym same) others;
+            }) (subst (λ (k : List ℕ). write ≡ write_of Del k []) (sym same) t.0, t.1) (ap Some comes.at) (subst (λ o. left ≤ left_after + count_of o) is few)

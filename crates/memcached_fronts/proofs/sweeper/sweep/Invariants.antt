@@ -1,0 +1,14 @@
+use Rattle.std.proofs.Common.{◌≡◌, ◌≤◌, ◌+◌}
+use Rattle.memcached_fronts.specs.Sweeps.{SweepsBy}
+use Rattle.memcached_fronts.proofs.sweeper.sweep.Given as goal
+
+abbrev pub invariant-loop : goal.invariant-loop
+invariant-loop g l =
+    let F = g.F.Front in record {
+      swept : SweepsBy (F.options l.initial.front) F.is_alone l.numbering.base (F.sessions l.initial.front) (F.left l.initial.front) (g.C.Clock.last l.initial.clock)
+          (F.sessions l.front) (F.left l.front) (g.C.Clock.last l.clock);
+      left : F.left l.initial.front ≤ F.left l.front + l.counter;
+      options : F.options l.front ≡ F.options l.initial.front;
+      number : F.number l.front ≡ F.number l.initial.front;
+      stands : F.stands l.front ≡ F.stands l.initial.front;
+    }
