@@ -13,7 +13,7 @@ abbrev pub or_later : Option BatchFault → Option BatchFault → Option BatchFa
 or_later None later = later
 or_later (Some fault) later = Some fault
 
--- A fault is this first one. Want of memory is the one free answer.
+-- A fault is this first one. Out of memory is the one free answer.
 abbrev pub IsFirstFault : Option BatchFault → BatchFault → Type 0
 IsFirstFault first faults.NoMemory = Unit {0}
 IsFirstFault first fault = first ≡ Some fault

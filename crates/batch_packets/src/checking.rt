@@ -183,7 +183,7 @@ impl<'a> Model for Requests<'a> {
 }
 
 impl<'a> Requests<'a> {
-    /// The same requests, to be taken once more.
+    /// These requests, to be taken once more.
     pub fn again(&self) -> Requests<'a>
         ensures { result ≡ self.now }
     {

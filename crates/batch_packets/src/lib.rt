@@ -1,7 +1,7 @@
 //! Datagrams of the server as bytes: a batch of requests, and the replies to it.
 //!
 //! What is read is the batch, or the replies, whose text the bytes are. A fault is the first one in
-//! the order of the format, and comes exactly there; want of memory alone is free. What is written is
+//! the order of the format, and comes exactly there; out of memory alone is free. What is written is
 //! the text. Bytes are the text of at most one batch, and of at most one list of replies.
 #![tactic(auto)]
 

@@ -40,7 +40,7 @@ pub record IsPossibleShape (shape : Shape) : Type 0 where
   pub ranges : IsPossible (options_of shape)
   pub no_spares : shape.mode ≡ Cache → shape.spares ≡ 0
 
--- the same as a test
+-- whether partitions can be made of a shape, as a test
 abbrev pub is_in_range : Shape → Bool
 is_in_range shape =
     is_power_of_two shape.buckets && nat_le shape.buckets (2 ^ 24)

@@ -31,7 +31,7 @@ LinksTo shape loads zero b (c ∷ cs) = ⊥
 LinksTo shape loads (suc left) b (c ∷ cs) =
     (c ≢ 0) × HasLoad loads (link_at shape b) c × LinksTo shape loads left c cs
 
--- The same up to one without a link, or as many as there are spares.
+-- The links lead from a bucket to these, up to one without a link, or to as many as there are spares.
 abbrev pub HasLinks : Shape → Loads → ℕ → ℕ → List ℕ → Type 0
 HasLinks shape loads zero b [] = Unit {0}
 HasLinks shape loads zero b (c ∷ cs) = ⊥

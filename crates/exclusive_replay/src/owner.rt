@@ -12,7 +12,7 @@ use plain_partition::PlainPartition;
 use std::alloc::Global;
 use std::sync::Wait;
 
-/// A partition with its queue, and what is printed for the lines that it has answered: None after want of memory.
+/// A partition with its queue, and what is printed for the lines that it has answered: None once memory ran out.
 #[derive(Drop)]
 pub(crate) struct Owner {
     pub part: PlainPartition,
@@ -42,7 +42,7 @@ fn answer_line(
 }
 
 impl Owner {
-    /// Takes the queue to its end, and answers each line before the next one, but no more after want of memory. It passes
+    /// Takes the queue to its end, and answers each line before the next one, but no more once memory ran out. It passes
     /// the gate before each answer, and once more at the end.
     pub(crate) fn run<W: Wait, G: Gate>(&mut self, rt: &W, alloc: Global, trace: &Trace, gate: &G)
         requires { IsReadyOwner trace.now self.old }

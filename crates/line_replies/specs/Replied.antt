@@ -30,7 +30,7 @@ pub record IsReplied (old new : OwnerState) (line : TraceLine) (printed : Line) 
   pub reply : IsReplyAfter (options_in old) old.history line printed
   pub gained : new ≡ record old { words = new.words; history = history_with old.history line printed }
 
--- the same of lines, one after another
+-- what is printed is the machine's replies to these lines, one after another, and the history gained their writes
 pub record HasReplied (old new : OwnerState) (lines : List TraceLine) (printed : List Line) : Type 0 where
   pub replies : RepliesTo (options_in old) old.history lines printed new.history
   pub gained : new ≡ record old { words = new.words; history = new.history }

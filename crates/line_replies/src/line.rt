@@ -53,7 +53,7 @@ fn write<P: Partition>(part: &mut P, op: Op, key: &[u8], value: &[u8]) -> Line
 }
 
 /// Does what a line asks of its partition, and gives what is printed for it. The buffer is for a value that is found.
-/// After want of memory the partition is as it was.
+/// Where memory runs out, the partition is as it was.
 pub fn reply_to<P: Partition>(
     alloc: Global,
     part: &mut P,

@@ -29,7 +29,7 @@ use Rattle.locked_serve.specs.declared.streams.StreamTask.{StreamTask}
 use Rattle.locked_serve.specs.declared.worker.FrontTask.{FrontTask}
 use Rattle.locked_serve.specs.Opening.{AreNewParts, AreNewHands}
 use Rattle.locked_serve.specs.Streams.{StreamFacts, ServesStream, AreServed, AreUnserved, StopsStream, others_of}
-use Rattle.locked_serve.specs.Running.{run_of, front_at, IsReadyTask, AreReadyTasks, TaskRan, TasksRan, IsReadyStream, AreReadyStreams, StreamRan, StreamsRan, RunsStream, RanBeside}
+use Rattle.locked_serve.specs.Running.{run_of, front_facts, IsReadyTask, AreReadyTasks, TaskRan, TasksRan, IsReadyStream, AreReadyStreams, StreamRan, StreamsRan, RunsStream, RanBeside}
 use Rattle.locked_serve.proofs.Joined.{at_left, at_right, at_either, same_sums}
 use Rattle.locked_serve.proofs.Ran.{AreHands, HaveRan, HandAt, hand_at, taken_hand, placed, kept, runs_all, shapes, histories, closes}
 use Rattle.locked_serve.proofs.Taken.{closed_by, closed_at}
@@ -64,7 +64,7 @@ module _ {C K : Type 0} (plan : Plan) (facts : C → StreamFacts) (last : K → 
     pub was : slice_get olds k ≡ Some old
     pub is : slice_get news k ≡ Some new
     pub front : IsLockedFront plan (locked_view plan.options k new.parts.items)
-    pub run : RunsStream plan.options base (front_at facts last old) (front_at facts last new) own new.answer (facts old.port) (facts new.port)
+    pub run : RunsStream plan.options base (front_facts facts last old) (front_facts facts last new) own new.answer (facts old.port) (facts new.port)
 
   pub stream_at : (k : ℕ) → k < length olds → (own : List Answered) × StreamAt k own
   stream_at k low =
@@ -97,9 +97,12 @@ module _ {C K : Type 0} (plan : Plan) (facts : C → StreamFacts) (last : K → 
         let s = all_at.2 k own own_at in
         let one : last s.old.clock ≡ told = same_Some _ _ (sym (at_map last_of olds k s.old s.was) ∙ told_at) in
         let two : facts s.old.port ≡ b = same_Some _ _ (sym (at_map port_of olds k s.old s.was) ∙ b_at) in
-        let three : facts s.new.port ≡ a = same_Some _ _ (sym (at_map port_of news k s.new s.is) ∙ a_at) in
-        (front_at facts last s.old, front_at facts last s.new, one,
-        subst (λ (y : StreamFacts × StreamFacts). ServesStream plan.options base (front_at facts last s.old) (front_at facts last s.new) own y.0 y.1) (λ i. (two i, three i)) s.run.serves);
+        let three : facts s.new.port ≡ a = same_Some _ _ (sym (at_map port_of news k s.new s.is) ∙ a_at) in (
+          front_facts facts last s.old,
+          front_facts facts last s.new,
+          one,
+          subst (λ (y : StreamFacts × StreamFacts). ServesStream plan.options base (front_facts facts last s.old) (front_facts facts last s.new) own y.0 y.1) (λ i. (two i, three i)) s.run.serves,
+        );
   }
 
   pub stopped : (k : ℕ) → slice_get (map (λ (t : StreamTask C K). t.answer) news) k ≡ Some (Err Net) → StopsStream (map port_of olds) (map port_of news)

@@ -28,32 +28,39 @@ none_answered (suc n) zero own at = sym (same_Some [] own at)
 none_answered (suc n) (suc k) own at = none_answered n k own at
 
 -- a front that was told this second, and did nothing
-unmoved : ℕ → FrontAt
+abbrev unmoved : ℕ → FrontAt
 unmoved told = record { sessions = λ q. record { seen = []; done = []; last = 0; told = None }; left = 0; second = told; lacked = 0; has_ended = false }
 
 module _ (options : Options) (base : ℕ) where
   none_told : (told : ℕ) (log : Option Log) → IfSome log (λ l. l.entries ≡ []) → OnLogs (ServesClients options base (unmoved told) (unmoved told) []) log log
   none_told told None fresh = tt
-  none_told told (Some log) fresh = (record {
-    same = refl;
-    all = [];
-    serves = record {
-      in_order = λ q. refl;
-      seconds = refl;
-      few = omega arith;
-      lacking = [];
-      counted = refl;
-      through = subst (λ (entries : List Entry). TalksThrough options base MOST_UNSENT log.schedule [] entries []) (sym fresh)
-          (λ c. inl (record { said = []; rest = []; spells = refl; answered = refl; begins = ([], refl) }, record { kept = omega arith; unsent = omega arith }));
-      done = λ ended. absurd (true≢false (sym ended));
-    };
-  }, refl)
+  none_told told (Some log) fresh = (
+    record {
+      same = refl;
+      all = [];
+      serves = record {
+        in_order = λ q. refl;
+        seconds = refl;
+        few = omega arith;
+        lacking = [];
+        counted = refl;
+        through = subst (λ (entries : List Entry). TalksThrough options base MOST_UNSENT log.schedule [] entries []) (sym fresh)
+            (λ c. inl (record { said = []; rest = []; spells = refl; answered = refl; begins = ([], refl) }, record { kept = omega arith; unsent = omega arith }));
+        done = λ ended. absurd (true≢false (sym ended));
+      };
+    },
+    refl,
+  )
 
   serves_none : (told : ℕ) (own : List Answered) (b a : StreamFacts) → IsUnserved b → own ≡ [] → a ≡ b
       → (old new : FrontAt) × (old.second ≡ told) × ServesStream options base old new own b a
-  serves_none told own b a unserved none same = (unmoved told, unmoved told, refl,
-  subst (λ (y : List Answered × StreamFacts). ServesStream options base (unmoved told) (unmoved told) y.0 b y.1) (λ i. (sym none i, sym same i))
-  (record { port = refl; never_fall = omega arith; seconds = refl; ended = sym unserved.unended; clients = none_told told b.log unserved.fresh }))
+  serves_none told own b a unserved none same = (
+    unmoved told,
+    unmoved told,
+    refl,
+    subst (λ (y : List Answered × StreamFacts). ServesStream options base (unmoved told) (unmoved told) y.0 b y.1) (λ i. (sym none i, sym same i))
+        (record { port = refl; never_fall = omega arith; seconds = refl; ended = sym unserved.unended; clients = none_told told b.log unserved.fresh }),
+  )
 
   -- the ports that were listened at are as they were
   pub as_heard : (streams : StreamPorts) (waited : Option Ports) (clocks : List ℕ) (heard : List StreamFacts) → AreNewStreams waited streams.port heard → length heard ≤ streams.fronts

@@ -59,8 +59,8 @@ pub record RunsStream (options : Options) (base : ℕ) (old new : FrontAt) (answ
   pub cause : IsErrOf answer Net → Rose before.faults after.faults
 
 -- as what it has in hand, its clock and its port tell it
-abbrev pub front_at : {C K : Type 0} → (C → StreamFacts) → (K → ℕ) → StreamTask C K → FrontAt
-front_at facts last task = record {
+abbrev pub front_facts : {C K : Type 0} → (C → StreamFacts) → (K → ℕ) → StreamTask C K → FrontAt
+front_facts facts last task = record {
   sessions = sessions_of task.parts.items;
   left = turns_left task.parts.items;
   second = last task.clock;
@@ -82,7 +82,7 @@ module _ {C K : Type 0} (plan : Plan) (facts : C → StreamFacts) (last : K → 
     pub record StreamRan (k : ℕ) (old new : StreamTask C K) : Type 0 where
       pub is : IsLockedFront plan (locked_view plan.options k new.parts.items)
       pub answered : List Answered
-      pub run : RunsStream plan.options base (front_at facts last old) (front_at facts last new) answered new.answer (facts old.port) (facts new.port)
+      pub run : RunsStream plan.options base (front_facts facts last old) (front_facts facts last new) answered new.answer (facts old.port) (facts new.port)
 
     abbrev pub StreamsRan : List (StreamTask C K) → List (StreamTask C K) → Type 0
     StreamsRan olds news =

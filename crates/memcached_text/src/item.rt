@@ -18,7 +18,7 @@ pub struct Item<'a> {
     pub value: Text<'a>,
 }
 
-/// Appends what is stored of an item. After want of memory nothing is appended.
+/// Appends what is stored of an item. Where memory runs out, nothing is appended.
 #[tactic(auto, unfolding(crate::specs::Item::item_text))]
 pub fn put_item(out: &mut Vec<u8>, item: Item) -> Result<(), NoMemory>
     ensures ok { OnOk result (out.new.items ≡ out.old.items ++ item_text item.entry) }

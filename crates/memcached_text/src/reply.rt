@@ -71,7 +71,7 @@ pub fn fault_line(fault: Fault) -> &'static [u8]
     }
 }
 
-/// Appends the value that a get found, with its unique number where there is one. After want of memory nothing is
+/// Appends the value that a get found, with its unique number where there is one. Where memory runs out, nothing is
 /// appended.
 #[tactic(auto, unfolding(crate::specs::Replies::value_text))]
 pub fn put_value(
@@ -108,7 +108,7 @@ pub fn put_value(
     }
 }
 
-/// Appends the number that a count gave. After want of memory nothing is appended.
+/// Appends the number that a count gave. Where memory runs out, nothing is appended.
 #[tactic(auto, unfolding(crate::specs::Replies::number_text))]
 pub fn put_number(out: &mut Vec<u8>, number: u64) -> Result<(), NoMemory>
     ensures ok { OnOk result (out.new.items ≡ out.old.items ++ number_text number) }
@@ -118,7 +118,7 @@ pub fn put_number(out: &mut Vec<u8>, number: u64) -> Result<(), NoMemory>
     append_parts(out, &[digits.format(number).as_bytes(), b"\r\n"])
 }
 
-/// Appends one line of what is counted. After want of memory nothing is appended.
+/// Appends one line of what is counted. Where memory runs out, nothing is appended.
 #[tactic(auto, unfolding(crate::specs::Replies::stat_text))]
 pub fn put_stat(out: &mut Vec<u8>, name: &[u8], value: &[u8]) -> Result<(), NoMemory>
     ensures ok { OnOk result (out.new.items ≡ out.old.items ++ stat_text name.now value.now) }

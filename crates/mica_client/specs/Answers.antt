@@ -119,7 +119,7 @@ abbrev pub by_line : Option Line → Reply → KnownLines → Result KnownLines 
 by_line None reply answers = Err (Wrong reply.ticket)
 by_line (Some line) reply answers = Ok (slice_set answers (reply.ticket - 1) (Some line))
 
--- the same, where the ticket is one of the batch
+-- what a reply makes of the answers, where its ticket is one of the batch
 abbrev pub by_want : Option Want → Reply → KnownLines → Result KnownLines AskFault
 by_want None reply answers = Err (Stranger reply.ticket)
 by_want (Some want) reply answers =
@@ -170,7 +170,7 @@ pub record KeepsAnswers (requests : List Request) (old new : KnownLines) : Type 
   pub known : (ticket : ℕ) → is_answered old ticket ≡ true → is_answered new ticket ≡ true
   pub lines : (trace : List TraceLine) → AllByRecursion (IsOfTrace trace) requests → AreFor trace old → AreFor trace new
 
--- the same of all batches
+-- what answers to all batches make of the answers
 pub record KeepsAll (groups : List Group) (old new : KnownLines) : Type 0 where
   pub len : length new ≡ length old
   pub known : (ticket : ℕ) → is_answered old ticket ≡ true → is_answered new ticket ≡ true

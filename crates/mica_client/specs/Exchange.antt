@@ -61,7 +61,7 @@ pub record TakesReplies (batch : Batch) (before : KnownLines) (bytes : Datagram)
   pub spelled : SpellsAnswers bytes replies
   pub made : after_replies batch replies.number replies.replies before ≡ Ok after
 
--- the same of a datagram whose first reply that shows anything shows this fault
+-- while a ticket of the batch waited, a datagram of replies was received, and the first of them that shows anything shows this fault
 pub record ShowsFault (batch : Batch) (before : KnownLines) (bytes : Datagram) (fault : AskFault) : Type 0 where
   pub waited : lacks_answer before batch.requests ≡ true
   pub replies : Replies
@@ -114,7 +114,7 @@ pub record StopsAt (before : Standing) (passed : List Passed) (shows : Batch →
 
 -- The cause of a fault in the datagrams that passed and those that are left then. At a fault of the link the exchange is not whole, so
 -- at each moment before it a batch was not sent or a ticket waited: no count of faults beside a datagram need be asked.
--- At want of memory the last datagram may not have been read.
+-- When memory ran out, the last datagram may not have been read.
 abbrev pub IsCauseOf : AskFault → Standing → List Passed → List Datagram → Type 0
 IsCauseOf Unread before passed left = StopsAt before passed (λ batch answers bytes. IsUnread bytes)
 IsCauseOf Lost before passed left = ComesTo before passed (λ at. (waits at ≡ true) × (left ≡ []))
@@ -163,7 +163,7 @@ StopsReading Lost before after = (after ≡ before) × (before.left ≡ [])
 StopsReading Link before after = after ≡ before
 StopsReading fault before after = ⊥
 
--- the same of one that takes the replies too, while the batch waits
+-- what a fault says of a call that receives one datagram and takes its replies, while the batch waits
 abbrev pub StopsOne : AskFault → Batch → KnownLines → Talk → Talk → Type 0
 StopsOne (Stranger ticket) batch answers before after = Receives (λ bytes. ShowsFault batch answers bytes (Stranger ticket)) before after
 StopsOne (Double ticket) batch answers before after = Receives (λ bytes. ShowsFault batch answers bytes (Double ticket)) before after

@@ -32,7 +32,7 @@ pub fn answered_once()
         → (replies : List Reply) × RepliesIn passed replies × IsRepliedOnce trace report replies }
 {}
 
-/// Datagrams that passed have one answer, but for want of memory, and for whether the link failed or ended where they break off.
+/// Datagrams that passed have one answer, but for out of memory, and for whether the link failed or ended where they break off.
 pub fn one_cause()
     ensures { (a b : Result (List Line) AskFault) (before : Standing) (passed : List Passed) (left other : List Datagram)
         → a ≢ Err NoMemory → b ≢ Err NoMemory → MeansForAsk a before passed left → MeansForAsk b before passed other

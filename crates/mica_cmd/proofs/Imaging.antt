@@ -26,7 +26,7 @@ pub image_made : (options : Options) (trace : List TraceLine) (imaged : Imaged) 
 image_made options trace imaged (Ok text) is spelled = (imaged, is, spelled)
 image_made options trace imaged (Err e) is spelled = tt
 
--- a fault that is not want of memory is the first one
+-- a fault that is not out of memory is the first one
 first_is : (bytes : List ℕ) (fault : ImageFault) → (fault ≡ NoSpace) ⊎ (first_fault bytes ≡ Some fault) → fault ≢ NoSpace → first_fault bytes ≡ Some fault
 first_is bytes fault (inl memory) named = absurd (named memory)
 first_is bytes fault (inr first) named = first

@@ -168,7 +168,7 @@ trace_not_done old new before after result either done = elim either as (λ _. �
 finds_no_memory : (due : Due) (sink : SinkFacts) → WritesDue due sink sink NoMemory
 finds_no_memory due sink = inl (refl, Keeps-refl sink.taken)
 
--- nothing was written, for want of memory
+-- nothing was written, as memory ran out
 pub unwritten_promise : (promise : Promise) → Settles promise → (old new : Outside) → new.sink ≡ old.sink
     → promise.reads old.source new.source → promise.net old.net new.net → promise.tables old new NoMemory → promise.link old new → KeepsPromise promise old new NoMemory
 unwritten_promise promise settles old new same reads net tables link =

@@ -45,7 +45,7 @@ all_words_of text (Err error) = words_by (error_kind error)
 abbrev pub words_of : {S Z : Type 0} → (S → Text) → Result (IntoIter S Z) Error → Option (List Text)
 words_of text args = option_map (λ words. drop 1 words) (all_words_of text args)
 
--- The process ends with the number of a status that keeps the promises for these words, or with that of want of memory where nothing is
+-- The process ends with the number of a status that keeps the promises for these words, or with that of out of memory where nothing is
 -- known of them.
 abbrev pub Exits : Option (List Text) → Outside → Outside → ℕ → Type 0
 Exits None old new number = (number ≡ exit_number NoMemory) × (new ≡ old)

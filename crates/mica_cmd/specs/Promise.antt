@@ -22,7 +22,7 @@ pub record Promise : Type 1 where
   -- what becomes of the link, whatever the status
   pub link : Outside → Outside → Type 0
 
--- The table of what is due: with each status what the command promises, but nothing with want of memory, nor with a write that failed.
+-- The table of what is due: with each status what the command promises, but nothing with out of memory, nor with a write that failed.
 abbrev pub IsDue : (Status → List ℕ → Type 0) → Status → List ℕ → Type 0
 IsDue is_due NoMemory text = ⊥
 IsDue is_due WriteFault text = ⊥
@@ -36,7 +36,7 @@ Prints is_due old new = (text : List ℕ) × is_due text × Appends old.taken ne
 abbrev pub AppendsPart : SinkFacts → SinkFacts → List ℕ → Type 0
 AppendsPart old new text = (n : ℕ) × (n < length text) × Appends old.taken new.taken (take n text)
 
--- What each status means: nothing written, for want of memory; a proper prefix of what was due, where a write failed; or the text that is
+-- What each status means: nothing written, as memory ran out; a proper prefix of what was due, where a write failed; or the text that is
 -- due, and nothing else. For a replay that ends with Done this is the headline.
 abbrev pub Ends : (Status → List ℕ → Type 0) → SinkFacts → SinkFacts → Status → Type 0
 Ends is_due old new NoMemory = Keeps old.taken new.taken
@@ -48,7 +48,7 @@ Ends is_due old new status = Prints (IsDue is_due status) old new
 pub record KeepsPromise (promise : Promise) (old new : Outside) (status : Status) : Type 0 where
   -- each status has its meaning
   pub ended : Ends (promise.is_due old new) old.sink new.sink status
-  -- an unhindered status comes, but for want of memory
+  -- an unhindered status comes, unless memory runs out
   pub complete : (free : Status) → promise.unhindered old new free → (status ≡ free) ⊎ (status ≡ NoMemory)
   pub reads : promise.reads old.source new.source
   pub net : promise.net old.net new.net

@@ -92,7 +92,7 @@ input_promise is_due is_kind = record {
   link = LeavesLink;
 }
 
--- the same of a command that reads a trace
+-- the promise of a command that reads its input as a trace
 abbrev pub trace_promise : (Outside → Outside → Status → List TraceLine → List ℕ → Type 0) → (Status → List TraceLine → Type 0) → Promise
 trace_promise is_due is_kind = input_promise (λ old new. IsDueOfTrace (is_due old new)) (IsKindOfTrace is_kind)
 

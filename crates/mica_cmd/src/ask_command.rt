@@ -81,7 +81,7 @@ fn status_of(fault: AskFault) -> Status
     }
 }
 
-// Writes the line that names why there is no report; for want of memory there is none.
+// Writes the line that names why there is no report; where memory ran out, there is none.
 fn tell_fault<K: Sink>(alloc: Global, fault: AskFault, sink: &mut K) -> Status
     ensures { IsToldFault fault
         (sink_facts K.taken K.faults sink.old) (sink_facts K.taken K.faults sink.new) result }

@@ -60,7 +60,7 @@ abbrev pub number : Text → ℕ → ℕ → ℕ → Setting ℕ
 number name least most default =
     record { name = name; meaning = number_of least most; default = Some default }
 
--- the same, where it is required
+-- an option that is required, whose value is a number from `least` to `most`
 abbrev pub required_number : Text → ℕ → ℕ → Setting ℕ
 required_number name least most =
     record { name = name; meaning = number_of least most; default = None }
@@ -347,7 +347,7 @@ IsValidCommand (Ask options) = IsValidAsk options
 IsValidCommand (Image options) = IsValid options × (options.mode ≡ Store)
 IsValidCommand Unpack = ⊤
 
--- what is read of words that give this command, or none: want of memory may come with any
+-- what is read of words that give this command, or none: out of memory may come with any
 abbrev pub IsReadingOf : Option Command → Result Command WordsFault → Type 0
 IsReadingOf given (Ok command) = (given ≡ Some command) × IsValidCommand command
 IsReadingOf given (Err Usage) = given ≡ None

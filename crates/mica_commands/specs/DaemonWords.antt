@@ -157,7 +157,7 @@ pub record ArePossibleFronts (ports : Ports) (streams : StreamPorts) : Type 0 wh
   pub stream_ports : IsPossibleStreams streams
   pub all : InRange 1 MOST_FRONTS (ports.fronts + streams.fronts)
 
--- what is read of words that give this, or nothing: want of memory may come with any
+-- what is read of words that give this, or nothing: out of memory may come with any
 abbrev pub IsDaemonReading : Option Service → Result DaemonOptions WordsFault → Type 0
 IsDaemonReading given (Ok read) = (given ≡ Some (service_of read)) × IsPossible read.options × ArePossibleFronts read.ports read.streams.ports
 IsDaemonReading given (Err Usage) = given ≡ None

@@ -55,7 +55,7 @@ option_word names text =
     else other)
     else (if has_name text names then named text else other)
 
--- the same, where no text stands behind two hyphens in another word
+-- the kind of a word by what stands behind its two hyphens, if it begins with two
 abbrev pub word_by : List Text → Option Text → Word
 word_by names None = other
 word_by names (Some text) = option_word names text

@@ -147,7 +147,7 @@ fn are_possible(ports: &Ports, streams: &StreamOptions) -> bool
     1 <= all && all <= u64::from(MOST_FRONTS)
 }
 
-// The same from the texts of its options. An image fills a store, and no cache.
+// What a server that stays up is to do, by the texts of its options. An image fills a store, and no cache.
 fn daemon_options<'a>(found: &ArgMatches<'a>) -> Option<DaemonOptions<'a>>
     ensures { option_map service_of result ≡ daemon_given (first_value (found_of found.now)) }
 {

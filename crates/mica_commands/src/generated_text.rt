@@ -10,7 +10,7 @@ use crate::spelling::{put_key, put_value};
 use mica_io::NoMemory;
 use std::alloc::Global;
 
-// Appends the line of an operation. After want of memory a part may stand there.
+// Appends the line of an operation. Where memory runs out, a part may stand there.
 fn put_line(text: &mut Vec<u8>, options: &GenOptions, draw: &Draw) -> Result<(), NoMemory>
     requires valid { is_valid options.now ≡ true }
     requires few { draw.now.key < 65536 }
@@ -31,7 +31,7 @@ fn put_line(text: &mut Vec<u8>, options: &GenOptions, draw: &Draw) -> Result<(),
     Ok(())
 }
 
-// Appends the line of an operation, and that of the sync behind it. After want of memory a part may stand there.
+// Appends the line of an operation, and that of the sync behind it. Where memory runs out, a part may stand there.
 fn put_operation(text: &mut Vec<u8>, options: &GenOptions, draw: &Draw) -> Result<(), NoMemory>
     requires valid { is_valid options.now ≡ true }
     requires few { draw.now.key < 65536 }

@@ -46,7 +46,7 @@ pub fn number(
     }
 }
 
-// The same of a number that fits 32 bits.
+// The number of an option that fits 32 bits.
 pub fn count(found: &ArgMatches<'_>, name: &str, least: u32, most: u32, default: u32) -> Option<u32>
     ensures { result ≡ value_of (number name.now least most default) (first_value (found_of found.now)) }
 {
@@ -60,7 +60,7 @@ pub fn count(found: &ArgMatches<'_>, name: &str, least: u32, most: u32, default:
     Some(value as u32)
 }
 
-// The same where the option is required.
+// The number of an option that is required.
 pub fn required(found: &ArgMatches<'_>, name: &str, least: u32, most: u32) -> Option<u32>
     ensures { result ≡ value_of (required_number name.now least most) (first_value (found_of found.now)) }
 {
@@ -79,7 +79,7 @@ pub fn mode(found: &ArgMatches<'_>) -> Option<Mode>
     }
 }
 
-// The same of a power of two.
+// The power of two that an option gives.
 pub fn power_of_two(found: &ArgMatches<'_>, name: &str, most: u32, default: u32) -> Option<u32>
     requires { is_power_of_two default ≡ true }
     ensures { result ≡ value_of (power_of_two name.now most default) (first_value (found_of found.now)) }
@@ -126,7 +126,7 @@ pub fn serve_options(found: &ArgMatches<'_>) -> Option<Options>
     })
 }
 
-// The same options for a run in which owners alone read.
+// The options of a run in which owners alone read.
 fn without_readers(options: Options) -> Options
     ensures { result ≡ without_readers options }
 {

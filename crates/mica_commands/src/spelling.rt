@@ -23,7 +23,7 @@ fn put_padded(text: &mut Vec<u8>, len: u32, number: u32) -> Result<(), NoMemory>
     Ok(())
 }
 
-/// Appends the key of a number. After want of memory a part may stand there.
+/// Appends the key of a number. Where memory runs out, a part may stand there.
 pub fn put_key(text: &mut Vec<u8>, options: &GenOptions, number: u32) -> Result<(), NoMemory>
     requires valid { is_valid options.now ≡ true }
     requires few { number < 65536 }
@@ -33,7 +33,7 @@ pub fn put_key(text: &mut Vec<u8>, options: &GenOptions, number: u32) -> Result<
     put_padded(text, options.key_len - 1, number)
 }
 
-/// Appends the value of a number. After want of memory a part may stand there.
+/// Appends the value of a number. Where memory runs out, a part may stand there.
 pub fn put_value(text: &mut Vec<u8>, options: &GenOptions, number: u32) -> Result<(), NoMemory>
     requires valid { is_valid options.now ≡ true }
     requires within { number < options.now.ops }

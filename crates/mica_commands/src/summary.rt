@@ -82,7 +82,7 @@ fn last_stamps(
     Ok(stamps)
 }
 
-// Appends a line of a name and a number. After want of memory a part may stand there.
+// Appends a line of a name and a number. Where memory runs out, a part may stand there.
 fn put_number(text: &mut Vec<u8>, name: &[u8], number: u64) -> Result<(), NoMemory>
     ensures { OnOk result (text.new.items ≡ text.old.items ++ number_line name.now number) }
 {
@@ -158,7 +158,7 @@ fn summary_of(
     Ok(text)
 }
 
-/// Appends the summary of a trace and its report. After want of memory nothing is appended.
+/// Appends the summary of a trace and its report. Where memory runs out, nothing is appended.
 pub fn put_summary(
     options: &Options,
     trace: &Trace,

@@ -121,7 +121,7 @@ pub record LeavesEnd (options : Options) (is_alone : Bool) (old : Sessions) (lef
   pub answers : AnswersInOrder options is_alone old (answered_in dealings) new
   pub few : left ≤ left_after + count_of_writes (answered_in dealings)
 
--- what a front left of an end at want of memory: one datagram at most is unread
+-- what a front left of an end when memory ran out: one datagram at most is unread
 pub record WantsAtEnd (batches : ℕ) (before after : Traffic) : Type 0 where
   pub dealings : List Dealing
   pub unread : List Datagram

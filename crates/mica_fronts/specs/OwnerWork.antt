@@ -44,7 +44,7 @@ pub record HasDone (old_home new_home : TableId) (old new : OwnerState) (job : J
   pub write : ack.write ≡ job.write
   pub sent : after ≡ ack_box before.queue before.table before.shape (before.list ++ ack ∷ [])
 
--- the same end, which has sent the answers to one front
+-- an owner's end to one front has sent just the answers to it
 pub record IsSent (front : ℕ) (done : List DoneJob) (was box : AckBox) : Type 0 where
   pub same : box ≡ ack_box was.queue was.table was.shape box.list
   pub answers : map acknowledged_by box.list ≡ answers_to front done

@@ -33,7 +33,7 @@ impl<'a, P: Partition + Drop> Model for Crew<'a, P> {
     ghost view = { λ c. record { owners = c.owners.items; readers = c.readers.items } };
 }
 
-/// The same desks, from the side that does the work.
+/// The desks of a crew, from the side that does the work.
 #[derive(Drop)]
 pub struct Hands<'a, P: Partition + Drop> {
     pub owners: Vec<Doer<OwnerWork<'a, P>, ()>>,

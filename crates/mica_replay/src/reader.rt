@@ -74,7 +74,7 @@ fn line_of(alloc: Global, got: Got, out: &ItemBuf) -> Result<Line, NoMemory>
 }
 
 /// Answers the gets at these line numbers, in order: seat `p` those whose key is in partition `p`. A get is asked
-/// again until it answers. After want of memory the seats stay lawful.
+/// again until it answers. Where memory runs out, the seats stay lawful.
 pub fn run_reader<W: Threads + Wait + Sync, R: ReaderWords, G: Gate>(
     rt: &W,
     alloc: Global,

@@ -79,13 +79,13 @@ pub record RanAll (others : Others) (options : Options) (begun : ℕ → History
 abbrev pub sum_of_totals : List Totals → Totals
 sum_of_totals all = record { batches = sum_by (λ t. t.batches) all; requests = sum_by (λ t. t.requests) all; bad = sum_by (λ t. t.bad) all }
 
--- Want of memory of any front is that of all; else a fault of any; else the totals are the sum.
+-- Out of memory, if any front ran out of it; else a fault of any; else the totals are the sum.
 abbrev pub SumsUp : List (Result Totals ServeFault) → Result Totals ServeFault → Type 0
 SumsUp answers (Ok totals) = (all : List Totals) × (answers ≡ map Ok all) × (totals ≡ sum_of_totals all)
 SumsUp answers (Err Net) = (f : ℕ) × (slice_get answers f ≡ Some (Err Net)) × ((i : ℕ) → slice_get answers i ≢ Some (Err NoMemory))
 SumsUp answers (Err NoMemory) = (f : ℕ) × (slice_get answers f ≡ Some (Err NoMemory))
 
--- The same beside others: want of memory of any; else a fault of any, or that one of the others stopped; else the totals are the sum.
+-- What fronts beside others come to: out of memory of any; else a fault of any, or that one of the others stopped; else the totals are the sum.
 abbrev pub ComesTo : Others → List (Result Totals ServeFault) → Result Totals ServeFault → Type 0
 ComesTo others answers (Ok totals) = SumsUp answers (Ok totals)
 ComesTo others answers (Err Net) =

@@ -64,13 +64,13 @@ pub record HasServedOnTables (others : Others) (options : Options) (begun : ℕ 
   pub no_fault : HasNoFault before after
   pub shapes : HaveShapes options kept
 
--- What each answer says of the net and of the tables that are kept. Want of memory says nothing more of the net than `KeepsNet`.
+-- What each answer says of the net and of the tables that are kept. Out of memory says nothing more of the net than `KeepsNet`.
 abbrev pub IsCauseOf : Others → Result Totals ServeFault → Options → (ℕ → History) → PortOptions → List KeptSeat → NetFacts → NetFacts → Type 0
 IsCauseOf others (Ok totals) options begun ports kept before after = HasServedOnTables others options begun ports totals kept before after
 IsCauseOf others (Err Net) options begun ports kept before after = (kept ≡ []) × HasStopped others options begun ports before after
 IsCauseOf others (Err NoMemory) options begun ports kept before after = kept ≡ []
 
--- The same of a server that came to no answer where its ports were bound, since its fronts were not served.
+-- What an answer says where one was come to. Where there is none, the ports were bound, and the fronts were not served.
 abbrev pub IsCauseOnceBound : Others → Option (Result Totals ServeFault) → Options → (ℕ → History) → PortOptions → List KeptSeat → NetFacts → NetFacts → Type 0
 IsCauseOnceBound others (Some answer) options begun ports kept before after = IsCauseOf others answer options begun ports kept before after
 IsCauseOnceBound others None options begun ports kept before after = (kept ≡ []) × OnPorts (LeavesUnserved ports) before.ports after.ports
@@ -94,7 +94,7 @@ pub record FailsToBind (before after : NetFacts) (olds news : List EndFacts) : T
   pub refused : before.refused < after.refused
   pub untouched : news ≡ olds
 
--- What each answer says, once the ends were bound; want of memory says nothing but that no table is kept. With no answer the ends were not served.
+-- What each answer says, once the ends were bound; out of memory says nothing but that no table is kept. With no answer the ends were not served.
 abbrev pub MeansForRun : Others → Option (Result Totals ServeFault) → Options → (ℕ → History) → PortOptions → List KeptSeat → NetFacts → NetFacts → List EndFacts → List EndFacts → Type 0
 MeansForRun others (Some (Ok totals)) options begun ports kept before after olds news =
     (length olds ≡ ports.fronts) × (is_some before.fails ≡ true → after.faults ≡ before.faults)

@@ -6,7 +6,7 @@ ghost use Rattle.mica_serve.specs.FrontRuns.{SumsUp};
 
 use mica_fronts::{ServeFault, Totals};
 
-/// The sum of the totals, or the fault of a front: want of memory of any is that of all.
+/// The sum of the totals, or the fault of a front: out of memory, if any ran out of it.
 pub fn sum_up(answers: &[Result<Totals, ServeFault>]) -> Result<Totals, ServeFault>
     requires few { length answers.now ≤ 64 }
     requires small { (f : ℕ) (totals : Totals) → slice_get answers.now f ≡ Some (Ok totals) → IsUpTo MAX_BATCHES totals }

@@ -111,7 +111,7 @@ pub record IsFirstBadLine (text : List ℕ) (n : ℕ) : Type 0 where
   pub some : rest ≢ []
   pub bad : BeginsWithNoLine rest
 
--- what a text is refused for; want of memory has no cause in it
+-- what a text is refused for; out of memory has no cause in it
 abbrev pub RefusesReport : List ℕ → ReportFault → Type 0
 RefusesReport text (BadLine n) = IsFirstBadLine text n × IsNoReport text
 RefusesReport text NoMemory = Unit {0}

@@ -3,7 +3,7 @@ ghost use Rattle.std.specs.Prelude.{◌≡◌, ◌∷◌, ◌++◌, [], flat_map
 
 use mica_io::NoMemory;
 
-/// Appends the parts and a line feed. After want of memory nothing is appended.
+/// Appends the parts and a line feed. Where memory runs out, nothing is appended.
 pub fn append_line(out: &mut Vec<u8>, parts: &[&[u8]]) -> Result<(), NoMemory>
     ensures ok { OnOk result (out.new.items ≡ out.old.items ++ flat_map (λ part. part.now) parts.now ++ 10 ∷ []) }
     ensures err { OnErr result (out.new.items ≡ out.old.items) }

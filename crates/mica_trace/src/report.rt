@@ -156,7 +156,7 @@ fn outcome_text(outcome: Outcome) -> &'static str
     }
 }
 
-/// Appends the line's text and a line feed. After want of memory nothing is appended.
+/// Appends the line's text and a line feed. Where memory runs out, nothing is appended.
 pub fn put_report_line(line: &Line, out: &mut Vec<u8>) -> Result<(), NoMemory>
     requires { IsReportLine line.now }
     ensures ok { OnOk result (out.new.items ≡ out.old.items ++ report_line_text line.now ++ 10 ∷ []) }

@@ -43,8 +43,8 @@ fn text_of(alloc: Global, lines: &[Line]) -> Result<Vec<u8>, NoMemory>
     Ok(text)
 }
 
-// The text of the part of this number, where each has so many lines and the last one those that are left. None at
-// want of memory.
+// The text of the part of this number, where each has so many lines and the last one those that are left. None where
+// memory runs out.
 fn text_of_part(alloc: Global, report: &Report, part: usize, size: usize) -> Option<Bytes>
     requires lines { AllByRecursion IsReportLine report.now }
     requires within { part * size ≤ length report.now }

@@ -42,7 +42,7 @@ fn text_len(lines: &[TraceLine]) -> usize
     len
 }
 
-/// Appends the trace's text, in which each line ends with a line feed. After want of memory nothing is appended.
+/// Appends the trace's text, in which each line ends with a line feed. Where memory runs out, nothing is appended.
 pub fn put_trace(trace: &Trace, out: &mut Vec<u8>) -> Result<(), NoMemory>
     ensures ok { OnOk result (out.new.items ≡ out.old.items ++ trace_text trace.now) }
     ensures err { OnErr result (out.new.items ≡ out.old.items) }

@@ -36,7 +36,7 @@ abbrev pub IsSlotWeighed : Shape → Loads → List ℕ → Option ℕ → ℕ �
 IsSlotWeighed shape loads key best c slot =
     (entry : ℕ) × HasLoad loads (entry_at shape c slot) entry × IsWeighed shape loads key best entry
 
--- the same, or in store mode an earlier slot of the bucket was found empty
+-- the slot's entry was weighed, or in store mode an earlier slot of the bucket was found empty
 abbrev pub IsSlotSeen : Shape → Loads → List ℕ → Option ℕ → ℕ → ℕ → Type 0
 IsSlotSeen shape loads key best c slot = HasEmpty shape loads c slot ⊎ IsSlotWeighed shape loads key best c slot
 

@@ -23,7 +23,7 @@ pub record AckMayFollow (table : TableId) (shape : Shape) (before : List Ack) (a
   pub stamp : All (λ b. b.stamp ≤ ack.stamp) before
   pub accepted : is_accepted ack.outcome ≡ true → All (λ b. b.stamp < ack.stamp) before
 
--- the same, at the table of another note
+-- what an acknowledgement is, behind others, at the table of a note
 abbrev pub AckMayFollowAt : Note → List Ack → Ack → Type 0
 AckMayFollowAt note before ack = AckMayFollow (note_home note) (note_state note).shape before ack
 

@@ -8,7 +8,7 @@ use crate::reading::first_pair;
 use mica_io::NoMemory;
 use mica_trace::append_line;
 
-// Appends the line that puts a pair. After want of memory nothing is appended.
+// Appends the line that puts a pair. Where memory runs out, nothing is appended.
 fn put_line(key: &[u8], value: &[u8], out: &mut Vec<u8>) -> Result<(), NoMemory>
     ensures ok { OnOk result (out.new.items ≡ out.old.items ++ line_text (line_of (record { key = key.now; value = value.now })) ++ 10 ∷ []) }
     ensures err { OnErr result (out.new.items ≡ out.old.items) }
@@ -16,7 +16,7 @@ fn put_line(key: &[u8], value: &[u8], out: &mut Vec<u8>) -> Result<(), NoMemory>
     append_line(out, &[b"put ".as_slice(), key, b" ".as_slice(), value])
 }
 
-/// Appends a line for each pair, which puts it. After want of memory nothing is appended.
+/// Appends a line for each pair, which puts it. Where memory runs out, nothing is appended.
 pub fn put_image(image: &Image, out: &mut Vec<u8>) -> Result<(), NoMemory>
     ensures ok { OnOk result (out.new.items ≡ out.old.items ++ trace_text (put_lines image.now)) }
     ensures err { OnErr result (out.new.items ≡ out.old.items) }

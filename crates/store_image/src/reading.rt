@@ -62,7 +62,7 @@ fn split_pair(from: &[u8]) -> Result<(&[u8], &[u8], &[u8]), ImageFault>
     Ok((key, value, rest))
 }
 
-// The same, where the lengths have no fault.
+// The key and the value of the pair at the front, and the bytes after it, where the lengths have no fault.
 pub(crate) fn first_pair(from: &[u8]) -> (&[u8], &[u8], &[u8])
     requires { lengths_fault from.now ≡ None }
     ensures parts { (pair_at from.now ≡ record { key = result.0.now; value = result.1.now }) × (after_pair from.now ≡ result.2.now) }

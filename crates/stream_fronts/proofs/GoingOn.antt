@@ -14,6 +14,7 @@ use Rattle.stream_fronts.specs.Held.{Visits, VisitLacks}
 use Rattle.stream_fronts.proofs.Going.{these_none, these_then}
 use Rattle.stream_fronts.proofs.Traffic.{on_two}
 use Rattle.stream_fronts.proofs.Looking.{on_same}
+use Rattle.stream_fronts.proofs.Staying.{passes_under}
 use Rattle.stream_fronts.proofs.Revisiting.{visits_none, visits_then, visits_lack}
 
 module _ (options : Options) (is_alone : Bool) (base number : ℕ) where
@@ -34,7 +35,7 @@ module _ (options : Options) (is_alone : Bool) (base number : ℕ) where
           first.0 ++ second.0,
           these_then options is_alone first.1 second.1,
           on_two number (Visits options base client first.0 mid Again) (Visits options base mid second.0 now after) (Visits options base client (first.0 ++ second.0) now after) a b d
-              (λ c x y is one. one.under number c is) (λ c x y z one two. visits_then options base c one after two) first.2 second.2,
+              (λ c x y is one. passes_under one.passes number c is) (λ c x y z one two. visits_then options base c one after two) first.2 second.2,
         )
 
     -- memory lacked at that
@@ -45,5 +46,5 @@ module _ (options : Options) (is_alone : Bool) (base number : ℕ) where
           first.0 ++ second.0,
           these_then options is_alone first.1 second.1,
           on_two number (Visits options base client first.0 mid Again) (VisitLacks options base mid second.0) (VisitLacks options base client (first.0 ++ second.0)) a b d
-              (λ c x y is one. one.under number c is) (λ c x y z one two. visits_lack options base c one two) first.2 second.2,
+              (λ c x y is one. passes_under one.passes number c is) (λ c x y z one two. visits_lack options base c one two) first.2 second.2,
         )

@@ -23,6 +23,7 @@ use Rattle.stream_fronts.specs.Held.{Holds, Visits, VisitLacks, all_to}
 use Rattle.stream_fronts.specs.Standing.{Stands, StandsBut, StandsOn}
 use Rattle.stream_fronts.specs.Resting.{Rests}
 use Rattle.stream_fronts.proofs.Opening.{found}
+use Rattle.stream_fronts.proofs.Staying.{passes_under}
 use Rattle.stream_fronts.proofs.Moving.{moves_then, moves_asked, asked_comes}
 use Rattle.stream_fronts.proofs.Tending.{tends_served, tends_closed}
 use Rattle.stream_fronts.proofs.Moments.{given_more}
@@ -87,23 +88,23 @@ module _ (options : Options) (base : ℕ) where
         waits_at : (c : ℕ) (a b : Log) → held number (connections_of a) ≡ Some c → at new number ≡ Some now → Visits options base client answers now Waits c a b
             → StandsOn options base (Ready number) clients 0 (all_to c answers) new a b
         waits_at c a b here put visit = record {
-          schedule = visit.schedule;
-          piece = visit.piece;
+          schedule = visit.passes.schedule;
+          piece = visit.passes.piece;
           on = λ lacking all is_new stands.
               let t = visit.talks lacking all (holds_at options base c here (stands.holds number client is_held)) stands.through in
-              let s = stands_visited options base lacking {old = a} {new = b} all clients taken number c here others gone visit.schedule visit.under visit.others answers t.0 stands in (
+              let s = stands_visited options base lacking {old = a} {new = b} all clients taken number c here others gone visit.passes.schedule (passes_under visit.passes) visit.passes.others answers t.0 stands in (
                 [],
                 refl,
                 stands_put options base lacking number now others_put put (record {
                   place = c;
-                  under = visit.under number c here;
+                  under = passes_under visit.passes number c here;
                   holds = subst (λ g. Holds options base MOST_UNSENT c b g now) (sym (given_more c all answers)) t.1.0;
                 }) s,
               );
           tends = λ lacking all stands but.
               let t = visit.talks lacking all (holds_at options base c here (stands.holds number client is_held)) stands.through in
-              tends_served a.script.piece number c clients new here visit.moves others_new but.apart but.each
-              (record { client = now; is_held = put; rests = subst (λ p. Rests now c p (state_of b)) visit.piece t.1.1 });
+              tends_served a.script.piece number c clients new here visit.passes.moves others_new but.apart but.each
+              (record { client = now; is_held = put; rests = subst (λ p. Rests now c p (state_of b)) visit.passes.piece t.1.1 });
         }
 
         pub serves_waits : (before after : Option Log) → at new number ≡ Some now → IfSome before (IsOpen number asks) → OnLogs (OnHeld number (Visits options base client answers now Waits)) before after
@@ -120,11 +121,11 @@ module _ (options : Options) (base : ℕ) where
           again_at : (c : ℕ) (a b : Log) → held number (connections_of a) ≡ Some c → at new number ≡ Some last → Visits options base client answers now Again c a b
               → StandsOn options base (Ready number) clients 0 (all_to c answers) new a (logged (asked c) b)
           again_at c a b here put visit = record {
-            schedule = visit.schedule;
-            piece = visit.piece;
+            schedule = visit.passes.schedule;
+            piece = visit.passes.piece;
             on = λ lacking all is_new stands.
                 let t = visit.talks lacking all (holds_at options base c here (stands.holds number client is_held)) stands.through in
-                let s = stands_visited options base lacking {old = a} {new = b} all clients taken number c here others gone visit.schedule visit.under visit.others answers t.0 stands in
+                let s = stands_visited options base lacking {old = a} {new = b} all clients taken number c here others gone visit.passes.schedule (passes_under visit.passes) visit.passes.others answers t.0 stands in
                 let stays = stays_asked c b c in
                 let held_last = held_sent options base MOST_UNSENT c {old = b} {new = logged (asked c) b} now last place leaving (let same = ap length unsent in omega (arith, same)) stays.came
                 (ap (λ u. sent_of c b.entries ++ u) unsent) stays.over t.1 in (
@@ -132,12 +133,12 @@ module _ (options : Options) (base : ℕ) where
                   refl,
                   stands_put options base lacking number last others_put put (record {
                     place = c;
-                    under = under_asked c number c b (visit.under number c here);
+                    under = under_asked c number c b (passes_under visit.passes number c here);
                     holds = subst (λ g. Holds options base MOST_UNSENT c (logged (asked c) b) g last) (sym (given_more c all answers)) held_last;
                   }) (stands_asked options base lacking c s),
                 );
             tends = λ lacking all stands but.
-                tends_served a.script.piece number c clients new here (moves_then visit.moves (moves_asked c (state_of b))) others_new but.apart but.each
+                tends_served a.script.piece number c clients new here (moves_then visit.passes.moves (moves_asked c (state_of b))) others_new but.apart but.each
                 (record { client = last; is_held = put; rests = inl (asked_comes c (state_of b)) });
           }
 
@@ -150,7 +151,7 @@ module _ (options : Options) (base : ℕ) where
               let c = stands.0 in
               let here = stands.1.0 in
               let visit = found (λ d. Visits options base client answers now Again d a b) (held number (connections_of a)) c here visits in
-              let is = found (λ d. after ≡ Some (logged (asked d) b)) (held number (connections_of b)) c (visit.under number c here) asks in
+              let is = found (λ d. after ≡ Some (logged (asked d) b)) (held number (connections_of b)) c (passes_under visit.passes number c here) asks in
               subst (λ o. OnLogs (StandsOn options base (Ready number) clients 0 (given_by number (Some a) answers) new) (Some a) o) (sym is)
               (serves_to c 0 new a (logged (asked c) b) here (again_at c a b here put visit))
 
@@ -159,27 +160,27 @@ module _ (options : Options) (base : ℕ) where
       over_at : (now : Client) (c : ℕ) (a b : Log) → held number (connections_of a) ≡ Some c → Visits options base client answers now Over c a b
           → StandsOn options base (Ready number) clients 0 (all_to c answers) taken a (logged (closed c) b)
       over_at now c a b here visit = record {
-        schedule = visit.schedule;
-        piece = visit.piece;
+        schedule = visit.passes.schedule;
+        piece = visit.passes.piece;
         on = λ lacking all is_new stands.
             let t = visit.talks lacking all (holds_at options base c here (stands.holds number client is_held)) stands.through in
-            let s = stands_visited options base lacking {old = a} {new = b} all clients taken number c here others gone visit.schedule visit.under visit.others answers t.0 stands in
+            let s = stands_visited options base lacking {old = a} {new = b} all clients taken number c here others gone visit.passes.schedule (passes_under visit.passes) visit.passes.others answers t.0 stands in
             let cause = subst (λ g. IfSome (slice_get (connections_of b) c) (λ x. MayClose options base x (received_of c b.entries) (sent_of c b.entries) g)) (sym (given_more c all answers)) t.1 in
-            ([], refl, stands_closed options base lacking number c (visit.under number c here) gone (inr cause) s);
-        tends = λ lacking all stands but. tends_closed a.script.piece number c clients taken here visit.moves others but.apart but.each;
+            ([], refl, stands_closed options base lacking number c (passes_under visit.passes number c here) gone (inr cause) s);
+        tends = λ lacking all stands but. tends_closed a.script.piece number c clients taken here visit.passes.moves others but.apart but.each;
       }
 
       lacks_at : (c : ℕ) (a b : Log) → held number (connections_of a) ≡ Some c → VisitLacks options base client answers c a b
           → StandsOn options base (Ready number) clients 1 (all_to c answers) taken a (logged (closed c) b)
       lacks_at c a b here visit = record {
-        schedule = visit.schedule;
-        piece = visit.piece;
+        schedule = visit.passes.schedule;
+        piece = visit.passes.piece;
         on = λ lacking all is_new before.
             let stands = stands_lacking options base c before in
             let through = visit.talks (c ∷ lacking) all ([], lacking, refl) (holds_at options base c here (stands.holds number client is_held)) stands.through in
-            let s = stands_visited options base (c ∷ lacking) {old = a} {new = b} all clients taken number c here others gone visit.schedule visit.under visit.others answers through stands in
-            (c ∷ [], refl, stands_closed options base (c ∷ lacking) number c (visit.under number c here) gone (inl ([], lacking, refl)) s);
-        tends = λ lacking all stands but. tends_closed a.script.piece number c clients taken here visit.moves others but.apart but.each;
+            let s = stands_visited options base (c ∷ lacking) {old = a} {new = b} all clients taken number c here others gone visit.passes.schedule (passes_under visit.passes) visit.passes.others answers through stands in
+            (c ∷ [], refl, stands_closed options base (c ∷ lacking) number c (passes_under visit.passes number c here) gone (inl ([], lacking, refl)) s);
+        tends = λ lacking all stands but. tends_closed a.script.piece number c clients taken here visit.passes.moves others but.apart but.each;
       }
 
       closes_at : (P : ℕ → Log → Log → Type 0) (count asks : ℕ) (before between after : Option Log) → ((c : ℕ) (a b : Log) → P c a b → held number (connections_of a) ≡ Some c → held number (connections_of b) ≡ Some c)
@@ -200,10 +201,10 @@ module _ (options : Options) (base : ℕ) where
           → OnLogs (OnHeld number (Visits options base client answers now Over)) before between → IfSome between (λ l. Closes number l after)
           → OnLogs (StandsOn options base (Ready number) clients 0 (given_by number before answers) taken) before after
       serves_over now asks before between after stands visits closes =
-          closes_at (Visits options base client answers now Over) 0 asks before between after (λ c a b v here. v.under number c here) (over_at now) stands visits closes
+          closes_at (Visits options base client answers now Over) 0 asks before between after (λ c a b v here. passes_under v.passes number c here) (over_at now) stands visits closes
 
       pub serves_lacks : (asks : ℕ) (before between after : Option Log) → IfSome before (IsOpen number asks)
           → OnLogs (OnHeld number (VisitLacks options base client answers)) before between → IfSome between (λ l. Closes number l after)
           → OnLogs (StandsOn options base (Ready number) clients 1 (given_by number before answers) taken) before after
       serves_lacks asks before between after stands visits closes =
-          closes_at (VisitLacks options base client answers) 1 asks before between after (λ c a b v here. v.under number c here) lacks_at stands visits closes
+          closes_at (VisitLacks options base client answers) 1 asks before between after (λ c a b v here. passes_under v.passes number c here) lacks_at stands visits closes

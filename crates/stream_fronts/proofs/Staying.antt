@@ -1,17 +1,18 @@
 -- Of the other connections nothing moves.
 use Rattle.std.proofs.Common.{◌≡◌, ℕ, ◌==◌, false, cond, List, [], ◌∷◌, ◌++◌, length, drop, refl, sym, ap, ◌∙◌, subst}
-use Rattle.std.specs.Prelude.{slice_get, IfSome}
+use Rattle.std.specs.Prelude.{slice_get, Some, IfSome}
 use Rattle.std.specs.List.{AllByRecursion}
 use Rattle.std.proofs.Math.Seq.{drop-nil}
 use Rattle.stream_io.specs.declared.schedule.Step.{Step}
 use Rattle.stream_io.specs.Connection.{Connection, after_read}
-use Rattle.stream_io.specs.State.{Entry, opened, reported, met, received, sent, asked, closed, state_after}
-use Rattle.stream_io.specs.Log.{Log, received_of, sent_of}
+use Rattle.stream_io.specs.State.{Entry, opened, reported, met, received, sent, asked, closed, held, state_after}
+use Rattle.stream_io.specs.Log.{Log, connections_of, state_of, received_of, sent_of}
 use Rattle.stream_fronts.specs.Traffic.{IsSend, Sends, Reads, HasEnded, after_receiving}
-use Rattle.stream_fronts.specs.Held.{StaysAs}
+use Rattle.stream_fronts.specs.Held.{StaysAs, Passes}
 use Rattle.stream_fronts.proofs.Traffic.{sends_received, mets_sent, mets_received, mets_send}
 use Rattle.stream_fronts.proofs.Drying.{sends_ended, ended_sends, in_changed}
 use Rattle.stream_fronts.proofs.Making.{made_sends, made_reads}
+use Rattle.stream_fronts.proofs.Moving.{moves_none, moves_then, moves_sends, moves_reads}
 
 pub stays_same : (d : ℕ) (log : Log) → StaysAs d log log
 stays_same d log = record { came = refl; went = refl; over = λ is. is; made = λ none. none }
@@ -74,3 +75,26 @@ stays_read {c} {bytes} {old} {new} reads d other = record {
       (ended_receiving c old.schedule bytes (reads.mets ++ old.entries) d (ended_sends c old.schedule reads.mets old.entries (mets_send c reads.mets reads.each) d is)));
   made = made_reads reads d;
 }
+
+-- Of all of them
+
+pub passes_same : (c : ℕ) (log : Log) → Passes c log log
+passes_same c log = record { schedule = refl; piece = refl; moves = moves_none c (state_of log); others = λ d other. stays_same d log }
+
+pub passes_then : {c : ℕ} {old between new : Log} → Passes c old between → Passes c between new → Passes c old new
+passes_then first second = record {
+  schedule = second.schedule ∙ first.schedule;
+  piece = second.piece ∙ first.piece;
+  moves = moves_then first.moves second.moves;
+  others = λ d other. stays_then (first.others d other) (second.others d other);
+}
+
+pub passes_sends : {c : ℕ} {text : List ℕ} {old new : Log} → Sends c text old new → Passes c old new
+passes_sends sends = record { schedule = sends.schedule; piece = sends.piece; moves = moves_sends sends; others = stays_sent sends }
+
+pub passes_reads : {c : ℕ} {bytes : List ℕ} {old new : Log} → Reads c bytes old new → Passes c old new
+passes_reads reads = record { schedule = reads.schedule; piece = reads.piece; moves = moves_reads reads; others = stays_read reads }
+
+-- what is under a number is there still
+pub passes_under : {c : ℕ} {old new : Log} → Passes c old new → (n d : ℕ) → held n (connections_of old) ≡ Some d → held n (connections_of new) ≡ Some d
+passes_under passes n d is = passes.moves.same n ∙ is

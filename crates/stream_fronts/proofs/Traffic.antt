@@ -8,14 +8,14 @@ use Rattle.std.proofs.lemmas.Bool.{eq-eqb}
 use Rattle.stream_io.specs.declared.schedule.Step.{Step}
 use Rattle.stream_io.specs.declared.schedule.Step.TheVariants.{Opens, Reports, Happens}
 use Rattle.stream_io.specs.declared.connections.Broken.{Broken}
-use Rattle.stream_io.specs.Connection.{Connection, after_change, after_read, after_write}
+use Rattle.stream_io.specs.Connection.{Connection, after_change, after_write}
 use Rattle.stream_io.specs.State.{Entry, opened, reported, met, received, sent, asked, closed, State, held, state_after, after_meeting}
 use Rattle.stream_io.specs.Log.{Log, connections_of, state_of, received_of, sent_of, with_entries, after_met, after_meeting_one}
 use Rattle.stream_io.specs.Calls.{WriteTakes, IsTaken, took, after_sending}
 use Rattle.stream_fronts.specs.Open.{IsAt, IsOpen, OnLogs}
-use Rattle.stream_fronts.specs.Traffic.{IsSend, Sends, Reads, IsIn, IsBroken, IsShut, IsShutIn, after_receiving, SendsOf, SendsSome, SendsFrom, OnHeld}
+use Rattle.stream_fronts.specs.Traffic.{IsSend, Sends, IsIn, IsBroken, IsShut, IsShutIn, SendsOf, SendsSome, SendsFrom, OnHeld}
 use Rattle.stream_fronts.proofs.Places.{changed_keeps, there}
-use Rattle.stream_fronts.proofs.Opening.{met_at, change_keeps, read_keeps, write_keeps, found}
+use Rattle.stream_fronts.proofs.Opening.{met_at, change_keeps, write_keeps, found}
 
 -- Which bytes
 
@@ -158,20 +158,6 @@ sends_held {c} {text} {old} {new} sends n d is =
     subst (λ (e : List Entry). held n (state_after new.schedule e).connections ≡ Some d) (sym sends.entries)
     (subst (λ (s : List Step). held n (state_after s (sends.more ++ old.entries)).connections ≡ Some d) (sym sends.schedule)
     (sends_stay n d 0 c old.schedule sends.more old.entries sends.each (is, omega arith)).0)
-
--- Where a connection was read
-
-receiving_stays : (n d : ℕ) (c : ℕ) (schedule : List Step) (bytes : List ℕ) (entries : List Entry) → held n (state_after schedule entries).connections ≡ Some d
-    → held n (state_after schedule (after_receiving c bytes entries)).connections ≡ Some d
-receiving_stays n d c schedule [] entries is = is
-receiving_stays n d c schedule (byte ∷ bytes) entries is =
-    (changed_keeps (after_read (length (byte ∷ bytes))) (read_keeps (length (byte ∷ bytes))) c (state_after schedule entries).connections n d 0 (is, omega arith)).0
-
-pub reads_held : {c : ℕ} {bytes : List ℕ} {old new : Log} → Reads c bytes old new → (n d : ℕ) → held n (connections_of old) ≡ Some d → held n (connections_of new) ≡ Some d
-reads_held {c} {bytes} {old} {new} reads n d is =
-    subst (λ (e : List Entry). held n (state_after new.schedule e).connections ≡ Some d) (sym reads.entries)
-    (subst (λ (s : List Step). held n (state_after s (after_receiving c bytes (reads.mets ++ old.entries))).connections ≡ Some d) (sym reads.schedule)
-    (receiving_stays n d c old.schedule bytes (reads.mets ++ old.entries) (sends_stay n d 0 c old.schedule reads.mets old.entries (mets_send c reads.mets reads.each) (is, omega arith)).0))
 
 pub from_held : {X : Type 0} (before after : List ℕ) (c : ℕ) (old new : Log) (answer : Result X Broken) → SendsFrom before after answer c old new → (n d : ℕ)
     → held n (connections_of old) ≡ Some d → held n (connections_of new) ≡ Some d

@@ -1,5 +1,5 @@
 -- What a visit makes of a talk, by what each part of it did.
-use Rattle.std.proofs.Common.{◌≡◌, ◌≢◌, ℕ, ◌==◌, ◌≤◌, inl, inr, Bool, true, false, true≢false, List, [], ◌++◌, length, take, drop, refl, sym, ap, ◌∙◌, subst, arith, length-append}
+use Rattle.std.proofs.Common.{◌≡◌, ◌≢◌, ℕ, ◌≤◌, inl, inr, Bool, true, false, true≢false, List, [], ◌++◌, length, take, drop, refl, sym, ap, ◌∙◌, subst, arith, length-append}
 use Rattle.std.specs.Prelude.{slice_get, Option, Some, None, IfSome, Result, Ok, Err}
 use Rattle.std.proofs.lemmas.List.{append-nil, take-append-drop}
 use Rattle.partition_model.specs.declared.options.Options.{Options}
@@ -24,12 +24,11 @@ use Rattle.stream_fronts.specs.Closing.{MayClose}
 use Rattle.stream_fronts.specs.Moments.{TalksThrough}
 use Rattle.stream_fronts.specs.Clients.{IsClient}
 use Rattle.stream_fronts.specs.Traffic.{Sends, SendsFrom, Reads, IsIn, IsShutIn, HasEnded, EndsBy}
-use Rattle.stream_fronts.specs.Resting.{shut, idle, Rests, Moves}
-use Rattle.stream_fronts.specs.Held.{StaysAs, Holds, goes_on, left, ended, all_to, Becomes, Visits, leaves_by, Looks, Lacks, VisitLacks}
+use Rattle.stream_fronts.specs.Resting.{shut, idle, Rests}
+use Rattle.stream_fronts.specs.Held.{Passes, Holds, goes_on, left, ended, all_to, Becomes, Visits, leaves_by, Looks, Lacks, VisitLacks}
 use Rattle.stream_fronts.proofs.Talking.{may_leave, may_end}
-use Rattle.stream_fronts.proofs.Staying.{stays_same, stays_then, stays_sent, stays_read}
-use Rattle.stream_fronts.proofs.Traffic.{reads_held, sends_held}
-use Rattle.stream_fronts.proofs.Moving.{moves_sends, moves_reads, moves_then}
+use Rattle.stream_fronts.proofs.Staying.{passes_same, passes_then, passes_sends, passes_reads, passes_under}
+use Rattle.stream_fronts.proofs.Moving.{moves_sends}
 use Rattle.stream_fronts.proofs.Drying.{sends_ended}
 use Rattle.stream_fronts.proofs.Moments.{given_more}
 use Rattle.stream_fronts.proofs.Visiting.{if_some, Stage, stage_held, stage_sent, due_same, received_same, stage_breaks, stage_read, received_now, sent_now, stage_answered, stage_lacking}
@@ -38,13 +37,17 @@ for_any : {X : Type 0} {Q : X → Type 0} (o : Option X) → ((x : X) → Q x) �
 for_any None then = tt
 for_any (Some x) then = then x
 
+looks_passes : (options : Options) (base : ℕ) (client : Client) (answers : List Answered) (replies : List ℕ) (now : Client) (r : Result (Stand × Option Input) Broken) (c : ℕ) (old new : Log)
+    → Looks options base client answers replies now r c old new → Passes c old new
+looks_passes options base client answers replies now (Err broken) c old new looks = passes_reads looks.2
+looks_passes options base client answers replies now (Ok r) c old new looks = elim looks as (λ _. Passes c old new) [
+  | inl further ↦ subst (λ (l : Log). Passes c old l) (sym further.same) (passes_same c old)
+  | inr reads ↦ passes_reads reads.reads
+]
+
 pub looks_held : (options : Options) (base : ℕ) (client : Client) (answers : List Answered) (replies : List ℕ) (now : Client) (r : Result (Stand × Option Input) Broken) (c : ℕ) (old new : Log)
     → Looks options base client answers replies now r c old new → (n d : ℕ) → held n (connections_of old) ≡ Some d → held n (connections_of new) ≡ Some d
-looks_held options base client answers replies now (Err broken) c old new looks n d is = reads_held looks.2 n d is
-looks_held options base client answers replies now (Ok r) c old new looks n d is = elim looks as (λ _. held n (connections_of new) ≡ Some d) [
-  | inl further ↦ ap (λ (l : Log). held n (connections_of l)) further.same ∙ is
-  | inr reads ↦ reads_held reads.reads n d is
-]
+looks_held options base client answers replies now r c old new looks = passes_under (looks_passes options base client answers replies now r c old new looks)
 
 -- an end that a read told stays
 ends_on : (input : Option Input) {c : ℕ} {text : List ℕ} {old new : Log} → Sends c text old new → EndsBy input c old → EndsBy input c new
@@ -202,11 +205,7 @@ module _ (options : Options) (base : ℕ) where
       pub visit_breaks : (now : Client) (broken : Broken) → SendsFrom {X = Bool} client.unsent now.unsent (Err broken) c old mid
           → Visits options base client [] now Over c old mid
       visit_breaks now broken sends = record {
-        schedule = sends.0.1.schedule;
-        piece = sends.0.1.piece;
-        moves = moves_sends sends.0.1;
-        under = sends_held sends.0.1;
-        others = stays_sent sends.0.1;
+        passes = passes_sends sends.0.1;
         talks = λ lacking all holds through.
             let most = MOST_UNSENT in
             let stage = stage_unsent most c lacking all client refl is holds through (drop sends.0.0 client.unsent) sends.0.1 (sym (take-append-drop sends.0.0 client.unsent)) in
@@ -225,11 +224,7 @@ module _ (options : Options) (base : ℕ) where
 
         pub visit_waits : now.unsent ≢ [] → Visits options base client [] now Waits c old mid
         visit_waits some = record {
-          schedule = sends.1.schedule;
-          piece = sends.1.piece;
-          moves = moves_sends sends.1;
-          under = sends_held sends.1;
-          others = stays_sent sends.1;
+          passes = passes_sends sends.1;
           talks = λ lacking all holds through.
               let most = MOST_UNSENT in
               let stage = stage_then most lacking all holds through in
@@ -238,11 +233,7 @@ module _ (options : Options) (base : ℕ) where
 
         pub visit_leaves : IsClient now → now.leaving ≡ true → now.unsent ≡ [] → Visits options base client [] now Over c old mid
         visit_leaves is_now ends none = record {
-          schedule = sends.1.schedule;
-          piece = sends.1.piece;
-          moves = moves_sends sends.1;
-          under = sends_held sends.1;
-          others = stays_sent sends.1;
+          passes = passes_sends sends.1;
           talks = λ lacking all holds through.
               let most = MOST_UNSENT in
               let stage = stage_then most lacking all holds through in (
@@ -256,11 +247,7 @@ module _ (options : Options) (base : ℕ) where
           pub visit_unread : (broken : Broken) → Looks options base now answers replies then (Err broken) c mid log → Visits options base client answers then Over c old log
           visit_unread broken looks =
               let still : Visits options base client [] then Over c old log = record {
-                schedule = looks.2.schedule ∙ sends.1.schedule;
-                piece = looks.2.piece ∙ sends.1.piece;
-                moves = moves_then (moves_sends sends.1) (moves_reads looks.2);
-                under = λ n d is. reads_held looks.2 n d (sends_held sends.1 n d is);
-                others = λ d other. stays_then (stays_sent sends.1 d other) (stays_read looks.2 d other);
+                passes = passes_then (passes_sends sends.1) (passes_reads looks.2);
                 talks = λ lacking all holds through.
                     let most = MOST_UNSENT in
                     let before = subst (λ r. Stage options base most c old.schedule lacking mid all r) none (stage_then most lacking all holds through) in
@@ -273,11 +260,7 @@ module _ (options : Options) (base : ℕ) where
           pub visit_lacks : Lacks options base now answers c mid log → VisitLacks options base client answers c old log
           visit_lacks lacks = elim lacks as (λ _. VisitLacks options base client answers c old log) [
             | inl further ↦ record {
-              schedule = ap (λ (l : Log). l.schedule) further.same ∙ sends.1.schedule;
-              piece = ap (λ (l : Log). l.script.piece) further.same ∙ sends.1.piece;
-              moves = subst (λ (l : Log). Moves c (state_of old) (state_of l)) (sym further.same) (moves_sends sends.1);
-              under = λ n d is. ap (λ (l : Log). held n (connections_of l)) further.same ∙ sends_held sends.1 n d is;
-              others = λ d other. stays_then (stays_sent sends.1 d other) (subst (λ (l : Log). StaysAs d mid l) (sym further.same) (stays_same d mid));
+              passes = subst (λ (l : Log). Passes c old l) (sym further.same) (passes_sends sends.1);
               talks = λ lacking all among holds through.
                   let most = MOST_UNSENT in
                   let before = subst (λ s. Stage options base most c old.schedule lacking mid all s) none (stage_then most lacking all holds through) in
@@ -286,11 +269,7 @@ module _ (options : Options) (base : ℕ) where
                   subst (λ (l : Log). TalksThrough options base most old.schedule lacking l.entries (all ++ all_to c answers)) (sym further.same) all_through;
             }
             | inr read ↦ record {
-              schedule = read.reads.schedule ∙ sends.1.schedule;
-              piece = read.reads.piece ∙ sends.1.piece;
-              moves = moves_then (moves_sends sends.1) (moves_reads read.reads);
-              under = λ n d is. reads_held read.reads n d (sends_held sends.1 n d is);
-              others = λ d other. stays_then (stays_sent sends.1 d other) (stays_read read.reads d other);
+              passes = passes_then (passes_sends sends.1) (passes_reads read.reads);
               talks = λ lacking all among holds through.
                   let most = MOST_UNSENT in
                   let before = subst (λ s. Stage options base most c old.schedule lacking mid all s) none (stage_then most lacking all holds through) in
@@ -317,42 +296,14 @@ module _ (options : Options) (base : ℕ) where
             looks_few : length replies ≤ MOST_UNSENT
             looks_few = elim looks as (λ _. length replies ≤ MOST_UNSENT) [ inl further ↦ further.few | inr reads ↦ reads.few ]
 
-            looked_schedule : log.schedule ≡ old.schedule
-            looked_schedule = elim looks as (λ _. log.schedule ≡ old.schedule) [
-              | inl further ↦ ap (λ (l : Log). l.schedule) further.same ∙ sends.1.schedule
-              | inr reads ↦ reads.reads.schedule ∙ sends.1.schedule
-            ]
-
-            looked_piece : log.script.piece ≡ old.script.piece
-            looked_piece = elim looks as (λ _. log.script.piece ≡ old.script.piece) [
-              | inl further ↦ ap (λ (l : Log). l.script.piece) further.same ∙ sends.1.piece
-              | inr reads ↦ reads.reads.piece ∙ sends.1.piece
-            ]
-
-            looked_moves : Moves c (state_of old) (state_of log)
-            looked_moves = elim looks as (λ _. Moves c (state_of old) (state_of log)) [
-              | inl further ↦ subst (λ (l : Log). Moves c (state_of old) (state_of l)) (sym further.same) (moves_sends sends.1)
-              | inr reads ↦ moves_then (moves_sends sends.1) (moves_reads reads.reads)
-            ]
-
-            looked_held : (n d : ℕ) → held n (connections_of old) ≡ Some d → held n (connections_of log) ≡ Some d
-            looked_held n d is = looks_held options base now answers replies then (Ok r) c mid log looks n d (sends_held sends.1 n d is)
-
-            looked_others : (d : ℕ) → (c == d) ≡ false → StaysAs d old log
-            looked_others d other = stays_then (stays_sent sends.1 d other) (elim looks as (λ _. StaysAs d mid log) [
-              | inl further ↦ subst (λ (l : Log). StaysAs d mid l) (sym further.same) (stays_same d mid)
-              | inr reads ↦ stays_read reads.reads d other
-            ])
+            looked_passes : Passes c old log
+            looked_passes = passes_then (passes_sends sends.1) (looks_passes options base now answers replies then (Ok r) c mid log looks)
 
             module _ {new : Log} (last : Client) where
               -- memory lacked for those that were not taken
               pub visit_keeps_none : (n : ℕ) → Sends c (take n replies) log new → VisitLacks options base client answers c old new
               visit_keeps_none n then_sends = record {
-                schedule = then_sends.schedule ∙ looked_schedule;
-                piece = then_sends.piece ∙ looked_piece;
-                moves = moves_then looked_moves (moves_sends then_sends);
-                under = λ n d is. sends_held then_sends n d (looked_held n d is);
-                others = λ d other. stays_then (looked_others d other) (stays_sent then_sends d other);
+                passes = passes_then looked_passes (passes_sends then_sends);
                 talks = λ lacking all among holds through.
                     let most = MOST_UNSENT in
                     let f = found most lacking all looks_few holds through in
@@ -361,11 +312,7 @@ module _ (options : Options) (base : ℕ) where
 
               pub visit_unsent : (broken : Broken) → SendsFrom {X = Bool} replies last.unsent (Err broken) c log new → Visits options base client answers last Over c old new
               visit_unsent broken then_sends = record {
-                schedule = then_sends.0.1.schedule ∙ looked_schedule;
-                piece = then_sends.0.1.piece ∙ looked_piece;
-                moves = moves_then looked_moves (moves_sends then_sends.0.1);
-                under = λ n d is. sends_held then_sends.0.1 n d (looked_held n d is);
-                others = λ d other. stays_then (looked_others d other) (stays_sent then_sends.0.1 d other);
+                passes = passes_then looked_passes (passes_sends then_sends.0.1);
                 talks = λ lacking all holds through.
                     let most = MOST_UNSENT in
                     let f = found most lacking all looks_few holds through in
@@ -407,22 +354,14 @@ module _ (options : Options) (base : ℕ) where
                 visit_goes_on : (becomes : After) → becomes ≢ Over → WaitsFor becomes → Visits options base client answers last becomes c old new
                 visit_goes_on Over other rests = absurd (other refl)
                 visit_goes_on Waits other rests = record {
-                  schedule = then_sends.1.schedule ∙ looked_schedule;
-                  piece = then_sends.1.piece ∙ looked_piece;
-                  moves = moves_then looked_moves (moves_sends then_sends.1);
-                  under = λ n d is. sends_held then_sends.1 n d (looked_held n d is);
-                  others = λ d other. stays_then (looked_others d other) (stays_sent then_sends.1 d other);
+                  passes = passes_then looked_passes (passes_sends then_sends.1);
                   talks = λ lacking all holds through.
                       let most = MOST_UNSENT in
                       let stage = stage_end most lacking all looks_few holds through in
                       (stage.through, (held_end most lacking all looks_few holds through, rests refl lacking all (end most lacking all looks_few holds through)));
                 }
                 visit_goes_on Again other rests = record {
-                  schedule = then_sends.1.schedule ∙ looked_schedule;
-                  piece = then_sends.1.piece ∙ looked_piece;
-                  moves = moves_then looked_moves (moves_sends then_sends.1);
-                  under = λ n d is. sends_held then_sends.1 n d (looked_held n d is);
-                  others = λ d other. stays_then (looked_others d other) (stays_sent then_sends.1 d other);
+                  passes = passes_then looked_passes (passes_sends then_sends.1);
                   talks = λ lacking all holds through.
                       let most = MOST_UNSENT in
                       let stage = stage_end most lacking all looks_few holds through in (stage.through, held_end most lacking all looks_few holds through);
@@ -433,11 +372,7 @@ module _ (options : Options) (base : ℕ) where
 
                 pub visit_ends : IsClient last → last.leaving ≡ true → last.unsent ≡ [] → Visits options base client answers last Over c old new
                 visit_ends is_last over none_left = record {
-                  schedule = then_sends.1.schedule ∙ looked_schedule;
-                  piece = then_sends.1.piece ∙ looked_piece;
-                  moves = moves_then looked_moves (moves_sends then_sends.1);
-                  under = λ n d is. sends_held then_sends.1 n d (looked_held n d is);
-                  others = λ d other. stays_then (looked_others d other) (stays_sent then_sends.1 d other);
+                  passes = passes_then looked_passes (passes_sends then_sends.1);
                   talks = λ lacking all holds through.
                       let most = MOST_UNSENT in
                       let stage = stage_end most lacking all looks_few holds through in

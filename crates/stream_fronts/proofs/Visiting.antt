@@ -15,7 +15,7 @@ use Rattle.stream_fronts.specs.declared.answer.Stand.TheVariants.{Needs, Enough,
 use Rattle.stream_fronts.specs.declared.client.Client.{Client}
 use Rattle.stream_fronts.specs.Given.{Given, given_to}
 use Rattle.stream_fronts.specs.Talk.{IsBeginning, TalksKept, TalksWith}
-use Rattle.stream_fronts.specs.Reached.{Place, Reaches, StandsAs, Spoke, place_of}
+use Rattle.stream_fronts.specs.Reached.{Reaches, StandsAs, Spoke, place_of}
 use Rattle.stream_fronts.specs.Closing.{MayClose}
 use Rattle.stream_fronts.specs.Moments.{IsAmong, TalksThrough}
 use Rattle.stream_fronts.specs.Clients.{IsClient}

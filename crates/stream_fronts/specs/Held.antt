@@ -7,7 +7,6 @@ use Rattle.memcached_text.specs.Next.{next_of}
 use Rattle.stream_io.specs.declared.connections.Broken.{Broken}
 use Rattle.stream_io.specs.declared.connections.Input.{Input}
 use Rattle.stream_io.specs.declared.connections.Input.TheVariants.{Ended}
-use Rattle.stream_io.specs.State.{held}
 use Rattle.stream_io.specs.Log.{Log, state_of, connections_of, received_of, sent_of}
 use Rattle.mica_fronts.specs.Answered.{Answered}
 use Rattle.stream_fronts.specs.declared.answer.Stand.{Stand}
@@ -52,14 +51,17 @@ pub record StaysAs (d : ℕ) (old new : Log) : Type 0 where
   pub over : IsIn HasEnded d old → IsIn HasEnded d new
   pub made : slice_get (connections_of new) d ≡ None → slice_get (connections_of old) d ≡ None
 
--- The c-th connection was visited, where this was held of its client. Where the front had talked with all clients before, at each moment, it has with these
--- answers to this one.
-pub record Visits (options : Options) (base : ℕ) (client : Client) (answers : List Answered) (now : Client) (becomes : After) (c : ℕ) (old new : Log) : Type 0 where
+-- Calls were made for the c-th connection, and for no other.
+pub record Passes (c : ℕ) (old new : Log) : Type 0 where
   pub schedule : new.schedule ≡ old.schedule
   pub piece : new.script.piece ≡ old.script.piece
   pub moves : Moves c (state_of old) (state_of new)
-  pub under : (n d : ℕ) → held n (connections_of old) ≡ Some d → held n (connections_of new) ≡ Some d
   pub others : (d : ℕ) → (c == d) ≡ false → StaysAs d old new
+
+-- The c-th connection was visited, where this was held of its client. Where the front had talked with all clients before, at each moment, it has with these
+-- answers to this one.
+pub record Visits (options : Options) (base : ℕ) (client : Client) (answers : List Answered) (now : Client) (becomes : After) (c : ℕ) (old new : Log) : Type 0 where
+  pub passes : Passes c old new
   pub talks : (lacking : List ℕ) (all : List Given) → Holds options base MOST_UNSENT c old (given_to c all) client
       → TalksThrough options base MOST_UNSENT old.schedule lacking old.entries all
       → TalksThrough options base MOST_UNSENT old.schedule lacking new.entries (all ++ all_to c answers)
@@ -120,11 +122,7 @@ Lacks options base client answers c old new = LacksFurther options base client a
 
 -- The c-th connection was visited, and memory lacked for it. At each moment the front had talked with all clients all the same.
 pub record VisitLacks (options : Options) (base : ℕ) (client : Client) (answers : List Answered) (c : ℕ) (old new : Log) : Type 0 where
-  pub schedule : new.schedule ≡ old.schedule
-  pub piece : new.script.piece ≡ old.script.piece
-  pub moves : Moves c (state_of old) (state_of new)
-  pub under : (n d : ℕ) → held n (connections_of old) ≡ Some d → held n (connections_of new) ≡ Some d
-  pub others : (d : ℕ) → (c == d) ≡ false → StaysAs d old new
+  pub passes : Passes c old new
   pub talks : (lacking : List ℕ) (all : List Given) → IsAmong c lacking → Holds options base MOST_UNSENT c old (given_to c all) client
       → TalksThrough options base MOST_UNSENT old.schedule lacking old.entries all
       → TalksThrough options base MOST_UNSENT old.schedule lacking new.entries (all ++ all_to c answers)
