@@ -6,8 +6,8 @@ use Rattle.mica_daemon.specs.Daemon.{place_of}
 use Rattle.mica_daemon.proofs.Announced.{serves_placed}
 use Rattle.mica_daemon.proofs.top.stay_up.Goals as goal
 
-pub returns-in-Ok : goal.returns-in-Ok
-returns-in-Ok g c =
+pub returns-in-Ok-ready_line : goal.returns-in-Ok-ready_line
+returns-in-Ok-ready_line g c =
     let set = c.set_place.ensures in
     inl (serves_placed c.args.options.now c.args.ports.now c.args.streams.now _ _ c.args.base c.args.filling.items _ _ _ _ _ _ _
     (take-map g.C.Clock.last c.args.streams.now.ports.fronts c.args.clocks.items ∙ ap (map g.C.Clock.last) (sym c.truncate.ensures.items))
