@@ -5,8 +5,8 @@ use Rattle.locked_serve.specs.Streams.{listen_facts}
 use Rattle.mica_daemon.proofs.Announced.{serves_placed}
 use Rattle.mica_daemon.proofs.top.stay_up.Goals as goal
 
-pub returns-in-Ok : goal.returns-in-Ok
-returns-in-Ok g c =
+pub returns-in-Ok-ready_line : goal.returns-in-Ok-ready_line
+returns-in-Ok-ready_line g c =
     let set = c.set_place.ensures in
     let listens = listen_facts g.L.Listeners.faults g.L.Listeners.ports g.L.Listeners.released g.L.Listeners.place c.args.listeners.now in
     inl (serves_placed c.args.options.now c.args.ports.now c.args.streams.now _ _ c.args.base c.args.filling.items _ _ listens _ _ _ _
