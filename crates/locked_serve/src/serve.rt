@@ -250,8 +250,8 @@ fn serve_on<
     let parts = open_parts::<P>(alloc, options, filling.as_slice())?;
     drop(filling);
     serve_named::<Brand, W, P, N, L, K, G, A>(
-        rt, alloc, options, ports, streams, base, board, parts, net, listeners, clocks, gate, tables,
-        announce,
+        rt, alloc, options, ports, streams, base, board, parts, net, listeners, clocks, gate,
+        tables, announce,
     )
 }
 

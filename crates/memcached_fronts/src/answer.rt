@@ -75,9 +75,7 @@ fn answer_stats<C: Clock>(
     ensures err { OnErr result (out.new.items ≡ out.old.items) }
 {
     buffers.show();
-    buffers
-        .board
-        .put_stats(clock.present(), partitions, out)?;
+    buffers.board.put_stats(clock.present(), partitions, out)?;
     Ok(Progress {
         done,
         is_whole: true,
@@ -197,7 +195,9 @@ fn answer_asks<'a, R: Threads + Wait + Sync, F: Changes, C: Clock>(
             return Ok(count);
         };
         let is_last = asks.is_empty();
-        let Ok(()) = answer_ask(rt, front, clock, base, partitions, buffers, style, &asked, is_last, out) else {
+        let Ok(()) = answer_ask(
+            rt, front, clock, base, partitions, buffers, style, &asked, is_last, out,
+        ) else {
             return Err(NoMemory);
         };
         count += 1;

@@ -89,7 +89,10 @@ pub fn answer_ask<R: Threads + Wait + Sync, F: Changes, C: Clock>(
     ensures stands { F.stands front.new ≡ F.stands front.old }
 {
     let Buffers {
-        found, next, tally, ..
+        found,
+        next,
+        tally,
+        ..
     } = buffers;
     let second = clock.second();
     let order = CommandOrder::new(&asked.ask, base);

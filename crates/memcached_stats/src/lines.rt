@@ -84,7 +84,10 @@ fn command_lines(counts: &Counts) -> [Line; 17]
     ensures { map stat_in result ≡ command_stats (count_in counts.now) }
 {
     let (hits, misses) = (counts.of(Counter::GetHits), counts.of(Counter::GetMisses));
-    let (touched, untouched) = (counts.of(Counter::TouchHits), counts.of(Counter::TouchMisses));
+    let (touched, untouched) = (
+        counts.of(Counter::TouchHits),
+        counts.of(Counter::TouchMisses),
+    );
     let (swapped, absent, others) = (
         counts.of(Counter::CasHits),
         counts.of(Counter::CasMisses),

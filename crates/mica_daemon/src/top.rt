@@ -79,8 +79,8 @@ fn serve_aloud<
         result }
 {
     match serve_locked(
-        rt, alloc, options, ports, streams, filling, net, listeners, clocks, base, board, gate, tables,
-        speaker,
+        rt, alloc, options, ports, streams, filling, net, listeners, clocks, base, board, gate,
+        tables, speaker,
     ) {
         Ok(totals) => print_totals(alloc, totals, &mut speaker.sink),
         Err(Stop::Refused) => write_due(&mut speaker.sink, b"pair refused\n", Status::ImageRefused),

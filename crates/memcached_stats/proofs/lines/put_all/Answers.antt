@@ -13,7 +13,7 @@ returns-clause-ok c =
     let about = flat_map line_of (about_stats c.args.about.now (count_in c.args.counts.now)) in
     let commands = flat_map line_of (command_stats (count_in c.args.counts.now)) in
     let worn = wear_text 0 c.args.partitions (wear_in c.args.wears.now) in
-    let one : c.put_parts.new.out.items ≡ before ++ version_line = c.in_ok-put_parts.ensures.ok ∙ 
+    let one : c.put_parts.new.out.items ≡ before ++ version_line = c.in_ok-put_parts.ensures.ok ∙
     (λ i. before ++ (codes "STAT version " ++ (take (length (c.reply_line.ensures i) - 8) (drop 8 (c.reply_line.ensures i)) ++ []))) in
     let two : c.put_lines.new.out.items ≡ before ++ version_line ++ about = c.in_ok-put_lines.ensures.ok ∙ (λ i. one i ++ flat_map line_of (c.about_lines.ensures i)) in
     let three : c.put_lines-2.new.out.items ≡ before ++ version_line ++ about ++ commands =
