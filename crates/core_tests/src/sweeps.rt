@@ -63,7 +63,7 @@ fn sweep_all<R: Abort + AllocGlobal + Threads + Wait + Sync, F: Glances>(
         partitions: 1,
         base: 0,
     };
-    for _ in 0..100 {
+    for _ in 0..100u32 {
         sweep(rt, front, &mut clock, numbering, 64, &mut sweeper);
     }
     Ok(())
