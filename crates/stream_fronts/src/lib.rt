@@ -2,7 +2,8 @@
 //! received and sent.
 //!
 //! `serve_connections` serves a port to its end, or until nearly all writes that it may give are given. A connection that there is no memory for is closed,
-//! and the others go on. The layer above may rely on this: the front's sessions and the clock go on by some answers, in order, and by no others, whatever
+//! and the others go on. After each report it looks at a few places of an index and deletes what is over there: these sweeps stand between its answers to
+//! clients. The layer above may rely on this: the front's sessions and the clock go on by some answers, in order, and by no others, whatever
 //! clients say and whenever they break off. The front keeps its options, its number and its stands, and the port is the same. The call fails only where the
 //! count of the port's faults rose, or where there was no memory to begin, and then nothing was done. It reads, writes and closes under a number only what is
 //! open there, and asks for a connection again no more often than its bytes allow.
