@@ -63,7 +63,7 @@ fn sweep_all<R: Abort + AllocGlobal + Threads + Wait + Sync, F: Glances>(
         partitions: 1,
         base: 0,
     };
-    for _ in 0..100 {
+    for _ in 0..100u32 {
         sweep(rt, front, &mut clock, numbering, 64, &mut sweeper);
     }
     Ok(())
@@ -116,6 +116,25 @@ fn sweep_by_one<
     what_is_over_goes(rt, &mut front)
 }
 
+// Opens one empty partition of the options.
+fn open_and_sweep<P: OnTable + LendPartition<Reader = ReaderSeat, Note = Note> + Drop + Send>(
+    rt: &(impl Abort + AllocGlobal + Threads + Wait + Sync),
+    options: &Options,
+) -> Result<(), Fail>
+    requires notes { NotesAre P.noted P.note_home note_state note_home }
+    requires same { (p : P) → P.state p ≡ P.owner p }
+    requires mode { options.now.mode ≡ P.mode }
+    requires one { options.now.partitions ≡ 1 }
+{
+    assert!(rt; options.is_possible());
+    let opened = open_parts::<P>(rt.alloc(), options, &[]);
+    assert!(rt; opened.is_ok());
+    if let Ok(parts) = opened {
+        sweep_by_one::<Brand, _, P>(rt, options, parts)?;
+    }
+    Ok(())
+}
+
 const SMALL: Options = Options {
     mode: Mode::Store,
     partitions: 1,
@@ -129,10 +148,5 @@ const SMALL: Options = Options {
 
 #[test]
 fn what_is_over_gives_its_room_back(rt: HostRuntime) -> Result<(), Fail> {
-    let opened = open_parts::<StorePartition<OwnerSeat>>(rt.alloc(), &SMALL, &[]);
-    assert!(&rt; opened.is_ok() && SMALL.is_possible());
-    if let Ok(parts) = opened {
-        sweep_by_one::<Brand, _, StorePartition<OwnerSeat>>(&rt, &SMALL, parts)?;
-    }
-    Ok(())
+    open_and_sweep::<StorePartition<OwnerSeat>>(&rt, &SMALL)
 }

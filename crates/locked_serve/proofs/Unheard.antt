@@ -39,6 +39,8 @@ module _ (options : Options) (base : ℕ) where
       same = refl;
       all = [];
       serves = record {
+        answers = [];
+        sweeps = refl;
         in_order = λ q. refl;
         seconds = refl;
         few = omega arith;

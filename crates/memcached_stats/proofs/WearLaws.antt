@@ -1,9 +1,9 @@
 -- Of one partition after another it is told how far it is worn.
-use Rattle.std.proofs.Common.{◌≡◌, ℕ, zero, suc, ◌+◌, List, [], ◌∷◌, ◌++◌, codes, decimal, flat_map, refl, sym, ap, ◌∙◌, append_assoc, arith}
+use Rattle.std.proofs.Common.{◌≡◌, ℕ, zero, suc, ◌+◌, List, [], ◌∷◌, ◌++◌, codes, decimal, flat_map, sym, ap, ◌∙◌, append_assoc, arith}
 use Rattle.std.proofs.lemmas.List.{append-nil}
 use Rattle.memcached_stats.specs.declared.figures.Wear.{Wear}
 use Rattle.memcached_text.specs.Replies.{stat_text}
-use Rattle.memcached_stats.specs.Stats.{line_of, stat, wear_stats, wear_text}
+use Rattle.memcached_stats.specs.Stats.{line_of, wear_stats, wear_text}
 
 abbrev one : ℕ → (ℕ → Wear) → List ℕ
 one p wear = flat_map line_of (wear_stats p (wear p))

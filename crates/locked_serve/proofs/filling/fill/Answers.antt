@@ -1,4 +1,4 @@
-use Rattle.std.proofs.Common.{◌+◌, List, length, take, drop, refl, sym, ap, subst, arith}
+use Rattle.std.proofs.Common.{◌+◌, List, length, take, drop, refl, sym, ap, ◌∙◌, subst, arith}
 use Rattle.std.proofs.lemmas.Option.{slice_get_read}
 use Rattle.partition_model.specs.declared.write.Write.{Write}
 use Rattle.epoch_core.specs.declared.state.OwnerState.{OwnerState}
@@ -9,7 +9,7 @@ use Rattle.locked_serve.proofs.filling.fill.Goals as goal
 pub loop-write-init : goal.loop-write-init
 loop-write-init g c = record {
   filled = filled_none c.args.options.now c.args.number (g.P.Partition.owner c.args.part.now) c.requires.made;
-  flushes = ap (λ (o : OwnerState). flushes_in o.history) (sym c.requires.made);
+  flushes = c.none-flushes.ensures ∙ ap (λ (o : OwnerState). flushes_in o.history) (sym c.requires.made);
 }
 
 pub loop-write-preserved : goal.loop-write-preserved

@@ -1,4 +1,4 @@
-use Rattle.std.proofs.Common.{◌≡◌, refl, ◌∙◌, subst, arith}
+use Rattle.std.proofs.Common.{refl, ◌∙◌, subst, arith}
 use Rattle.partition_model.specs.declared.options.Options.{Options}
 use Rattle.memcached_fronts.specs.Sweeps.{SweepsBy}
 use Rattle.memcached_fronts.proofs.Sweeping.{none_swept, swept_then}

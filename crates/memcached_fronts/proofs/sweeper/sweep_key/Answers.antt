@@ -1,4 +1,4 @@
-use Rattle.std.proofs.Common.{◌≡◌, ◌≤◌, true, ℕ, subst, sym}
+use Rattle.std.proofs.Common.{◌≤◌, true, ℕ, subst, sym}
 use Rattle.mica_words.specs.Hash.{partition_of}
 use Rattle.memcached_changes.specs.Over.{sweeping}
 use Rattle.mica_fronts.specs.Changing.{ComesTo}

@@ -1,4 +1,4 @@
-use Rattle.std.proofs.Common.{◌≡◌, sym, ap, ◌∙◌}
+use Rattle.std.proofs.Common.{sym, ap, ◌∙◌}
 use Rattle.memcached_stats.specs.Counted.{counter_of}
 use Rattle.memcached_stats.proofs.counter.counter_of.Goals as goal
 

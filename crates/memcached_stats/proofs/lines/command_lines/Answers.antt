@@ -1,4 +1,4 @@
-use Rattle.std.proofs.Common.{◌≡◌, ◌+◌, ◌∷◌, [], codes, ap, ◌∙◌}
+use Rattle.std.proofs.Common.{◌+◌, ◌∷◌, [], codes, ap, ◌∙◌}
 use Rattle.memcached_stats.specs.Stats.{stat}
 use Rattle.memcached_stats.proofs.lines.command_lines.Goals as goal
 
