@@ -4,11 +4,4 @@ pub mod Merging
 pub mod Counting
 pub mod Taking
 pub mod UsedBlocks
-pub mod TagLaws
-pub mod LinkLaws
-pub mod ListLaws
-pub mod Listing
-pub mod Keeping
-pub mod Giving
-pub mod Finding
-pub mod Bounding
+pub mod NodeLaws

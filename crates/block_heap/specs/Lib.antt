@@ -1,7 +1,5 @@
 pub mod Blocks
 pub mod Changes
 pub mod Tags
-pub mod Links
-pub mod Lists
+pub mod Nodes
 pub mod Inside
-pub mod Bounds

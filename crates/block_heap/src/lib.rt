@@ -6,10 +6,9 @@
 #![tactic(auto)]
 
 mod block;
-mod bounds;
 mod heap;
-mod links;
-mod lists;
+mod nodes;
+mod row;
 mod tagged;
 
 pub use block::MOST_WORDS;

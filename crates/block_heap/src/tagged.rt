@@ -1,20 +1,21 @@
 //! The blocks of a heap, told by the size and the use of each at its first word and at its last.
-ghost use Rattle.std.specs.Prelude.{◌≡◌, ◌≢◌, ◌+◌, ◌-◌, ◌<◌, ◌≤◌, ℕ, [], ◌∷◌, ◌++◌, List, length, IfOk, Contains};
+ghost use Rattle.std.specs.Prelude.{◌≡◌, ◌≢◌, ◌+◌, ◌-◌, ◌<◌, ◌≤◌, ℕ, [], ◌∷◌, ◌++◌, List, length, IfOk, IfNone, IfSome, Contains};
 ghost use Rattle.block_heap.specs.declared.block.TheConstants.{MOST_WORDS};
-ghost use Rattle.block_heap.specs.Blocks.{free_block, used_block, words_of, Fills};
+ghost use Rattle.block_heap.specs.Blocks.{free_block, used_block, words_of, Fills, IsFree, NoneFits};
 ghost use Rattle.block_heap.specs.declared.block.Block.{Block};
 ghost use Rattle.block_heap.specs.Changes.{rest_of};
-ghost use Rattle.block_heap.specs.Tags.{IsTagged, OthersStay, HasBlock, IsSeam, IsLastFree, IsFirstFree, Covers};
+ghost use Rattle.block_heap.specs.Tags.{IsTagged, OthersStay, NoneInside, HasBlock, IsSeam, IsLastFree, IsFirstFree, Covers};
 
 use crate::block::Block;
+use crate::nodes::free_in;
+use crate::row::TagRow;
 use mica_io::NoMemory;
 use std::alloc::Global;
 use std::marker::Model;
 
 #[derive(Drop)]
 pub struct TaggedBlocks {
-    sizes: Vec<u32>,
-    used: Vec<bool>,
+    row: TagRow,
 }
 
 impl Model for TaggedBlocks {
@@ -24,28 +25,31 @@ impl Model for TaggedBlocks {
 
     ghost Value = { List Block };
 
-    ghost view = { λ s. blocks_of s.sizes.items s.used.items };
+    ghost view = { λ s. blocks_of s.row.0 s.row.1 };
 
-    ghost invariant = { λ s. TellBlocks s.sizes.items s.used.items (blocks_of s.sizes.items s.used.items) };
+    ghost invariant = { λ s. TellBlocks s.row.0 s.row.1 (blocks_of s.row.0 s.row.1) };
 }
 
-// Writes a block's size and use at both its ends.
-fn tag(sizes: &mut Vec<u32>, used: &mut Vec<bool>, block: Block)
+// Writes a block's size and use at both its ends, but not at the heap's end.
+fn tag(row: &mut TagRow, block: Block)
     requires some { 0 < block.size }
-    requires within { block.place + block.size ≤ length sizes.old.items }
-    requires limit { length sizes.old.items ≤ MOST_WORDS }
-    requires both { length used.old.items ≡ length sizes.old.items }
-    ensures here { IsTagged sizes.new.items used.new.items block }
-    ensures others { OthersStay sizes.old.items used.old.items sizes.new.items used.new.items block }
-    ensures len { length sizes.new.items ≡ length sizes.old.items }
-    ensures used_len { length used.new.items ≡ length used.old.items }
+    requires within { block.place + block.size ≤ row.old.0 }
+    requires inside { NoneInside row.old.1 block }
+    ensures here { IsTagged row.new.0 row.new.1 block }
+    ensures others { OthersStay row.old.1 row.new.1 block }
+    ensures words { row.new.0 ≡ row.old.0 }
 {
-    let first = block.place as usize;
-    let last = (block.place + block.size - 1) as usize;
-    sizes[first] = block.size;
-    sizes[last] = block.size;
-    used[first] = block.used;
-    used[last] = block.used;
+    let size = (block.size - 1) * 4;
+    let end = block.place + block.size;
+    let (first, last) = if block.used {
+        (size + 1, size + 1)
+    } else {
+        (size + 2, size + 3)
+    };
+    if end < row.words() {
+        row.set(end - 1, last);
+    }
+    row.set(block.place, first);
 }
 
 impl TaggedBlocks {
@@ -55,18 +59,26 @@ impl TaggedBlocks {
         requires limit { words ≤ MOST_WORDS }
         ensures { IfOk result (λ blocks. blocks ≡ free_block 0 words ∷ []) }
     {
-        let mut sizes = vec![in alloc; 0; words as usize]?;
-        let mut used = vec![in alloc; false; words as usize]?;
-        tag(&mut sizes, &mut used, Block::free(0, words));
-        Ok(TaggedBlocks { sizes, used })
+        let mut row = TagRow::new(alloc, words)?;
+        tag(&mut row, Block::free(0, words));
+        Ok(TaggedBlocks { row })
     }
 
-    // How many words there are.
-    pub fn words(&self) -> u32
-        ensures words { result ≡ words_of self.now }
-        ensures limit { result ≤ MOST_WORDS }
+    // How many words there are at most.
+    pub fn most(&self) -> u32
+        ensures { (block : Block) → Contains self.now block → IsFree block → block.size ≤ result }
     {
-        self.sizes.len() as u32
+        self.row.most()
+    }
+
+    // A free block of as many words as are needed.
+    pub fn find(&self, need: u32) -> Option<Block>
+        requires { 1 ≤ need }
+        ensures none { IfNone result ((block : Block) → Contains self.now block → IsFree block → block.size < need) }
+        ensures some { IfSome result (λ block. Contains self.now block × IsFree block × (need ≤ block.size)) }
+    {
+        let place = self.row.find(need)?;
+        Some(Block::free(place, free_in(self.row.tag(place))))
     }
 
     // The size of the block that begins at the place.
@@ -74,22 +86,23 @@ impl TaggedBlocks {
         requires { HasBlock self.now place }
         ensures { (block : Block) → Contains self.now block → block.place ≡ place → result ≡ block.size }
     {
-        self.sizes[place as usize]
+        self.row.tag(place) / 4 + 1
     }
 
     // The free block that ends at the place, where there is one.
     pub fn free_before(&self, place: u32) -> Option<Block>
-        requires { IsSeam self.now place }
+        requires seam { IsSeam self.now place }
+        requires within { place < words_of self.now }
         ensures { (before after : List Block) → self.now ≡ before ++ after → Fills 0 before place → IsLastFree before result }
     {
         if place == 0 {
             return None;
         }
-        let last = (place - 1) as usize;
-        if self.used[last] {
+        let last = self.row.tag(place - 1);
+        if last % 4 < 2 {
             return None;
         }
-        let size = self.sizes[last];
+        let size = last / 4 + 1;
         Some(Block::free(place - size, size))
     }
 
@@ -98,24 +111,27 @@ impl TaggedBlocks {
         requires { IsSeam self.now place }
         ensures { (before after : List Block) → self.now ≡ before ++ after → Fills 0 before place → IsFirstFree after result }
     {
-        let first = place as usize;
-        if first == self.sizes.len() {
+        if place == self.row.words() {
             return None;
         }
-        if self.used[first] {
+        let first = self.row.tag(place);
+        if first % 4 < 2 {
             return None;
         }
-        Some(Block::free(place, self.sizes[first]))
+        Some(Block::free(place, first / 4 + 1))
     }
 
-    // Makes one block of those that lie where it is to lie.
-    pub fn replace(&mut self, block: Block)
+    // Makes one block of those that lie where it is to lie, where none of them is free but the first and one other.
+    pub fn replace(&mut self, block: Block, right: Option<Block>)
         requires some { 0 < block.size }
-        requires covers { Covers self.old block }
+        requires covers { Covers self.old block right }
         ensures { (before middle after : List Block) → self.old ≡ before ++ (middle ++ after)
             → Fills block.place middle (block.place + block.size) → self.new ≡ before ++ block ∷ after }
     {
-        tag(&mut self.sizes, &mut self.used, block);
+        if let Some(right) = right {
+            self.row.set(right.place, 0);
+        }
+        tag(&mut self.row, block);
     }
 
     // Uses the first words of a block, and frees the others.
@@ -126,14 +142,9 @@ impl TaggedBlocks {
         ensures { (before after : List Block) → self.old ≡ before ++ block ∷ after
             → self.new ≡ before ++ used_block block.place need ∷ (rest_of (block.place + need) (block.size - need) ++ after) }
     {
-        tag(
-            &mut self.sizes,
-            &mut self.used,
-            Block::used(block.place, need),
-        );
         if need < block.size {
-            let rest = Block::free(block.place + need, block.size - need);
-            tag(&mut self.sizes, &mut self.used, rest);
+            tag(&mut self.row, Block::free(block.place + need, block.size - need));
         }
+        tag(&mut self.row, Block::used(block.place, need));
     }
 }
