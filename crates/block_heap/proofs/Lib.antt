@@ -5,3 +5,6 @@ pub mod Counting
 pub mod Taking
 pub mod UsedBlocks
 pub mod NodeLaws
+pub mod RowLaws
+pub mod TagLaws
+pub mod Giving

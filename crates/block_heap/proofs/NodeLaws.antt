@@ -1,6 +1,7 @@
 -- Trees over numbers, where the numbers or the nodes change.
-use Rattle.std.proofs.Common.{◌≡◌, ◌≢◌, ℕ, zero, suc, ◌+◌, ◌-◌, ◌*◌, ◌/◌, ◌<◌, ◌≤◌, ◌⊎◌, inl, inr, max, Option, Some, None, List, length, refl, sym, ap, ◌∙◌, subst, arith}
+use Rattle.std.proofs.Common.{◌≡◌, ◌≢◌, ℕ, zero, suc, ◌+◌, ◌-◌, ◌*◌, ◌/◌, ◌<◌, ◌≤◌, ◌⊎◌, inl, inr, max, Option, Some, None, List, length, replicate, refl, sym, ap, ◌∙◌, subst, arith}
 use Rattle.std.specs.Ordering.{ord_max, nat_cmp}
+use Rattle.std.proofs.lemmas.List.{get_or-replicate, get_or_past, length-replicate}
 use Rattle.std.specs.Prelude.{IfSome}
 use Rattle.std.proofs.lemmas.Bool.{cases_eq, cases_lt, lt-ltb, le-ltb}
 use Rattle.block_heap.specs.Nodes.{most_of, number_at, due_at, above, AreDue, IsTree}
@@ -141,3 +142,10 @@ above_within (suc at) count within = omega arith
 
 pub max_is : (a b : ℕ) → ord_max nat_cmp a b ≡ max a b
 max_is a b = grind arith
+
+pub zeros : (count at : ℕ) → number_at (replicate count 0) at ≡ 0
+zeros count at = by (cases_lt at count)
+  where
+    by : (at < count) ⊎ (count ≤ at) → number_at (replicate count 0) at ≡ 0
+    by (inl within) = get_or-replicate count at 0 0 within
+    by (inr behind) = get_or_past (replicate count 0) at 0 (omega (arith, length-replicate {A = ℕ} count 0))

@@ -1,5 +1,5 @@
 -- What the heap keeps.
-use Rattle.std.specs.Prelude.{◌≡◌, ℕ, ◌≤◌, ◌<◌, Option, Some, None, List, [], ◌∷◌, vec_capacity, length}
+use Rattle.std.specs.Prelude.{ℕ, ◌≤◌, Option, Some, None, List, [], ◌∷◌, length}
 use Rattle.block_heap.specs.declared.block.TheConstants.{MOST_WORDS}
 use Rattle.block_heap.specs.declared.block.Block.{Block}
 use Rattle.block_heap.specs.Blocks.{IsBlockList, words_of}
@@ -25,6 +25,6 @@ words_in (Some block) = block.size
 pub record KeepsRow (words : ℕ) (tags : List ℕ) (room inner : ℕ) (nodes : List ℕ) : Type 0 where
   pub limit : words ≤ MOST_WORDS
   pub within : length tags ≤ words
-  pub room : words ≤ room
+  pub enough : words ≤ room
   pub tree : IsTree words inner (free_from tags) nodes
   pub few : inner ≤ MOST_WORDS

@@ -1,5 +1,5 @@
 -- Blocks told by tags: the size and the use of each stand at its first word and at its last.
-use Rattle.std.specs.Prelude.{Option, Some, None, Contains, IfSome, ◌++◌, ◌≡◌, ◌≢◌, ℕ, zero, suc, ◌+◌, ◌-◌, ◌/◌, ◌%◌, ◌<◌, ◌≤◌, ◌==◌, Bool, List, [], ◌∷◌, slice_index_or, nat_lt, if◌then◌else◌}
+use Rattle.std.specs.Prelude.{Option, Some, None, Contains, IfSome, ◌++◌, ◌≡◌, ◌≢◌, ℕ, zero, suc, ◌+◌, ◌-◌, ◌*◌, ◌/◌, ◌%◌, ◌<◌, ◌≤◌, ◌==◌, Bool, List, [], ◌∷◌, slice_index_or, nat_lt, if◌then◌else◌}
 use Rattle.block_heap.specs.declared.block.TheConstants.{MOST_WORDS}
 use Rattle.block_heap.specs.declared.block.Block.{Block}
 use Rattle.block_heap.specs.Blocks.{Fills, IsFree, BeginsFree}
@@ -18,6 +18,13 @@ free_in tag = if tag % 4 == 2 then tag / 4 + 1 else 0
 
 abbrev pub free_from : List ℕ → ℕ → ℕ
 free_from tags place = free_in (tag_of tags place)
+
+-- the tags of a block's first word and of its last
+abbrev pub first_tag : Block → ℕ
+first_tag block = (block.size - 1) * 4 + (if block.used then 1 else 2)
+
+abbrev pub last_tag : Block → ℕ
+last_tag block = (block.size - 1) * 4 + (if block.used then 1 else 3)
 
 -- no free block begins behind the first word of a block
 abbrev pub NoneInside : List ℕ → Block → Type 0

@@ -4,7 +4,7 @@ ghost use Rattle.block_heap.specs.declared.block.TheConstants.{MOST_WORDS};
 ghost use Rattle.block_heap.specs.Blocks.{free_block, used_block, words_of, Fills, IsFree, NoneFits};
 ghost use Rattle.block_heap.specs.declared.block.Block.{Block};
 ghost use Rattle.block_heap.specs.Changes.{rest_of};
-ghost use Rattle.block_heap.specs.Tags.{IsTagged, OthersStay, NoneInside, HasBlock, IsSeam, IsLastFree, IsFirstFree, Covers};
+ghost use Rattle.block_heap.specs.Tags.{tag_of, first_tag, last_tag, IsTagged, OthersStay, NoneInside, HasBlock, IsSeam, IsLastFree, IsFirstFree, Covers};
 
 use crate::block::Block;
 use crate::nodes::free_in;
@@ -30,7 +30,44 @@ impl Model for TaggedBlocks {
     ghost invariant = { λ s. TellBlocks s.row.0 s.row.1 (blocks_of s.row.0 s.row.1) };
 }
 
-// Writes a block's size and use at both its ends, but not at the heap's end.
+// The tag of a block's first word.
+fn first_tag(block: Block) -> u32
+    requires some { 0 < block.size }
+    requires limit { block.size ≤ MOST_WORDS }
+    ensures { result ≡ first_tag block }
+{
+    let size = (block.size - 1) * 4;
+    if block.used { size + 1 } else { size + 2 }
+}
+
+// The tag of a block's last word, where it has more than one.
+fn last_tag(block: Block) -> u32
+    requires some { 0 < block.size }
+    requires limit { block.size ≤ MOST_WORDS }
+    ensures { result ≡ last_tag block }
+{
+    let size = (block.size - 1) * 4;
+    if block.used { size + 1 } else { size + 3 }
+}
+
+// Writes the tag of a block's last word, unless no word is behind it.
+fn tag_last(row: &mut TagRow, block: Block)
+    requires some { 0 < block.size }
+    requires within { block.place + block.size ≤ row.old.0 }
+    requires inside { NoneInside row.old.1 block }
+    ensures inside { NoneInside row.new.1 block }
+    ensures last { block.place + block.size < row.new.0 → tag_of row.new.1 (block.place + block.size - 1) ≡ last_tag block }
+    ensures others { (place : ℕ) → place ≢ block.place + block.size - 1 → tag_of row.new.1 place ≡ tag_of row.old.1 place }
+    ensures words { row.new.0 ≡ row.old.0 }
+{
+    let words = row.words();
+    let end = block.place + block.size;
+    if end < words {
+        row.set(end - 1, last_tag(block));
+    }
+}
+
+// Writes a block's size and use at both its ends.
 fn tag(row: &mut TagRow, block: Block)
     requires some { 0 < block.size }
     requires within { block.place + block.size ≤ row.old.0 }
@@ -39,17 +76,9 @@ fn tag(row: &mut TagRow, block: Block)
     ensures others { OthersStay row.old.1 row.new.1 block }
     ensures words { row.new.0 ≡ row.old.0 }
 {
-    let size = (block.size - 1) * 4;
-    let end = block.place + block.size;
-    let (first, last) = if block.used {
-        (size + 1, size + 1)
-    } else {
-        (size + 2, size + 3)
-    };
-    if end < row.words() {
-        row.set(end - 1, last);
-    }
-    row.set(block.place, first);
+    tag_last(row, block);
+    let _words = row.words();
+    row.set(block.place, first_tag(block));
 }
 
 impl TaggedBlocks {

@@ -1,6 +1,4 @@
-use Rattle.std.proofs.Common.{ap, ◌∙◌, ◌+◌, arith}
-use Rattle.std.proofs.lemmas.List.{get_or_default}
-use Rattle.block_heap.specs.Nodes.{number_at}
+use Rattle.std.proofs.Common.{ap, ◌∙◌, arith}
 use Rattle.block_heap.specs.Tags.{free_in, free_from}
 use Rattle.block_heap.proofs.NodeLaws.{most_of-begin, most_of-more, max_is}
 use Rattle.block_heap.proofs.nodes.most_of_words.Goals as goal

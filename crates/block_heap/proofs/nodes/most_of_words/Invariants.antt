@@ -1,5 +1,5 @@
 use Rattle.std.proofs.Common.{◌≡◌, ◌≤◌, ◌-◌}
-use Rattle.block_heap.specs.Nodes.{most_of, number_at}
+use Rattle.block_heap.specs.Nodes.{most_of}
 use Rattle.block_heap.specs.Tags.{free_from}
 use Rattle.block_heap.proofs.nodes.most_of_words.Given as goal
 

@@ -1,9 +1,9 @@
-use Rattle.std.proofs.Common.{◌≡◌, ◌<◌, length, length-set, refl, sym, ap, ◌∙◌, subst, arith}
+use Rattle.std.proofs.Common.{◌≡◌, ◌<◌, length, length-set, ◌∙◌, subst}
 use Rattle.std.specs.Prelude.{IfSome}
-use Rattle.std.proofs.lemmas.List.{get_or-set_same, get_or-set_other, get_or_default}
-use Rattle.block_heap.specs.Nodes.{AreDue, above, number_at, due_at}
+use Rattle.std.proofs.lemmas.List.{get_or-set_same, get_or-set_other}
+use Rattle.block_heap.specs.Nodes.{AreDue, due_at}
 use Rattle.block_heap.specs.Tags.{free_from}
-use Rattle.block_heap.proofs.NodeLaws.{left_above, above_within, goes_up, settled}
+use Rattle.block_heap.proofs.NodeLaws.{left_above, above_within, goes_up}
 use Rattle.block_heap.proofs.nodes.settle.Goals as goal
 
 pub loop-next-smaller : goal.loop-next-smaller

@@ -1,0 +1,391 @@
+-- Tags that tell blocks.
+use Rattle.std.proofs.Common.{◌≡◌, ◌≢◌, ℕ, zero, suc, ◌+◌, ◌-◌, ◌*◌, ◌/◌, ◌%◌, ◌<◌, ◌≤◌, ◌⊎◌, inl, inr, Bool, true, false, cond, ltb, Option, Some, None, List, [], ◌∷◌, ◌++◌, length, refl, sym, ap, ◌∙◌, subst, arith}
+use Rattle.std.specs.List.{Contains}
+use Rattle.std.specs.Prelude.{nat_lt}
+use Rattle.std.proofs.lemmas.Bool.{le-ltb, lt-ltb, eq-eqb, ne_eqb, cases_eq, cases_lt}
+use Rattle.std.proofs.lemmas.Grind.{common_steps}
+use Rattle.block_heap.specs.declared.block.Block.{Block}
+use Rattle.block_heap.specs.Blocks.{free_block, used_block, Fills, IsFree, BeginsFree, words_of}
+use Rattle.block_heap.specs.Changes.{rest_of}
+use Rattle.block_heap.specs.Tags.{tag_of, tag_at, free_in, free_from, first_tag, last_tag, NoneInside, IsTagged, AreTagged, blocks_from, blocks_of, TellBlocks, OthersStay, EndsFree}
+use Rattle.block_heap.proofs.Order.{words_of-fills, front_fills, back_fills, fills-append, from-le-end}
+use Rattle.block_heap.proofs.Places.{last_of, parted}
+
+-- what a tag tells
+abbrev pub told_by : ℕ → ℕ × Bool
+told_by tag = (tag / 4 + 1, nat_lt (tag % 4) 2)
+
+block_is : (tags : List ℕ) (from : ℕ) (block : Block) → block.place ≡ from → tag_at tags block.place ≡ (block.size, block.used) → record { place = from; size = tag_of tags from / 4 + 1; used = nat_lt (tag_of tags from % 4) 2 } ≡ block
+block_is tags from block here tag =
+    let told = subst (λ n. tag_at tags n ≡ (block.size, block.used)) here tag in
+    ap (λ (t : ℕ × Bool). record { place = from; size = t.0; used = t.1 }) told ∙ ap (λ n. record { place = n; size = block.size; used = block.used }) (sym here)
+
+-- the blocks are those that their tags tell
+pub told : (words : ℕ) (tags : List ℕ) (most from : ℕ) (blocks : List Block) → Fills from blocks words → AreTagged words tags blocks → words ≤ from + most → blocks_from words tags most from ≡ blocks
+unfolding blocks_from
+told words tags zero from [] fills tagged enough = refl
+told words tags (suc most) from [] fills tagged enough = rw (le-ltb from words (omega arith)) refl
+told words tags zero from (block ∷ blocks) fills tagged enough =
+    absurd (let some = fills.1 in let end = from-le-end (from + block.size) words blocks fills.2 in omega arith)
+told words tags (suc most) from (block ∷ blocks) fills tagged enough =
+    let some = fills.1 in
+    let end = from-le-end (from + block.size) words blocks fills.2 in
+    let is = block_is tags from block fills.0 tagged.0.first in
+    let rest = told words tags most (from + block.size) blocks fills.2 tagged.1 (omega arith) in
+    let size = ap (λ (b : Block). b.size) is in
+    rw (lt-ltb from words (omega arith)) (ap (λ b. b ∷ blocks_from words tags most (from + (tag_of tags from / 4 + 1))) is
+    ∙ ap (λ n. block ∷ blocks_from words tags most (from + n)) size ∙ ap (λ bs. block ∷ bs) rest)
+
+pub kept_one : (words : ℕ) (tags new : List ℕ) (block : Block) → 0 < block.size → ((place : ℕ) → block.place ≤ place → place < block.place + block.size → tag_of new place ≡ tag_of tags place)
+    → IsTagged words tags block → IsTagged words new block
+kept_one words tags new block some same tagged = record {
+  first = ap told_by (same block.place (omega arith) (omega arith)) ∙ tagged.first;
+  last = λ more. ap told_by (same (block.place + block.size - 1) (omega arith) (omega arith)) ∙ tagged.last more;
+  head = ap free_in (same block.place (omega arith) (omega arith)) ∙ tagged.head;
+  inside = λ place gt lt. ap free_in (same place (omega arith) lt) ∙ tagged.inside place gt lt;
+}
+
+-- blocks stay told where the tags of their words stay
+pub kept : (words : ℕ) (tags new : List ℕ) (from end : ℕ) (blocks : List Block) → Fills from blocks end
+    → ((place : ℕ) → from ≤ place → place < end → tag_of new place ≡ tag_of tags place) → AreTagged words tags blocks → AreTagged words new blocks
+kept words tags new from end [] fills same tagged = tt
+kept words tags new from end (block ∷ blocks) fills same tagged =
+    let here = fills.0 in
+    let le = from-le-end (from + block.size) end blocks fills.2 in
+    (kept_one words tags new block fills.1 (λ place ge lt. same place (omega arith) (omega arith)) tagged.0,
+    kept words tags new (from + block.size) end blocks fills.2 (λ place ge lt. same place (omega arith) lt) tagged.1)
+
+pub tagged-append : (words : ℕ) (tags : List ℕ) (xs ys : List Block) → AreTagged words tags xs → AreTagged words tags ys → AreTagged words tags (xs ++ ys)
+tagged-append words tags [] ys a b = b
+tagged-append words tags (x ∷ xs) ys a b = (a.0, tagged-append words tags xs ys a.1 b)
+
+pub tagged_front : (words : ℕ) (tags : List ℕ) (xs ys : List Block) → AreTagged words tags (xs ++ ys) → AreTagged words tags xs
+tagged_front words tags [] ys a = tt
+tagged_front words tags (x ∷ xs) ys a = (a.0, tagged_front words tags xs ys a.1)
+
+pub tagged_back : (words : ℕ) (tags : List ℕ) (xs ys : List Block) → AreTagged words tags (xs ++ ys) → AreTagged words tags ys
+tagged_back words tags [] ys a = a
+tagged_back words tags (x ∷ xs) ys a = tagged_back words tags xs ys a.1
+
+-- the tags of the words from one place to another are written, and no others
+pub record Rewrites (tags new : List ℕ) (from end : ℕ) : Type 0 where
+  pub below : (place : ℕ) → place < from → tag_of new place ≡ tag_of tags place
+  pub above : (place : ℕ) → end ≤ place → tag_of new place ≡ tag_of tags place
+
+-- one block's tags are written
+pub one_written : (tags new : List ℕ) (block : Block) → 0 < block.size → OthersStay tags new block → Rewrites tags new block.place (block.place + block.size)
+one_written tags new block some others = record {
+  below = λ place lt. others place (λ e. absurd (omega arith)) (λ e. absurd (omega arith));
+  above = λ place le. others place (λ e. absurd (omega arith)) (λ e. absurd (omega arith));
+}
+
+-- what the tags tell after they are written
+pub record NowTell (words : ℕ) (tags : List ℕ) (blocks : List Block) : Type 0 where
+  pub view : blocks_of words tags ≡ blocks
+  pub tell : TellBlocks words tags (blocks_of words tags)
+
+pub now_tell : (words : ℕ) (tags : List ℕ) (blocks : List Block) → TellBlocks words tags blocks → NowTell words tags blocks
+now_tell words tags blocks tell =
+    let view = told words tags words 0 blocks tell.fills tell.tagged (omega arith) in
+    record { view = view; tell = subst (TellBlocks words tags) (sym view) tell }
+
+-- other blocks of the same words take the place of some
+pub told_instead : (words : ℕ) (tags new : List ℕ) (from end : ℕ) (before middle instead after : List Block) → Rewrites tags new from end
+    → TellBlocks words tags (before ++ (middle ++ after)) → words_of before ≡ from → Fills from middle end → Fills from instead end → AreTagged words new instead
+    → NowTell words new (before ++ (instead ++ after))
+told_instead words tags new from end before middle instead after writes tell here old now tagged =
+    let at : 0 + words_of before ≡ from = omega arith in
+    let front = front_fills 0 words before (middle ++ after) tell.fills in
+    let rest = subst (λ n. Fills n (middle ++ after) words) at (back_fills 0 words before (middle ++ after) tell.fills) in
+    let back = subst (λ n. Fills n after words) (words_of-fills from end middle old) (back_fills from words middle after rest) in
+    let more = sym (words_of-fills from end instead now) in
+    let both = fills-append from words instead after (subst (λ n. Fills from instead n) more now) (subst (λ n. Fills n after words) more back) in
+    let old_back = tagged_back words tags before (middle ++ after) tell.tagged in
+    now_tell words new (before ++ (instead ++ after)) (record {
+      fills = fills-append 0 words before (instead ++ after) front (subst (λ n. Fills n (instead ++ after) words) (sym at) both);
+      tagged =
+          tagged-append words new before (instead ++ after)
+          (kept words tags new 0 (0 + words_of before) before front (λ place ge lt. writes.below place (omega arith)) (tagged_front words tags before (middle ++ after) tell.tagged))
+          (tagged-append words new instead after tagged
+          (kept words tags new end words after back (λ place ge lt. writes.above place ge) (tagged_back words tags middle after old_back)));
+      limit = tell.limit;
+    })
+
+-- where blocks that have words lie, those before them end
+pub begins_at : (at from end words : ℕ) (middle after : List Block) → from < end → Fills from middle end → Fills at (middle ++ after) words → at ≡ from
+begins_at at from end words [] after some fills whole = absurd (omega arith)
+begins_at at from end words (block ∷ middle) after some fills whole = sym whole.0 ∙ fills.0
+
+-- the tags of a block, and where its words lie
+pub record LiesIn (words : ℕ) (tags : List ℕ) (block : Block) : Type 0 where
+  pub tagged : IsTagged words tags block
+  pub some : 0 < block.size
+  pub within : block.place + block.size ≤ words
+
+pub lies_in : (words : ℕ) (tags : List ℕ) (blocks : List Block) (block : Block) → TellBlocks words tags blocks → Contains blocks block → LiesIn words tags block
+lies_in words tags blocks block tell among =
+    let parts = parted blocks block among in
+    let fills = subst (λ xs. Fills 0 xs words) parts.2 tell.fills in
+    let here = back_fills 0 words parts.0 (block ∷ parts.1) fills in
+    let place = here.0 in
+    let end = from-le-end ((0 + words_of parts.0) + block.size) words parts.1 here.2 in
+    record { tagged = (tagged_back words tags parts.0 (block ∷ parts.1) (subst (AreTagged words tags) parts.2 tell.tagged)).0; some = here.1; within = omega arith }
+
+-- where a tag tells of a free block, there is one
+pub head_found : (words : ℕ) (tags : List ℕ) (from end : ℕ) (blocks : List Block) → Fills from blocks end → AreTagged words tags blocks → (place : ℕ) → from ≤ place → place < end → 0 < free_from tags place
+    → Contains blocks (free_block place (free_from tags place))
+head_found words tags from end [] fills tagged place ge lt some = absurd (omega arith)
+head_found words tags from end (block ∷ blocks) fills tagged place ge lt some =
+    by (cases_eq block.place place) (cases_lt place (from + block.size)) (λ behind. head_found words tags (from + block.size) end blocks fills.2 tagged.1 place behind lt some)
+  where
+    first : (u : Bool) → block.used ≡ u → block.place ≡ place → Contains (block ∷ blocks) (free_block place (free_from tags place))
+    first true used is = absurd (let none = tagged.0.head ∙ ap (λ u. cond u 0 block.size) used in let same = ap (free_from tags) is in omega arith)
+    first false free is =
+        let size = sym (ap (free_from tags) is) ∙ tagged.0.head ∙ ap (λ u. cond u 0 block.size) free in
+        (0, omega arith, ap (λ u. record { place = block.place; size = block.size; used = u }) free ∙ ap (λ p. free_block p block.size) is ∙ ap (free_block place) (sym size))
+
+    by : (block.place ≡ place) ⊎ (block.place ≢ place) → (place < from + block.size) ⊎ (from + block.size ≤ place) → (from + block.size ≤ place → Contains blocks (free_block place (free_from tags place)))
+        → Contains (block ∷ blocks) (free_block place (free_from tags place))
+    by (inl is) _ rest = first block.used refl is
+    by (inr ne) (inl inside) rest = absurd (let here = fills.0 in let none = tagged.0.inside place (omega arith) (omega arith) in omega arith)
+    by (inr ne) (inr behind) rest = (let among = rest behind in (suc among.0, (let few = among.1 in omega arith), among.2))
+
+-- where blocks become one, no free block begins behind its first word once the other free one's tag is gone
+pub none_inside : (words : ℕ) (tags new : List ℕ) (block : Block) (middle : List Block) (right : Option Block) → Fills block.place middle (block.place + block.size) → AreTagged words tags middle
+    → ((other : Block) → Contains middle other → IsFree other → block.place < other.place → right ≡ Some other) → ((other : Block) → right ≡ Some other → tag_of new other.place ≡ 0)
+    → ((place : ℕ) → ((other : Block) → right ≡ Some other → place ≢ other.place) → tag_of new place ≡ tag_of tags place) → NoneInside new block
+none_inside words tags new block middle right fills tagged free gone same place gt lt = by right refl (cases_lt 0 (free_from tags place))
+  where
+    found : 0 < free_from tags place → right ≡ Some (free_block place (free_from tags place))
+    found some = free (free_block place (free_from tags place)) (head_found words tags block.place (block.place + block.size) middle fills tagged place (omega arith) lt some) refl gt
+
+    zero_there : free_from tags place ≤ 0 → tag_of new place ≡ tag_of tags place → free_from new place ≡ 0
+    zero_there none is = ap free_in is ∙ (omega arith)
+
+    by : (r : Option Block) → right ≡ r → (0 < free_from tags place) ⊎ (free_from tags place ≤ 0) → free_from new place ≡ 0
+    by None is (inl some) = absurd (let there = found some in cc)
+    by None is (inr none) = zero_there none (same place (λ other e. absurd (cc)))
+    by (Some other) is (inl some) = ap free_in (gone (free_block place (free_from tags place)) (found some))
+    by (Some other) is (inr none) = at_or_beside (cases_eq place other.place)
+      where
+        place_of : (b : Block) → Some b ≡ Some other → b.place ≡ other.place
+        place_of b e = cc
+
+        at_or_beside : (place ≡ other.place) ⊎ (place ≢ other.place) → free_from new place ≡ 0
+        at_or_beside (inl here) = ap (free_from new) here ∙ ap free_in (gone other is)
+        at_or_beside (inr ne) = zero_there none (same place (λ b e at. ne (at ∙ place_of b (sym e ∙ is))))
+
+told_as : (tag size : ℕ) (u : Bool) → tag / 4 + 1 ≡ size → nat_lt (tag % 4) 2 ≡ u → told_by tag ≡ (size, u)
+told_as tag size u is used = rw (is, used) refl
+
+not_head : (tag : ℕ) → tag % 4 ≢ 2 → free_in tag ≡ 0
+not_head tag ne = rw (ne_eqb (tag % 4) 2 ne) refl
+
+head : (tag : ℕ) → tag % 4 ≡ 2 → free_in tag ≡ tag / 4 + 1
+head tag is = rw (eq-eqb (tag % 4) 2 is) refl
+
+-- what the tags of a block's ends tell
+pub first_tells : (block : Block) → 0 < block.size → told_by (first_tag block) ≡ (block.size, block.used)
+first_tells block some = by block.used refl
+  where
+    by : (u : Bool) → block.used ≡ u → told_by (first_tag block) ≡ (block.size, block.used)
+    by true used = rw used (told_as ((block.size - 1) * 4 + 1) block.size true (omega arith) (lt-ltb (((block.size - 1) * 4 + 1) % 4) 2 (omega arith)))
+    by false free = rw free (told_as ((block.size - 1) * 4 + 2) block.size false (omega arith) (le-ltb (((block.size - 1) * 4 + 2) % 4) 2 (omega arith)))
+
+pub last_tells : (block : Block) → 0 < block.size → told_by (last_tag block) ≡ (block.size, block.used)
+last_tells block some = by block.used refl
+  where
+    by : (u : Bool) → block.used ≡ u → told_by (last_tag block) ≡ (block.size, block.used)
+    by true used = rw used (told_as ((block.size - 1) * 4 + 1) block.size true (omega arith) (lt-ltb (((block.size - 1) * 4 + 1) % 4) 2 (omega arith)))
+    by false free = rw free (told_as ((block.size - 1) * 4 + 3) block.size false (omega arith) (le-ltb (((block.size - 1) * 4 + 3) % 4) 2 (omega arith)))
+
+pub first_free : (block : Block) → 0 < block.size → free_in (first_tag block) ≡ cond block.used 0 block.size
+first_free block some = by block.used refl
+  where
+    by : (u : Bool) → block.used ≡ u → free_in (first_tag block) ≡ cond block.used 0 block.size
+    by true used = rw used (not_head ((block.size - 1) * 4 + 1) (omega arith))
+    by false free = rw free (let tag = (block.size - 1) * 4 + 2 in head tag (omega arith) ∙ (omega arith))
+
+pub last_not_free : (block : Block) → free_in (last_tag block) ≡ 0
+last_not_free block = by block.used refl
+  where
+    by : (u : Bool) → block.used ≡ u → free_in (last_tag block) ≡ 0
+    by true used = rw used (not_head ((block.size - 1) * 4 + 1) (omega arith))
+    by false free = rw free (not_head ((block.size - 1) * 4 + 3) (omega arith))
+
+-- the tag of a block's last word is written
+pub last_written : (tags new : List ℕ) (block : Block) → NoneInside tags block → tag_of new (block.place + block.size - 1) ≡ last_tag block → ((place : ℕ) → place ≢ block.place + block.size - 1 → tag_of new place ≡ tag_of tags place)
+    → NoneInside new block
+last_written tags new block inside here others place gt lt = by (cases_eq place (block.place + block.size - 1))
+  where
+    by : (place ≡ block.place + block.size - 1) ⊎ (place ≢ block.place + block.size - 1) → free_from new place ≡ 0
+    by (inl is) = ap (free_from new) is ∙ ap free_in here ∙ last_not_free block
+    by (inr ne) = ap free_in (others place ne) ∙ inside place gt lt
+
+-- and then that of its first word
+pub first_written : (words : ℕ) (tags new : List ℕ) (block : Block) → 0 < block.size → NoneInside tags block → (block.place + block.size < words → tag_of tags (block.place + block.size - 1) ≡ last_tag block)
+    → tag_of new block.place ≡ first_tag block → ((place : ℕ) → place ≢ block.place → tag_of new place ≡ tag_of tags place) → IsTagged words new block
+first_written words tags new block some inside last here others = record {
+  first = ap told_by here ∙ first_tells block some;
+  last = λ more. by more (cases_eq (block.place + block.size - 1) block.place);
+  head = ap free_in here ∙ first_free block some;
+  inside = λ place gt lt. ap free_in (others place (λ e. absurd (omega arith))) ∙ inside place gt lt;
+}
+  where
+    by : block.place + block.size < words → ((block.place + block.size - 1) ≡ block.place) ⊎ ((block.place + block.size - 1) ≢ block.place) → tag_at new (block.place + block.size - 1) ≡ (block.size, block.used)
+    by more (inl is) = ap (tag_at new) is ∙ ap told_by here ∙ first_tells block some
+    by more (inr ne) = ap told_by (others (block.place + block.size - 1) ne ∙ last more) ∙ last_tells block some
+
+-- the last block before a place, and what the word before that place tells
+pub record LastTold (tags : List ℕ) (before : List Block) (place : ℕ) : Type 0 where
+  pub front : List Block
+  pub last : Block
+  pub split : before ≡ front ++ last ∷ []
+  pub tag : tag_at tags (place - 1) ≡ (last.size, last.used)
+  pub ends : last.place + last.size ≡ place
+
+pub last_told : (words : ℕ) (tags : List ℕ) (blocks before after : List Block) (place : ℕ) → TellBlocks words tags blocks → blocks ≡ before ++ after → Fills 0 before place → 0 < place → place < words → LastTold tags before place
+last_told words tags blocks [] after place tell whole here some within = absurd (omega arith)
+last_told words tags blocks (b ∷ bs) after place tell whole here some within =
+    let parts = last_of (b ∷ bs) (length bs) (omega arith) in
+    let last = parts.1 in
+    let own = back_fills 0 place parts.0 (last ∷ []) (subst (λ xs. Fills 0 xs place) parts.2 here) in
+    let tagged = tagged_front words tags (b ∷ bs) after (subst (AreTagged words tags) whole tell.tagged) in
+    let is = (tagged_back words tags parts.0 (last ∷ []) (subst (AreTagged words tags) parts.2 tagged)).0 in
+    let ends : last.place + last.size ≡ place = (let at = own.0 in let end = own.2 in omega arith) in
+    record { front = parts.0; last = last; split = parts.2; tag = subst (λ n. tag_at tags (n - 1) ≡ (last.size, last.used)) ends (is.last (omega arith)); ends = ends }
+
+-- the first block from a place on, and what the word there tells
+pub record FirstTold (tags : List ℕ) (after : List Block) (place : ℕ) : Type 0 where
+  pub first : Block
+  pub back : List Block
+  pub split : after ≡ first ∷ back
+  pub tag : tag_at tags place ≡ (first.size, first.used)
+  pub here : first.place ≡ place
+
+first_by : (words : ℕ) (tags : List ℕ) (place : ℕ) (after : List Block) → Fills place after words → AreTagged words tags after → place < words → FirstTold tags after place
+first_by words tags place [] fills tagged lt = absurd (omega arith)
+first_by words tags place (block ∷ back) fills tagged lt = record {
+  first = block;
+  back = back;
+  split = refl;
+  tag = subst (λ n. tag_at tags n ≡ (block.size, block.used)) fills.0 tagged.0.first;
+  here = fills.0;
+}
+
+pub after_fills : (words : ℕ) (tags : List ℕ) (blocks before after : List Block) (place : ℕ) → TellBlocks words tags blocks → blocks ≡ before ++ after → Fills 0 before place → Fills place after words
+after_fills words tags blocks before after place tell whole here =
+    let is : 0 + words_of before ≡ place = words_of-fills 0 place before here in
+    subst (λ n. Fills n after words) is (back_fills 0 words before after (subst (λ xs. Fills 0 xs words) whole tell.fills))
+
+pub first_told : (words : ℕ) (tags : List ℕ) (blocks before after : List Block) (place : ℕ) → TellBlocks words tags blocks → blocks ≡ before ++ after → Fills 0 before place → place < words → FirstTold tags after place
+first_told words tags blocks before after place tell whole here lt =
+    first_by words tags place after (after_fills words tags blocks before after place tell whole here) (tagged_back words tags before after (subst (AreTagged words tags) whole tell.tagged)) lt
+
+-- blocks without words are none
+pub no_words : (from : ℕ) (blocks : List Block) → Fills from blocks from → EndsFree blocks → ⊥
+no_words from [] fills ends = ends
+no_words from (block ∷ blocks) fills ends = grind (arith, common_steps, from-le-end (from + block.size) from blocks fills.2)
+
+-- no block begins where the words end
+pub none_behind : (place : ℕ) (after : List Block) → Fills place after place → BeginsFree after → ⊥
+none_behind place [] fills begins = begins
+none_behind place (block ∷ back) fills begins = grind (arith, common_steps, from-le-end (place + block.size) place back fills.2)
+
+pub ends_last : (front : List Block) (last : Block) → EndsFree (front ++ last ∷ []) → IsFree last
+ends_last [] last ends = ends
+ends_last (x ∷ []) last ends = ends
+ends_last (x ∷ y ∷ front) last ends = ends_last (y ∷ front) last ends
+
+pub used_not_free : (u : Bool) → u ≡ true → u ≡ false → ⊥
+used_not_free true a b = cc
+used_not_free false a b = cc
+
+-- blocks that lie where one is to lie begin where those before them end
+covers_at : (words : ℕ) (tags : List ℕ) (from end : ℕ) (before middle after : List Block) → from < end → TellBlocks words tags (before ++ (middle ++ after)) → Fills from middle end → words_of before ≡ from
+covers_at words tags from end before middle after some tell fills =
+    let at = begins_at (0 + words_of before) from end words middle after some fills (back_fills 0 words before (middle ++ after) tell.fills) in
+    omega arith
+
+pub covered_within : (words : ℕ) (tags : List ℕ) (block : Block) (before middle after : List Block) → 0 < block.size → TellBlocks words tags (before ++ (middle ++ after)) → Fills block.place middle (block.place + block.size)
+    → block.place + block.size ≤ words
+covered_within words tags block before middle after some tell fills =
+    let here = covers_at words tags block.place (block.place + block.size) before middle after (omega arith) tell fills in
+    let rest = subst (λ n. Fills n (middle ++ after) words) (let e : 0 + words_of before ≡ block.place = omega arith in e) (back_fills 0 words before (middle ++ after) tell.fills) in
+    let many = words_of-fills block.place (block.place + block.size) middle fills in
+    let le = from-le-end (block.place + words_of middle) words after (back_fills block.place words middle after rest) in
+    omega arith
+
+-- one block's tags take the place of some
+pub replaced : (words : ℕ) (tags new : List ℕ) (block : Block) (before middle after : List Block) → 0 < block.size → Rewrites tags new block.place (block.place + block.size)
+    → TellBlocks words tags (before ++ (middle ++ after)) → Fills block.place middle (block.place + block.size) → IsTagged words new block → NowTell words new (before ++ block ∷ after)
+replaced words tags new block before middle after some writes tell fills tagged =
+    told_instead words tags new block.place (block.place + block.size) before middle (block ∷ []) after writes tell
+    (covers_at words tags block.place (block.place + block.size) before middle after (omega arith) tell fills) fills (refl, some, refl) (tagged, tt)
+
+-- a block's first words are one block now, and its last words another
+pub record Cut (words : ℕ) (tags new : List ℕ) (block : Block) (need : ℕ) : Type 0 where
+  pub some : 0 < need
+  pub enough : need ≤ block.size
+  pub writes : Rewrites tags new block.place (block.place + block.size)
+  pub tagged : AreTagged words new (used_block block.place need ∷ rest_of (block.place + need) (block.size - need))
+
+pub cut_told : (words : ℕ) (tags new : List ℕ) (block : Block) (need : ℕ) (blocks before after : List Block) → Cut words tags new block need → TellBlocks words tags blocks → blocks ≡ before ++ block ∷ after
+    → NowTell words new (before ++ used_block block.place need ∷ (rest_of (block.place + need) (block.size - need) ++ after))
+cut_told words tags new block need blocks before after cut tell whole =
+    let own = subst (TellBlocks words tags) whole tell in
+    let some = cut.some in
+    let enough = cut.enough in
+    let fills : Fills block.place (block ∷ []) (block.place + block.size) = (refl, omega arith, refl) in
+    told_instead words tags new block.place (block.place + block.size) before (block ∷ []) (used_block block.place need ∷ rest_of (block.place + need) (block.size - need)) after cut.writes own
+    (covers_at words tags block.place (block.place + block.size) before (block ∷ []) after (omega arith) own fills) fills
+    (refl, some, rest_fills (block.place + need) (block.place + block.size) (block.size - need) (omega arith)) cut.tagged
+  where
+    rest_fills : (from end size : ℕ) → from + size ≡ end → Fills from (rest_of from size) end
+    rest_fills from end zero e = omega arith
+    rest_fills from end (suc size) e = (refl, omega arith, e)
+
+-- all of its words are used
+pub cut_whole : (words : ℕ) (tags new : List ℕ) (block : Block) (need : ℕ) → 0 < need → need ≤ block.size → block.size ≤ need
+    → OthersStay tags new (used_block block.place need) → IsTagged words new (used_block block.place need) → Cut words tags new block need
+cut_whole words tags new block need some enough all others tagged =
+    let same : need ≡ block.size = omega arith in
+    let none : block.size - need ≡ 0 = omega arith in
+    record {
+      some = some;
+      enough = enough;
+      writes = subst (λ n. Rewrites tags new block.place (block.place + n)) same (one_written tags new (used_block block.place need) some others);
+      tagged = (tagged, rw none tt);
+    }
+
+-- the rest is free
+pub cut_part : (words : ℕ) (tags mid new : List ℕ) (block : Block) (need : ℕ) → 0 < need → need < block.size
+    → OthersStay tags mid (free_block (block.place + need) (block.size - need)) → IsTagged words mid (free_block (block.place + need) (block.size - need))
+    → OthersStay mid new (used_block block.place need) → IsTagged words new (used_block block.place need)
+    → Cut words tags new block need
+cut_part words tags mid new block need some part first rest second tagged = record {
+  some = some;
+  enough = omega arith;
+  writes = record {
+    below = λ place lt. own.below place lt ∙ behind.below place (omega arith);
+    above = λ place le. own.above place (omega arith) ∙ behind.above place (omega arith);
+  };
+  tagged = (tagged, subst (AreTagged words new) (sym (rest_is (block.place + need) (block.size - need) (omega arith))) (now, tt));
+}
+  where
+    own : Rewrites mid new block.place (block.place + need)
+    own = one_written mid new (used_block block.place need) some second
+
+    behind : Rewrites tags mid (block.place + need) ((block.place + need) + (block.size - need))
+    behind = one_written tags mid (free_block (block.place + need) (block.size - need)) (omega arith) first
+
+    now : IsTagged words new (free_block (block.place + need) (block.size - need))
+    now = kept_one words mid new (free_block (block.place + need) (block.size - need)) (omega arith) (λ place ge lt. own.above place ge) rest
+
+    rest_is : (place size : ℕ) → 0 < size → rest_of place size ≡ free_block place size ∷ []
+    rest_is place zero some = absurd (omega arith)
+    rest_is place (suc size) some = refl
+
+-- no free block begins in the first words, once the rest was written
+pub first_inside : (tags mid : List ℕ) (block : Block) (need : ℕ) → 0 < need → need < block.size → NoneInside tags block → OthersStay tags mid (free_block (block.place + need) (block.size - need)) → NoneInside mid (used_block block.place need)
+first_inside tags mid block need some part inside others place gt lt = ap free_in (others place (λ e. absurd (omega arith)) (λ e. absurd (omega arith))) ∙ inside place gt (omega arith)
