@@ -145,6 +145,7 @@ pub record UsedAt (words : ℕ) (blocks : List Block) (place size : ℕ) : Type 
   pub is_next : blocks ≡ (before ++ used_block place size ∷ []) ++ after
   pub next : Fills 0 (before ++ used_block place size ∷ []) (place + size)
   pub within : place + size ≤ words
+  pub some : 0 < size
 
 pub used_at : (words : ℕ) (blocks : List Block) (place : ℕ) → IsBlockList words blocks → (has : HasUsed blocks place) → UsedAt words blocks place has.size
 used_at words blocks place list has =
@@ -166,11 +167,8 @@ used_at words blocks place list has =
       is_next = is_next;
       next = subst (λ n. Fills 0 (parts.0 ++ block ∷ []) n) ends (front_fills 0 words (parts.0 ++ block ∷ []) parts.1 (subst (λ xs. Fills 0 xs words) is_next list.fills));
       within = omega arith;
+      some = here.1;
     }
-
--- the free block behind, and all before it
-pub before_right : (words : ℕ) (blocks : List Block) (place size : ℕ) (left right : Option Block) → (freed : IsFreed words blocks place size left right) → blocks ≡ (freed.front ++ (blocks_in left ++ used_block place size ∷ [])) ++ (blocks_in right ++ freed.back)
-before_right words blocks place size left right freed = grind (arith, common_steps)
 
 -- The one free block, and the blocks that lie where it is to lie.
 pub record IsJoined (words : ℕ) (blocks : List Block) (place size : ℕ) (left right : Option Block) (front back : List Block) (block : Block) : Type 0 where

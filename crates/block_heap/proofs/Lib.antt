@@ -8,3 +8,5 @@ pub mod NodeLaws
 pub mod RowLaws
 pub mod TagLaws
 pub mod Giving
+pub mod Finding
+pub mod Keeping

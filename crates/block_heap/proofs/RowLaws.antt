@@ -20,3 +20,11 @@ pub row_changed : (words : ℕ) (tags new : List ℕ) (room inner : ℕ) (nodes 
     → AreDue inner (free_from new) nodes (Some (inner + place / 16))
 row_changed words tags new room inner nodes place row others =
     tree_changed words inner (free_from tags) (free_from new) nodes place row.tree (λ k ne. ap free_in (others k ne))
+
+-- a free block begins within the words
+pub begins_within : (words : ℕ) (tags : List ℕ) (room inner : ℕ) (nodes : List ℕ) → KeepsRow words tags room inner nodes → (place : ℕ) → 0 < free_from tags place → place < words
+begins_within words tags room inner nodes row place some = by (cases_lt place words)
+  where
+    by : (place < words) ⊎ (words ≤ place) → place < words
+    by (inl within) = within
+    by (inr behind) = absurd (let within = row.within in let none = ap free_in (get_or_past tags place 0 (omega arith)) in omega arith)

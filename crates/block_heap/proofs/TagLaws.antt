@@ -1,7 +1,7 @@
 -- Tags that tell blocks.
 use Rattle.std.proofs.Common.{◌≡◌, ◌≢◌, ℕ, zero, suc, ◌+◌, ◌-◌, ◌*◌, ◌/◌, ◌%◌, ◌<◌, ◌≤◌, ◌⊎◌, inl, inr, Bool, true, false, cond, ltb, Option, Some, None, List, [], ◌∷◌, ◌++◌, length, refl, sym, ap, ◌∙◌, subst, arith}
 use Rattle.std.specs.List.{Contains}
-use Rattle.std.specs.Prelude.{nat_lt}
+use Rattle.std.specs.Prelude.{nat_lt, IfSome}
 use Rattle.std.proofs.lemmas.Bool.{le-ltb, lt-ltb, eq-eqb, ne_eqb, cases_eq, cases_lt}
 use Rattle.std.proofs.lemmas.Grind.{common_steps}
 use Rattle.block_heap.specs.declared.block.Block.{Block}
@@ -389,3 +389,34 @@ cut_part words tags mid new block need some part first rest second tagged = reco
 -- no free block begins in the first words, once the rest was written
 pub first_inside : (tags mid : List ℕ) (block : Block) (need : ℕ) → 0 < need → need < block.size → NoneInside tags block → OthersStay tags mid (free_block (block.place + need) (block.size - need)) → NoneInside mid (used_block block.place need)
 first_inside tags mid block need some part inside others place gt lt = ap free_in (others place (λ e. absurd (omega arith)) (λ e. absurd (omega arith))) ∙ inside place gt (omega arith)
+
+-- the tags of all words that were written, where one block takes the place of some
+pub all_written : (tags mid new : List ℕ) (block : Block) (right : Option Block) → 0 < block.size → IfSome right (λ other. (block.place < other.place) × (other.place < block.place + block.size))
+    → ((place : ℕ) → ((other : Block) → right ≡ Some other → place ≢ other.place) → tag_of mid place ≡ tag_of tags place) → OthersStay mid new block → Rewrites tags new block.place (block.place + block.size)
+all_written tags mid new block right some behind first second = record {
+  below = λ place lt. own.below place lt ∙ first place (λ other is e. absurd (let lies = subst inside is behind in let there = lies.0 in omega arith));
+  above = λ place le. own.above place le ∙ first place (λ other is e. absurd (let lies = subst inside is behind in let there = lies.1 in omega arith));
+}
+  where
+    inside : Option Block → Type 0
+    inside r = IfSome r (λ other. (block.place < other.place) × (other.place < block.place + block.size))
+
+    own : Rewrites mid new block.place (block.place + block.size)
+    own = one_written mid new block some second
+
+pub words_told : (words : ℕ) (tags : List ℕ) (blocks : List Block) → TellBlocks words tags blocks → words_of blocks ≡ words
+words_told words tags blocks tell = (let all = words_of-fills 0 words blocks tell.fills in omega arith)
+
+-- a free block's first word tells its size
+pub free_told : (words : ℕ) (tags : List ℕ) (blocks : List Block) (block : Block) → TellBlocks words tags blocks → Contains blocks block → IsFree block → free_from tags block.place ≡ block.size
+free_told words tags blocks block tell among free = (lies_in words tags blocks block tell among).tagged.head ∙ ap (λ u. cond u 0 block.size) free
+
+-- what a tag tells, as it is read
+pub read_size : (tags : List ℕ) (place tag size : ℕ) (u : Bool) → tag_at tags place ≡ (size, u) → tag ≡ tag_of tags place → tag / 4 + 1 ≡ size
+read_size tags place tag size u told read = ap (λ t. t / 4 + 1) read ∙ ap (λ t. t.0) told
+
+pub read_used : (tags : List ℕ) (place tag size : ℕ) (u : Bool) → tag_at tags place ≡ (size, u) → tag ≡ tag_of tags place → tag % 4 < 2 → u ≡ true
+read_used tags place tag size u told read less = sym (ap (λ t. t.1) told) ∙ sym (ap (λ t. nat_lt (t % 4) 2) read) ∙ lt-ltb (tag % 4) 2 less
+
+pub read_free : (tags : List ℕ) (place tag size : ℕ) (u : Bool) → tag_at tags place ≡ (size, u) → tag ≡ tag_of tags place → 2 ≤ tag % 4 → u ≡ false
+read_free tags place tag size u told read more = sym (ap (λ t. t.1) told) ∙ sym (ap (λ t. nat_lt (t % 4) 2) read) ∙ le-ltb (tag % 4) 2 more

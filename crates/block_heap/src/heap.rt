@@ -85,9 +85,6 @@ impl Heap {
     pub fn largest(&self) -> u32
         ensures { IsLargest self.now result }
     {
-        let Some(block) = self.blocks.find(self.blocks.most().max(1)) else {
-            return 0;
-        };
-        block.size
+        self.blocks.largest()
     }
 }

@@ -87,22 +87,28 @@ impl TagRow {
         }
     }
 
-    // The most words of a free block, or more where none has as many.
-    pub fn most(&self) -> u32
-        ensures { (place : ℕ) → free_from self.now.1 place ≤ result }
-    {
-        self.nodes[0]
-    }
-
     // The first word where a free block of as many words begins.
     pub fn find(&self, need: u32) -> Option<u32>
         requires { 1 ≤ need }
         ensures none { IfNone result ((place : ℕ) → free_from self.now.1 place < need) }
-        ensures some { IfSome result (λ place. need ≤ free_from self.now.1 place) }
+        ensures some { IfSome result (λ place. (place < self.now.0) × (need ≤ free_from self.now.1 place)) }
     {
         if self.nodes[0] < need {
             return None;
         }
         Some(first_with(&self.tags, &self.nodes, self.inner, need) as u32)
+    }
+
+    // The first word where a free block begins that has as many words as any.
+    pub fn largest(&self) -> Option<u32>
+        ensures none { IfNone result ((place : ℕ) → free_from self.now.1 place ≡ 0) }
+        ensures some { IfSome result (λ place. (place < self.now.0) × (0 < free_from self.now.1 place)
+            × ((other : ℕ) → free_from self.now.1 other ≤ free_from self.now.1 place)) }
+    {
+        let most = self.nodes[0];
+        if most == 0 {
+            return None;
+        }
+        Some(first_with(&self.tags, &self.nodes, self.inner, most) as u32)
     }
 }

@@ -1,7 +1,7 @@
 //! The blocks of a heap, told by the size and the use of each at its first word and at its last.
-ghost use Rattle.std.specs.Prelude.{◌≡◌, ◌≢◌, ◌+◌, ◌-◌, ◌<◌, ◌≤◌, ℕ, [], ◌∷◌, ◌++◌, List, length, IfOk, IfNone, IfSome, Contains};
+ghost use Rattle.std.specs.Prelude.{◌≡◌, ◌≢◌, ◌+◌, ◌-◌, ◌<◌, ◌≤◌, ℕ, [], ◌∷◌, ◌++◌, List, Some, IfOk, IfNone, IfSome, Contains};
 ghost use Rattle.block_heap.specs.declared.block.TheConstants.{MOST_WORDS};
-ghost use Rattle.block_heap.specs.Blocks.{free_block, used_block, words_of, Fills, IsFree, NoneFits};
+ghost use Rattle.block_heap.specs.Blocks.{free_block, used_block, words_of, Fills, IsFree, IsLargest};
 ghost use Rattle.block_heap.specs.declared.block.Block.{Block};
 ghost use Rattle.block_heap.specs.Changes.{rest_of};
 ghost use Rattle.block_heap.specs.Tags.{tag_of, first_tag, last_tag, IsTagged, OthersStay, NoneInside, HasBlock, IsSeam, IsLastFree, IsFirstFree, Covers};
@@ -81,6 +81,18 @@ fn tag(row: &mut TagRow, block: Block)
     row.set(block.place, first_tag(block));
 }
 
+// Takes the tag of a block's first word away.
+fn clear(row: &mut TagRow, block: Option<Block>)
+    requires { IfSome block (λ other. other.place < row.old.0) }
+    ensures gone { (other : Block) → block ≡ Some other → tag_of row.new.1 other.place ≡ 0 }
+    ensures others { (place : ℕ) → ((other : Block) → block ≡ Some other → place ≢ other.place) → tag_of row.new.1 place ≡ tag_of row.old.1 place }
+    ensures words { row.new.0 ≡ row.old.0 }
+{
+    if let Some(block) = block {
+        row.set(block.place, 0);
+    }
+}
+
 impl TaggedBlocks {
     // One free block of all words.
     pub fn new(alloc: Global, words: u32) -> Result<Self, NoMemory>
@@ -93,13 +105,6 @@ impl TaggedBlocks {
         Ok(TaggedBlocks { row })
     }
 
-    // How many words there are at most.
-    pub fn most(&self) -> u32
-        ensures { (block : Block) → Contains self.now block → IsFree block → block.size ≤ result }
-    {
-        self.row.most()
-    }
-
     // A free block of as many words as are needed.
     pub fn find(&self, need: u32) -> Option<Block>
         requires { 1 ≤ need }
@@ -108,6 +113,16 @@ impl TaggedBlocks {
     {
         let place = self.row.find(need)?;
         Some(Block::free(place, free_in(self.row.tag(place))))
+    }
+
+    // The size of the largest free block, or 0 where there is none.
+    pub fn largest(&self) -> u32
+        ensures { IsLargest self.now result }
+    {
+        let Some(place) = self.row.largest() else {
+            return 0;
+        };
+        free_in(self.row.tag(place))
     }
 
     // The size of the block that begins at the place.
@@ -157,9 +172,7 @@ impl TaggedBlocks {
         ensures { (before middle after : List Block) → self.old ≡ before ++ (middle ++ after)
             → Fills block.place middle (block.place + block.size) → self.new ≡ before ++ block ∷ after }
     {
-        if let Some(right) = right {
-            self.row.set(right.place, 0);
-        }
+        clear(&mut self.row, right);
         tag(&mut self.row, block);
     }
 
@@ -171,9 +184,15 @@ impl TaggedBlocks {
         ensures { (before after : List Block) → self.old ≡ before ++ block ∷ after
             → self.new ≡ before ++ used_block block.place need ∷ (rest_of (block.place + need) (block.size - need) ++ after) }
     {
-        if need < block.size {
-            tag(&mut self.row, Block::free(block.place + need, block.size - need));
+        let used = Block::used(block.place, need);
+        if need == block.size {
+            tag(&mut self.row, used);
+            return;
         }
-        tag(&mut self.row, Block::used(block.place, need));
+        tag(
+            &mut self.row,
+            Block::free(block.place + need, block.size - need),
+        );
+        tag(&mut self.row, used);
     }
 }
