@@ -7,7 +7,7 @@ use Rattle.block_heap.specs.declared.block.Block.{Block}
 use Rattle.block_heap.specs.Blocks.{free_block, used_block, IsFree, Fills, IsBlockList, words_of}
 use Rattle.block_heap.specs.Changes.{rest_of, IsTaken}
 use Rattle.block_heap.specs.Inside.{IsHeap, blocks_in}
-use Rattle.block_heap.proofs.Order.{words_of-cons, from-le-end}
+use Rattle.block_heap.proofs.Order.{words_of-cons}
 use Rattle.block_heap.proofs.Places.{free_is, parted}
 use Rattle.block_heap.proofs.Taking.{words_of-list}
 

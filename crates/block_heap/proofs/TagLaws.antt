@@ -1,5 +1,5 @@
 -- Tags that tell blocks.
-use Rattle.std.proofs.Common.{◌≡◌, ◌≢◌, ℕ, zero, suc, ◌+◌, ◌-◌, ◌*◌, ◌/◌, ◌%◌, ◌<◌, ◌≤◌, ◌⊎◌, inl, inr, Bool, true, false, cond, ltb, Option, Some, None, List, [], ◌∷◌, ◌++◌, length, refl, sym, ap, ◌∙◌, subst, arith}
+use Rattle.std.proofs.Common.{◌≡◌, ◌≢◌, ℕ, zero, suc, ◌+◌, ◌-◌, ◌*◌, ◌/◌, ◌%◌, ◌<◌, ◌≤◌, ◌⊎◌, inl, inr, Bool, true, false, cond, Option, Some, None, List, [], ◌∷◌, ◌++◌, length, refl, sym, ap, ◌∙◌, subst, arith}
 use Rattle.std.specs.List.{Contains}
 use Rattle.std.specs.Prelude.{nat_lt, IfSome}
 use Rattle.std.proofs.lemmas.Bool.{le-ltb, lt-ltb, eq-eqb, ne_eqb, cases_eq, cases_lt}
@@ -51,9 +51,10 @@ pub kept : (words : ℕ) (tags new : List ℕ) (from end : ℕ) (blocks : List B
 kept words tags new from end [] fills same tagged = tt
 kept words tags new from end (block ∷ blocks) fills same tagged =
     let here = fills.0 in
-    let le = from-le-end (from + block.size) end blocks fills.2 in
-    (kept_one words tags new block fills.1 (λ place ge lt. same place (omega arith) (omega arith)) tagged.0,
-    kept words tags new (from + block.size) end blocks fills.2 (λ place ge lt. same place (omega arith) lt) tagged.1)
+    let le = from-le-end (from + block.size) end blocks fills.2 in (
+      kept_one words tags new block fills.1 (λ place ge lt. same place (omega arith) (omega arith)) tagged.0,
+      kept words tags new (from + block.size) end blocks fills.2 (λ place ge lt. same place (omega arith) lt) tagged.1,
+    )
 
 pub tagged-append : (words : ℕ) (tags : List ℕ) (xs ys : List Block) → AreTagged words tags xs → AreTagged words tags ys → AreTagged words tags (xs ++ ys)
 tagged-append words tags [] ys a b = b

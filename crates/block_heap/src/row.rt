@@ -83,7 +83,12 @@ impl TagRow {
         let same = free_in(tag_of(&self.tags, at)) == free_in(tag);
         write(&mut self.tags, at, tag);
         if !same {
-            settle(&self.tags, &mut self.nodes, self.inner, self.inner + at / FAN);
+            settle(
+                &self.tags,
+                &mut self.nodes,
+                self.inner,
+                self.inner + at / FAN,
+            );
         }
     }
 

@@ -1,4 +1,4 @@
-use Rattle.std.proofs.Common.{List, refl, sym, subst, ◌∙◌, arith}
+use Rattle.std.proofs.Common.{List, ◌<◌, refl, sym, subst, ◌∙◌, arith}
 use Rattle.std.specs.Option.{IfNone, IsNone}
 use Rattle.block_heap.specs.declared.block.Block.{Block}
 use Rattle.block_heap.specs.Blocks.{MayLack, NoneFits, IsBlockList, words_of}

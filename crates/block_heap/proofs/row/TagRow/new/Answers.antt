@@ -1,4 +1,4 @@
-use Rattle.std.proofs.Common.{◌≡◌, ◌+◌, ◌/◌, ℕ, List, ap, ◌∙◌, subst, refl, sym, arith}
+use Rattle.std.proofs.Common.{◌+◌, ◌/◌, ap, ◌∙◌, refl, arith}
 use Rattle.block_heap.specs.Nodes.{number_at}
 use Rattle.block_heap.specs.Tags.{free_from}
 use Rattle.block_heap.proofs.NodeLaws.{tree_new, zeros}

@@ -1,10 +1,11 @@
-use Rattle.std.proofs.Common.{List, ℕ, ◌≡◌, ◌+◌, ◌-◌, ◌<◌, ◌∷◌, ◌++◌, ◌∙◌, ap, arith, subst, sym}
+use Rattle.std.proofs.Common.{List, ℕ, ◌≡◌, ◌+◌, ◌-◌, ◌∷◌, ◌++◌, ◌∙◌, arith, subst, sym}
 use Rattle.std.specs.List.{Contains}
 use Rattle.block_heap.specs.declared.block.Block.{Block}
 use Rattle.block_heap.specs.Blocks.{free_block, used_block}
+use Rattle.block_heap.specs.Changes.{rest_of}
 use Rattle.block_heap.specs.Tags.{IsTagged, OthersStay, NoneInside}
 use Rattle.block_heap.proofs.Places.{parted}
-use Rattle.block_heap.proofs.TagLaws.{Cut, LiesIn, NowTell, cut_told, cut_whole, cut_part, lies_in, first_inside}
+use Rattle.block_heap.proofs.TagLaws.{LiesIn, NowTell, cut_told, cut_whole, cut_part, lies_in, first_inside}
 use Rattle.block_heap.proofs.tagged.TaggedBlocks.cut.Goals as goal
 use Rattle.block_heap.proofs.tagged.TaggedBlocks.cut.Goals.{After-self}
 
@@ -35,10 +36,10 @@ whole c before after is =
     c.self.invariant (c.self.view_is ∙ is))
 
 pub invariant_of-self : goal.invariant_of-self
-invariant_of-self c = (let parts = parted c.args.self.now c.args.block c.requires.among in (whole (goal.at.invariant_of-self c).After-tag parts.0 parts.1 parts.2).tell)
+invariant_of-self c = (let parts = parted c.args.self.now c.args.block c.requires.among in (whole c parts.0 parts.1 parts.2).tell)
 
 pub returns-then-need-block : goal.returns-then-need-block
-returns-then-need-block c = λ before after is. (whole (goal.at.returns-then-need-block c).After-tag before after is).view
+returns-then-need-block c = λ before after is. (whole c before after is).view
 
 pub overflow_add-block : goal.overflow_add-block
 overflow_add-block c =
@@ -86,7 +87,7 @@ part c before after is =
     c.self.invariant (c.self.view_is ∙ is))
 
 pub invariant_of-self-2 : goal.invariant_of-self-2
-invariant_of-self-2 c = (let parts = parted c.args.self.now c.args.block c.requires.among in (part (goal.at.invariant_of-self-2 c).After-tag-3 parts.0 parts.1 parts.2).tell)
+invariant_of-self-2 c = (let parts = parted c.args.self.now c.args.block c.requires.among in (part c parts.0 parts.1 parts.2).tell)
 
 pub returns : goal.returns
-returns c = λ before after is. (part (goal.at.returns c).After-tag-3 before after is).view
+returns c = λ before after is. (part c before after is).view

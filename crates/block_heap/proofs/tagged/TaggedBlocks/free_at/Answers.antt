@@ -1,4 +1,4 @@
-use Rattle.std.proofs.Common.{List, ◌≡◌, ◌<◌, ◌+◌, ◌/◌, ◌∷◌, ◌++◌, refl, ap, ◌∙◌, arith, subst, sym}
+use Rattle.std.proofs.Common.{List, ◌≡◌, ◌∷◌, ◌++◌, refl, ap, ◌∙◌, arith, subst, sym}
 use Rattle.block_heap.specs.declared.block.Block.{Block}
 use Rattle.block_heap.specs.Blocks.{free_block, BeginsFree, Fills}
 use Rattle.block_heap.proofs.Order.{from-le-end}

@@ -1,4 +1,4 @@
-use Rattle.std.proofs.Common.{◌≡◌, ◌∷◌, [], ℕ, List, ◌∙◌, ap, arith, subst, refl, sym}
+use Rattle.std.proofs.Common.{◌∷◌, [], ◌∙◌, arith, subst, refl}
 use Rattle.block_heap.specs.Blocks.{free_block}
 use Rattle.block_heap.specs.Tags.{AreTagged}
 use Rattle.block_heap.proofs.TagLaws.{NowTell, now_tell}

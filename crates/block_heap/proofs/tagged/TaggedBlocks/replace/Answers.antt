@@ -2,7 +2,7 @@ use Rattle.std.proofs.Common.{List, ℕ, ◌≡◌, ◌<◌, ◌≤◌, ◌+◌,
 use Rattle.std.specs.Prelude.{IfSome}
 use Rattle.block_heap.specs.declared.block.Block.{Block}
 use Rattle.block_heap.specs.Blocks.{Fills}
-use Rattle.block_heap.specs.Tags.{TellBlocks, IsTagged, AreTagged, Covers}
+use Rattle.block_heap.specs.Tags.{TellBlocks, IsTagged}
 use Rattle.block_heap.proofs.TagLaws.{NowTell, replaced, covered_within, none_inside, all_written, tagged_front, tagged_back}
 use Rattle.block_heap.proofs.tagged.TaggedBlocks.replace.Goals as goal
 use Rattle.block_heap.proofs.tagged.TaggedBlocks.replace.Goals.{After-self}
