@@ -6,11 +6,9 @@ ghost use Rattle.partition_sizes.specs.Bytes.{beside, table_bytes, partition_byt
 use epoch_core::Shape;
 use partition_model::{Mode, Options};
 
-/// The bytes that a heap has beside each of its words: its size, whether it is used, and two links.
-pub const HEAP_BYTES: u64 = 13;
-
-/// The bytes of the heads and the bounds of a heap's lists.
-pub const LISTS_BYTES: u64 = 768;
+/// The bytes that a heap has at most beside each of its words: four for the word's tag, and less than one for the nodes over
+/// the tags.
+pub const HEAP_BYTES: u64 = 5;
 
 /// The bytes that an index has for each of its spares.
 pub const SPARE_BYTES: u64 = 4;
@@ -22,7 +20,7 @@ fn beside(mode: Mode, words: u32, spares: u32) -> u64
     match mode {
         Mode::Cache => 0,
         Mode::Store => {
-            HEAP_BYTES * u64::from(words) + LISTS_BYTES + SPARE_BYTES * u64::from(spares)
+            HEAP_BYTES * u64::from(words) + SPARE_BYTES * u64::from(spares)
         }
     }
 }
