@@ -61,14 +61,6 @@ due_alike inner at f g nodes new below words = by (cases_lt at inner)
     by (inl lt) = due_inner inner at g new lt ∙ most_of-same (number_at nodes) (number_at new) (16 * at + 1) 16 (below lt) ∙ sym (due_inner inner at f nodes lt)
     by (inr le) = due_leaf inner at g new le ∙ most_of-same f g (16 * (at - inner)) 16 (words le) ∙ sym (due_leaf inner at f nodes le)
 
--- the last node that had something else has what it is to have
-pub settled : (inner at : ℕ) (f : ℕ → ℕ) (nodes : List ℕ) → AreDue inner f nodes (Some at) → number_at nodes at ≡ due_at inner f nodes at → AreDue inner f nodes None
-settled inner at f nodes others here other within ne = by (cases_eq at other)
-  where
-    by : (at ≡ other) ⊎ (at ≢ other) → number_at nodes other ≡ due_at inner f nodes other
-    by (inl is) = subst (λ n. number_at nodes n ≡ due_at inner f nodes n) is here
-    by (inr differs) = others other within (λ e. differs (cc))
-
 above_of : (at other : ℕ) → 16 * other + 1 ≤ at → at < 16 * other + 1 + 16 → above at ≡ Some other
 above_of zero other ge lt = absurd (omega arith)
 above_of (suc at) other ge lt = (let is : at / 16 ≡ other = omega arith in ap Some is)
@@ -119,13 +111,6 @@ pub tree_changed : (count inner : ℕ) (f g : ℕ → ℕ) (nodes : List ℕ) (p
 tree_changed count inner f g nodes place tree same at within ne =
     tree.due at within (λ e. cc) ∙ sym (due_alike inner at f g nodes nodes (λ lt k ge less. refl)
     (λ le k ge less. same k (λ e. ne (ap Some (let is : inner + place / 16 ≡ at = omega arith in is)))))
-
-pub tree_same : (count inner : ℕ) (f g : ℕ → ℕ) (nodes : List ℕ) → IsTree count inner f nodes → ((k : ℕ) → g k ≡ f k) → IsTree count inner g nodes
-tree_same count inner f g nodes tree same = record {
-  len = tree.len;
-  enough = tree.enough;
-  due = λ at within ne. tree.due at within (λ e. cc) ∙ sym (due_alike inner at f g nodes nodes (λ lt k ge less. refl) (λ le k ge less. same k));
-}
 
 -- what is left of the way up
 abbrev pub left : Option ℕ → ℕ

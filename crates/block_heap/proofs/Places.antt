@@ -24,10 +24,6 @@ parted (y ∷ xs) x (suc k, lt, is) =
     let rest = parted xs x (k, omega arith, is) in
     (y ∷ rest.0, rest.1, ap (λ xs. y ∷ xs) rest.2)
 
-pub in_middle : {X : Type 0} (before after : List X) (x : X) → Contains (before ++ x ∷ after) x
-in_middle [] after x = (0, omega arith, refl)
-in_middle (y ∷ before) after x = (let rest = in_middle before after x in (suc rest.0, (let lt = rest.1 in omega arith), rest.2))
-
 -- where a block lies among others
 pub lies_from : (from end : ℕ) (blocks : List Block) (block : Block) → Fills from blocks end → Contains blocks block → (from ≤ block.place) × (0 < block.size) × (block.place + block.size ≤ end)
 lies_from from end blocks block fills among =

@@ -207,22 +207,6 @@ first_free block some = by block.used refl
     by true used = rw used (not_head ((block.size - 1) * 4 + 1) (omega arith))
     by false free = rw free (let tag = (block.size - 1) * 4 + 2 in head tag (omega arith) ∙ (omega arith))
 
-pub last_not_free : (block : Block) → free_in (last_tag block) ≡ 0
-last_not_free block = by block.used refl
-  where
-    by : (u : Bool) → block.used ≡ u → free_in (last_tag block) ≡ 0
-    by true used = rw used (not_head ((block.size - 1) * 4 + 1) (omega arith))
-    by false free = rw free (not_head ((block.size - 1) * 4 + 3) (omega arith))
-
--- the tag of a block's last word is written
-pub last_written : (tags new : List ℕ) (block : Block) → NoneInside tags block → tag_of new (block.place + block.size - 1) ≡ last_tag block → ((place : ℕ) → place ≢ block.place + block.size - 1 → tag_of new place ≡ tag_of tags place)
-    → NoneInside new block
-last_written tags new block inside here others place gt lt = by (cases_eq place (block.place + block.size - 1))
-  where
-    by : (place ≡ block.place + block.size - 1) ⊎ (place ≢ block.place + block.size - 1) → free_from new place ≡ 0
-    by (inl is) = ap (free_from new) is ∙ ap free_in here ∙ last_not_free block
-    by (inr ne) = ap free_in (others place ne) ∙ inside place gt lt
-
 -- and then that of its first word
 pub first_written : (words : ℕ) (tags new : List ℕ) (block : Block) → 0 < block.size → NoneInside tags block → (block.place + block.size < words → tag_of tags (block.place + block.size - 1) ≡ last_tag block)
     → tag_of new block.place ≡ first_tag block → ((place : ℕ) → place ≢ block.place → tag_of new place ≡ tag_of tags place) → IsTagged words new block

@@ -36,8 +36,8 @@ fn first_tag(block: Block) -> u32
     requires limit { block.size ≤ MOST_WORDS }
     ensures { result ≡ first_tag block }
 {
-    let size = (block.size - 1) * 4;
-    if block.used { size + 1 } else { size + 2 }
+    let tag = (block.size - 1) * 4;
+    if block.used { tag + 1 } else { tag + 2 }
 }
 
 // The tag of a block's last word, where it has more than one.
@@ -46,8 +46,8 @@ fn last_tag(block: Block) -> u32
     requires limit { block.size ≤ MOST_WORDS }
     ensures { result ≡ last_tag block }
 {
-    let size = (block.size - 1) * 4;
-    if block.used { size + 1 } else { size + 3 }
+    let tag = (block.size - 1) * 4;
+    if block.used { tag + 1 } else { tag + 3 }
 }
 
 // Writes the tag of a block's last word, unless no word is behind it.
