@@ -12,7 +12,7 @@ use Rattle.partition_sizes.specs.declared.bytes.TheConstants.{HEAP_BYTES, SPARE_
 abbrev pub table_bytes : Shape → ℕ
 table_bytes shape = 8 * word_count shape
 
--- of the rows beside it: in store mode its heap has some for each word, and its index for each spare
+-- of the rows beside it: in store mode its heap has so many at most for each word, and its index some for each spare
 abbrev pub beside : Mode → ℕ → ℕ → ℕ
 beside Cache words spares = 0
 beside Store words spares = HEAP_BYTES * words + SPARE_BYTES * spares
