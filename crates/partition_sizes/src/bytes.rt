@@ -19,9 +19,7 @@ fn beside(mode: Mode, words: u32, spares: u32) -> u64
 {
     match mode {
         Mode::Cache => 0,
-        Mode::Store => {
-            HEAP_BYTES * u64::from(words) + SPARE_BYTES * u64::from(spares)
-        }
+        Mode::Store => { HEAP_BYTES * u64::from(words) + SPARE_BYTES * u64::from(spares) }
     }
 }
 
