@@ -1,11 +1,22 @@
--- The sizes of free blocks among all blocks.
-use Rattle.std.proofs.Common.{◌≡◌, ℕ, zero, suc, Bool, true, false, List, [], ◌∷◌, refl, sym, subst, arith}
+-- What a search in the lists found, or did not find.
+use Rattle.std.proofs.Common.{◌≡◌, ℕ, zero, suc, ◌+◌, ◌^◌, ◌<◌, ◌≤◌, ◌⊎◌, inl, inr, max, Bool, true, false, Option, Some, None, List, [], ◌∷◌, ◌++◌, length, get_or, refl, sym, ap, ◌∙◌, subst, arith, append_assoc}
 use Rattle.std.specs.List.{All, Contains}
-use Rattle.std.proofs.lemmas.List.Elements.{All-nil, All-cons}
+use Rattle.std.specs.Ordering.{ord_max, nat_cmp}
+use Rattle.std.proofs.lemmas.Bool.{cases_eq, cases_lt}
+use Rattle.std.proofs.lemmas.List.{get_or_default, append-nil}
+use Rattle.std.proofs.lemmas.List.Elements.{All-nil, All-cons, Contains-append_cases}
 use Rattle.std.proofs.lemmas.Grind.{common_steps}
+use Rattle.size_classes.specs.Classes.{class_of}
+use Rattle.size_classes.proofs.Rising.{rises, below_sixty_four}
+use Rattle.block_heap.specs.declared.block.TheConstants.{MOST_WORDS}
 use Rattle.block_heap.specs.declared.block.Block.{Block}
-use Rattle.block_heap.specs.Blocks.{IsFree, free_sizes}
-use Rattle.block_heap.proofs.Counting.{free_more, free_same}
+use Rattle.block_heap.specs.Blocks.{free_block, IsFree, IsLargest, free_sizes, NoneFits, MayLack, words_of}
+use Rattle.block_heap.specs.Links.{node_of}
+use Rattle.block_heap.specs.Lists.{AreListed, left_from}
+use Rattle.block_heap.specs.Inside.{IsHeap, HasFreeAt, HaveFree, AreShort, IsMost}
+use Rattle.block_heap.proofs.Places.{in_middle}
+use Rattle.block_heap.proofs.Counting.{free_more, free_same, MayLack-none_fits}
+use Rattle.block_heap.proofs.Listing.{place_listed, list_filled, block_listed, free_within}
 
 -- what holds of the size of each free block
 pub all_free : (P : ℕ → Type 0) (blocks : List Block) → ((block : Block) → Contains blocks block → IsFree block → P block.size) → All P (free_sizes blocks)
@@ -25,3 +36,167 @@ size_among (b ∷ blocks) block (suc k, lt, is) free = by (size_among blocks blo
     by : Contains (free_sizes blocks) block.size → (u : Bool) → b.used ≡ u → Contains (free_sizes (b ∷ blocks)) block.size
     by rest true used = subst (λ (sizes : List ℕ). Contains sizes block.size) (sym (free_same b blocks used)) rest
     by rest false is_free = subst (λ (sizes : List ℕ). Contains sizes block.size) (sym (free_more b blocks is_free)) (suc rest.0, (let lt = rest.1 in omega arith), rest.2)
+
+-- a free block's size is within the limits
+pub record FreeSize (blocks : List Block) (block : Block) : Type 0 where
+  pub some : 1 ≤ block.size
+  pub limit : block.size ≤ MOST_WORDS
+  pub within : block.place + block.size ≤ words_of blocks
+  pub few : class_of block.size < 64
+
+pub free_size : (blocks : List Block) (words : ℕ) (lists : ℕ → List ℕ) (block : Block) → IsHeap blocks words lists → Contains blocks block → FreeSize blocks block
+free_size blocks words lists block heap among =
+    let lies = free_within (words_of blocks) blocks block heap.list.fills among in
+    let some = lies.0 in
+    let within = lies.1 in
+    let limit = heap.limit in
+    record { some = omega arith; limit = omega arith; within = within; few = below_sixty_four block.size }
+
+-- where the class of the need has none that fits and no class above has any, none fits
+pub none_fits : (blocks : List Block) (words : ℕ) (lists : ℕ → List ℕ) (need : ℕ) → IsHeap blocks words lists → 1 ≤ need → need ≤ words_of blocks
+    → ((block : Block) → Contains blocks block → IsFree block → class_of block.size ≡ class_of need → block.size < need) → ((next : ℕ) → class_of need < next → next < 64 → length (lists next) ≡ 0) → NoneFits blocks need
+none_fits blocks words lists need heap some limit short above = all_free (λ size. size < need) blocks (λ block among free. by block among free (cases_lt block.size need) (cases_lt (class_of need) (class_of block.size)))
+  where
+    by : (block : Block) → Contains blocks block → IsFree block → (block.size < need) ⊎ (need ≤ block.size) → (class_of need < class_of block.size) ⊎ (class_of block.size ≤ class_of need) → block.size < need
+    by block among free (inl less) _ = less
+    by block among free (inr le) (inl higher) =
+        let size = free_size blocks words lists block heap among in
+        let none = above (class_of block.size) higher size.few in
+        let filled = list_filled lists blocks block (class_of block.size) size.few refl heap.listed among free in
+        absurd (omega arith)
+    by block among free (inr le) (inr lower) =
+        let size = free_size blocks words lists block heap among in
+        let bound = size.limit in
+        let rise = rises need block.size some le (omega arith) in
+        let same : class_of block.size ≡ class_of need = omega arith in
+        short block among free same
+
+-- of a class that was searched whole, each free block has fewer words
+pub short_blocks : (blocks : List Block) (lists : ℕ → List ℕ) (class need : ℕ) → class < 64 → AreListed lists blocks → AreShort blocks (lists class) need
+    → (block : Block) → Contains blocks block → IsFree block → class_of block.size ≡ class → block.size < need
+short_blocks blocks lists class need few listed short block among free same = short block among (place_listed lists blocks block class few same listed among free)
+
+-- a need beyond all words
+pub none_fits_beyond : (blocks : List Block) (words : ℕ) (lists : ℕ → List ℕ) (need : ℕ) → IsHeap blocks words lists → words_of blocks < need → NoneFits blocks need
+none_fits_beyond blocks words lists need heap beyond =
+    all_free (λ size. size < need) blocks (λ block among free. (let size = free_size blocks words lists block heap among in let within = size.within in omega arith))
+
+-- a block of a class above that of a need is large enough
+pub enough_above : (need size : ℕ) → 1 ≤ size → need < 2 ^ 32 → class_of need < class_of size → need ≤ size
+enough_above need size some limit above = by (cases_lt size need)
+  where
+    by : (size < need) ⊎ (need ≤ size) → need ≤ size
+    by (inl less) = absurd (let rise = rises size need some (omega arith) limit in omega arith)
+    by (inr le) = le
+
+-- no free block is larger than the largest one of the last class
+pub is_largest : (blocks : List Block) (words : ℕ) (lists : ℕ → List ℕ) (last most : ℕ) → IsHeap blocks words lists → last < 64 → IsMost blocks (lists last) most
+    → 0 < length (lists last) → ((above : ℕ) → last < above → above < 64 → length (lists above) ≡ 0) → IsLargest blocks most
+is_largest blocks words lists last most heap few is filled above = record {
+  bound = all_free (λ other. other ≤ most) blocks (λ block among free. by block among free (cases_eq (class_of block.size) last) (cases_lt last (class_of block.size)));
+  found = is.found;
+}
+  where
+    by : (block : Block) → Contains blocks block → IsFree block → (class_of block.size ≡ last) ⊎ (class_of block.size ≡ last → ⊥) → (last < class_of block.size) ⊎ (class_of block.size ≤ last) → block.size ≤ most
+    by block among free (inl same) _ = is.bound block among (place_listed lists blocks block last few same heap.listed among free)
+    by block among free (inr other) (inl higher) =
+        let size = free_size blocks words lists block heap among in
+        let none = above (class_of block.size) higher size.few in
+        let filled = list_filled lists blocks block (class_of block.size) size.few refl heap.listed among free in
+        absurd (omega arith)
+    by block among free (inr other) (inr lower) =
+        let size = free_size blocks words lists block heap among in
+        let place = get_or (lists last) 0 0 in
+        let first : Contains (lists last) place = (0, filled, get_or_default (lists last) 0 place 0 filled) in
+        let one = block_listed lists blocks last place few heap.listed first in
+        let least = free_block place one.size in
+        let its = free_size blocks words lists least heap one.among in
+        let enough = is.bound least one.among first in
+        let class = one.is in
+        let below = enough_above block.size one.size its.some (let bound = size.limit in omega arith) (omega arith) in
+        omega arith
+
+-- no list has one, so no block is free
+pub none_largest : (blocks : List Block) (words : ℕ) (lists : ℕ → List ℕ) → IsHeap blocks words lists → ((class : ℕ) → class < 64 → length (lists class) ≡ 0) → IsLargest blocks 0
+none_largest blocks words lists heap none = record {
+  bound = all_free (λ other. other ≤ 0) blocks (λ block among free.
+      (let size = free_size blocks words lists block heap among in
+      let empty = none (class_of block.size) size.few in
+      let filled = list_filled lists blocks block (class_of block.size) size.few refl heap.listed among free in
+      absurd (omega arith)));
+  found = λ more. absurd (omega arith);
+}
+
+-- each place of a list has a free block
+pub all_have : (blocks : List Block) (words : ℕ) (lists : ℕ → List ℕ) (class : ℕ) → IsHeap blocks words lists → class < 64 → HaveFree blocks (lists class)
+all_have blocks words lists class heap few = λ place among. (let has = block_listed lists blocks class place few heap.listed among in record { size = has.size; among = has.among })
+
+-- the block at a place, as its size is told
+pub found_at : (blocks : List Block) (place size : ℕ) → HasFreeAt blocks place → ((block : Block) → Contains blocks block → block.place ≡ place → size ≡ block.size) → Contains blocks (free_block place size)
+found_at blocks place size has tells = subst (λ n. Contains blocks (free_block place n)) (sym (tells (free_block place has.size) has.among refl)) has.among
+
+-- A walk over the places of a class, from the first one on.
+pub record Walk (lists : ℕ → List ℕ) (class : ℕ) (listed : Option ℕ) : Type 0 where
+  pub before : List ℕ
+  pub whole : lists class ≡ before ++ left_from lists listed
+
+abbrev pub walk_first : (lists : ℕ → List ℕ) (class : ℕ) (next : Option ℕ) → left_from lists next ≡ lists class → Walk lists class next
+walk_first lists class next first = record { before = []; whole = sym first }
+
+pub walk_listed : (lists : ℕ → List ℕ) (class place : ℕ) (listed : Option ℕ) → Walk lists class listed → listed ≡ Some place → Contains (lists class) place
+walk_listed lists class place listed walk is = grind (arith, common_steps, in_middle walk.before (lists (node_of place)) place)
+
+abbrev pub walk_on : (lists : ℕ → List ℕ) (class place : ℕ) (listed next : Option ℕ) → Walk lists class listed → listed ≡ Some place → left_from lists next ≡ lists (node_of place) → Walk lists class next
+walk_on lists class place listed next walk is left = record {
+  before = walk.before ++ place ∷ [];
+  whole = walk.whole ∙ ap (λ n. walk.before ++ left_from lists n) is ∙ sym (append_assoc walk.before (place ∷ []) (lists (node_of place))) ∙ ap (λ xs. (walk.before ++ place ∷ []) ++ xs) (sym left);
+}
+
+pub walk_end : (lists : ℕ → List ℕ) (class : ℕ) (next : Option ℕ) (walk : Walk lists class next) → next ≡ None → walk.before ≡ lists class
+walk_end lists class next walk end = sym (walk.whole ∙ ap (λ n. walk.before ++ left_from lists n) end ∙ append-nil walk.before)
+
+-- a place among some and one more
+one_more : (xs : List ℕ) (x place : ℕ) → Contains (xs ++ x ∷ []) place → Contains xs place ⊎ (place ≡ x)
+one_more xs x place among = by (Contains-append_cases xs (x ∷ []) place among)
+  where
+    by : Contains xs place ⊎ Contains (x ∷ []) place → Contains xs place ⊎ (place ≡ x)
+    by (inl there) = inl there
+    by (inr (zero, lt, is)) = inr (sym is)
+    by (inr (suc k, lt, is)) = absurd (omega arith)
+
+-- one place more that has a short block
+pub short_more : (blocks : List Block) (list : List ℕ) (need place size : ℕ) → ((block : Block) → Contains blocks block → block.place ≡ place → size ≡ block.size) → size < need
+    → AreShort blocks list need → AreShort blocks (list ++ place ∷ []) need
+short_more blocks list need place size tells short before block among listed = by (one_more list place block.place listed)
+  where
+    by : Contains list block.place ⊎ (block.place ≡ place) → block.size < need
+    by (inl there) = before block among there
+    by (inr here) = (let is = tells block among here in omega arith)
+
+-- the larger of two numbers, as the code has it
+pub max_is : (a b : ℕ) → ord_max nat_cmp a b ≡ max a b
+max_is a b = grind arith
+
+-- one place more among the largest
+pub most_more : (blocks : List Block) (list : List ℕ) (place most size : ℕ) → HasFreeAt blocks place → ((block : Block) → Contains blocks block → block.place ≡ place → size ≡ block.size)
+    → IsMost blocks list most → IsMost blocks (list ++ place ∷ []) (max most size)
+most_more blocks list place most size has tells is = record {
+  bound = λ block among listed. bound block among (one_more list place block.place listed);
+  found = λ some. found some (cases_lt most size);
+}
+  where
+    bound : (block : Block) → Contains blocks block → Contains list block.place ⊎ (block.place ≡ place) → block.size ≤ max most size
+    bound block among (inl there) = (let so_far = is.bound block among there in omega arith)
+    bound block among (inr here) = (let same = tells block among here in omega arith)
+
+    found : 0 < max most size → (most < size) ⊎ (size ≤ most) → Contains (free_sizes blocks) (max most size)
+    found some (inl more) =
+        let there = size_among blocks (free_block place size) (found_at blocks place size has tells) refl in
+        let same : size ≡ max most size = omega arith in
+        subst (λ n. Contains (free_sizes blocks) n) same there
+    found some (inr less) =
+        let same : most ≡ max most size = omega arith in
+        subst (λ n. Contains (free_sizes blocks) n) same (is.found (omega arith))
+
+pub lacks : (blocks : List Block) (words : ℕ) (lists : ℕ → List ℕ) (need : ℕ) → IsHeap blocks words lists → NoneFits blocks need → MayLack blocks need
+lacks blocks words lists need heap none = MayLack-none_fits blocks need heap.list.merged none

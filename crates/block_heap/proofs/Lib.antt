@@ -4,9 +4,6 @@ pub mod Merging
 pub mod Counting
 pub mod Taking
 pub mod UsedBlocks
-pub mod NodeLaws
-pub mod RowLaws
 pub mod TagLaws
-pub mod Giving
-pub mod Finding
-pub mod Keeping
+pub mod LinkLaws
+pub mod ListLaws

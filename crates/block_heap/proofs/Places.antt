@@ -35,3 +35,7 @@ lies_from from end blocks block fills among =
 
 pub free_within : (words : ℕ) (blocks : List Block) (block : Block) → Fills 0 blocks words → Contains blocks block → (0 < block.size) × (block.place + block.size ≤ words)
 free_within words blocks block fills among = (let lies = lies_from 0 words blocks block fills among in (lies.1, lies.2))
+
+pub in_middle : {X : Type 0} (before after : List X) (x : X) → Contains (before ++ x ∷ after) x
+in_middle [] after x = (0, omega arith, refl)
+in_middle (y ∷ before) after x = (let rest = in_middle before after x in (suc rest.0, (let lt = rest.1 in omega arith), rest.2))

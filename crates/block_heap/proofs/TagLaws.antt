@@ -1,21 +1,22 @@
 -- Tags that tell blocks.
 use Rattle.std.proofs.Common.{◌≡◌, ◌≢◌, ℕ, zero, suc, ◌+◌, ◌-◌, ◌*◌, ◌/◌, ◌%◌, ◌<◌, ◌≤◌, ◌⊎◌, inl, inr, Bool, true, false, cond, Option, Some, None, List, [], ◌∷◌, ◌++◌, length, refl, sym, ap, ◌∙◌, subst, arith}
 use Rattle.std.specs.List.{Contains}
-use Rattle.std.specs.Prelude.{nat_lt, IfSome}
+use Rattle.std.specs.Prelude.{nat_lt}
 use Rattle.std.proofs.lemmas.Bool.{le-ltb, lt-ltb, eq-eqb, ne_eqb, cases_eq, cases_lt}
+use Rattle.std.proofs.lemmas.List.Elements.{Contains-append_cases}
 use Rattle.std.proofs.lemmas.Grind.{common_steps}
 use Rattle.block_heap.specs.declared.block.Block.{Block}
 use Rattle.block_heap.specs.Blocks.{free_block, used_block, Fills, IsFree, BeginsFree, words_of}
 use Rattle.block_heap.specs.Changes.{rest_of}
-use Rattle.block_heap.specs.Tags.{tag_of, tag_at, free_in, free_from, first_tag, last_tag, NoneInside, IsTagged, AreTagged, blocks_from, blocks_of, TellBlocks, OthersStay, EndsFree}
+use Rattle.block_heap.specs.Tags.{tag_of, size_in, tag_at, slot_of, IsTagged, AreTagged, blocks_from, blocks_of, TellBlocks, OthersStay, Rewrites, EndsFree}
 use Rattle.block_heap.proofs.Order.{words_of-fills, front_fills, back_fills, fills-append, from-le-end}
-use Rattle.block_heap.proofs.Places.{last_of, parted}
+use Rattle.block_heap.proofs.Places.{last_of, parted, lies_from}
 
 -- what a tag tells
 abbrev pub told_by : ℕ → ℕ × Bool
-told_by tag = (tag / 4 + 1, nat_lt (tag % 4) 2)
+told_by tag = (size_in tag, nat_lt (tag % 4) 2)
 
-block_is : (tags : List ℕ) (from : ℕ) (block : Block) → block.place ≡ from → tag_at tags block.place ≡ (block.size, block.used) → record { place = from; size = tag_of tags from / 4 + 1; used = nat_lt (tag_of tags from % 4) 2 } ≡ block
+block_is : (tags : List ℕ) (from : ℕ) (block : Block) → block.place ≡ from → tag_at tags block.place ≡ (block.size, block.used) → record { place = from; size = size_in (tag_of tags from); used = nat_lt (tag_of tags from % 4) 2 } ≡ block
 block_is tags from block here tag =
     let told = subst (λ n. tag_at tags n ≡ (block.size, block.used)) here tag in
     ap (λ (t : ℕ × Bool). record { place = from; size = t.0; used = t.1 }) told ∙ ap (λ n. record { place = n; size = block.size; used = block.used }) (sym here)
@@ -33,7 +34,7 @@ told words tags (suc most) from (block ∷ blocks) fills tagged enough =
     let is = block_is tags from block fills.0 tagged.0.first in
     let rest = told words tags most (from + block.size) blocks fills.2 tagged.1 (omega arith) in
     let size = ap (λ (b : Block). b.size) is in
-    rw (lt-ltb from words (omega arith)) (ap (λ b. b ∷ blocks_from words tags most (from + (tag_of tags from / 4 + 1))) is
+    rw (lt-ltb from words (omega arith)) (ap (λ b. b ∷ blocks_from words tags most (from + size_in (tag_of tags from))) is
     ∙ ap (λ n. block ∷ blocks_from words tags most (from + n)) size ∙ ap (λ bs. block ∷ bs) rest)
 
 pub kept_one : (words : ℕ) (tags new : List ℕ) (block : Block) → 0 < block.size → ((place : ℕ) → block.place ≤ place → place < block.place + block.size → tag_of new place ≡ tag_of tags place)
@@ -41,8 +42,6 @@ pub kept_one : (words : ℕ) (tags new : List ℕ) (block : Block) → 0 < block
 kept_one words tags new block some same tagged = record {
   first = ap told_by (same block.place (omega arith) (omega arith)) ∙ tagged.first;
   last = λ more. ap told_by (same (block.place + block.size - 1) (omega arith) (omega arith)) ∙ tagged.last more;
-  head = ap free_in (same block.place (omega arith) (omega arith)) ∙ tagged.head;
-  inside = λ place gt lt. ap free_in (same place (omega arith) lt) ∙ tagged.inside place gt lt;
 }
 
 -- blocks stay told where the tags of their words stay
@@ -67,11 +66,6 @@ tagged_front words tags (x ∷ xs) ys a = (a.0, tagged_front words tags xs ys a.
 pub tagged_back : (words : ℕ) (tags : List ℕ) (xs ys : List Block) → AreTagged words tags (xs ++ ys) → AreTagged words tags ys
 tagged_back words tags [] ys a = a
 tagged_back words tags (x ∷ xs) ys a = tagged_back words tags xs ys a.1
-
--- the tags of the words from one place to another are written, and no others
-pub record Rewrites (tags new : List ℕ) (from end : ℕ) : Type 0 where
-  pub below : (place : ℕ) → place < from → tag_of new place ≡ tag_of tags place
-  pub above : (place : ℕ) → end ≤ place → tag_of new place ≡ tag_of tags place
 
 -- one block's tags are written
 pub one_written : (tags new : List ℕ) (block : Block) → 0 < block.size → OthersStay tags new block → Rewrites tags new block.place (block.place + block.size)
@@ -132,94 +126,24 @@ lies_in words tags blocks block tell among =
     let end = from-le-end ((0 + words_of parts.0) + block.size) words parts.1 here.2 in
     record { tagged = (tagged_back words tags parts.0 (block ∷ parts.1) (subst (AreTagged words tags) parts.2 tell.tagged)).0; some = here.1; within = omega arith }
 
--- where a tag tells of a free block, there is one
-pub head_found : (words : ℕ) (tags : List ℕ) (from end : ℕ) (blocks : List Block) → Fills from blocks end → AreTagged words tags blocks → (place : ℕ) → from ≤ place → place < end → 0 < free_from tags place
-    → Contains blocks (free_block place (free_from tags place))
-head_found words tags from end [] fills tagged place ge lt some = absurd (omega arith)
-head_found words tags from end (block ∷ blocks) fills tagged place ge lt some =
-    by (cases_eq block.place place) (cases_lt place (from + block.size)) (λ behind. head_found words tags (from + block.size) end blocks fills.2 tagged.1 place behind lt some)
-  where
-    first : (u : Bool) → block.used ≡ u → block.place ≡ place → Contains (block ∷ blocks) (free_block place (free_from tags place))
-    first true used is = absurd (let none = tagged.0.head ∙ ap (λ u. cond u 0 block.size) used in let same = ap (free_from tags) is in omega arith)
-    first false free is =
-        let size = sym (ap (free_from tags) is) ∙ tagged.0.head ∙ ap (λ u. cond u 0 block.size) free in
-        (0, omega arith, ap (λ u. record { place = block.place; size = block.size; used = u }) free ∙ ap (λ p. free_block p block.size) is ∙ ap (free_block place) (sym size))
+-- the tag of a block that has no slot yet
+pub tag_tells : (size kind : ℕ) (u : Bool) → 0 < size → (kind ≡ 1) × (u ≡ true) ⊎ (kind ≡ 2) × (u ≡ false) → told_by ((size - 1) * 4 + kind) ≡ (size, u)
+tag_tells size kind u some (inl (is, used)) = rw (is, used, ne_eqb (((size - 1) * 4 + 1) % 4) 3 (omega arith), lt-ltb (((size - 1) * 4 + 1) % 4) 2 (omega arith)) (ap (λ n. (n, true)) (let e : ((size - 1) * 4 + 1) / 4 + 1 ≡ size = omega arith in e))
+tag_tells size kind u some (inr (is, free)) = rw (is, free, ne_eqb (((size - 1) * 4 + 2) % 4) 3 (omega arith), le-ltb (((size - 1) * 4 + 2) % 4) 2 (omega arith)) (ap (λ n. (n, false)) (let e : ((size - 1) * 4 + 2) / 4 + 1 ≡ size = omega arith in e))
 
-    by : (block.place ≡ place) ⊎ (block.place ≢ place) → (place < from + block.size) ⊎ (from + block.size ≤ place) → (from + block.size ≤ place → Contains blocks (free_block place (free_from tags place)))
-        → Contains (block ∷ blocks) (free_block place (free_from tags place))
-    by (inl is) _ rest = first block.used refl is
-    by (inr ne) (inl inside) rest = absurd (let here = fills.0 in let none = tagged.0.inside place (omega arith) (omega arith) in omega arith)
-    by (inr ne) (inr behind) rest = (let among = rest behind in (suc among.0, (let few = among.1 in omega arith), among.2))
+-- the tag of one or two free words, and of their slot
+pub slot_tells : (size slot : ℕ) → 0 < size → size < 3 → told_by ((slot * 2 + size - 1) * 4 + 3) ≡ (size, false)
+slot_tells size slot some few = rw (eq-eqb (((slot * 2 + size - 1) * 4 + 3) % 4) 3 (omega arith), le-ltb (((slot * 2 + size - 1) * 4 + 3) % 4) 2 (omega arith))
+    (ap (λ n. (n, false)) (let e : ((slot * 2 + size - 1) * 4 + 3) / 4 % 2 + 1 ≡ size = omega arith in e))
 
--- where blocks become one, no free block begins behind its first word once the other free one's tag is gone
-pub none_inside : (words : ℕ) (tags new : List ℕ) (block : Block) (middle : List Block) (right : Option Block) → Fills block.place middle (block.place + block.size) → AreTagged words tags middle
-    → ((other : Block) → Contains middle other → IsFree other → block.place < other.place → right ≡ Some other) → ((other : Block) → right ≡ Some other → tag_of new other.place ≡ 0)
-    → ((place : ℕ) → ((other : Block) → right ≡ Some other → place ≢ other.place) → tag_of new place ≡ tag_of tags place) → NoneInside new block
-none_inside words tags new block middle right fills tagged free gone same place gt lt = by right refl (cases_lt 0 (free_from tags place))
-  where
-    found : 0 < free_from tags place → right ≡ Some (free_block place (free_from tags place))
-    found some = free (free_block place (free_from tags place)) (head_found words tags block.place (block.place + block.size) middle fills tagged place (omega arith) lt some) refl gt
-
-    zero_there : free_from tags place ≤ 0 → tag_of new place ≡ tag_of tags place → free_from new place ≡ 0
-    zero_there none is = ap free_in is ∙ (omega arith)
-
-    by : (r : Option Block) → right ≡ r → (0 < free_from tags place) ⊎ (free_from tags place ≤ 0) → free_from new place ≡ 0
-    by None is (inl some) = absurd (let there = found some in cc)
-    by None is (inr none) = zero_there none (same place (λ other e. absurd (cc)))
-    by (Some other) is (inl some) = ap free_in (gone (free_block place (free_from tags place)) (found some))
-    by (Some other) is (inr none) = at_or_beside (cases_eq place other.place)
-      where
-        place_of : (b : Block) → Some b ≡ Some other → b.place ≡ other.place
-        place_of b e = cc
-
-        at_or_beside : (place ≡ other.place) ⊎ (place ≢ other.place) → free_from new place ≡ 0
-        at_or_beside (inl here) = ap (free_from new) here ∙ ap free_in (gone other is)
-        at_or_beside (inr ne) = zero_there none (same place (λ b e at. ne (at ∙ place_of b (sym e ∙ is))))
-
-told_as : (tag size : ℕ) (u : Bool) → tag / 4 + 1 ≡ size → nat_lt (tag % 4) 2 ≡ u → told_by tag ≡ (size, u)
-told_as tag size u is used = rw (is, used) refl
-
-not_head : (tag : ℕ) → tag % 4 ≢ 2 → free_in tag ≡ 0
-not_head tag ne = rw (ne_eqb (tag % 4) 2 ne) refl
-
-head : (tag : ℕ) → tag % 4 ≡ 2 → free_in tag ≡ tag / 4 + 1
-head tag is = rw (eq-eqb (tag % 4) 2 is) refl
-
--- what the tags of a block's ends tell
-pub first_tells : (block : Block) → 0 < block.size → told_by (first_tag block) ≡ (block.size, block.used)
-first_tells block some = by block.used refl
-  where
-    by : (u : Bool) → block.used ≡ u → told_by (first_tag block) ≡ (block.size, block.used)
-    by true used = rw used (told_as ((block.size - 1) * 4 + 1) block.size true (omega arith) (lt-ltb (((block.size - 1) * 4 + 1) % 4) 2 (omega arith)))
-    by false free = rw free (told_as ((block.size - 1) * 4 + 2) block.size false (omega arith) (le-ltb (((block.size - 1) * 4 + 2) % 4) 2 (omega arith)))
-
-pub last_tells : (block : Block) → 0 < block.size → told_by (last_tag block) ≡ (block.size, block.used)
-last_tells block some = by block.used refl
-  where
-    by : (u : Bool) → block.used ≡ u → told_by (last_tag block) ≡ (block.size, block.used)
-    by true used = rw used (told_as ((block.size - 1) * 4 + 1) block.size true (omega arith) (lt-ltb (((block.size - 1) * 4 + 1) % 4) 2 (omega arith)))
-    by false free = rw free (told_as ((block.size - 1) * 4 + 3) block.size false (omega arith) (le-ltb (((block.size - 1) * 4 + 3) % 4) 2 (omega arith)))
-
-pub first_free : (block : Block) → 0 < block.size → free_in (first_tag block) ≡ cond block.used 0 block.size
-first_free block some = by block.used refl
-  where
-    by : (u : Bool) → block.used ≡ u → free_in (first_tag block) ≡ cond block.used 0 block.size
-    by true used = rw used (not_head ((block.size - 1) * 4 + 1) (omega arith))
-    by false free = rw free (let tag = (block.size - 1) * 4 + 2 in head tag (omega arith) ∙ (omega arith))
-
--- and then that of its first word
-pub first_written : (words : ℕ) (tags new : List ℕ) (block : Block) → 0 < block.size → NoneInside tags block → (block.place + block.size < words → tag_of tags (block.place + block.size - 1) ≡ last_tag block)
-    → tag_of new block.place ≡ first_tag block → ((place : ℕ) → place ≢ block.place → tag_of new place ≡ tag_of tags place) → IsTagged words new block
-first_written words tags new block some inside last here others = record {
-  first = ap told_by here ∙ first_tells block some;
-  last = λ more. by more (cases_eq (block.place + block.size - 1) block.place);
-  head = ap free_in here ∙ first_free block some;
-  inside = λ place gt lt. ap free_in (others place (λ e. absurd (omega arith))) ∙ inside place gt lt;
-}
+-- a tag that tells a block was written at both its ends
+pub ends_written : (words tag : ℕ) (tags new : List ℕ) (block : Block) → told_by tag ≡ (block.size, block.used) → (block.place + block.size < words → tag_of tags (block.place + block.size - 1) ≡ tag)
+    → tag_of new block.place ≡ tag → ((place : ℕ) → place ≢ block.place → tag_of new place ≡ tag_of tags place) → IsTagged words new block
+ends_written words tag tags new block tells last here others = record { first = ap told_by here ∙ tells; last = λ more. by more (cases_eq (block.place + block.size - 1) block.place) }
   where
     by : block.place + block.size < words → ((block.place + block.size - 1) ≡ block.place) ⊎ ((block.place + block.size - 1) ≢ block.place) → tag_at new (block.place + block.size - 1) ≡ (block.size, block.used)
-    by more (inl is) = ap (tag_at new) is ∙ ap told_by here ∙ first_tells block some
-    by more (inr ne) = ap told_by (others (block.place + block.size - 1) ne ∙ last more) ∙ last_tells block some
+    by more (inl is) = ap (tag_at new) is ∙ ap told_by here ∙ tells
+    by more (inr ne) = ap told_by (others (block.place + block.size - 1) ne ∙ last more) ∙ tells
 
 -- the last block before a place, and what the word before that place tells
 pub record LastTold (tags : List ℕ) (before : List Block) (place : ℕ) : Type 0 where
@@ -371,37 +295,41 @@ cut_part words tags mid new block need some part first rest second tagged = reco
     rest_is place zero some = absurd (omega arith)
     rest_is place (suc size) some = refl
 
--- no free block begins in the first words, once the rest was written
-pub first_inside : (tags mid : List ℕ) (block : Block) (need : ℕ) → 0 < need → need < block.size → NoneInside tags block → OthersStay tags mid (free_block (block.place + need) (block.size - need)) → NoneInside mid (used_block block.place need)
-first_inside tags mid block need some part inside others place gt lt = ap free_in (others place (λ e. absurd (omega arith)) (λ e. absurd (omega arith))) ∙ inside place gt (omega arith)
-
--- the tags of all words that were written, where one block takes the place of some
-pub all_written : (tags mid new : List ℕ) (block : Block) (right : Option Block) → 0 < block.size → IfSome right (λ other. (block.place < other.place) × (other.place < block.place + block.size))
-    → ((place : ℕ) → ((other : Block) → right ≡ Some other → place ≢ other.place) → tag_of mid place ≡ tag_of tags place) → OthersStay mid new block → Rewrites tags new block.place (block.place + block.size)
-all_written tags mid new block right some behind first second = record {
-  below = λ place lt. own.below place lt ∙ first place (λ other is e. absurd (let lies = subst inside is behind in let there = lies.0 in omega arith));
-  above = λ place le. own.above place le ∙ first place (λ other is e. absurd (let lies = subst inside is behind in let there = lies.1 in omega arith));
-}
-  where
-    inside : Option Block → Type 0
-    inside r = IfSome r (λ other. (block.place < other.place) × (other.place < block.place + block.size))
-
-    own : Rewrites mid new block.place (block.place + block.size)
-    own = one_written mid new block some second
-
 pub words_told : (words : ℕ) (tags : List ℕ) (blocks : List Block) → TellBlocks words tags blocks → words_of blocks ≡ words
 words_told words tags blocks tell = (let all = words_of-fills 0 words blocks tell.fills in omega arith)
 
--- a free block's first word tells its size
-pub free_told : (words : ℕ) (tags : List ℕ) (blocks : List Block) (block : Block) → TellBlocks words tags blocks → Contains blocks block → IsFree block → free_from tags block.place ≡ block.size
-free_told words tags blocks block tell among free = (lies_in words tags blocks block tell among).tagged.head ∙ ap (λ u. cond u 0 block.size) free
-
 -- what a tag tells, as it is read
-pub read_size : (tags : List ℕ) (place tag size : ℕ) (u : Bool) → tag_at tags place ≡ (size, u) → tag ≡ tag_of tags place → tag / 4 + 1 ≡ size
-read_size tags place tag size u told read = ap (λ t. t / 4 + 1) read ∙ ap (λ t. t.0) told
+pub read_size : (tags : List ℕ) (place tag size : ℕ) (u : Bool) → tag_at tags place ≡ (size, u) → tag ≡ tag_of tags place → size_in tag ≡ size
+read_size tags place tag size u told read = ap size_in read ∙ ap (λ t. t.0) told
 
 pub read_used : (tags : List ℕ) (place tag size : ℕ) (u : Bool) → tag_at tags place ≡ (size, u) → tag ≡ tag_of tags place → tag % 4 < 2 → u ≡ true
 read_used tags place tag size u told read less = sym (ap (λ t. t.1) told) ∙ sym (ap (λ t. nat_lt (t % 4) 2) read) ∙ lt-ltb (tag % 4) 2 less
 
 pub read_free : (tags : List ℕ) (place tag size : ℕ) (u : Bool) → tag_at tags place ≡ (size, u) → tag ≡ tag_of tags place → 2 ≤ tag % 4 → u ≡ false
 read_free tags place tag size u told read more = sym (ap (λ t. t.1) told) ∙ sym (ap (λ t. nat_lt (t % 4) 2) read) ∙ le-ltb (tag % 4) 2 more
+
+-- the slot of a block is told by two words of it
+pub slot_kept : (tags new : List ℕ) (block : Block) → 0 < block.size → ((place : ℕ) → block.place ≤ place → place < block.place + block.size → tag_of new place ≡ tag_of tags place) → slot_of new block ≡ slot_of tags block
+slot_kept tags new block some same = by (cases_lt block.size 3)
+  where
+    by : (block.size < 3) ⊎ (3 ≤ block.size) → slot_of new block ≡ slot_of tags block
+    by (inl few) = rw (lt-ltb block.size 3 few) (ap (λ t. t / 8) (same block.place (omega arith) (omega arith)))
+    by (inr more) = rw (le-ltb block.size 3 more) (same (block.place + 1) (omega arith) (omega arith))
+
+-- where a block's words are written, those of other blocks stay
+pub slots_stay : (words : ℕ) (tags new : List ℕ) (before middle after : List Block) (from end : ℕ) → from < end → Fills 0 (before ++ (middle ++ after)) words → Fills from middle end → Rewrites tags new from end
+    → (block : Block) → Contains (before ++ after) block → slot_of new block ≡ slot_of tags block
+slots_stay words tags new before middle after from end some fills own writes block among = by (Contains-append_cases before after block among)
+  where
+    at : 0 + words_of before ≡ from
+    at = begins_at (0 + words_of before) from end words middle after some own (back_fills 0 words before (middle ++ after) fills)
+
+    front : Fills 0 before from
+    front = subst (λ n. Fills 0 before n) at (front_fills 0 words before (middle ++ after) fills)
+
+    back : Fills end after words
+    back = subst (λ n. Fills n after words) (words_of-fills from end middle own) (back_fills from words middle after (subst (λ n. Fills n (middle ++ after) words) at (back_fills 0 words before (middle ++ after) fills)))
+
+    by : Contains before block ⊎ Contains after block → slot_of new block ≡ slot_of tags block
+    by (inl first) = (let lies = lies_from 0 from before block front first in let ends = lies.2 in slot_kept tags new block lies.1 (λ place ge lt. writes.below place (omega arith)))
+    by (inr later) = (let lies = lies_from end words after block back later in let starts = lies.0 in slot_kept tags new block lies.1 (λ place ge lt. writes.above place (omega arith)))

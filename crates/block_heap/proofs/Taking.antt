@@ -1,10 +1,14 @@
 -- What taking a block keeps.
-use Rattle.std.proofs.Common.{◌≡◌, ℕ, zero, suc, ◌+◌, ◌-◌, ◌<◌, ◌≤◌, List, ◌∷◌, ◌++◌, sym, subst, arith}
+use Rattle.std.proofs.Common.{◌≡◌, ℕ, zero, suc, ◌+◌, ◌-◌, ◌<◌, ◌≤◌, List, [], ◌∷◌, ◌++◌, refl, sym, subst, arith}
 use Rattle.std.proofs.lemmas.Grind.{common_steps}
 use Rattle.block_heap.specs.declared.block.Block.{Block}
 use Rattle.block_heap.specs.Blocks.{free_block, used_block, Fills, IsCoalesced, IsBlockList, words_of}
 use Rattle.block_heap.specs.Changes.{rest_of, IsTaken}
 use Rattle.block_heap.proofs.Order.{words_of-fills, back_fills, fills_instead, back_merged, merged_instead}
+
+rest_fills : (from end place size : ℕ) (after : List Block) → place ≡ from → Fills (from + size) after end → Fills from (rest_of place size ++ after) end
+rest_fills from end place zero after here h = let e : from + 0 ≡ from = omega arith in subst (λ n. Fills n after end) e h
+rest_fills from end place (suc size) after here h = (here, (omega arith), h)
 
 taken_fills : (from end place size need : ℕ) (after : List Block) → 0 < need → need ≤ size → Fills from (free_block place size ∷ after) end → Fills from (used_block place need ∷ (rest_of (place + need) (size - need) ++ after)) end
 taken_fills from end place size need after some enough h = grind (arith, common_steps)
@@ -38,3 +42,7 @@ words_of-list words blocks list = let e = words_of-fills 0 words blocks list.fil
 pub place_within : (words : ℕ) (before after : List Block) (block : Block) → Fills 0 (before ++ block ∷ after) words → block.place + block.size ≤ words
 place_within words before after block h =
     grind (arith, common_steps, back_fills 0 words before (block ∷ after) h, words_of-fills ((0 + words_of before) + block.size) words after (back_fills 0 words before (block ∷ after) h).2)
+
+pub rest_is : (place size : ℕ) → 0 < size → rest_of place size ≡ free_block place size ∷ []
+rest_is place zero some = absurd (omega arith)
+rest_is place (suc size) some = refl

@@ -1,15 +1,29 @@
 -- What the heap keeps.
-use Rattle.std.specs.Prelude.{ℕ, ◌≤◌, Option, Some, None, List, [], ◌∷◌, length}
+use Rattle.std.specs.Prelude.{◌≡◌, ℕ, ◌×◌, ◌≤◌, Option, Some, None, List, [], ◌∷◌, Contains, IfSome, ◌<◌}
+use Rattle.size_classes.specs.Classes.{class_of}
 use Rattle.block_heap.specs.declared.block.TheConstants.{MOST_WORDS}
 use Rattle.block_heap.specs.declared.block.Block.{Block}
-use Rattle.block_heap.specs.Blocks.{IsBlockList, words_of}
-use Rattle.block_heap.specs.Nodes.{IsTree}
-use Rattle.block_heap.specs.Tags.{free_from}
+use Rattle.block_heap.specs.Blocks.{free_block, IsFree, IsBlockList, free_sizes, words_of}
+use Rattle.block_heap.specs.Bounds.{AreBounded}
+use Rattle.block_heap.specs.Lists.{Lists, AreListed, list_of, place_in, count_of}
+use Rattle.block_heap.specs.Tags.{slot_of}
 
--- the blocks fill a heap, whose places are no larger than they may be
-pub record IsHeap (blocks : List Block) : Type 0 where
+-- a block list, and the lists of its free blocks, with a tag for each of its words
+pub record IsHeap (blocks : List Block) (tags : List ℕ) (lists : Lists) : Type 0 where
   pub list : IsBlockList (words_of blocks) blocks
+  pub listed : AreListed lists tags blocks
+  pub same : lists.0 ≡ words_of blocks
   pub limit : words_of blocks ≤ MOST_WORDS
+
+-- and a bound for the free blocks of each class
+pub record IsBoundedHeap (blocks : List Block) (tags : List ℕ) (lists : Lists) (bounds : List ℕ) : Type 0 where
+  pub heap : IsHeap blocks tags lists
+  pub bounded : AreBounded bounds blocks
+
+-- there is room for a tag of each word
+pub record KeepsRow (words room : ℕ) : Type 0 where
+  pub limit : words ≤ MOST_WORDS
+  pub enough : words ≤ room
 
 -- a neighbour as a list
 abbrev pub blocks_in : Option Block → List Block
@@ -21,10 +35,28 @@ abbrev pub words_in : Option Block → ℕ
 words_in None = 0
 words_in (Some block) = block.size
 
--- What the row of tags keeps: room for a tag a word, and a tree over the free blocks that begin at the words.
-pub record KeepsRow (words : ℕ) (tags : List ℕ) (room inner : ℕ) (nodes : List ℕ) : Type 0 where
-  pub limit : words ≤ MOST_WORDS
-  pub within : length tags ≤ words
-  pub enough : words ≤ room
-  pub tree : IsTree words inner (free_from tags) nodes
-  pub few : inner ≤ MOST_WORDS
+-- a neighbour is free, and stands in the list of its class
+abbrev pub IsListable : Lists → List ℕ → Option Block → Type 0
+IsListable lists tags neighbour =
+    IfSome neighbour (λ block. IsFree block × (1 ≤ block.size) × (block.place + block.size ≤ MOST_WORDS) × Contains (list_of lists (class_of block.size)) (slot_of tags block) × (0 < count_of lists))
+
+-- a free block has the slot
+pub record HasFreeAt (blocks : List Block) (tags : List ℕ) (lists : Lists) (slot : ℕ) : Type 0 where
+  pub block : Block
+  pub among : Contains blocks block
+  pub free : IsFree block
+  pub here : slot_of tags block ≡ slot
+  pub place : place_in lists slot ≡ block.place
+
+-- a free block has each slot of a list
+abbrev pub HaveFree : List Block → List ℕ → Lists → List ℕ → Type 0
+HaveFree blocks tags lists list = (slot : ℕ) → Contains list slot → HasFreeAt blocks tags lists slot
+
+-- the free blocks that have the slots of a list have fewer words than are needed
+abbrev pub AreShort : List Block → List ℕ → List ℕ → ℕ → Type 0
+AreShort blocks tags list need = (block : Block) → Contains blocks block → IsFree block → Contains list (slot_of tags block) → block.size < need
+
+-- the largest size of those that have the slots of a list, or 0 where there is none
+pub record IsMost (blocks : List Block) (tags : List ℕ) (list : List ℕ) (most : ℕ) : Type 0 where
+  pub bound : (block : Block) → Contains blocks block → IsFree block → Contains list (slot_of tags block) → block.size ≤ most
+  pub found : 0 < most → Contains (free_sizes blocks) most

@@ -1,5 +1,8 @@
 pub mod Blocks
 pub mod Changes
 pub mod Tags
-pub mod Nodes
+pub mod Links
+pub mod Slots
+pub mod Lists
 pub mod Inside
+pub mod Bounds

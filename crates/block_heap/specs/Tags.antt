@@ -1,5 +1,5 @@
--- Blocks told by tags: the size and the use of each stand at its first word and at its last.
-use Rattle.std.specs.Prelude.{Option, Some, None, Contains, IfSome, ◌++◌, ◌≡◌, ◌≢◌, ℕ, zero, suc, ◌+◌, ◌-◌, ◌*◌, ◌/◌, ◌%◌, ◌<◌, ◌≤◌, ◌==◌, Bool, List, [], ◌∷◌, slice_index_or, nat_lt, if◌then◌else◌}
+-- Blocks told by tags: the size and the use of each stand at its first word and at its last, and a free one has a slot.
+use Rattle.std.specs.Prelude.{Option, Some, None, Contains, ◌++◌, ◌≡◌, ◌≢◌, ℕ, zero, suc, ◌+◌, ◌-◌, ◌*◌, ◌/◌, ◌%◌, ◌<◌, ◌≤◌, ◌==◌, Bool, List, [], ◌∷◌, slice_index_or, nat_lt, if◌then◌else◌}
 use Rattle.block_heap.specs.declared.block.TheConstants.{MOST_WORDS}
 use Rattle.block_heap.specs.declared.block.Block.{Block}
 use Rattle.block_heap.specs.Blocks.{Fills, IsFree, BeginsFree}
@@ -8,35 +8,22 @@ use Rattle.block_heap.specs.Blocks.{Fills, IsFree, BeginsFree}
 abbrev pub tag_of : List ℕ → ℕ → ℕ
 tag_of tags place = slice_index_or tags place 0
 
+-- the size that a tag tells: one or two words in a tag that has a slot too, and any size in the others
+abbrev pub size_in : ℕ → ℕ
+size_in tag = if tag % 4 == 3 then tag / 4 % 2 + 1 else tag / 4 + 1
+
 -- the size and the use that a word tells
 abbrev pub tag_at : List ℕ → ℕ → ℕ × Bool
-tag_at tags place = (tag_of tags place / 4 + 1, nat_lt (tag_of tags place % 4) 2)
+tag_at tags place = (size_in (tag_of tags place), nat_lt (tag_of tags place % 4) 2)
 
--- the words of the free block that begins at a word with this tag, or 0 where none does
-abbrev pub free_in : ℕ → ℕ
-free_in tag = if tag % 4 == 2 then tag / 4 + 1 else 0
+-- the slot of a free block: in the tag of its first word where it has no more than two, else that of its second word
+abbrev pub slot_of : List ℕ → Block → ℕ
+slot_of tags block = if nat_lt block.size 3 then tag_of tags block.place / 8 else tag_of tags (block.place + 1)
 
-abbrev pub free_from : List ℕ → ℕ → ℕ
-free_from tags place = free_in (tag_of tags place)
-
--- the tags of a block's first word and of its last
-abbrev pub first_tag : Block → ℕ
-first_tag block = (block.size - 1) * 4 + (if block.used then 1 else 2)
-
-abbrev pub last_tag : Block → ℕ
-last_tag block = (block.size - 1) * 4 + (if block.used then 1 else 3)
-
--- no free block begins behind the first word of a block
-abbrev pub NoneInside : List ℕ → Block → Type 0
-NoneInside tags block = (place : ℕ) → block.place < place → place < block.place + block.size → free_from tags place ≡ 0
-
--- A block's first word tells its size and use, and so does its last, unless no word is behind it. No free block begins in it,
--- but itself where it is free.
+-- A block's first word tells its size and use, and so does its last, unless no word is behind it.
 pub record IsTagged (words : ℕ) (tags : List ℕ) (block : Block) : Type 0 where
   pub first : tag_at tags block.place ≡ (block.size, block.used)
   pub last : block.place + block.size < words → tag_at tags (block.place + block.size - 1) ≡ (block.size, block.used)
-  pub head : free_from tags block.place ≡ (if block.used then 0 else block.size)
-  pub inside : NoneInside tags block
 
 abbrev pub AreTagged : ℕ → List ℕ → List Block → Type 0
 AreTagged words tags [] = Unit {0}
@@ -47,8 +34,8 @@ unfoldable pub blocks_from : ℕ → List ℕ → ℕ → ℕ → List Block
 blocks_from words tags zero place = []
 blocks_from words tags (suc most) place =
     if nat_lt place words then
-    record { place = place; size = tag_of tags place / 4 + 1; used = nat_lt (tag_of tags place % 4) 2 }
-    ∷ blocks_from words tags most (place + (tag_of tags place / 4 + 1))
+    record { place = place; size = size_in (tag_of tags place); used = nat_lt (tag_of tags place % 4) 2 }
+    ∷ blocks_from words tags most (place + size_in (tag_of tags place))
     else []
 
 -- the blocks that the tags tell, one for each word at most
@@ -65,6 +52,11 @@ pub record TellBlocks (words : ℕ) (tags : List ℕ) (blocks : List Block) : Ty
 abbrev pub OthersStay : List ℕ → List ℕ → Block → Type 0
 OthersStay tags new block =
     (place : ℕ) → place ≢ block.place → place ≢ block.place + block.size - 1 → tag_of new place ≡ tag_of tags place
+
+-- the tags of the words from one place to another are written, and no others
+pub record Rewrites (tags new : List ℕ) (from end : ℕ) : Type 0 where
+  pub below : (place : ℕ) → place < from → tag_of new place ≡ tag_of tags place
+  pub above : (place : ℕ) → end ≤ place → tag_of new place ≡ tag_of tags place
 
 -- a block begins at the place
 pub record HasBlock (blocks : List Block) (place : ℕ) : Type 0 where
@@ -95,12 +87,10 @@ abbrev pub IsFirstFree : List Block → Option Block → Type 0
 IsFirstFree blocks None = ¬ (BeginsFree blocks)
 IsFirstFree blocks (Some first) = (back : List Block) × (blocks ≡ first ∷ back) × IsFree first
 
--- some blocks in a row lie where the block is to lie, and of these none is free but the first and this one
-pub record Covers (blocks : List Block) (block : Block) (right : Option Block) : Type 0 where
+-- some blocks in a row lie where the block is to lie
+pub record Covers (blocks : List Block) (block : Block) : Type 0 where
   pub before : List Block
   pub middle : List Block
   pub after : List Block
   pub whole : blocks ≡ before ++ (middle ++ after)
   pub fills : Fills block.place middle (block.place + block.size)
-  pub free : (other : Block) → Contains middle other → IsFree other → block.place < other.place → right ≡ Some other
-  pub behind : IfSome right (λ other. (block.place < other.place) × (other.place < block.place + block.size))

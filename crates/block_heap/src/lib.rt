@@ -6,8 +6,10 @@
 #![tactic(auto)]
 
 mod block;
+mod bounds;
 mod heap;
-mod nodes;
+mod links;
+mod lists;
 mod row;
 mod tagged;
 

@@ -1,13 +1,12 @@
-//! The blocks of a heap, told by the size and the use of each at its first word and at its last.
-ghost use Rattle.std.specs.Prelude.{◌≡◌, ◌≢◌, ◌+◌, ◌-◌, ◌<◌, ◌≤◌, ℕ, [], ◌∷◌, ◌++◌, List, Some, IfOk, IfNone, IfSome, Contains};
+//! The blocks of a heap, told by the size and the use of each at its first word and at its last, with a slot for each free one.
+ghost use Rattle.std.specs.Prelude.{◌≡◌, ◌≢◌, ◌+◌, ◌-◌, ◌*◌, ◌<◌, ◌≤◌, ℕ, [], ◌∷◌, ◌++◌, List, IfOk, Contains};
 ghost use Rattle.block_heap.specs.declared.block.TheConstants.{MOST_WORDS};
-ghost use Rattle.block_heap.specs.Blocks.{free_block, used_block, words_of, Fills, IsFree, IsLargest};
+ghost use Rattle.block_heap.specs.Blocks.{free_block, used_block, words_of, Fills, IsFree};
 ghost use Rattle.block_heap.specs.declared.block.Block.{Block};
 ghost use Rattle.block_heap.specs.Changes.{rest_of};
-ghost use Rattle.block_heap.specs.Tags.{tag_of, first_tag, last_tag, IsTagged, OthersStay, NoneInside, HasBlock, IsSeam, IsLastFree, IsFirstFree, Covers};
+ghost use Rattle.block_heap.specs.Tags.{tag_of, size_in, slot_of, IsTagged, OthersStay, Rewrites, HasBlock, IsSeam, IsLastFree, IsFirstFree, Covers};
 
 use crate::block::Block;
-use crate::nodes::free_in;
 use crate::row::TagRow;
 use mica_io::NoMemory;
 use std::alloc::Global;
@@ -19,125 +18,111 @@ pub struct TaggedBlocks {
 }
 
 impl Model for TaggedBlocks {
-    ghost use Rattle.std.specs.Prelude.{List};
+    ghost use Rattle.std.specs.Prelude.{List, ℕ};
     ghost use Rattle.block_heap.specs.declared.block.Block.{Block};
     ghost use Rattle.block_heap.specs.Tags.{TellBlocks, blocks_of};
 
-    ghost Value = { List Block };
+    ghost Value = { List Block × List ℕ };
 
-    ghost view = { λ s. blocks_of s.row.0 s.row.1 };
+    ghost view = { λ s. (blocks_of s.row.0 s.row.1, s.row.1) };
 
     ghost invariant = { λ s. TellBlocks s.row.0 s.row.1 (blocks_of s.row.0 s.row.1) };
 }
 
-// The tag of a block's first word.
-fn first_tag(block: Block) -> u32
-    requires some { 0 < block.size }
-    requires limit { block.size ≤ MOST_WORDS }
-    ensures { result ≡ first_tag block }
+// The size that a tag tells.
+fn size_in(tag: u32) -> u32
+    ensures { result ≡ size_in tag }
 {
-    let tag = (block.size - 1) * 4;
-    if block.used { tag + 1 } else { tag + 2 }
-}
-
-// The tag of a block's last word, where it has more than one.
-fn last_tag(block: Block) -> u32
-    requires some { 0 < block.size }
-    requires limit { block.size ≤ MOST_WORDS }
-    ensures { result ≡ last_tag block }
-{
-    let tag = (block.size - 1) * 4;
-    if block.used { tag + 1 } else { tag + 3 }
+    if tag % 4 == 3 { tag / 4 % 2 + 1 } else { tag / 4 + 1 }
 }
 
 // Writes the tag of a block's last word, unless no word is behind it.
-fn tag_last(row: &mut TagRow, block: Block)
-    requires some { 0 < block.size }
-    requires within { block.place + block.size ≤ row.old.0 }
-    requires inside { NoneInside row.old.1 block }
-    ensures inside { NoneInside row.new.1 block }
-    ensures last { block.place + block.size < row.new.0 → tag_of row.new.1 (block.place + block.size - 1) ≡ last_tag block }
-    ensures others { (place : ℕ) → place ≢ block.place + block.size - 1 → tag_of row.new.1 place ≡ tag_of row.old.1 place }
+fn tag_last(row: &mut TagRow, end: u32, tag: u32)
+    requires some { 0 < end }
+    requires within { end ≤ row.old.0 }
+    ensures last { end < row.new.0 → tag_of row.new.1 (end - 1) ≡ tag }
+    ensures others { (place : ℕ) → place ≢ end - 1 → tag_of row.new.1 place ≡ tag_of row.old.1 place }
     ensures words { row.new.0 ≡ row.old.0 }
 {
-    let words = row.words();
-    let end = block.place + block.size;
-    if end < words {
-        row.set(end - 1, last_tag(block));
+    if end < row.words() {
+        row.set(end - 1, tag);
     }
+}
+
+// Writes a tag that tells a block at both its ends.
+fn tag_ends(row: &mut TagRow, block: Block, tag: u32)
+    requires some { 0 < block.size }
+    requires within { block.place + block.size ≤ row.old.0 }
+    requires size { size_in tag ≡ block.size }
+    requires used { (nat_lt (tag % 4) 2) ≡ block.used }
+    ensures here { IsTagged row.new.0 row.new.1 block }
+    ensures first { tag_of row.new.1 block.place ≡ tag }
+    ensures others { OthersStay row.old.1 row.new.1 block }
+    ensures words { row.new.0 ≡ row.old.0 }
+{
+    let _words = row.words();
+    tag_last(row, block.place + block.size, tag);
+    row.set(block.place, tag);
 }
 
 // Writes a block's size and use at both its ends.
 fn tag(row: &mut TagRow, block: Block)
     requires some { 0 < block.size }
     requires within { block.place + block.size ≤ row.old.0 }
-    requires inside { NoneInside row.old.1 block }
     ensures here { IsTagged row.new.0 row.new.1 block }
     ensures others { OthersStay row.old.1 row.new.1 block }
     ensures words { row.new.0 ≡ row.old.0 }
 {
-    tag_last(row, block);
     let _words = row.words();
-    row.set(block.place, first_tag(block));
-}
-
-// Takes the tag of a block's first word away.
-fn clear(row: &mut TagRow, block: Option<Block>)
-    requires { IfSome block (λ other. other.place < row.old.0) }
-    ensures gone { (other : Block) → block ≡ Some other → tag_of row.new.1 other.place ≡ 0 }
-    ensures others { (place : ℕ) → ((other : Block) → block ≡ Some other → place ≢ other.place) → tag_of row.new.1 place ≡ tag_of row.old.1 place }
-    ensures words { row.new.0 ≡ row.old.0 }
-{
-    if let Some(block) = block {
-        row.set(block.place, 0);
-    }
+    let kind = if block.used { 1 } else { 2 };
+    tag_ends(row, block, (block.size - 1) * 4 + kind);
 }
 
 impl TaggedBlocks {
-    // One free block of all words.
+    // One free block of all words, which has no slot yet.
     pub fn new(alloc: Global, words: u32) -> Result<Self, NoMemory>
         requires some { 1 ≤ words }
         requires limit { words ≤ MOST_WORDS }
-        ensures { IfOk result (λ blocks. blocks ≡ free_block 0 words ∷ []) }
+        ensures { IfOk result (λ tagged. tagged.0 ≡ free_block 0 words ∷ []) }
     {
         let mut row = TagRow::new(alloc, words)?;
         tag(&mut row, Block::free(0, words));
         Ok(TaggedBlocks { row })
     }
 
-    // A free block of as many words as are needed.
-    pub fn find(&self, need: u32) -> Option<Block>
-        requires { 1 ≤ need }
-        ensures none { IfNone result ((block : Block) → Contains self.now block → IsFree block → block.size < need) }
-        ensures some { IfSome result (λ block. Contains self.now block × IsFree block × (need ≤ block.size)) }
+    // How many words there are.
+    pub fn words(&self) -> u32
+        ensures words { result ≡ words_of self.now.0 }
+        ensures limit { result ≤ MOST_WORDS }
     {
-        let place = self.row.find(need)?;
-        Some(Block::free(place, free_in(self.row.tag(place))))
-    }
-
-    // The size of the largest free block, or 0 where there is none.
-    pub fn largest(&self) -> u32
-        ensures { IsLargest self.now result }
-    {
-        let Some(place) = self.row.largest() else {
-            return 0;
-        };
-        free_in(self.row.tag(place))
+        self.row.words()
     }
 
     // The size of the block that begins at the place.
     pub fn size_at(&self, place: u32) -> u32
-        requires { HasBlock self.now place }
-        ensures { (block : Block) → Contains self.now block → block.place ≡ place → result ≡ block.size }
+        requires { HasBlock self.now.0 place }
+        ensures { (block : Block) → Contains self.now.0 block → block.place ≡ place → result ≡ block.size }
     {
-        self.row.tag(place) / 4 + 1
+        size_in(self.row.tag(place))
+    }
+
+    // The slot of a free block.
+    pub fn slot_at(&self, block: Block) -> u32
+        requires { block.place < MOST_WORDS }
+        ensures { result ≡ slot_of self.now.1 block }
+    {
+        if block.size < 3 {
+            self.row.tag(block.place) / 8
+        } else {
+            self.row.tag(block.place + 1)
+        }
     }
 
     // The free block that ends at the place, where there is one.
     pub fn free_before(&self, place: u32) -> Option<Block>
-        requires seam { IsSeam self.now place }
-        requires within { place < words_of self.now }
-        ensures { (before after : List Block) → self.now ≡ before ++ after → Fills 0 before place → IsLastFree before result }
+        requires seam { IsSeam self.now.0 place }
+        requires within { place < words_of self.now.0 }
+        ensures { (before after : List Block) → self.now.0 ≡ before ++ after → Fills 0 before place → IsLastFree before result }
     {
         if place == 0 {
             return None;
@@ -146,14 +131,14 @@ impl TaggedBlocks {
         if last % 4 < 2 {
             return None;
         }
-        let size = last / 4 + 1;
+        let size = size_in(last);
         Some(Block::free(place - size, size))
     }
 
     // The free block that begins at the place, where there is one.
     pub fn free_at(&self, place: u32) -> Option<Block>
-        requires { IsSeam self.now place }
-        ensures { (before after : List Block) → self.now ≡ before ++ after → Fills 0 before place → IsFirstFree after result }
+        requires { IsSeam self.now.0 place }
+        ensures { (before after : List Block) → self.now.0 ≡ before ++ after → Fills 0 before place → IsFirstFree after result }
     {
         if place == self.row.words() {
             return None;
@@ -162,17 +147,17 @@ impl TaggedBlocks {
         if first % 4 < 2 {
             return None;
         }
-        Some(Block::free(place, first / 4 + 1))
+        Some(Block::free(place, size_in(first)))
     }
 
-    // Makes one block of those that lie where it is to lie, where none of them is free but the first and one other.
-    pub fn replace(&mut self, block: Block, right: Option<Block>)
+    // Makes one block of those that lie where it is to lie.
+    pub fn replace(&mut self, block: Block)
         requires some { 0 < block.size }
-        requires covers { Covers self.old block right }
-        ensures { (before middle after : List Block) → self.old ≡ before ++ (middle ++ after)
-            → Fills block.place middle (block.place + block.size) → self.new ≡ before ++ block ∷ after }
+        requires covers { Covers self.old.0 block }
+        ensures blocks { (before middle after : List Block) → self.old.0 ≡ before ++ (middle ++ after)
+            → Fills block.place middle (block.place + block.size) → self.new.0 ≡ before ++ block ∷ after }
+        ensures tags { Rewrites self.old.1 self.new.1 block.place (block.place + block.size) }
     {
-        clear(&mut self.row, right);
         tag(&mut self.row, block);
     }
 
@@ -180,9 +165,10 @@ impl TaggedBlocks {
     pub fn cut(&mut self, block: Block, need: u32)
         requires some { 0 < need }
         requires enough { need ≤ block.size }
-        requires among { Contains self.old block }
-        ensures { (before after : List Block) → self.old ≡ before ++ block ∷ after
-            → self.new ≡ before ++ used_block block.place need ∷ (rest_of (block.place + need) (block.size - need) ++ after) }
+        requires among { Contains self.old.0 block }
+        ensures blocks { (before after : List Block) → self.old.0 ≡ before ++ block ∷ after
+            → self.new.0 ≡ before ++ used_block block.place need ∷ (rest_of (block.place + need) (block.size - need) ++ after) }
+        ensures tags { Rewrites self.old.1 self.new.1 block.place (block.place + block.size) }
     {
         let used = Block::used(block.place, need);
         if need == block.size {
@@ -194,5 +180,25 @@ impl TaggedBlocks {
             Block::free(block.place + need, block.size - need),
         );
         tag(&mut self.row, used);
+    }
+
+    // Gives a free block a slot.
+    pub fn put_slot(&mut self, block: Block, slot: u32)
+        requires among { Contains self.old.0 block }
+        requires free { IsFree block }
+        requires few { 2 * slot < MOST_WORDS }
+        ensures blocks { self.new.0 ≡ self.old.0 }
+        ensures slot { slot_of self.new.1 block ≡ slot }
+        ensures tags { Rewrites self.old.1 self.new.1 block.place (block.place + block.size) }
+    {
+        if block.size < 3 {
+            tag_ends(
+                &mut self.row,
+                block,
+                (slot * 2 + block.size - 1) * 4 + 3,
+            );
+        } else {
+            self.row.set(block.place + 1, slot);
+        }
     }
 }

@@ -5,6 +5,7 @@ use mica_words::{
     header_value_len, item_size, key_fits, key_hash, pack, partition_of, tag_of, tail_of, unpack,
     value_fits,
 };
+use size_classes::class_of;
 
 /// A key, its hash, and what that chooses among 16 partitions and 16 buckets.
 struct Hashed {
@@ -237,4 +238,18 @@ fn what_fits(rt: HostRuntime) {
     for (len, is_key, is_value) in &FITTING {
         assert!(rt; fits(*len, *is_key, *is_value));
     }
+}
+
+#[test]
+fn classes_of_sizes(rt: HostRuntime) {
+    assert!(rt;
+        [
+            class_of(1),
+            class_of(31),
+            class_of(32),
+            class_of(48),
+            class_of(64),
+            class_of(1_048_576),
+        ] == [0, 30, 31, 32, 33, 61]
+    );
 }

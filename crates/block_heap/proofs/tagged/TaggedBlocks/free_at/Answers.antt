@@ -10,13 +10,13 @@ use Rattle.block_heap.proofs.tagged.TaggedBlocks.free_at.Goals.{After-tag-first}
 pub returns-then-place-words : goal.returns-then-place-words
 returns-then-place-words c = λ before after whole here.
     let end : c.self.inside.row.0 ≡ c.args.place = sym c.words.ensures.words ∙ sym c.if-place-words.true in
-    none_behind c.args.place after (subst (λ n. Fills c.args.place after n) end (after_fills c.self.inside.row.0 c.self.inside.row.1 _ before after c.args.place c.self.invariant (c.self.view_is ∙ whole) here))
+    none_behind c.args.place after (subst (λ n. Fills c.args.place after n) end (after_fills c.self.inside.row.0 c.self.inside.row.1 _ before after c.args.place c.self.invariant (ap (λ v. v.0) c.self.view_is ∙ whole) here))
 
-abbrev first : (c : After-tag-first) (before after : List Block) → c.args.self.now ≡ before ++ after → Fills 0 before c.args.place → FirstTold c.self.inside.row.1 after c.args.place
+abbrev first : (c : After-tag-first) (before after : List Block) → c.args.self.now.0 ≡ before ++ after → Fills 0 before c.args.place → FirstTold c.self.inside.row.1 after c.args.place
 first c before after whole here =
-    let le = from-le-end c.args.place c.self.inside.row.0 after (after_fills c.self.inside.row.0 c.self.inside.row.1 _ before after c.args.place c.self.invariant (c.self.view_is ∙ whole) here) in
+    let le = from-le-end c.args.place c.self.inside.row.0 after (after_fills c.self.inside.row.0 c.self.inside.row.1 _ before after c.args.place c.self.invariant (ap (λ v. v.0) c.self.view_is ∙ whole) here) in
     let words = c.words.ensures.words in
-    first_told c.self.inside.row.0 c.self.inside.row.1 _ before after c.args.place c.self.invariant (c.self.view_is ∙ whole) here (omega (arith, c.if-place-words.false))
+    first_told c.self.inside.row.0 c.self.inside.row.1 _ before after c.args.place c.self.invariant (ap (λ v. v.0) c.self.view_is ∙ whole) here (omega (arith, c.if-place-words.false))
 
 pub returns-then-first-lt2 : goal.returns-then-first-lt2
 returns-then-first-lt2 c = λ before after whole here begins.

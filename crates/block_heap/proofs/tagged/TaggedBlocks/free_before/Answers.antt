@@ -1,7 +1,7 @@
-use Rattle.std.proofs.Common.{List, ◌-◌, ◌≡◌, ◌+◌, ◌/◌, ◌∷◌, ◌++◌, [], refl, ap, ◌∙◌, arith, subst, sym}
+use Rattle.std.proofs.Common.{List, ◌-◌, ◌≡◌, ◌∷◌, ◌++◌, [], refl, ap, ◌∙◌, arith, subst, sym}
 use Rattle.block_heap.specs.declared.block.Block.{Block}
 use Rattle.block_heap.specs.Blocks.{free_block, Fills, words_of}
-use Rattle.block_heap.specs.Tags.{EndsFree}
+use Rattle.block_heap.specs.Tags.{size_in, EndsFree}
 use Rattle.block_heap.proofs.Places.{free_is}
 use Rattle.block_heap.proofs.TagLaws.{LastTold, last_told, words_told, read_size, read_used, read_free, ends_last, used_not_free, no_words}
 use Rattle.block_heap.proofs.tagged.TaggedBlocks.free_before.Goals as goal
@@ -10,12 +10,12 @@ use Rattle.block_heap.proofs.tagged.TaggedBlocks.free_before.Goals.{After-tag-la
 pub returns-then-place-eq0 : goal.returns-then-place-eq0
 returns-then-place-eq0 c = λ before after whole here. no_words 0 before (subst (λ n. Fills 0 before n) c.if-place-eq0.true here)
 
-abbrev last : (c : After-tag-last) (before after : List Block) → c.args.self.now ≡ before ++ after → Fills 0 before c.args.place → LastTold c.self.inside.row.1 before c.args.place
+abbrev last : (c : After-tag-last) (before after : List Block) → c.args.self.now.0 ≡ before ++ after → Fills 0 before c.args.place → LastTold c.self.inside.row.1 before c.args.place
 last c before after whole here =
     let all = words_told c.self.inside.row.0 c.self.inside.row.1 _ c.self.invariant in
-    let same = ap words_of c.self.view_is in
+    let same = ap (λ v. words_of v.0) c.self.view_is in
     let within = c.requires.within in
-    last_told c.self.inside.row.0 c.self.inside.row.1 _ before after c.args.place c.self.invariant (c.self.view_is ∙ whole) here (omega arith) (omega arith)
+    last_told c.self.inside.row.0 c.self.inside.row.1 _ before after c.args.place c.self.invariant (ap (λ v. v.0) c.self.view_is ∙ whole) here (omega arith) (omega arith)
 
 pub returns-then-last-lt2 : goal.returns-then-last-lt2
 returns-then-last-lt2 c = λ before after whole here ends.
@@ -35,6 +35,6 @@ returns c = λ before after whole here.
     let ends = l.ends in
     let size = read_size c.self.inside.row.1 (c.args.place - 1) c.tag-last.result l.last.size l.last.used l.tag c.tag-last.ensures in
     let free = read_free c.self.inside.row.1 (c.args.place - 1) c.tag-last.result l.last.size l.last.used l.tag c.tag-last.ensures c.if-last-lt2.false in
-    let place : l.last.place ≡ c.args.place - (c.tag-last.result / 4 + 1) = omega arith in
-    let block : l.last ≡ c.free.result = free_is l.last free ∙ ap (λ p. free_block p l.last.size) place ∙ ap (λ n. free_block (c.args.place - (c.tag-last.result / 4 + 1)) n) (sym size) ∙ sym c.free.ensures in
+    let place : l.last.place ≡ c.args.place - size_in c.tag-last.result = omega arith in
+    let block : l.last ≡ c.free.result = free_is l.last free ∙ ap (λ p. free_block p l.last.size) place ∙ ap (λ n. free_block (c.args.place - size_in c.tag-last.result) n) (sym size) ∙ sym c.free.ensures in
     (l.front, l.split ∙ ap (λ b. l.front ++ b ∷ []) block, rw c.free.ensures refl)

@@ -1,6 +1,0 @@
-use Rattle.std.proofs.Common.{◌≤◌, ◌<◌, ◌-◌}
-use Rattle.block_heap.specs.Nodes.{most_of, number_at}
-use Rattle.block_heap.proofs.nodes.node_with.Given as goal
-
-abbrev pub invariant-loop-at : goal.invariant-loop-at
-invariant-loop-at l = record { from : l.from ≤ l.at; less : most_of (number_at l.nodes) l.from (l.at - l.from) < l.need }
