@@ -49,6 +49,11 @@ pub lack : (xs : List ℕ) (slot : ℕ) → (Contains xs slot → ⊥) → Lack 
 lack [] slot none = tt
 lack (x ∷ xs) slot none = (λ e. none (0, omega arith, e), lack xs slot (λ among. none (suc among.0, (let lt = among.1 in omega arith), among.2)))
 
+pub lacked : (xs : List ℕ) (slot : ℕ) → Lack xs slot → Contains xs slot → ⊥
+lacked [] slot none among = absurd (let lt = among.1 in omega arith)
+lacked (x ∷ xs) slot none (zero, lt, is) = none.0 is
+lacked (x ∷ xs) slot none (suc k, lt, is) = lacked xs slot none.1 (k, omega arith, is)
+
 -- a slot stands once in its ring
 pub record Once (links : List Link) (class slot : ℕ) (list : List ℕ) : Type 0 where
   pub before : List ℕ

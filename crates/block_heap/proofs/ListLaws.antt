@@ -8,12 +8,13 @@ use Rattle.std.proofs.Math.Dec.{leb}
 use Rattle.std.proofs.lemmas.Nat.{pow-add, leading_top}
 use Rattle.std.proofs.lemmas.Nat.Bits.{bit_at-trailing_zeros, bit_at_above, bit_at-zero}
 use Rattle.std.proofs.lemmas.Bool.{cases_eq, cases_lt, le-leb, lt-leb}
+use Rattle.std.proofs.lemmas.List.Elements.{Contains-append_cases}
 use Rattle.std.proofs.lemmas.Grind.{common_steps}
 use Rattle.block_heap.specs.declared.block.TheConstants.{MOST_WORDS}
 use Rattle.block_heap.specs.declared.links.Link.{Link}
 use Rattle.block_heap.specs.Links.{node_of, link_of, next_of, prev_of, slots_after, LeadOver, AreJoined}
 use Rattle.block_heap.specs.Lists.{KeepsLists, IsUnlisted, IsWithout, left_from}
-use Rattle.block_heap.proofs.LinkLaws.{told_slots, few_slots, leads_to, lack, Once, once, elsewhere, read_link, last_leads, last_differs, first_leads, stay_beside, leads_without, Adds, adds, added_beside, leads_with}
+use Rattle.block_heap.proofs.LinkLaws.{told_slots, few_slots, leads_to, lack, lacked, Once, once, elsewhere, read_link, last_leads, last_differs, first_leads, stay_beside, leads_without, Adds, adds, added_beside, leads_with}
 
 -- the list of a class, as the links of its ring tell it
 ring_is : (words : ℕ) (links : List Link) (class : ℕ) (list : List ℕ) → class < 64 → LeadOver links class list class → length list ≤ words → (slots_after links words class ≡ list) × LeadOver links class (slots_after links words class) class
@@ -64,6 +65,7 @@ changed words links new filled bits class now h longer wide few on stay own othe
 pub record Left (words : ℕ) (links new : List Link) (filled class slot : ℕ) : Type 0 where
   pub without : IsWithout (slots_after links words class) (slots_after new words class) slot
   pub all : Changed words links new filled class (without.before ++ without.after)
+  pub gone : IsUnlisted (slots_after new words) slot
 
 module _ (words : ℕ) (links : List Link) (filled : ℕ) (h : KeepsLists words links filled) (class : ℕ) (few : class < 64) where
   abbrev list : List ℕ
@@ -129,7 +131,7 @@ module _ (words : ℕ) (links : List Link) (filled : ℕ) (h : KeepsLists words 
 
     pub left : (new : List Link) (link head : Link) (bits : ℕ) → link ≡ get_or links (node_of slot) link → AreJoined links new link.prev link.next → bits < 2 ^ 64
         → head ≡ get_or new class head → bit_at bits class ≡ cond (leb 64 head.next) 1 0 → ((i : ℕ) → i < 64 → i ≢ class → bit_at bits i ≡ bit_at filled i) → Left words links new bits class slot
-    left new link head bits read joined wide read_head on stay = record { without = record { before = at.before; after = at.after; was = at.whole; now = all.own }; all = all }
+    left new link head bits read joined wide read_head on stay = record { without = record { before = at.before; after = at.after; was = at.whole; now = all.own }; all = all; gone = λ c less. gone c less (cases_eq c class) }
       where
         at : Once links class slot list
         at = where_it_is
@@ -155,6 +157,17 @@ module _ (words : ℕ) (links : List Link) (filled : ℕ) (h : KeepsLists words 
             (stay_beside links new slot both node_there.before node_there.after other (slots_after links words other) other (λ e. omega arith) (λ e. omega arith)
             (elsewhere links class other slot at.after (slots_after links words other) few less ne at.on (h.rings other less)) (h.rings other less))
             (few_slots links words other))
+
+        -- its list has it no more, and no other list had it
+        gone : (c : ℕ) → c < 64 → (c ≡ class) ⊎ (c ≡ class → ⊥) → Contains (slots_after new words c) slot → ⊥
+        gone c less (inl e) among = here (Contains-append_cases at.before at.after slot (subst (λ (xs : List ℕ). Contains xs slot) (ap (slots_after new words) e ∙ all.own) among))
+          where
+            here : Contains at.before slot ⊎ Contains at.after slot → ⊥
+            here (inl first) = lacked at.before slot at.none_before first
+            here (inr later) = lacked at.after slot at.none_after later
+        gone c less (inr ne) among =
+            lacked (slots_after links words c) slot (elsewhere links class c slot at.after (slots_after links words c) few less ne at.on (h.rings c less))
+            (subst (λ (xs : List ℕ). Contains xs slot) (all.others c less ne) among)
 
 -- a shift and a shift by one more
 shifted : (n a j : ℕ) → n / 2 ^ a / 2 / 2 ^ j ≡ n / 2 ^ (a + 1 + j)

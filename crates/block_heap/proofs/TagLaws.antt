@@ -333,3 +333,28 @@ slots_stay words tags new before middle after from end some fills own writes blo
     by : Contains before block ⊎ Contains after block → slot_of new block ≡ slot_of tags block
     by (inl first) = (let lies = lies_from 0 from before block front first in let ends = lies.2 in slot_kept tags new block lies.1 (λ place ge lt. writes.below place (omega arith)))
     by (inr later) = (let lies = lies_from end words after block back later in let starts = lies.0 in slot_kept tags new block lies.1 (λ place ge lt. writes.above place (omega arith)))
+
+-- a block's tags are written again, and tell the same
+pub told_again : (words told : ℕ) (tags new : List ℕ) (blocks : List Block) (block : Block) → TellBlocks words tags blocks → Contains blocks block → Rewrites tags new block.place (block.place + block.size) → IsTagged told new block → told ≡ words → NowTell told new blocks
+told_again words told tags new blocks block tell among writes tagged same =
+    let parts = parted blocks block among in
+    let some = (lies_in words tags blocks block tell among).some in
+    subst (λ (bs : List Block). NowTell told new bs) (sym parts.2) (subst (λ n. NowTell n new (parts.0 ++ block ∷ parts.1)) (sym same)
+    (replaced words tags new block parts.0 (block ∷ []) parts.1 some writes (subst (TellBlocks words tags) parts.2 tell) (refl, some, refl) (subst (λ n. IsTagged n new block) same tagged)))
+
+-- a slot was written to the second of three words and more
+pub second_written : (words : ℕ) (tags new : List ℕ) (block : Block) → 3 ≤ block.size → IsTagged words tags block → ((place : ℕ) → place ≢ block.place + 1 → tag_of new place ≡ tag_of tags place)
+    → IsTagged words new block × Rewrites tags new block.place (block.place + block.size)
+second_written words tags new block more tagged others = (
+  record {
+    first = ap told_by (others block.place (λ e. absurd (omega arith))) ∙ tagged.first;
+    last = λ behind. ap told_by (others (block.place + block.size - 1) (λ e. absurd (omega arith))) ∙ tagged.last behind;
+  },
+  record { below = λ place lt. others place (λ e. absurd (omega arith)); above = λ place le. others place (λ e. absurd (omega arith)) },
+)
+
+pub small_slot : (tags : List ℕ) (block : Block) (slot : ℕ) → 0 < block.size → block.size < 3 → tag_of tags block.place ≡ (slot * 2 + block.size - 1) * 4 + 3 → slot_of tags block ≡ slot
+small_slot tags block slot some few is = rw (lt-ltb block.size 3 few) (ap (λ t. t / 8) is ∙ (let e : ((slot * 2 + block.size - 1) * 4 + 3) / 8 ≡ slot = omega arith in e))
+
+pub large_slot : (tags : List ℕ) (block : Block) (slot : ℕ) → 3 ≤ block.size → tag_of tags (block.place + 1) ≡ slot → slot_of tags block ≡ slot
+large_slot tags block slot more is = rw (le-ltb block.size 3 more) is

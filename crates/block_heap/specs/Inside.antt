@@ -1,5 +1,5 @@
 -- What the heap keeps.
-use Rattle.std.specs.Prelude.{◌≡◌, ℕ, ◌×◌, ◌≤◌, Option, Some, None, List, [], ◌∷◌, Contains, IfSome, ◌<◌}
+use Rattle.std.specs.Prelude.{◌≡◌, ℕ, ◌+◌, ◌≤◌, Option, Some, None, List, [], ◌∷◌, Contains, IfSome, ◌<◌}
 use Rattle.size_classes.specs.Classes.{class_of}
 use Rattle.block_heap.specs.declared.block.TheConstants.{MOST_WORDS}
 use Rattle.block_heap.specs.declared.block.Block.{Block}
@@ -47,10 +47,6 @@ pub record HasFreeAt (blocks : List Block) (tags : List ℕ) (lists : Lists) (sl
   pub free : IsFree block
   pub here : slot_of tags block ≡ slot
   pub place : place_in lists slot ≡ block.place
-
--- a free block has each slot of a list
-abbrev pub HaveFree : List Block → List ℕ → Lists → List ℕ → Type 0
-HaveFree blocks tags lists list = (slot : ℕ) → Contains list slot → HasFreeAt blocks tags lists slot
 
 -- the free blocks that have the slots of a list have fewer words than are needed
 abbrev pub AreShort : List Block → List ℕ → List ℕ → ℕ → Type 0

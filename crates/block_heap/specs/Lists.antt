@@ -11,7 +11,7 @@ use Rattle.block_heap.specs.Slots.{most_slots, AreApart}
 use Rattle.block_heap.specs.Tags.{slot_of}
 
 -- how many words there are, the links, and the spare slots
-abbrev pub Lists : Type 1
+abbrev pub Lists : Type 0
 Lists = ℕ × List Link × List ℕ
 
 -- the list of a class; after a node, the slots that are left

@@ -1,7 +1,15 @@
 -- Slots of free blocks: each has a node, and those that are in no list are spare.
 use Rattle.std.specs.Prelude.{◌≡◌, ◌≢◌, ◌⊎◌, ℕ, ◌+◌, ◌-◌, ◌/◌, ◌<◌, ◌≤◌, List, [], ◌∷◌, ◌++◌, length, Contains}
 use Rattle.block_heap.specs.declared.links.Link.{Link}
-use Rattle.block_heap.specs.Links.{node_of, next_of, prev_of, place_of}
+use Rattle.block_heap.specs.Links.{node_of, link_of, next_of, prev_of, place_of}
+
+-- a node knows the place now, and nothing else has changed
+pub record IsPlaced (old new : List Link) (node place : ℕ) : Type 0 where
+  pub next : (other : ℕ) → next_of new other ≡ next_of old other
+  pub prev : (other : ℕ) → prev_of new other ≡ prev_of old other
+  pub here : (link_of new node).place ≡ place
+  pub others : (other : ℕ) → other ≢ node → (link_of new other).place ≡ (link_of old other).place
+  pub len : length new ≡ length old
 
 -- how many slots a heap of so many words has: no two of its free blocks touch
 abbrev pub most_slots : ℕ → ℕ

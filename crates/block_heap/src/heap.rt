@@ -5,7 +5,7 @@ ghost use Rattle.block_heap.specs.declared.block.Block.{Block};
 ghost use Rattle.block_heap.specs.Blocks.{free_block, IsBlockList, HasUsed, NoneFits, MayLack, IsFree, IsLargest, words_of};
 ghost use Rattle.block_heap.specs.Changes.{IsTaken, IsGiven};
 ghost use Rattle.block_heap.specs.Lists.{AreListed, list_of};
-ghost use Rattle.block_heap.specs.Inside.{IsHeap, IsListable, blocks_in, words_in, HaveFree, AreShort, IsMost};
+ghost use Rattle.block_heap.specs.Inside.{IsHeap, IsListable, blocks_in, words_in, AreShort, IsMost};
 ghost use Rattle.block_heap.specs.Bounds.{AreBounded};
 ghost use Rattle.size_classes.specs.Classes.{class_of};
 
@@ -59,7 +59,7 @@ fn unlist(free: &mut FreeLists, blocks: &TaggedBlocks, neighbour: Option<Block>)
 // The first block of a class that has as many words as are needed.
 fn first_fit(blocks: &TaggedBlocks, free: &FreeLists, class: u32, need: u32) -> Option<Block>
     requires class { class < 64 }
-    requires have { HaveFree blocks.now.0 blocks.now.1 free.now (list_of free.now class) }
+    requires heap { IsHeap blocks.now.0 blocks.now.1 free.now }
     ensures none { IfNone result (AreShort blocks.now.0 blocks.now.1 (list_of free.now class) need) }
     ensures some { IfSome result (λ block. Contains blocks.now.0 block × IsFree block × (need ≤ block.size)) }
 {
@@ -78,7 +78,7 @@ fn first_fit(blocks: &TaggedBlocks, free: &FreeLists, class: u32, need: u32) -> 
 // A block of a class that has as many words as are needed, where one of its first few has.
 fn early_fit(blocks: &TaggedBlocks, free: &FreeLists, class: u32, need: u32) -> Option<Block>
     requires class { class < 64 }
-    requires have { HaveFree blocks.now.0 blocks.now.1 free.now (list_of free.now class) }
+    requires heap { IsHeap blocks.now.0 blocks.now.1 free.now }
     ensures some { IfSome result (λ block. Contains blocks.now.0 block × IsFree block × (need ≤ block.size)) }
 {
     let mut listed = free.first(class);
@@ -141,7 +141,7 @@ fn fitting(blocks: &TaggedBlocks, free: &FreeLists, bounds: &mut Bounds, need: u
 // The words of the largest block of a class.
 fn most_words(blocks: &TaggedBlocks, free: &FreeLists, class: u32) -> u32
     requires class { class < 64 }
-    requires have { HaveFree blocks.now.0 blocks.now.1 free.now (list_of free.now class) }
+    requires heap { IsHeap blocks.now.0 blocks.now.1 free.now }
     ensures { IsMost blocks.now.0 blocks.now.1 (list_of free.now class) result }
 {
     let mut most = 0;
@@ -166,7 +166,8 @@ impl Heap {
         let mut bounds = Bounds::new(alloc)?;
         let class = class_of(words);
         let slot = free.add(class, 0);
-        blocks.put_slot(Block::free(0, words), slot);
+        let block = Block::free(0, words);
+        blocks.put_slot(block, slot);
         bounds.raise(class, words);
         Ok(Heap {
             blocks,

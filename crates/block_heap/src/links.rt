@@ -1,7 +1,7 @@
 //! Links of lists: each node knows the node after it and the node before it, and a place.
-ghost use Rattle.std.specs.Prelude.{◌≡◌, ◌<◌, ◌≤◌, ◌+◌, ℕ, Contains, length, vec_capacity};
+ghost use Rattle.std.specs.Prelude.{◌≡◌, ◌<◌, ◌≤◌, ℕ, Contains, length, vec_capacity};
 ghost use Rattle.block_heap.specs.Links.{AreJoined, node_of};
-ghost use Rattle.block_heap.specs.Slots.{IsSlotFor};
+ghost use Rattle.block_heap.specs.Slots.{IsPlaced, IsSlotFor};
 
 use size_classes::CLASSES;
 
@@ -23,6 +23,14 @@ pub fn join(links: &mut Vec<Link>, node: u32, after: u32)
     links[after as usize].prev = node;
 }
 
+fn put_place(links: &mut Vec<Link>, node: u32, place: u32)
+    requires { node < length links.old.items }
+    ensures placed { IsPlaced links.old.items links.new.items node place }
+    ensures capacity { vec_capacity links.new ≡ vec_capacity links.old }
+{
+    links[node as usize].place = place;
+}
+
 // A slot for a place: one that came back, or else a new one.
 pub fn slot_for(links: &mut Vec<Link>, spares: &mut Vec<u32>, place: u32) -> u32
     requires heads { 64 ≤ length links.old.items }
@@ -34,7 +42,7 @@ pub fn slot_for(links: &mut Vec<Link>, spares: &mut Vec<u32>, place: u32) -> u32
     ensures spare_capacity { vec_capacity spares.new ≡ vec_capacity spares.old }
 {
     if let Some(slot) = spares.pop() {
-        links[slot as usize + 64].place = place;
+        put_place(links, slot + CLASSES, place);
         return slot;
     }
     let slot = links.len() as u32 - CLASSES;

@@ -1,5 +1,5 @@
 //! The blocks of a heap, told by the size and the use of each at its first word and at its last, with a slot for each free one.
-ghost use Rattle.std.specs.Prelude.{◌≡◌, ◌≢◌, ◌+◌, ◌-◌, ◌*◌, ◌<◌, ◌≤◌, ℕ, [], ◌∷◌, ◌++◌, List, IfOk, Contains};
+ghost use Rattle.std.specs.Prelude.{◌≡◌, ◌≢◌, ◌+◌, ◌-◌, ◌*◌, ◌%◌, ◌<◌, ◌≤◌, ℕ, [], ◌∷◌, ◌++◌, List, IfOk, Contains, nat_lt};
 ghost use Rattle.block_heap.specs.declared.block.TheConstants.{MOST_WORDS};
 ghost use Rattle.block_heap.specs.Blocks.{free_block, used_block, words_of, Fills, IsFree};
 ghost use Rattle.block_heap.specs.declared.block.Block.{Block};
@@ -36,6 +36,17 @@ fn size_in(tag: u32) -> u32
     if tag % 4 == 3 { tag / 4 % 2 + 1 } else { tag / 4 + 1 }
 }
 
+// The tag of a block that has no slot yet.
+fn plain_tag(block: Block) -> u32
+    requires some { 0 < block.size }
+    requires limit { block.size ≤ MOST_WORDS }
+    ensures size { size_in result ≡ block.size }
+    ensures used { nat_lt (result % 4) 2 ≡ block.used }
+{
+    let tag = (block.size - 1) * 4;
+    if block.used { tag + 1 } else { tag + 2 }
+}
+
 // Writes the tag of a block's last word, unless no word is behind it.
 fn tag_last(row: &mut TagRow, end: u32, tag: u32)
     requires some { 0 < end }
@@ -54,7 +65,7 @@ fn tag_ends(row: &mut TagRow, block: Block, tag: u32)
     requires some { 0 < block.size }
     requires within { block.place + block.size ≤ row.old.0 }
     requires size { size_in tag ≡ block.size }
-    requires used { (nat_lt (tag % 4) 2) ≡ block.used }
+    requires used { nat_lt (tag % 4) 2 ≡ block.used }
     ensures here { IsTagged row.new.0 row.new.1 block }
     ensures first { tag_of row.new.1 block.place ≡ tag }
     ensures others { OthersStay row.old.1 row.new.1 block }
@@ -74,8 +85,7 @@ fn tag(row: &mut TagRow, block: Block)
     ensures words { row.new.0 ≡ row.old.0 }
 {
     let _words = row.words();
-    let kind = if block.used { 1 } else { 2 };
-    tag_ends(row, block, (block.size - 1) * 4 + kind);
+    tag_ends(row, block, plain_tag(block));
 }
 
 impl TaggedBlocks {

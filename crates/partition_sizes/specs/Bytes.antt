@@ -6,16 +6,16 @@ use Rattle.partition_model.specs.declared.options.Options.{Options}
 use Rattle.epoch_core.specs.declared.shape.Shape.{Shape}
 use Rattle.epoch_core.specs.Shape.{shape_of}
 use Rattle.epoch_core.specs.Layout.{word_count}
-use Rattle.partition_sizes.specs.declared.bytes.TheConstants.{HEAP_BYTES, SPARE_BYTES}
+use Rattle.partition_sizes.specs.declared.bytes.TheConstants.{HEAP_BYTES, LISTS_BYTES, SPARE_BYTES}
 
 -- of a table, whose words have eight bytes
 abbrev pub table_bytes : Shape → ℕ
 table_bytes shape = 8 * word_count shape
 
--- of the rows beside it: in store mode its heap has so many at most for each word, and its index some for each spare
+-- of the rows beside it: in store mode its heap has some for each word and for its lists, and its index for each spare
 abbrev pub beside : Mode → ℕ → ℕ → ℕ
 beside Cache words spares = 0
-beside Store words spares = HEAP_BYTES * words + SPARE_BYTES * spares
+beside Store words spares = HEAP_BYTES * words + LISTS_BYTES + SPARE_BYTES * spares
 
 -- of a partition
 abbrev pub partition_bytes : Shape → ℕ

@@ -6,9 +6,13 @@ ghost use Rattle.partition_sizes.specs.Bytes.{beside, table_bytes, partition_byt
 use epoch_core::Shape;
 use partition_model::{Mode, Options};
 
-/// The bytes that a heap has at most beside each of its words: four for the word's tag, and less than one for the nodes over
-/// the tags.
+/// The bytes that a heap uses beside each of its words: four for the word's tag, and one more for the slots of free blocks.
+/// A slot has 16 bytes, which are reserved and not touched before so many blocks are free at once. So one byte a word is enough
+/// for them unless more than one word in 16 begins a free block. That can't be where each block in use has 15 words or more.
 pub const HEAP_BYTES: u64 = 5;
+
+/// The bytes of the heads and the bounds of a heap's lists.
+pub const LISTS_BYTES: u64 = 1024;
 
 /// The bytes that an index has for each of its spares.
 pub const SPARE_BYTES: u64 = 4;
@@ -19,7 +23,9 @@ fn beside(mode: Mode, words: u32, spares: u32) -> u64
 {
     match mode {
         Mode::Cache => 0,
-        Mode::Store => { HEAP_BYTES * u64::from(words) + SPARE_BYTES * u64::from(spares) }
+        Mode::Store => {
+            HEAP_BYTES * u64::from(words) + LISTS_BYTES + SPARE_BYTES * u64::from(spares)
+        }
     }
 }
 

@@ -26,7 +26,7 @@ returns-then-first-lt2 c = λ before after whole here begins.
 pub returns : goal.returns
 returns c = λ before after whole here.
     let f = first (goal.at.returns c).After-tag-first before after whole here in
-    let size = read_size c.self.inside.row.1 c.args.place c.tag-first.result f.first.size f.first.used f.tag c.tag-first.ensures in
+    let size = c.size_in.ensures ∙ read_size c.self.inside.row.1 c.args.place c.tag-first.result f.first.size f.first.used f.tag c.tag-first.ensures in
     let free = read_free c.self.inside.row.1 c.args.place c.tag-first.result f.first.size f.first.used f.tag c.tag-first.ensures c.if-first-lt2.false in
     let block : f.first ≡ c.free.result = free_is f.first free ∙ ap (λ p. free_block p f.first.size) f.here ∙ ap (λ n. free_block c.args.place n) (sym size) ∙ sym c.free.ensures in
     (f.back, f.split ∙ ap (λ b. b ∷ f.back) block, rw c.free.ensures refl)

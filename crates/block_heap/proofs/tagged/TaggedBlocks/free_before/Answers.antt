@@ -1,7 +1,7 @@
 use Rattle.std.proofs.Common.{List, ◌-◌, ◌≡◌, ◌∷◌, ◌++◌, [], refl, ap, ◌∙◌, arith, subst, sym}
 use Rattle.block_heap.specs.declared.block.Block.{Block}
 use Rattle.block_heap.specs.Blocks.{free_block, Fills, words_of}
-use Rattle.block_heap.specs.Tags.{size_in, EndsFree}
+use Rattle.block_heap.specs.Tags.{EndsFree}
 use Rattle.block_heap.proofs.Places.{free_is}
 use Rattle.block_heap.proofs.TagLaws.{LastTold, last_told, words_told, read_size, read_used, read_free, ends_last, used_not_free, no_words}
 use Rattle.block_heap.proofs.tagged.TaggedBlocks.free_before.Goals as goal
@@ -26,15 +26,15 @@ pub overflow_sub-place-2 : goal.overflow_sub-place-2
 overflow_sub-place-2 c =
     let l = last (goal.at.overflow_sub-place-2 c).After-tag-last c.requires.seam.before c.requires.seam.after c.requires.seam.whole c.requires.seam.here in
     let ends = l.ends in
-    let size = read_size c.self.inside.row.1 (c.args.place - 1) c.tag-last.result l.last.size l.last.used l.tag c.tag-last.ensures in
+    let size = c.size_in-size.ensures ∙ read_size c.self.inside.row.1 (c.args.place - 1) c.tag-last.result l.last.size l.last.used l.tag c.tag-last.ensures in
     omega arith
 
 pub returns : goal.returns
 returns c = λ before after whole here.
     let l = last (goal.at.returns c).After-tag-last before after whole here in
     let ends = l.ends in
-    let size = read_size c.self.inside.row.1 (c.args.place - 1) c.tag-last.result l.last.size l.last.used l.tag c.tag-last.ensures in
+    let size = c.size_in-size.ensures ∙ read_size c.self.inside.row.1 (c.args.place - 1) c.tag-last.result l.last.size l.last.used l.tag c.tag-last.ensures in
     let free = read_free c.self.inside.row.1 (c.args.place - 1) c.tag-last.result l.last.size l.last.used l.tag c.tag-last.ensures c.if-last-lt2.false in
-    let place : l.last.place ≡ c.args.place - size_in c.tag-last.result = omega arith in
-    let block : l.last ≡ c.free.result = free_is l.last free ∙ ap (λ p. free_block p l.last.size) place ∙ ap (λ n. free_block (c.args.place - size_in c.tag-last.result) n) (sym size) ∙ sym c.free.ensures in
+    let place : l.last.place ≡ c.args.place - c.size_in-size.result = omega arith in
+    let block : l.last ≡ c.free.result = free_is l.last free ∙ ap (λ p. free_block p l.last.size) place ∙ ap (λ n. free_block (c.args.place - c.size_in-size.result) n) (sym size) ∙ sym c.free.ensures in
     (l.front, l.split ∙ ap (λ b. l.front ++ b ∷ []) block, rw c.free.ensures refl)
