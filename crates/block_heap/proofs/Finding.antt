@@ -143,7 +143,7 @@ module _ (blocks : List Block) (tags : List ℕ) (lists : Lists) (slot place : �
 
   pub found_at : (size : ℕ) → ((block : Block) → Contains blocks block → block.place ≡ place → size ≡ block.size) → Contains blocks (free_block place size)
   found_at size tells =
-      subst (λ b. Contains blocks b) (free_is has.block has.free ∙ ap (λ p. free_block p has.block.size) begins ∙ ap (λ n. free_block place n) (sym (tells has.block has.among begins))) has.among
+      subst (λ (b : Block). Contains blocks b) (free_is has.block has.free ∙ ap (λ p. free_block p has.block.size) begins ∙ ap (λ n. free_block place n) (sym (tells has.block has.among begins))) has.among
 
 -- A walk over the slots of a class, from the first one on.
 pub record Walk (lists : ℕ → List ℕ) (class : ℕ) (listed : Option ℕ) : Type 0 where

@@ -39,4 +39,4 @@ pub record IsSlotFor (old new : List Link) (old_spares spares : List ℕ) (slot 
 -- no number stands twice
 abbrev pub AreApart : List ℕ → Type 0
 AreApart [] = Unit {0}
-AreApart (x ∷ xs) = ¬ (Contains xs x) × AreApart xs
+AreApart (x ∷ xs) = (¬ (Contains xs x)) × AreApart xs

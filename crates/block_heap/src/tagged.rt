@@ -88,6 +88,26 @@ fn tag(row: &mut TagRow, block: Block)
     tag_ends(row, block, plain_tag(block));
 }
 
+// Writes the slot of a free block.
+fn write_slot(row: &mut TagRow, block: Block, slot: u32)
+    requires some { 0 < block.size }
+    requires within { block.place + block.size ≤ row.old.0 }
+    requires tagged { IsTagged row.old.0 row.old.1 block }
+    requires free { IsFree block }
+    requires few { 2 * slot < MOST_WORDS }
+    ensures here { IsTagged row.new.0 row.new.1 block }
+    ensures slot { slot_of row.new.1 block ≡ slot }
+    ensures tags { Rewrites row.old.1 row.new.1 block.place (block.place + block.size) }
+    ensures words { row.new.0 ≡ row.old.0 }
+{
+    let _words = row.words();
+    if block.size < 3 {
+        tag_ends(row, block, (slot * 2 + block.size - 1) * 4 + 3);
+    } else {
+        row.set(block.place + 1, slot);
+    }
+}
+
 impl TaggedBlocks {
     // One free block of all words, which has no slot yet.
     pub fn new(alloc: Global, words: u32) -> Result<Self, NoMemory>
@@ -201,14 +221,6 @@ impl TaggedBlocks {
         ensures slot { slot_of self.new.1 block ≡ slot }
         ensures tags { Rewrites self.old.1 self.new.1 block.place (block.place + block.size) }
     {
-        if block.size < 3 {
-            tag_ends(
-                &mut self.row,
-                block,
-                (slot * 2 + block.size - 1) * 4 + 3,
-            );
-        } else {
-            self.row.set(block.place + 1, slot);
-        }
+        write_slot(&mut self.row, block, slot);
     }
 }

@@ -25,11 +25,11 @@ pub invariant_of-result : goal.invariant_of-result
 invariant_of-result c =
     let is = c.put_slot.ensures.blocks ∙ c.in_ok-blocks.ensures in
     record {
-      heap = heap_new c.args.words c.put_slot.new.blocks.0 c.put_slot.new.blocks.1 c.in_ok-free.free c.add-slot.new.free is c.requires.some c.requires.limit
+      heap = heap_new c.args.words c.put_slot.new.self.0 c.put_slot.new.self.1 c.in_ok-free.free c.add-slot.new.self is c.requires.some c.requires.limit
           (c.add-slot.ensures.words ∙ c.in_ok-free.ensures.words) c.in_ok-free.ensures.empty c.in_ok-free.ensures.count c.class_of-class.result c.add-slot.result c.class_of-class.ensures.formula c.add-slot.ensures.added
           c.add-slot.ensures.others c.add-slot.ensures.here c.add-slot.ensures.stay c.add-slot.ensures.count
-          (subst (λ b. slot_of c.put_slot.new.blocks.1 b ≡ c.add-slot.result) c.free-block.ensures c.put_slot.ensures.slot);
-      bounded = bounded_new c.args.words c.put_slot.new.blocks.0 c.raise.new.bounds is (subst (λ (k : ℕ). c.args.words < bound_of c.raise.new.bounds k) c.class_of-class.ensures.formula c.raise.ensures.above);
+          (subst (λ b. slot_of c.put_slot.new.self.1 b ≡ c.add-slot.result) c.free-block.ensures c.put_slot.ensures.slot);
+      bounded = bounded_new c.args.words c.put_slot.new.self.0 c.raise.new.self is (subst (λ (k : ℕ). c.args.words < bound_of c.raise.new.self k) c.class_of-class.ensures.formula c.raise.ensures.above);
     }
 
 pub returns : goal.returns
