@@ -67,7 +67,7 @@ listed_slots lists tags new blocks same listed = record {
     sums : (class : ℕ) (weight : ℕ → ℕ) (some : List Block) → ((block : Block) → Contains some block → slot_of new block ≡ slot_of tags block) → sum_by (count_in class weight tags) some ≡ sum_by (count_in class weight new) some
     sums class weight [] is = refl
     sums class weight (block ∷ some) is =
-        let own = ap (λ s. cond block.used 0 (cond (eqb (class_of block.size) class) (weight s) 0)) (is block (0, omega arith, refl)) in
+        let own : count_in class weight new block ≡ count_in class weight tags block = ap (λ s. cond block.used 0 (cond (eqb (class_of block.size) class) (weight s) 0)) (is block (0, omega arith, refl)) in
         let rest = sums class weight some (λ b among. is b (suc among.0, (let lt = among.1 in omega arith), among.2)) in
         omega (arith, sum_by-cons (count_in class weight tags) block some, sum_by-cons (count_in class weight new) block some, own, rest)
 

@@ -38,14 +38,14 @@ apart_more (y ∷ xs) x apart none =
 -- and without the last
 apart_less : (xs : List ℕ) (x : ℕ) → AreApart (xs ++ x ∷ []) → AreApart xs × (Contains xs x → ⊥)
 apart_less [] x apart = (tt, λ among. let lt = among.1 in absurd (omega arith))
-apart_less (y ∷ xs) x apart = (((λ there. apart.0 (Contains-append_left xs (x ∷ []) y there)), rest.0), none)
+apart_less (y ∷ xs) x apart = by (apart_less xs x apart.1)
   where
-    rest : AreApart xs × (Contains xs x → ⊥)
-    rest = apart_less xs x apart.1
+    none : (Contains xs x → ⊥) → Contains (y ∷ xs) x → ⊥
+    none rest (zero, lt, is) = apart.0 (subst (λ (z : ℕ). Contains (xs ++ x ∷ []) z) (sym is) (in_middle xs [] x))
+    none rest (suc k, lt, is) = rest (k, omega arith, is)
 
-    none : Contains (y ∷ xs) x → ⊥
-    none (zero, lt, is) = apart.0 (subst (λ (z : ℕ). Contains (xs ++ x ∷ []) z) (sym is) (in_middle xs [] x))
-    none (suc k, lt, is) = rest.1 (k, omega arith, is)
+    by : AreApart xs × (Contains xs x → ⊥) → AreApart (y ∷ xs) × (Contains (y ∷ xs) x → ⊥)
+    by rest = (((λ there. apart.0 (Contains-append_left xs (x ∷ []) y there)), rest.0), none rest.1)
 
 -- a slot of a list has a node
 pub listed_node : (words : ℕ) (links : List Link) (filled class slot : ℕ) → KeepsLists words links filled → class < 64 → Contains (slots_after links words class) slot → node_of slot < length links
@@ -60,23 +60,30 @@ module _ (words : ℕ) (links reached : List Link) (room filled : ℕ) (spares l
   got_unlisted = by got.from
     where
       by : IsReused links reached spares left slot ⊎ IsNew links reached spares left slot → IsUnlisted (slots_after links words) slot
-      by (inl reused) = k.unlisted slot (last_among spares left slot reused.was)
-      by (inr new) class few among = (let within = listed_node words links filled class slot h few among in let at = new.here in absurd (omega arith))
+      by (inl again) = k.unlisted slot (last_among spares left slot again.was)
+      by (inr fresh) = λ class few among. (let within = listed_node words links filled class slot h few among in let at = fresh.here in absurd (omega arith))
 
   pub got_longer : length links ≤ length reached
   got_longer = by got.from
     where
       by : IsReused links reached spares left slot ⊎ IsNew links reached spares left slot → length links ≤ length reached
-      by (inl reused) = (let e = reused.len in omega arith)
-      by (inr new) = (let e = new.len in omega arith)
+      by (inl again) = (let e = again.len in omega arith)
+      by (inr fresh) = (let e = fresh.len in omega arith)
+
+  pub got_within : length links - 64 - length spares < most_slots words → length reached ≤ most_slots words + 64
+  got_within more = by got.from
+    where
+      by : IsReused links reached spares left slot ⊎ IsNew links reached spares left slot → length reached ≤ most_slots words + 64
+      by (inl again) = omega (arith, again.len, k.within)
+      by (inr fresh) = omega (arith, fresh.len, more, ap length fresh.were_none, k.few)
 
   -- how many slots are in lists, with this one
   pub got_count : length reached - 64 - length left ≡ length links - 64 - length spares + 1
   got_count = by got.from
     where
       by : IsReused links reached spares left slot ⊎ IsNew links reached spares left slot → length reached - 64 - length left ≡ length links - 64 - length spares + 1
-      by (inl reused) = omega (arith, reused.len, ap length reused.was, length-append left (slot ∷ []), k.few)
-      by (inr new) = omega (arith, new.len, ap length new.were_none, ap length new.none, k.few)
+      by (inl again) = omega (arith, again.len, ap length again.was, length-append left (slot ∷ []), k.few)
+      by (inr fresh) = omega (arith, fresh.len, ap length fresh.were_none, ap length fresh.none, k.few)
 
   -- the other spares are kept, once the slot is in a list
   pub got_kept : (new : List Link) (new_room new_spare_room class : ℕ) → length new ≡ length reached → room ≤ new_room → spare_room ≤ new_spare_room → length links - 64 - length spares < most_slots words
@@ -95,20 +102,20 @@ module _ (words : ℕ) (links reached : List Link) (room filled : ℕ) (spares l
       free s none ne c few (inr other) among = none c few (subst (λ (xs : List ℕ). Contains xs s) (others c few other) among)
 
       by : IsReused links reached spares left slot ⊎ IsNew links reached spares left slot → KeepsSlots words new new_room left new_spare_room
-      by (inl reused) =
-          let less = apart_less left slot (subst AreApart reused.was k.apart) in
-          let among : (s : ℕ) → Contains left s → Contains spares s = λ s there. subst (λ (xs : List ℕ). Contains xs s) (sym reused.was) (Contains-append_left left (slot ∷ []) s there) in
+      by (inl again) =
+          let less = apart_less left slot (subst AreApart again.was k.apart) in
+          let among : (s : ℕ) → Contains left s → Contains spares s = λ s there. subst (λ (xs : List ℕ). Contains xs s) (sym again.was) (Contains-append_left left (slot ∷ []) s there) in
           record {
-            within = omega (arith, len, reused.len, k.within);
+            within = omega (arith, len, got_within more);
             enough = omega (arith, enough, k.enough);
             spare_enough = omega (arith, spare_enough, k.spare_enough);
-            few = omega (arith, len, reused.len, ap length reused.was, length-append left (slot ∷ []), k.few);
+            few = omega (arith, len, again.len, ap length again.was, length-append left (slot ∷ []), k.few);
             apart = less.0;
-            nodes = λ s there. (let node = k.nodes s (among s there) in omega (arith, len, reused.len));
+            nodes = λ s there. (let node = k.nodes s (among s there) in omega (arith, len, again.len));
             unlisted = λ s there c few. free s (k.unlisted s (among s there)) (λ e. less.1 (subst (Contains left) e there)) c few (cases_eq c class);
           }
       by (inr fresh) = record {
-        within = omega (arith, len, fresh.len, more, ap length fresh.were_none, k.few);
+        within = omega (arith, len, got_within more);
         enough = omega (arith, enough, k.enough);
         spare_enough = omega (arith, spare_enough, k.spare_enough);
         few = omega (arith, len, fresh.len, ap length fresh.none, k.few);

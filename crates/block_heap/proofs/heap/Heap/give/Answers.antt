@@ -154,9 +154,6 @@ put_slot-requires-clause-among c =
     let f = f r in
     subst (λ (bs : List Block). Contains bs c.free-block.result) (sym (block_is r)) (in_middle f.parts.front f.parts.back c.free-block.result)
 
-pub put_slot-requires-clause-free : goal.put_slot-requires-clause-free
-put_slot-requires-clause-free c = subst IsFree (sym c.free-block.ensures) refl
-
 pub raise-requires-clause-few : goal.raise-requires-clause-few
 raise-requires-clause-few c = (let limit = (may_add (goal.at.raise-requires-clause-few c).After-replace).limit in omega arith)
 

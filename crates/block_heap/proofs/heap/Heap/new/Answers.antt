@@ -9,18 +9,6 @@ use Rattle.block_heap.proofs.Bounding.{bounded_new}
 use Rattle.block_heap.proofs.Keeping.{heap_new}
 use Rattle.block_heap.proofs.heap.Heap.new.Goals as goal
 
-pub add-slot-requires-clause-room : goal.add-slot-requires-clause-room
-add-slot-requires-clause-room c = omega (arith, ap length (c.in_ok-free.ensures.empty c.class_of-class.result c.class_of-class.ensures.below), c.in_ok-free.ensures.words, c.requires.some)
-
-pub add-slot-requires-clause-spare : goal.add-slot-requires-clause-spare
-add-slot-requires-clause-spare c = omega (arith, c.in_ok-free.ensures.count, c.in_ok-free.ensures.words, c.requires.some)
-
-pub put_slot-requires-clause-among : goal.put_slot-requires-clause-among
-put_slot-requires-clause-among c = subst (λ (bs : List Block). Contains bs c.free-block.result) (sym c.in_ok-blocks.ensures) (0, omega arith, sym c.free-block.ensures)
-
-pub put_slot-requires-clause-free : goal.put_slot-requires-clause-free
-put_slot-requires-clause-free c = subst IsFree (sym c.free-block.ensures) refl
-
 pub invariant_of-result : goal.invariant_of-result
 invariant_of-result c =
     let is = c.put_slot.ensures.blocks ∙ c.in_ok-blocks.ensures in
@@ -32,5 +20,3 @@ invariant_of-result c =
       bounded = bounded_new c.args.words c.put_slot.new.self.0 c.raise.new.self is (subst (λ (k : ℕ). c.args.words < bound_of c.raise.new.self k) c.class_of-class.ensures.formula c.raise.ensures.above);
     }
 
-pub returns : goal.returns
-returns c = c.put_slot.ensures.blocks ∙ c.in_ok-blocks.ensures

@@ -75,6 +75,12 @@ add-slot-requires-clause-spare c =
     let spare = (rest (goal.at.add-slot-requires-clause-spare c).After-cut c.if-need-block.true).spare in
     subst (λ n. count_of c.remove.new.self < most_slots n) (sym (c.remove.ensures.words ∙ c.self.invariant.heap.same)) spare
 
+pub class_of-class-requires : goal.class_of-class-requires
+class_of-class-requires c = omega (arith, ap (λ (b : Block). b.size) c.free-rest.ensures, c.if-need-block.true)
+
+pub raise-requires-clause-few : goal.raise-requires-clause-few
+raise-requires-clause-few c = (let limit = (rest (goal.at.raise-requires-clause-few c).After-cut c.if-need-block.true).limit in omega (arith, ap (λ (b : Block). b.size) c.free-rest.ensures))
+
 pub put_slot-requires-clause-among : goal.put_slot-requires-clause-among
 put_slot-requires-clause-among c =
     let at = (goal.at.put_slot-requires-clause-among c).After-cut in

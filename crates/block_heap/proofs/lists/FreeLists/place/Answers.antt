@@ -9,8 +9,9 @@ use Rattle.block_heap.proofs.lists.FreeLists.place.Goals as goal
 
 pub index-requires : goal.index-requires
 index-requires c =
-    listed_node c.self.inside.words c.self.inside.links.items c.self.inside.filled c.requires.class c.args.slot c.self.invariant.lists c.requires.few
-    (subst (λ v. Contains (list_of v c.requires.class) c.args.slot) (sym c.self.view_is) c.requires.among)
+    let within = listed_node c.self.inside.words c.self.inside.links.items c.self.inside.filled c.requires.class c.args.slot c.self.invariant.lists c.requires.few
+    (subst (λ v. Contains (list_of v c.requires.class) c.args.slot) (sym c.self.view_is) c.requires.among) in
+    omega arith
 
 pub returns : goal.returns
 returns c =

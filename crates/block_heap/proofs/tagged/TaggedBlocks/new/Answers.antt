@@ -6,7 +6,7 @@ use Rattle.block_heap.proofs.tagged.TaggedBlocks.new.Goals as goal
 
 abbrev told : (c : goal.After-tag) → NowTell c.tag.new.row.0 c.tag.new.row.1 (free_block 0 c.args.words ∷ [])
 told c =
-    let words = c.tag.ensures.words ∙ c.in_ok-row.ensures.words in
+    let words = c.tag.ensures.words ∙ c.in_ok-row.ensures in
     now_tell c.tag.new.row.0 c.tag.new.row.1 (free_block 0 c.args.words ∷ []) (record {
       fills = (refl, c.requires.some, omega (arith, words));
       tagged = (subst (λ b. AreTagged c.tag.new.row.0 c.tag.new.row.1 (b ∷ [])) c.free.ensures (c.tag.ensures.here, tt));

@@ -6,11 +6,8 @@ use Rattle.block_heap.proofs.TagLaws.{LiesIn, NowTell, lies_in, told_again}
 use Rattle.block_heap.proofs.tagged.TaggedBlocks.put_slot.Goals as goal
 use Rattle.block_heap.proofs.tagged.TaggedBlocks.put_slot.Goals.{After-self, After-write_slot}
 
-abbrev among : (c : After-self) → Contains (blocks_of c.self.inside.row.0 c.self.inside.row.1) c.args.block
-among c = subst (λ (bs : List Block). Contains bs c.args.block) (sym (ap (λ v. v.0) c.self.view_is)) c.requires.among
-
 abbrev lies : (c : After-self) → LiesIn c.self.inside.row.0 c.self.inside.row.1 c.args.block
-lies c = lies_in c.self.inside.row.0 c.self.inside.row.1 _ c.args.block c.self.invariant (among c)
+lies c = lies_in c.self.inside.row.0 c.self.inside.row.1 _ c.args.block c.self.invariant (subst (λ (bs : List Block). Contains bs c.args.block) (sym (ap (λ v. v.0) c.self.view_is)) c.requires.among)
 
 pub write_slot-requires-clause-some : goal.write_slot-requires-clause-some
 write_slot-requires-clause-some c = (lies (goal.at.write_slot-requires-clause-some c).After-self).some
@@ -22,7 +19,7 @@ pub write_slot-requires-clause-tagged : goal.write_slot-requires-clause-tagged
 write_slot-requires-clause-tagged c = (lies (goal.at.write_slot-requires-clause-tagged c).After-self).tagged
 
 abbrev told : (c : After-write_slot) → NowTell c.write_slot.new.row.0 c.write_slot.new.row.1 (blocks_of c.self.inside.row.0 c.self.inside.row.1)
-told c = told_again c.self.inside.row.0 c.write_slot.new.row.0 c.self.inside.row.1 c.write_slot.new.row.1 (blocks_of c.self.inside.row.0 c.self.inside.row.1) c.args.block c.self.invariant (among c.After-self)
+told c = told_again c.self.inside.row.0 c.write_slot.new.row.0 c.self.inside.row.1 c.write_slot.new.row.1 (blocks_of c.self.inside.row.0 c.self.inside.row.1) c.args.block c.self.invariant (subst (λ (bs : List Block). Contains bs c.args.block) (sym (ap (λ v. v.0) c.self.view_is)) c.requires.among)
     c.write_slot.ensures.tags c.write_slot.ensures.here c.write_slot.ensures.words
 
 pub invariant_of-self : goal.invariant_of-self
