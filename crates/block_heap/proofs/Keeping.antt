@@ -140,9 +140,13 @@ listable blocks tags lists mid (Some block) front back before after heap is list
     let lies = free_within (words_of blocks) (front ++ block ∷ back) block (subst (λ xs. Fills 0 xs (words_of blocks)) is heap.list.fills) (in_middle front back block) in
     let some = lies.0 in
     let within = lies.1 in
-    let limit = heap.limit in
-    (free, omega arith, omega arith, slot_listed mid tags (before ++ block ∷ after) block (class_of block.size) (below_sixty_four block.size) refl listed (in_middle before after block) free,
-      omega (arith, listed.count, frees_beside before after block free))
+    let limit = heap.limit in (
+      free,
+      omega arith,
+      omega arith,
+      slot_listed mid tags (before ++ block ∷ after) block (class_of block.size) (below_sixty_four block.size) refl listed (in_middle before after block) free,
+      omega (arith, listed.count, frees_beside before after block free),
+    )
 
 -- one free block of all words, which is listed
 pub heap_new : (words : ℕ) (blocks : List Block) (told : List ℕ) (lists new : Lists) → blocks ≡ free_block 0 words ∷ [] → 1 ≤ words → words ≤ MOST_WORDS → new.0 ≡ words → ((class : ℕ) → class < 64 → list_of lists class ≡ [])

@@ -59,7 +59,11 @@ impl TagRow {
         ensures { result ≡ tag_of self.now.1 place }
     {
         let at = place as usize;
-        if at < self.tags.len() { self.tags[at] } else { 0 }
+        if at < self.tags.len() {
+            self.tags[at]
+        } else {
+            0
+        }
     }
 
     pub fn set(&mut self, place: u32, tag: u32)

@@ -33,7 +33,11 @@ impl Model for TaggedBlocks {
 fn size_in(tag: u32) -> u32
     ensures { result ≡ size_in tag }
 {
-    if tag % 4 == 3 { tag / 4 % 2 + 1 } else { tag / 4 + 1 }
+    if tag % 4 == 3 {
+        tag / 4 % 2 + 1
+    } else {
+        tag / 4 + 1
+    }
 }
 
 // The tag of a block that has no slot yet.

@@ -19,4 +19,3 @@ invariant_of-result c =
           (subst (λ b. slot_of c.put_slot.new.self.1 b ≡ c.add-slot.result) c.free-block.ensures c.put_slot.ensures.slot);
       bounded = bounded_new c.args.words c.put_slot.new.self.0 c.raise.new.self is (subst (λ (k : ℕ). c.args.words < bound_of c.raise.new.self k) c.class_of-class.ensures.formula c.raise.ensures.above);
     }
-
