@@ -7,6 +7,7 @@ use Rattle.size_classes.specs.Classes.{class_of}
 use Rattle.block_heap.specs.declared.block.Block.{Block}
 use Rattle.block_heap.specs.Blocks.{free_block, used_block, IsFree}
 use Rattle.block_heap.specs.Changes.{rest_of}
+use Rattle.block_heap.specs.Lists.{Lists}
 use Rattle.block_heap.specs.Bounds.{bound_of, AreBounded}
 use Rattle.block_heap.proofs.Keeping.{Taken}
 
@@ -31,8 +32,8 @@ module _ (bounds new : List ℕ) (blocks : List Block) (bounded : AreBounded bou
       by (inr (suc k, lt, e)) = there (Contains-append_right front (middle ++ back) b (Contains-append_right middle back b (k, omega arith, e)))
 
   -- a block is taken, and what is left of it is below its bound
-  pub bounded_taken : (now : List Block) (mid : ℕ → List ℕ) (block : Block) (need : ℕ) → Taken blocks now mid block need → (need < block.size → IsBelow new (block.size - need)) → AreBounded new now
-  bounded_taken now mid block need taken below b among free =
+  pub bounded_taken : (now : List Block) (mid : Lists) (told : List ℕ) (block : Block) (need : ℕ) → Taken blocks now mid told block need → (need < block.size → IsBelow new (block.size - need)) → AreBounded new now
+  bounded_taken now mid told block need taken below b among free =
       by (Contains-append_cases taken.before (used_block block.place need ∷ (rest_of (block.place + need) (block.size - need) ++ taken.after)) b (subst (λ (xs : List Block). Contains xs b) taken.now_is among))
     where
       there : Contains (taken.before ++ block ∷ taken.after) b → IsBelow new b.size

@@ -1,12 +1,13 @@
 -- Free blocks are few and short where none fits.
-use Rattle.std.proofs.Common.{◌≡◌, ℕ, suc, ◌+◌, ◌-◌, ◌<◌, ◌≤◌, List, [], ◌∷◌, ◌++◌, length, map, refl, ap, ◌∙◌, subst, arith, Bool, true, false, not, cond}
+use Rattle.std.proofs.Common.{◌≡◌, ℕ, suc, ◌+◌, ◌-◌, ◌*◌, ◌<◌, ◌≤◌, List, [], ◌∷◌, ◌++◌, length, map, refl, ap, ◌∙◌, subst, arith, Bool, true, false, not, cond}
 use Rattle.std.specs.List.{filter, sum, All}
 use Rattle.std.proofs.Math.Nat.{mul-le-mul_right}
 use Rattle.std.proofs.lemmas.List.Sums.{sum_by-le, sum-map}
 use Rattle.std.proofs.lemmas.List.Filters.{sum_by-filter_both}
 use Rattle.std.proofs.lemmas.Grind.{common_steps}
 use Rattle.block_heap.specs.declared.block.Block.{Block}
-use Rattle.block_heap.specs.Blocks.{free_block, IsFree, BeginsFree, IsCoalesced, words_of, used_blocks, free_sizes, NoneFits, MayLack}
+use Rattle.block_heap.specs.Blocks.{free_block, Fills, IsFree, BeginsFree, IsCoalesced, IsBlockList, words_of, used_blocks, free_sizes, NoneFits, MayLack}
+use Rattle.block_heap.proofs.Order.{words_of-cons, words_of-fills}
 
 pub free_more : (block : Block) (blocks : List Block) → IsFree block → free_sizes (block ∷ blocks) ≡ block.size ∷ free_sizes blocks
 free_more block blocks free = ap (λ u. map (λ (b : Block). b.size) (cond (not u) (block ∷ filter (λ b. not b.used) blocks) (filter (λ b. not b.used) blocks))) free
@@ -57,3 +58,26 @@ not_none_fits (block ∷ before) after place size need enough none =
     tail_of block blocks false is_free none =
         let more = subst (λ sizes. All (λ size. size < need) sizes) (free_more block blocks is_free) none in
         λ k d lt. more (suc k) d (omega arith)
+
+pub frees-append : (xs ys : List Block) → length (free_sizes (xs ++ ys)) ≡ length (free_sizes xs) + length (free_sizes ys)
+frees-append [] ys = omega arith
+frees-append (x ∷ xs) ys = by (frees-append xs ys) x.used refl
+  where
+    by : length (free_sizes (xs ++ ys)) ≡ length (free_sizes xs) + length (free_sizes ys) → (u : Bool) → x.used ≡ u → length (free_sizes (x ∷ (xs ++ ys))) ≡ length (free_sizes (x ∷ xs)) + length (free_sizes ys)
+    by rest true used = omega (arith, rest, ap length (free_same x (xs ++ ys) used), ap length (free_same x xs used))
+    by rest false free = omega (arith, rest, ap length (free_more x (xs ++ ys) free), ap length (free_more x xs free))
+
+-- each block has a word
+all_within : (from end : ℕ) (blocks : List Block) → Fills from blocks end → length (free_sizes blocks) + length (used_blocks blocks) ≤ words_of blocks
+all_within from end [] fills = omega arith
+all_within from end (block ∷ blocks) fills = by (all_within (from + block.size) end blocks fills.2) block.used refl
+  where
+    by : length (free_sizes blocks) + length (used_blocks blocks) ≤ words_of blocks → (u : Bool) → block.used ≡ u → length (free_sizes (block ∷ blocks)) + length (used_blocks (block ∷ blocks)) ≤ words_of (block ∷ blocks)
+    by rest true used = (let some = fills.1 in omega (arith, rest, ap length (free_same block blocks used), ap length (used_more block blocks used), words_of-cons block blocks))
+    by rest false free = (let some = fills.1 in omega (arith, rest, ap length (free_more block blocks free), ap length (used_same block blocks free), words_of-cons block blocks))
+
+-- no more than every second word begins a free block
+pub few_frees : (words : ℕ) (blocks : List Block) → IsBlockList words blocks → 2 * length (free_sizes blocks) ≤ words + 1
+few_frees words blocks list =
+    let few = (are_few blocks list.merged).0 in
+    omega (arith, few, all_within 0 words blocks list.fills, words_of-fills 0 words blocks list.fills)

@@ -12,11 +12,12 @@ use Rattle.block_heap.specs.declared.block.TheConstants.{MOST_WORDS}
 use Rattle.block_heap.specs.declared.block.Block.{Block}
 use Rattle.block_heap.specs.Blocks.{free_block, IsFree, IsLargest, free_sizes, NoneFits, MayLack, words_of}
 use Rattle.block_heap.specs.Links.{node_of}
-use Rattle.block_heap.specs.Lists.{AreListed, left_from}
-use Rattle.block_heap.specs.Inside.{IsHeap, HasFreeAt, HaveFree, AreShort, IsMost}
-use Rattle.block_heap.proofs.Places.{in_middle}
+use Rattle.block_heap.specs.Lists.{Lists, list_of, place_in, AreListed, IsListed, left_from}
+use Rattle.block_heap.specs.Tags.{slot_of, HasBlock}
+use Rattle.block_heap.specs.Inside.{IsHeap, HasFreeAt, AreShort, IsMost}
+use Rattle.block_heap.proofs.Places.{in_middle, free_is, free_within}
 use Rattle.block_heap.proofs.Counting.{free_more, free_same, MayLack-none_fits}
-use Rattle.block_heap.proofs.Listing.{place_listed, list_filled, block_listed, free_within}
+use Rattle.block_heap.proofs.Listing.{slot_listed, list_filled, block_listed}
 
 -- what holds of the size of each free block
 pub all_free : (P : ℕ → Type 0) (blocks : List Block) → ((block : Block) → Contains blocks block → IsFree block → P block.size) → All P (free_sizes blocks)
@@ -44,8 +45,8 @@ pub record FreeSize (blocks : List Block) (block : Block) : Type 0 where
   pub within : block.place + block.size ≤ words_of blocks
   pub few : class_of block.size < 64
 
-pub free_size : (blocks : List Block) (words : ℕ) (lists : ℕ → List ℕ) (block : Block) → IsHeap blocks words lists → Contains blocks block → FreeSize blocks block
-free_size blocks words lists block heap among =
+pub free_size : (blocks : List Block) (tags : List ℕ) (lists : Lists) (block : Block) → IsHeap blocks tags lists → Contains blocks block → FreeSize blocks block
+free_size blocks tags lists block heap among =
     let lies = free_within (words_of blocks) blocks block heap.list.fills among in
     let some = lies.0 in
     let within = lies.1 in
@@ -53,33 +54,33 @@ free_size blocks words lists block heap among =
     record { some = omega arith; limit = omega arith; within = within; few = below_sixty_four block.size }
 
 -- where the class of the need has none that fits and no class above has any, none fits
-pub none_fits : (blocks : List Block) (words : ℕ) (lists : ℕ → List ℕ) (need : ℕ) → IsHeap blocks words lists → 1 ≤ need → need ≤ words_of blocks
-    → ((block : Block) → Contains blocks block → IsFree block → class_of block.size ≡ class_of need → block.size < need) → ((next : ℕ) → class_of need < next → next < 64 → length (lists next) ≡ 0) → NoneFits blocks need
-none_fits blocks words lists need heap some limit short above = all_free (λ size. size < need) blocks (λ block among free. by block among free (cases_lt block.size need) (cases_lt (class_of need) (class_of block.size)))
+pub none_fits : (blocks : List Block) (tags : List ℕ) (lists : Lists) (need : ℕ) → IsHeap blocks tags lists → 1 ≤ need → need ≤ words_of blocks
+    → ((block : Block) → Contains blocks block → IsFree block → class_of block.size ≡ class_of need → block.size < need) → ((next : ℕ) → class_of need < next → next < 64 → length (list_of lists next) ≡ 0) → NoneFits blocks need
+none_fits blocks tags lists need heap some limit short above = all_free (λ size. size < need) blocks (λ block among free. by block among free (cases_lt block.size need) (cases_lt (class_of need) (class_of block.size)))
   where
     by : (block : Block) → Contains blocks block → IsFree block → (block.size < need) ⊎ (need ≤ block.size) → (class_of need < class_of block.size) ⊎ (class_of block.size ≤ class_of need) → block.size < need
     by block among free (inl less) _ = less
     by block among free (inr le) (inl higher) =
-        let size = free_size blocks words lists block heap among in
+        let size = free_size blocks tags lists block heap among in
         let none = above (class_of block.size) higher size.few in
-        let filled = list_filled lists blocks block (class_of block.size) size.few refl heap.listed among free in
+        let filled = list_filled lists tags blocks block (class_of block.size) size.few refl heap.listed among free in
         absurd (omega arith)
     by block among free (inr le) (inr lower) =
-        let size = free_size blocks words lists block heap among in
+        let size = free_size blocks tags lists block heap among in
         let bound = size.limit in
         let rise = rises need block.size some le (omega arith) in
         let same : class_of block.size ≡ class_of need = omega arith in
         short block among free same
 
 -- of a class that was searched whole, each free block has fewer words
-pub short_blocks : (blocks : List Block) (lists : ℕ → List ℕ) (class need : ℕ) → class < 64 → AreListed lists blocks → AreShort blocks (lists class) need
+pub short_blocks : (blocks : List Block) (tags : List ℕ) (lists : Lists) (class need : ℕ) → class < 64 → AreListed lists tags blocks → AreShort blocks tags (list_of lists class) need
     → (block : Block) → Contains blocks block → IsFree block → class_of block.size ≡ class → block.size < need
-short_blocks blocks lists class need few listed short block among free same = short block among (place_listed lists blocks block class few same listed among free)
+short_blocks blocks tags lists class need few listed short block among free same = short block among free (slot_listed lists tags blocks block class few same listed among free)
 
 -- a need beyond all words
-pub none_fits_beyond : (blocks : List Block) (words : ℕ) (lists : ℕ → List ℕ) (need : ℕ) → IsHeap blocks words lists → words_of blocks < need → NoneFits blocks need
-none_fits_beyond blocks words lists need heap beyond =
-    all_free (λ size. size < need) blocks (λ block among free. (let size = free_size blocks words lists block heap among in let within = size.within in omega arith))
+pub none_fits_beyond : (blocks : List Block) (tags : List ℕ) (lists : Lists) (need : ℕ) → IsHeap blocks tags lists → words_of blocks < need → NoneFits blocks need
+none_fits_beyond blocks tags lists need heap beyond =
+    all_free (λ size. size < need) blocks (λ block among free. (let size = free_size blocks tags lists block heap among in let within = size.within in omega arith))
 
 -- a block of a class above that of a need is large enough
 pub enough_above : (need size : ℕ) → 1 ≤ size → need < 2 ^ 32 → class_of need < class_of size → need ≤ size
@@ -90,52 +91,61 @@ enough_above need size some limit above = by (cases_lt size need)
     by (inr le) = le
 
 -- no free block is larger than the largest one of the last class
-pub is_largest : (blocks : List Block) (words : ℕ) (lists : ℕ → List ℕ) (last most : ℕ) → IsHeap blocks words lists → last < 64 → IsMost blocks (lists last) most
-    → 0 < length (lists last) → ((above : ℕ) → last < above → above < 64 → length (lists above) ≡ 0) → IsLargest blocks most
-is_largest blocks words lists last most heap few is filled above = record {
+pub is_largest : (blocks : List Block) (tags : List ℕ) (lists : Lists) (last most : ℕ) → IsHeap blocks tags lists → last < 64 → IsMost blocks tags (list_of lists last) most
+    → 0 < length (list_of lists last) → ((above : ℕ) → last < above → above < 64 → length (list_of lists above) ≡ 0) → IsLargest blocks most
+is_largest blocks tags lists last most heap few is filled above = record {
   bound = all_free (λ other. other ≤ most) blocks (λ block among free. by block among free (cases_eq (class_of block.size) last) (cases_lt last (class_of block.size)));
   found = is.found;
 }
   where
     by : (block : Block) → Contains blocks block → IsFree block → (class_of block.size ≡ last) ⊎ (class_of block.size ≡ last → ⊥) → (last < class_of block.size) ⊎ (class_of block.size ≤ last) → block.size ≤ most
-    by block among free (inl same) _ = is.bound block among (place_listed lists blocks block last few same heap.listed among free)
+    by block among free (inl same) _ = is.bound block among free (slot_listed lists tags blocks block last few same heap.listed among free)
     by block among free (inr other) (inl higher) =
-        let size = free_size blocks words lists block heap among in
+        let size = free_size blocks tags lists block heap among in
         let none = above (class_of block.size) higher size.few in
-        let filled = list_filled lists blocks block (class_of block.size) size.few refl heap.listed among free in
+        let filled = list_filled lists tags blocks block (class_of block.size) size.few refl heap.listed among free in
         absurd (omega arith)
     by block among free (inr other) (inr lower) =
-        let size = free_size blocks words lists block heap among in
-        let place = get_or (lists last) 0 0 in
-        let first : Contains (lists last) place = (0, filled, get_or_default (lists last) 0 place 0 filled) in
-        let one = block_listed lists blocks last place few heap.listed first in
-        let least = free_block place one.size in
-        let its = free_size blocks words lists least heap one.among in
-        let enough = is.bound least one.among first in
+        let size = free_size blocks tags lists block heap among in
+        let slot = get_or (list_of lists last) 0 0 in
+        let first : Contains (list_of lists last) slot = (0, filled, get_or_default (list_of lists last) 0 slot 0 filled) in
+        let one = block_listed lists tags blocks last slot few heap.listed first in
+        let its = free_size blocks tags lists one.block heap one.among in
+        let enough = is.bound one.block one.among one.free (subst (Contains (list_of lists last)) (sym one.here) first) in
         let class = one.is in
-        let below = enough_above block.size one.size its.some (let bound = size.limit in omega arith) (omega arith) in
+        let below = enough_above block.size one.block.size its.some (let bound = size.limit in omega arith) (omega arith) in
         omega arith
 
 -- no list has one, so no block is free
-pub none_largest : (blocks : List Block) (words : ℕ) (lists : ℕ → List ℕ) → IsHeap blocks words lists → ((class : ℕ) → class < 64 → length (lists class) ≡ 0) → IsLargest blocks 0
-none_largest blocks words lists heap none = record {
+pub none_largest : (blocks : List Block) (tags : List ℕ) (lists : Lists) → IsHeap blocks tags lists → ((class : ℕ) → class < 64 → length (list_of lists class) ≡ 0) → IsLargest blocks 0
+none_largest blocks tags lists heap none = record {
   bound = all_free (λ other. other ≤ 0) blocks (λ block among free.
-      (let size = free_size blocks words lists block heap among in
+      (let size = free_size blocks tags lists block heap among in
       let empty = none (class_of block.size) size.few in
-      let filled = list_filled lists blocks block (class_of block.size) size.few refl heap.listed among free in
+      let filled = list_filled lists tags blocks block (class_of block.size) size.few refl heap.listed among free in
       absurd (omega arith)));
   found = λ more. absurd (omega arith);
 }
 
--- each place of a list has a free block
-pub all_have : (blocks : List Block) (words : ℕ) (lists : ℕ → List ℕ) (class : ℕ) → IsHeap blocks words lists → class < 64 → HaveFree blocks (lists class)
-all_have blocks words lists class heap few = λ place among. (let has = block_listed lists blocks class place few heap.listed among in record { size = has.size; among = has.among })
+-- a free block has each slot of a list, and the slot has its place
+pub has_free : (blocks : List Block) (tags : List ℕ) (lists : Lists) (class slot : ℕ) → IsHeap blocks tags lists → class < 64 → Contains (list_of lists class) slot → HasFreeAt blocks tags lists slot
+has_free blocks tags lists class slot heap few among =
+    let has = block_listed lists tags blocks class slot few heap.listed among in
+    record { block = has.block; among = has.among; free = has.free; here = has.here; place = ap (place_in lists) (sym has.here) ∙ heap.listed.places has.block has.among has.free }
 
--- the block at a place, as its size is told
-pub found_at : (blocks : List Block) (place size : ℕ) → HasFreeAt blocks place → ((block : Block) → Contains blocks block → block.place ≡ place → size ≡ block.size) → Contains blocks (free_block place size)
-found_at blocks place size has tells = subst (λ n. Contains blocks (free_block place n)) (sym (tells (free_block place has.size) has.among refl)) has.among
+-- The block that has a slot, as its place and size are told.
+module _ (blocks : List Block) (tags : List ℕ) (lists : Lists) (slot place : ℕ) (has : HasFreeAt blocks tags lists slot) (here : place ≡ place_in lists slot) where
+  begins : has.block.place ≡ place
+  begins = sym (here ∙ has.place)
 
--- A walk over the places of a class, from the first one on.
+  pub block_at : HasBlock blocks place
+  block_at = record { block = has.block; among = has.among; here = begins }
+
+  pub found_at : (size : ℕ) → ((block : Block) → Contains blocks block → block.place ≡ place → size ≡ block.size) → Contains blocks (free_block place size)
+  found_at size tells =
+      subst (λ (b : Block). Contains blocks b) (free_is has.block has.free ∙ ap (λ p. free_block p has.block.size) begins ∙ ap (λ n. free_block place n) (sym (tells has.block has.among begins))) has.among
+
+-- A walk over the slots of a class, from the first one on.
 pub record Walk (lists : ℕ → List ℕ) (class : ℕ) (listed : Option ℕ) : Type 0 where
   pub before : List ℕ
   pub whole : lists class ≡ before ++ left_from lists listed
@@ -143,60 +153,63 @@ pub record Walk (lists : ℕ → List ℕ) (class : ℕ) (listed : Option ℕ) :
 abbrev pub walk_first : (lists : ℕ → List ℕ) (class : ℕ) (next : Option ℕ) → left_from lists next ≡ lists class → Walk lists class next
 walk_first lists class next first = record { before = []; whole = sym first }
 
-pub walk_listed : (lists : ℕ → List ℕ) (class place : ℕ) (listed : Option ℕ) → Walk lists class listed → listed ≡ Some place → Contains (lists class) place
-walk_listed lists class place listed walk is = grind (arith, common_steps, in_middle walk.before (lists (node_of place)) place)
+pub walk_listed : (lists : ℕ → List ℕ) (class slot : ℕ) (listed : Option ℕ) → Walk lists class listed → listed ≡ Some slot → Contains (lists class) slot
+walk_listed lists class slot listed walk is = grind (arith, common_steps, in_middle walk.before (lists (node_of slot)) slot)
 
-abbrev pub walk_on : (lists : ℕ → List ℕ) (class place : ℕ) (listed next : Option ℕ) → Walk lists class listed → listed ≡ Some place → left_from lists next ≡ lists (node_of place) → Walk lists class next
-walk_on lists class place listed next walk is left = record {
-  before = walk.before ++ place ∷ [];
-  whole = walk.whole ∙ ap (λ n. walk.before ++ left_from lists n) is ∙ sym (append_assoc walk.before (place ∷ []) (lists (node_of place))) ∙ ap (λ xs. (walk.before ++ place ∷ []) ++ xs) (sym left);
+abbrev pub walk_on : (lists : ℕ → List ℕ) (class slot : ℕ) (listed next : Option ℕ) → Walk lists class listed → listed ≡ Some slot → left_from lists next ≡ lists (node_of slot) → Walk lists class next
+walk_on lists class slot listed next walk is left = record {
+  before = walk.before ++ slot ∷ [];
+  whole = walk.whole ∙ ap (λ n. walk.before ++ left_from lists n) is ∙ sym (append_assoc walk.before (slot ∷ []) (lists (node_of slot))) ∙ ap (λ xs. (walk.before ++ slot ∷ []) ++ xs) (sym left);
 }
 
 pub walk_end : (lists : ℕ → List ℕ) (class : ℕ) (next : Option ℕ) (walk : Walk lists class next) → next ≡ None → walk.before ≡ lists class
 walk_end lists class next walk end = sym (walk.whole ∙ ap (λ n. walk.before ++ left_from lists n) end ∙ append-nil walk.before)
 
--- a place among some and one more
-one_more : (xs : List ℕ) (x place : ℕ) → Contains (xs ++ x ∷ []) place → Contains xs place ⊎ (place ≡ x)
-one_more xs x place among = by (Contains-append_cases xs (x ∷ []) place among)
+-- a slot among some and one more
+one_more : (xs : List ℕ) (x slot : ℕ) → Contains (xs ++ x ∷ []) slot → Contains xs slot ⊎ (slot ≡ x)
+one_more xs x slot among = by (Contains-append_cases xs (x ∷ []) slot among)
   where
-    by : Contains xs place ⊎ Contains (x ∷ []) place → Contains xs place ⊎ (place ≡ x)
+    by : Contains xs slot ⊎ Contains (x ∷ []) slot → Contains xs slot ⊎ (slot ≡ x)
     by (inl there) = inl there
     by (inr (zero, lt, is)) = inr (sym is)
     by (inr (suc k, lt, is)) = absurd (omega arith)
-
--- one place more that has a short block
-pub short_more : (blocks : List Block) (list : List ℕ) (need place size : ℕ) → ((block : Block) → Contains blocks block → block.place ≡ place → size ≡ block.size) → size < need
-    → AreShort blocks list need → AreShort blocks (list ++ place ∷ []) need
-short_more blocks list need place size tells short before block among listed = by (one_more list place block.place listed)
-  where
-    by : Contains list block.place ⊎ (block.place ≡ place) → block.size < need
-    by (inl there) = before block among there
-    by (inr here) = (let is = tells block among here in omega arith)
 
 -- the larger of two numbers, as the code has it
 pub max_is : (a b : ℕ) → ord_max nat_cmp a b ≡ max a b
 max_is a b = grind arith
 
--- one place more among the largest
-pub most_more : (blocks : List Block) (list : List ℕ) (place most size : ℕ) → HasFreeAt blocks place → ((block : Block) → Contains blocks block → block.place ≡ place → size ≡ block.size)
-    → IsMost blocks list most → IsMost blocks (list ++ place ∷ []) (max most size)
-most_more blocks list place most size has tells is = record {
-  bound = λ block among listed. bound block among (one_more list place block.place listed);
-  found = λ some. found some (cases_lt most size);
-}
-  where
-    bound : (block : Block) → Contains blocks block → Contains list block.place ⊎ (block.place ≡ place) → block.size ≤ max most size
-    bound block among (inl there) = (let so_far = is.bound block among there in omega arith)
-    bound block among (inr here) = (let same = tells block among here in omega arith)
+-- One slot more of a list was looked at, and its block's size.
+module _ (blocks : List Block) (tags : List ℕ) (lists : Lists) (list : List ℕ) (slot place size : ℕ) (heap : IsHeap blocks tags lists) (here : place ≡ place_in lists slot)
+    (tells : (block : Block) → Contains blocks block → block.place ≡ place → size ≡ block.size) where
+  -- the free block that has the slot has this size
+  its_size : (block : Block) → Contains blocks block → IsFree block → slot_of tags block ≡ slot → size ≡ block.size
+  its_size block among free has = tells block among (sym (here ∙ ap (place_in lists) (sym has) ∙ heap.listed.places block among free))
 
-    found : 0 < max most size → (most < size) ⊎ (size ≤ most) → Contains (free_sizes blocks) (max most size)
-    found some (inl more) =
-        let there = size_among blocks (free_block place size) (found_at blocks place size has tells) refl in
-        let same : size ≡ max most size = omega arith in
-        subst (λ n. Contains (free_sizes blocks) n) same there
-    found some (inr less) =
-        let same : most ≡ max most size = omega arith in
-        subst (λ n. Contains (free_sizes blocks) n) same (is.found (omega arith))
+  pub short_more : (need : ℕ) → size < need → AreShort blocks tags list need → AreShort blocks tags (list ++ slot ∷ []) need
+  short_more need less before block among free listed = by (one_more list slot (slot_of tags block) listed)
+    where
+      by : Contains list (slot_of tags block) ⊎ (slot_of tags block ≡ slot) → block.size < need
+      by (inl there) = before block among free there
+      by (inr has) = (let is = its_size block among free has in omega arith)
 
-pub lacks : (blocks : List Block) (words : ℕ) (lists : ℕ → List ℕ) (need : ℕ) → IsHeap blocks words lists → NoneFits blocks need → MayLack blocks need
-lacks blocks words lists need heap none = MayLack-none_fits blocks need heap.list.merged none
+  pub most_more : (most : ℕ) → HasFreeAt blocks tags lists slot → IsMost blocks tags list most → IsMost blocks tags (list ++ slot ∷ []) (max most size)
+  most_more most has is = record {
+    bound = λ block among free listed. bound block among free (one_more list slot (slot_of tags block) listed);
+    found = λ some. found some (cases_lt most size);
+  }
+    where
+      bound : (block : Block) → Contains blocks block → IsFree block → Contains list (slot_of tags block) ⊎ (slot_of tags block ≡ slot) → block.size ≤ max most size
+      bound block among free (inl there) = (let so_far = is.bound block among free there in omega arith)
+      bound block among free (inr has) = (let same = its_size block among free has in omega arith)
+
+      found : 0 < max most size → (most < size) ⊎ (size ≤ most) → Contains (free_sizes blocks) (max most size)
+      found some (inl more) =
+          let there = size_among blocks (free_block place size) (found_at blocks tags lists slot place has here size tells) refl in
+          let same : size ≡ max most size = omega arith in
+          subst (λ n. Contains (free_sizes blocks) n) same there
+      found some (inr less) =
+          let same : most ≡ max most size = omega arith in
+          subst (λ n. Contains (free_sizes blocks) n) same (is.found (omega arith))
+
+pub lacks : (blocks : List Block) (tags : List ℕ) (lists : Lists) (need : ℕ) → IsHeap blocks tags lists → NoneFits blocks need → MayLack blocks need
+lacks blocks tags lists need heap none = MayLack-none_fits blocks need heap.list.merged none

@@ -9,12 +9,10 @@ use Rattle.block_heap.specs.Blocks.{free_block, used_block, IsFree, Fills, IsCoa
 use Rattle.block_heap.specs.Changes.{merged, IsGiven}
 use Rattle.block_heap.specs.Inside.{blocks_in, words_in}
 use Rattle.block_heap.specs.Tags.{HasBlock, EndsFree, IsLastFree, IsFirstFree}
-use Rattle.block_heap.proofs.Order.{words_of-append, words_of-cons, front_fills, back_fills, back_merged, fills_instead, merged_instead}
+use Rattle.block_heap.proofs.Order.{words_of-append, words_of-cons, front_fills, back_fills, back_merged, fills_instead, merged_instead, from-le-end}
 use Rattle.block_heap.proofs.Merging.{joined_apart, joined_begins, merged_fills, merged_merged, merged_same, merged_behind}
 use Rattle.block_heap.proofs.Counting.{used_more, used_same}
-use Rattle.block_heap.proofs.TagLaws.{from-le-end}
-use Rattle.block_heap.proofs.Places.{parted}
-use Rattle.block_heap.proofs.Listing.{free_within}
+use Rattle.block_heap.proofs.Places.{parted, free_within}
 
 -- a list stays a block list where a block is given back
 pub IsBlockList-given : (words : ℕ) (old new : List Block) (place : ℕ) → IsBlockList words old → IsGiven old new place → IsBlockList words new
@@ -147,6 +145,7 @@ pub record UsedAt (words : ℕ) (blocks : List Block) (place size : ℕ) : Type 
   pub is_next : blocks ≡ (before ++ used_block place size ∷ []) ++ after
   pub next : Fills 0 (before ++ used_block place size ∷ []) (place + size)
   pub within : place + size ≤ words
+  pub some : 0 < size
 
 pub used_at : (words : ℕ) (blocks : List Block) (place : ℕ) → IsBlockList words blocks → (has : HasUsed blocks place) → UsedAt words blocks place has.size
 used_at words blocks place list has =
@@ -168,6 +167,7 @@ used_at words blocks place list has =
       is_next = is_next;
       next = subst (λ n. Fills 0 (parts.0 ++ block ∷ []) n) ends (front_fills 0 words (parts.0 ++ block ∷ []) parts.1 (subst (λ xs. Fills 0 xs words) is_next list.fills));
       within = omega arith;
+      some = here.1;
     }
 
 -- the free block behind, and all before it

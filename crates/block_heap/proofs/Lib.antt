@@ -7,6 +7,7 @@ pub mod UsedBlocks
 pub mod TagLaws
 pub mod LinkLaws
 pub mod ListLaws
+pub mod SlotLaws
 pub mod Listing
 pub mod Keeping
 pub mod Giving

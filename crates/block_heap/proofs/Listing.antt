@@ -1,174 +1,240 @@
--- The lists of places against the free blocks.
-use Rattle.std.proofs.Common.{◌≡◌, ◌≢◌, ℕ, zero, suc, ◌+◌, ◌<◌, ◌≤◌, ◌⊎◌, inl, inr, Bool, true, false, cond, eqb, List, [], ◌∷◌, ◌++◌, length, get_or, refl, sym, ap, ◌∙◌, subst, arith}
+-- The lists of slots against the free blocks.
+use Rattle.std.proofs.Common.{◌≡◌, ◌≢◌, ℕ, zero, suc, ◌+◌, ◌*◌, ◌<◌, ◌≤◌, ◌⊎◌, inl, inr, Bool, true, false, cond, eqb, List, [], ◌∷◌, ◌++◌, length, get_or, refl, sym, ap, ◌∙◌, subst, arith, length-append}
 use Rattle.std.specs.List.{Contains, sum_by}
 use Rattle.std.proofs.lemmas.List.Sums.{sum_by-cons, sum_by-append, sum_by_push}
+use Rattle.std.proofs.lemmas.List.Elements.{Contains-append_cases, Contains-append_left, Contains-append_right}
 use Rattle.std.proofs.lemmas.Bool.{cases_eq, eq-eqb, ne_eqb}
 use Rattle.std.proofs.lemmas.Grind.{common_steps}
 use Rattle.size_classes.specs.Classes.{class_of}
+use Rattle.size_classes.proofs.Rising.{below_sixty_four}
 use Rattle.block_heap.specs.declared.block.Block.{Block}
-use Rattle.block_heap.specs.Blocks.{free_block, Fills, IsFree, words_of}
-use Rattle.block_heap.specs.Lists.{count_in, AreListed, IsUnlisted, IsWithout}
-use Rattle.block_heap.proofs.Order.{words_of-cons, words_of-fills, back_fills}
-use Rattle.block_heap.proofs.Places.{free_is, parted, in_middle}
-use Rattle.block_heap.proofs.TagLaws.{from-le-end}
+use Rattle.block_heap.specs.Blocks.{free_block, Fills, IsFree, free_sizes, words_of}
+use Rattle.block_heap.specs.Lists.{Lists, list_of, place_in, count_of, count_in, AreListed, IsListed, IsWithout}
+use Rattle.block_heap.specs.Tags.{slot_of}
+use Rattle.block_heap.proofs.Counting.{frees-append, free_more, free_same}
+use Rattle.block_heap.proofs.Order.{words_of-cons, words_of-fills}
+use Rattle.block_heap.proofs.Places.{parted, in_middle}
 
 -- what a block counts in a list
-pub used_counts : (class : ℕ) (weight : ℕ → ℕ) (block : Block) → block.used ≡ true → count_in class weight block ≡ 0
-used_counts class weight block used = ap (λ u. cond u 0 (cond (eqb (class_of block.size) class) (weight block.place) 0)) used
+pub used_counts : (class : ℕ) (weight : ℕ → ℕ) (tags : List ℕ) (block : Block) → block.used ≡ true → count_in class weight tags block ≡ 0
+used_counts class weight tags block used = ap (λ u. cond u 0 (cond (eqb (class_of block.size) class) (weight (slot_of tags block)) 0)) used
 
-pub free_counts : (class : ℕ) (weight : ℕ → ℕ) (block : Block) → IsFree block → class_of block.size ≡ class → count_in class weight block ≡ weight block.place
-free_counts class weight block free is = grind (arith, common_steps)
+pub free_counts : (class : ℕ) (weight : ℕ → ℕ) (tags : List ℕ) (block : Block) → IsFree block → class_of block.size ≡ class → count_in class weight tags block ≡ weight (slot_of tags block)
+free_counts class weight tags block free is =
+    ap (λ u. cond u 0 (cond (eqb (class_of block.size) class) (weight (slot_of tags block)) 0)) free ∙ ap (λ t. cond t (weight (slot_of tags block)) 0) (eq-eqb (class_of block.size) class is)
 
-pub other_counts : (class : ℕ) (weight : ℕ → ℕ) (block : Block) → class_of block.size ≢ class → count_in class weight block ≡ 0
-other_counts class weight block other = by block.used
+pub other_counts : (class : ℕ) (weight : ℕ → ℕ) (tags : List ℕ) (block : Block) → class_of block.size ≢ class → count_in class weight tags block ≡ 0
+other_counts class weight tags block other = by block.used
   where
-    none : cond (eqb (class_of block.size) class) (weight block.place) 0 ≡ 0
-    none = ap (λ t. cond t (weight block.place) 0) (ne_eqb (class_of block.size) class other)
+    none : cond (eqb (class_of block.size) class) (weight (slot_of tags block)) 0 ≡ 0
+    none = ap (λ t. cond t (weight (slot_of tags block)) 0) (ne_eqb (class_of block.size) class other)
 
-    by : (u : Bool) → cond u 0 (cond (eqb (class_of block.size) class) (weight block.place) 0) ≡ 0
+    by : (u : Bool) → cond u 0 (cond (eqb (class_of block.size) class) (weight (slot_of tags block)) 0) ≡ 0
     by true = refl
     by false = none
 
--- a free block's place is added to the list of its class
-pub listed_added : (lists new : ℕ → List ℕ) (before after : List Block) (block : Block) → IsFree block → new (class_of block.size) ≡ lists (class_of block.size) ++ block.place ∷ []
-    → ((other : ℕ) → other < 64 → other ≢ class_of block.size → new other ≡ lists other) → AreListed lists (before ++ after) → AreListed new (before ++ block ∷ after)
-listed_added lists new before after block free added others listed class few weight = by (cases_eq class (class_of block.size))
+-- what all but one count, and this one
+one_of_all : (class : ℕ) (weight : ℕ → ℕ) (tags : List ℕ) (before after : List Block) (block : Block)
+    → sum_by (count_in class weight tags) (before ++ block ∷ after) ≡ sum_by (count_in class weight tags) (before ++ after) + count_in class weight tags block
+one_of_all class weight tags before after block =
+    let count = count_in class weight tags in omega (arith, sum_by-append count before (block ∷ after), sum_by-cons count block after, sum_by-append count before after)
+
+-- a block among some is among these and one more
+pub beside : (before after : List Block) (block other : Block) → Contains (before ++ after) other → Contains (before ++ block ∷ after) other
+beside before after block other among = by (Contains-append_cases before after other among)
   where
-    all : sum_by (count_in class weight) (before ++ block ∷ after) ≡ sum_by (count_in class weight) (before ++ after) + count_in class weight block
-    all = omega (arith, sum_by-append (count_in class weight) before (block ∷ after), sum_by-cons (count_in class weight) block after, sum_by-append (count_in class weight) before after)
+    by : Contains before other ⊎ Contains after other → Contains (before ++ block ∷ after) other
+    by (inl first) = Contains-append_left before (block ∷ after) other first
+    by (inr (k, lt, is)) = Contains-append_right before (block ∷ after) other (suc k, omega arith, is)
 
-    by : (class ≡ class_of block.size) ⊎ (class ≡ class_of block.size → ⊥) → sum_by weight (new class) ≡ sum_by (count_in class weight) (before ++ block ∷ after)
-    by (inl e) =
-        let own = free_counts class weight block free (sym e) in
-        let list : sum_by weight (new class) ≡ sum_by weight (lists class) + weight block.place =
-        ap (λ c. sum_by weight (new c)) e ∙ ap (sum_by weight) added ∙ sum_by_push weight (lists (class_of block.size)) block.place ∙ ap (λ c. sum_by weight (lists c) + weight block.place) (sym e) in
-        omega (arith, all, own, list, listed class few weight)
-    by (inr ne) =
-        let none = other_counts class weight block (λ e. ne (sym e)) in
-        let list = ap (sum_by weight) (others class few ne) in
-        omega (arith, all, none, list, listed class few weight)
-
--- it leaves that list
-pub listed_removed : (lists new : ℕ → List ℕ) (before after : List Block) (block : Block) → IsFree block → IsWithout (lists (class_of block.size)) (new (class_of block.size)) block.place
-    → ((other : ℕ) → other < 64 → other ≢ class_of block.size → new other ≡ lists other) → AreListed lists (before ++ block ∷ after) → AreListed new (before ++ after)
-listed_removed lists new before after block free removed others listed class few weight = by (cases_eq class (class_of block.size))
+-- a block among some and one more is this one or among the others
+apart : (before after : List Block) (block other : Block) → Contains (before ++ block ∷ after) other → (block ≡ other) ⊎ Contains (before ++ after) other
+apart before after block other among = by (Contains-append_cases before (block ∷ after) other among)
   where
-    all : sum_by (count_in class weight) (before ++ block ∷ after) ≡ sum_by (count_in class weight) (before ++ after) + count_in class weight block
-    all = omega (arith, sum_by-append (count_in class weight) before (block ∷ after), sum_by-cons (count_in class weight) block after, sum_by-append (count_in class weight) before after)
+    by : Contains before other ⊎ Contains (block ∷ after) other → (block ≡ other) ⊎ Contains (before ++ after) other
+    by (inl first) = inr (Contains-append_left before after other first)
+    by (inr (zero, lt, is)) = inl is
+    by (inr (suc k, lt, is)) = inr (Contains-append_right before after other (k, omega arith, is))
 
-    by : (class ≡ class_of block.size) ⊎ (class ≡ class_of block.size → ⊥) → sum_by weight (new class) ≡ sum_by (count_in class weight) (before ++ after)
-    by (inl e) =
-        let own = free_counts class weight block free (sym e) in
-        let new_list : sum_by weight (new class) ≡ sum_by weight (removed.before ++ removed.after) = ap (λ c. sum_by weight (new c)) e ∙ ap (sum_by weight) removed.now in
-        let old_list : sum_by weight (lists class) ≡ sum_by weight (removed.before ++ block.place ∷ removed.after) = ap (λ c. sum_by weight (lists c)) e ∙ ap (sum_by weight) removed.was in
-        omega (arith, all, own, new_list, old_list, sum_by-append weight removed.before (block.place ∷ removed.after), sum_by-cons weight block.place removed.after, sum_by-append weight removed.before removed.after, listed class few weight)
-    by (inr ne) =
-        let none = other_counts class weight block (λ e. ne (sym e)) in
-        let list = ap (sum_by weight) (others class few ne) in
-        omega (arith, all, none, list, listed class few weight)
+-- slots are told as they were
+pub listed_slots : (lists : Lists) (tags new : List ℕ) (blocks : List Block) → ((block : Block) → Contains blocks block → slot_of new block ≡ slot_of tags block) → AreListed lists tags blocks → AreListed lists new blocks
+listed_slots lists tags new blocks same listed = record {
+  sums = λ class few weight. listed.sums class few weight ∙ sums class weight blocks same;
+  places = λ block among free. ap (place_in lists) (same block among) ∙ listed.places block among free;
+  count = listed.count;
+}
+  where
+    sums : (class : ℕ) (weight : ℕ → ℕ) (some : List Block) → ((block : Block) → Contains some block → slot_of new block ≡ slot_of tags block) → sum_by (count_in class weight tags) some ≡ sum_by (count_in class weight new) some
+    sums class weight [] is = refl
+    sums class weight (block ∷ some) is =
+        let own : count_in class weight new block ≡ count_in class weight tags block = ap (λ s. cond block.used 0 (cond (eqb (class_of block.size) class) (weight s) 0)) (is block (0, omega arith, refl)) in
+        let rest = sums class weight some (λ b among. is b (suc among.0, (let lt = among.1 in omega arith), among.2)) in
+        omega (arith, sum_by-cons (count_in class weight tags) block some, sum_by-cons (count_in class weight new) block some, own, rest)
 
--- a used block changes no list
-pub listed_beside : (lists : ℕ → List ℕ) (before after : List Block) (block : Block) → block.used ≡ true → AreListed lists (before ++ after) → AreListed lists (before ++ block ∷ after)
-listed_beside lists before after block used listed class few weight = grind (arith, common_steps)
-
-pub listed_without : (lists : ℕ → List ℕ) (before after : List Block) (block : Block) → block.used ≡ true → AreListed lists (before ++ block ∷ after) → AreListed lists (before ++ after)
-listed_without lists before after block used listed class few weight = grind (arith, common_steps)
-
--- what counts one place alone
+-- what counts one slot alone
 abbrev at : ℕ → ℕ → ℕ
-at place other = cond (eqb other place) 1 0
+at slot other = cond (eqb other slot) 1 0
 
--- a place that a list counts is in it
-counted : (xs : List ℕ) (place : ℕ) → 0 < sum_by (at place) xs → Contains xs place
-counted [] place some = absurd (omega arith)
-counted (x ∷ xs) place some = by (cases_eq x place) (counted xs place)
+at_own : (slot : ℕ) → at slot slot ≡ 1
+at_own slot = ap (λ t. cond t 1 0) (eq-eqb slot slot refl)
+
+at_other : (slot other : ℕ) → other ≢ slot → at slot other ≡ 0
+at_other slot other ne = ap (λ t. cond t 1 0) (ne_eqb other slot ne)
+
+-- a slot that a list counts is in it
+counted : (xs : List ℕ) (slot : ℕ) → 0 < sum_by (at slot) xs → Contains xs slot
+counted [] slot some = absurd (omega arith)
+counted (x ∷ xs) slot some = by (cases_eq x slot) (counted xs slot)
   where
-    by : (x ≡ place) ⊎ (x ≡ place → ⊥) → (0 < sum_by (at place) xs → Contains xs place) → Contains (x ∷ xs) place
+    by : (x ≡ slot) ⊎ (x ≡ slot → ⊥) → (0 < sum_by (at slot) xs → Contains xs slot) → Contains (x ∷ xs) slot
     by (inl e) later = (0, omega arith, e)
-    by (inr ne) later =
-        let none : at place x ≡ 0 = ap (λ t. cond t 1 0) (ne_eqb x place ne) in
-        let rest = later (omega (arith, sum_by-cons (at place) x xs, none)) in
-        (suc rest.0, (let lt = rest.1 in omega arith), rest.2)
+    by (inr ne) later = (let rest = later (omega (arith, sum_by-cons (at slot) x xs, at_other slot x ne)) in (suc rest.0, (let lt = rest.1 in omega arith), rest.2))
 
--- a block among others counts
-counts : (class : ℕ) (weight : ℕ → ℕ) (blocks : List Block) (block : Block) → Contains blocks block → IsFree block → class_of block.size ≡ class → weight block.place ≤ sum_by (count_in class weight) blocks
-counts class weight blocks block among free is = grind (arith, common_steps)
-
--- a free block's place is listed
-pub place_listed : (lists : ℕ → List ℕ) (blocks : List Block) (block : Block) (class : ℕ) → class < 64 → class_of block.size ≡ class → AreListed lists blocks → Contains blocks block → IsFree block → Contains (lists class) block.place
-place_listed lists blocks block class few is listed among free =
-    grind (arith, common_steps, eq-eqb block.place block.place refl, counted (lists class) block.place, counts class (at block.place) blocks block among free is)
+-- a free block's slot is listed
+pub slot_listed : (lists : Lists) (tags : List ℕ) (blocks : List Block) (block : Block) (class : ℕ) → class < 64 → class_of block.size ≡ class → AreListed lists tags blocks → Contains blocks block → IsFree block
+    → Contains (list_of lists class) (slot_of tags block)
+slot_listed lists tags blocks block class few is listed among free =
+    let slot = slot_of tags block in
+    let parts = parted blocks block among in
+    counted (list_of lists class) slot
+    (omega (arith, listed.sums class few (at slot), ap (sum_by (count_in class (at slot) tags)) parts.2, one_of_all class (at slot) tags parts.0 parts.1 block, free_counts class (at slot) tags block free is, at_own slot))
 
 -- and no list is empty that has one
-pub list_filled : (lists : ℕ → List ℕ) (blocks : List Block) (block : Block) (class : ℕ) → class < 64 → class_of block.size ≡ class → AreListed lists blocks → Contains blocks block → IsFree block → 0 < length (lists class)
-list_filled lists blocks block class few is listed among free = (let place = place_listed lists blocks block class few is listed among free in let lt = place.1 in omega arith)
+pub list_filled : (lists : Lists) (tags : List ℕ) (blocks : List Block) (block : Block) (class : ℕ) → class < 64 → class_of block.size ≡ class → AreListed lists tags blocks → Contains blocks block → IsFree block → 0 < length (list_of lists class)
+list_filled lists tags blocks block class few is listed among free = (let slot = slot_listed lists tags blocks block class few is listed among free in let lt = slot.1 in omega arith)
 
--- a free block of a class
-pub record HasFree (blocks : List Block) (class place : ℕ) : Type 0 where
-  pub size : ℕ
-  pub among : Contains blocks (free_block place size)
-  pub is : class_of size ≡ class
+-- a free block of a class, which has a slot
+pub record HasFree (blocks : List Block) (tags : List ℕ) (class slot : ℕ) : Type 0 where
+  pub block : Block
+  pub among : Contains blocks block
+  pub free : IsFree block
+  pub is : class_of block.size ≡ class
+  pub here : slot_of tags block ≡ slot
 
-found : (blocks : List Block) (class place : ℕ) → 0 < sum_by (count_in class (at place)) blocks → HasFree blocks class place
-found [] class place some = absurd (omega arith)
-found (block ∷ blocks) class place some = by (found blocks class place) block.used refl (cases_eq (class_of block.size) class) (cases_eq block.place place)
+found : (tags : List ℕ) (blocks : List Block) (class slot : ℕ) → 0 < sum_by (count_in class (at slot) tags) blocks → HasFree blocks tags class slot
+found tags [] class slot some = absurd (omega arith)
+found tags (block ∷ blocks) class slot some = by (found tags blocks class slot) block.used refl (cases_eq (class_of block.size) class) (cases_eq (slot_of tags block) slot)
   where
-    later : (0 < sum_by (count_in class (at place)) blocks → HasFree blocks class place) → count_in class (at place) block ≡ 0 → HasFree (block ∷ blocks) class place
+    later : (0 < sum_by (count_in class (at slot) tags) blocks → HasFree blocks tags class slot) → count_in class (at slot) tags block ≡ 0 → HasFree (block ∷ blocks) tags class slot
     later more none =
-        let rest = more (omega (arith, sum_by-cons (count_in class (at place)) block blocks)) in
-        record { size = rest.size; among = (suc rest.among.0, (let lt = rest.among.1 in omega arith), rest.among.2); is = rest.is }
+        let rest = more (omega (arith, sum_by-cons (count_in class (at slot) tags) block blocks)) in
+        record { block = rest.block; among = (suc rest.among.0, (let lt = rest.among.1 in omega arith), rest.among.2); free = rest.free; is = rest.is; here = rest.here }
 
-    by : (0 < sum_by (count_in class (at place)) blocks → HasFree blocks class place) → (u : Bool) → block.used ≡ u → (class_of block.size ≡ class) ⊎ (class_of block.size ≡ class → ⊥) → (block.place ≡ place) ⊎ (block.place ≡ place → ⊥)
-        → HasFree (block ∷ blocks) class place
-    by more true used _ _ = later more (used_counts class (at place) block used)
-    by more false free (inr other) _ = later more (other_counts class (at place) block other)
-    by more false free (inl is) (inr ne) =
-        let none : at place block.place ≡ 0 = ap (λ t. cond t 1 0) (ne_eqb block.place place ne) in
-        later more (free_counts class (at place) block free is ∙ none)
-    by more false free (inl is) (inl here) = record { size = block.size; among = (0, omega arith, free_is block free ∙ ap (λ p. free_block p block.size) here); is = is }
+    by : (0 < sum_by (count_in class (at slot) tags) blocks → HasFree blocks tags class slot) → (u : Bool) → block.used ≡ u → (class_of block.size ≡ class) ⊎ (class_of block.size ≡ class → ⊥)
+        → (slot_of tags block ≡ slot) ⊎ (slot_of tags block ≡ slot → ⊥) → HasFree (block ∷ blocks) tags class slot
+    by more true used _ _ = later more (used_counts class (at slot) tags block used)
+    by more false free (inr other) _ = later more (other_counts class (at slot) tags block other)
+    by more false free (inl is) (inr ne) = later more (free_counts class (at slot) tags block free is ∙ at_other slot (slot_of tags block) ne)
+    by more false free (inl is) (inl here) = record { block = block; among = (0, omega arith, refl); free = free; is = is; here = here }
 
--- a listed place is a free block's of its class
-pub block_listed : (lists : ℕ → List ℕ) (blocks : List Block) (class place : ℕ) → class < 64 → AreListed lists blocks → Contains (lists class) place → HasFree blocks class place
-block_listed lists blocks class place few listed among =
-    let one : at place place ≡ 1 = ap (λ t. cond t 1 0) (eq-eqb place place refl) in
-    let parts = parted (lists class) place among in
-    found blocks class place (omega (arith, ap (sum_by (at place)) parts.2, sum_by-append (at place) parts.0 (place ∷ parts.1), sum_by-cons (at place) place parts.1, one, listed class few (at place)))
+-- a listed slot is a free block's of its class
+pub block_listed : (lists : Lists) (tags : List ℕ) (blocks : List Block) (class slot : ℕ) → class < 64 → AreListed lists tags blocks → Contains (list_of lists class) slot → HasFree blocks tags class slot
+block_listed lists tags blocks class slot few listed among =
+    let parts = parted (list_of lists class) slot among in
+    found tags blocks class slot
+    (omega (arith, ap (sum_by (at slot)) parts.2, sum_by-append (at slot) parts.0 (slot ∷ parts.1), sum_by-cons (at slot) slot parts.1, at_own slot, listed.sums class few (at slot)))
 
--- where a block lies among others
-lies_from : (from end : ℕ) (blocks : List Block) (block : Block) → Fills from blocks end → Contains blocks block → (from ≤ block.place) × (0 < block.size) × (block.place + block.size ≤ end)
-lies_from from end blocks block fills among =
+-- how many free blocks there are beside one
+pub frees_beside : (before after : List Block) (block : Block) → IsFree block → length (free_sizes (before ++ block ∷ after)) ≡ length (free_sizes (before ++ after)) + 1
+frees_beside before after block free = omega (arith, frees-append before (block ∷ after), frees-append before after, ap length (free_more block after free))
+
+-- some slot is in a list where a block is free
+pub some_listed : (lists : Lists) (tags : List ℕ) (blocks : List Block) (block : Block) → AreListed lists tags blocks → Contains blocks block → IsFree block → 0 < count_of lists
+some_listed lists tags blocks block listed among free =
     let parts = parted blocks block among in
-    let here = back_fills from end parts.0 (block ∷ parts.1) (subst (λ xs. Fills from xs end) parts.2 fills) in
-    let place = here.0 in
-    let le = from-le-end ((from + words_of parts.0) + block.size) end parts.1 here.2 in
-    (omega arith, here.1, omega arith)
+    omega (arith, listed.count, ap (λ bs. length (free_sizes bs)) parts.2, frees_beside parts.0 parts.1 block free)
 
-pub free_within : (words : ℕ) (blocks : List Block) (block : Block) → Fills 0 blocks words → Contains blocks block → (0 < block.size) × (block.place + block.size ≤ words)
-free_within words blocks block fills among = (let lies = lies_from 0 words blocks block fills among in (lies.1, lies.2))
+-- A slot was added for a free block, whose tags have it.
+module _ (lists new : Lists) (tags told : List ℕ) (before after : List Block) (block : Block) (free : IsFree block)
+    (added : list_of new (class_of block.size) ≡ list_of lists (class_of block.size) ++ slot_of told block ∷ [])
+    (others : (other : ℕ) → other < 64 → other ≢ class_of block.size → list_of new other ≡ list_of lists other)
+    (same : (b : Block) → Contains (before ++ after) b → slot_of told b ≡ slot_of tags b)
+    (here : place_in new (slot_of told block) ≡ block.place) (stay : (slot : ℕ) → IsListed (list_of lists) slot → place_in new slot ≡ place_in lists slot) (count : count_of new ≡ count_of lists + 1) where
+  pub listed_added : AreListed lists tags (before ++ after) → AreListed new told (before ++ block ∷ after)
+  listed_added was = record {
+    sums = λ class less weight. sums class less weight (cases_eq class (class_of block.size));
+    places = λ b among is. places b is (apart before after block b among);
+    count = omega (arith, count, was.count, frees_beside before after block free);
+  }
+    where
+      listed : AreListed lists told (before ++ after)
+      listed = listed_slots lists tags told (before ++ after) same was
 
--- no other block begins where a block does
-alone : (from end : ℕ) (before after : List Block) (block other : Block) (k : ℕ) → Fills from (before ++ block ∷ after) end → k < length (before ++ after) → get_or (before ++ after) k other ≡ other → other.place ≡ block.place → ⊥
-alone from end [] after block other k fills lt is same = grind (arith, common_steps, lies_from (from + block.size) end after other fills.2 (k, lt, is))
-alone from end (b ∷ before) after block other zero fills lt is same =
-    grind (arith, common_steps, lies_from (from + b.size) end (before ++ block ∷ after) block fills.2 (in_middle before after block), in_middle before after block)
-alone from end (b ∷ before) after block other (suc k) fills lt is same = alone (from + b.size) end before after block other k fills.2 (omega arith) is same
+      sums : (class : ℕ) → class < 64 → (weight : ℕ → ℕ) → (class ≡ class_of block.size) ⊎ (class ≡ class_of block.size → ⊥) → sum_by weight (list_of new class) ≡ sum_by (count_in class weight told) (before ++ block ∷ after)
+      sums class less weight (inl e) =
+          let list : sum_by weight (list_of new class) ≡ sum_by weight (list_of lists class) + weight (slot_of told block) =
+          ap (λ c. sum_by weight (list_of new c)) e ∙ ap (sum_by weight) added ∙ sum_by_push weight (list_of lists (class_of block.size)) (slot_of told block) ∙ ap (λ c. sum_by weight (list_of lists c) + weight (slot_of told block)) (sym e) in
+          omega (arith, one_of_all class weight told before after block, free_counts class weight told block free (sym e), list, listed.sums class less weight)
+      sums class less weight (inr ne) =
+          omega (arith, one_of_all class weight told before after block, other_counts class weight told block (λ e. ne (sym e)), ap (sum_by weight) (others class less ne), listed.sums class less weight)
 
--- a block beside those that are listed is in no list
-pub unlisted : (lists : ℕ → List ℕ) (before after : List Block) (block : Block) (words : ℕ) → Fills 0 (before ++ block ∷ after) words → AreListed lists (before ++ after) → IsUnlisted lists block.place
-unlisted lists before after block words fills listed class few among =
-    let has = block_listed lists (before ++ after) class block.place few listed among in
-    alone 0 words before after block (free_block block.place has.size) has.among.0 fills has.among.1 has.among.2 refl
+      places : (b : Block) → IsFree b → (block ≡ b) ⊎ Contains (before ++ after) b → place_in new (slot_of told b) ≡ b.place
+      places b is (inl own) = subst (λ (x : Block). place_in new (slot_of told x) ≡ x.place) own here
+      places b is (inr among) =
+          let class = class_of b.size in
+          let few = below_sixty_four b.size in
+          stay (slot_of told b) (record { class = class; few = few; among = slot_listed lists told (before ++ after) b class few refl listed among is }) ∙ listed.places b among is
+
+-- A free block's slot has left its list.
+module _ (lists new : Lists) (tags : List ℕ) (before after : List Block) (block : Block) (free : IsFree block)
+    (removed : IsWithout (list_of lists (class_of block.size)) (list_of new (class_of block.size)) (slot_of tags block))
+    (others : (other : ℕ) → other < 64 → other ≢ class_of block.size → list_of new other ≡ list_of lists other)
+    (stay : (slot : ℕ) → place_in new slot ≡ place_in lists slot) (count : count_of new + 1 ≡ count_of lists) where
+  pub listed_removed : AreListed lists tags (before ++ block ∷ after) → AreListed new tags (before ++ after)
+  listed_removed listed = record {
+    sums = λ class less weight. sums class less weight (cases_eq class (class_of block.size));
+    places = λ b among is. stay (slot_of tags b) ∙ listed.places b (beside before after block b among) is;
+    count = omega (arith, count, listed.count, frees_beside before after block free);
+  }
+    where
+      sums : (class : ℕ) → class < 64 → (weight : ℕ → ℕ) → (class ≡ class_of block.size) ⊎ (class ≡ class_of block.size → ⊥) → sum_by weight (list_of new class) ≡ sum_by (count_in class weight tags) (before ++ after)
+      sums class less weight (inl e) =
+          let slot = slot_of tags block in
+          let new_list : sum_by weight (list_of new class) ≡ sum_by weight (removed.before ++ removed.after) = ap (λ c. sum_by weight (list_of new c)) e ∙ ap (sum_by weight) removed.now in
+          let old_list : sum_by weight (list_of lists class) ≡ sum_by weight (removed.before ++ slot ∷ removed.after) = ap (λ c. sum_by weight (list_of lists c)) e ∙ ap (sum_by weight) removed.was in
+          omega (
+            arith,
+            one_of_all class weight tags before after block,
+            free_counts class weight tags block free (sym e),
+            new_list,
+            old_list,
+            sum_by-append weight removed.before (slot ∷ removed.after),
+            sum_by-cons weight slot removed.after,
+            sum_by-append weight removed.before removed.after,
+            listed.sums class less weight,
+          )
+      sums class less weight (inr ne) =
+          omega (arith, one_of_all class weight tags before after block, other_counts class weight tags block (λ e. ne (sym e)), ap (sum_by weight) (others class less ne), listed.sums class less weight)
+
+-- a used block changes no list
+pub listed_beside : (lists : Lists) (tags : List ℕ) (before after : List Block) (block : Block) → block.used ≡ true → AreListed lists tags (before ++ after) → AreListed lists tags (before ++ block ∷ after)
+listed_beside lists tags before after block used listed = record {
+  sums = λ class few weight. omega (arith, one_of_all class weight tags before after block, used_counts class weight tags block used, listed.sums class few weight);
+  places = λ b among free. places b free (apart before after block b among);
+  count = omega (arith, listed.count, frees-append before (block ∷ after), frees-append before after, ap length (free_same block after used));
+}
+  where
+    places : (b : Block) → IsFree b → (block ≡ b) ⊎ Contains (before ++ after) b → place_in lists (slot_of tags b) ≡ b.place
+    places b free (inl own) = absurd (let also = ap (λ (x : Block). x.used) own in cc)
+    places b free (inr among) = listed.places b among free
+
+pub listed_without : (lists : Lists) (tags : List ℕ) (before after : List Block) (block : Block) → block.used ≡ true → AreListed lists tags (before ++ block ∷ after) → AreListed lists tags (before ++ after)
+listed_without lists tags before after block used listed = record {
+  sums = λ class few weight. omega (arith, one_of_all class weight tags before after block, used_counts class weight tags block used, listed.sums class few weight);
+  places = λ b among free. listed.places b (beside before after block b among) free;
+  count = omega (arith, listed.count, frees-append before (block ∷ after), frees-append before after, ap length (free_same block after used));
+}
 
 -- how many free blocks of a class there are
-abbrev number : ℕ → List Block → ℕ
-number class blocks = sum_by (count_in class (λ _. 1)) blocks
+abbrev number : ℕ → List ℕ → List Block → ℕ
+number class tags blocks = sum_by (count_in class (λ _. 1) tags) blocks
 
 -- no more than words
-number-le : (class from end : ℕ) (blocks : List Block) → Fills from blocks end → number class blocks ≤ words_of blocks
-number-le class from end [] fills = omega arith
-number-le class from end (block ∷ blocks) fills =
+number-le : (class from end : ℕ) (tags : List ℕ) (blocks : List Block) → Fills from blocks end → number class tags blocks ≤ words_of blocks
+number-le class from end tags [] fills = omega arith
+number-le class from end tags (block ∷ blocks) fills =
     let some = fills.1 in
-    omega (arith, number-le class (from + block.size) end blocks fills.2, one block.used (eqb (class_of block.size) class), sum_by-cons (count_in class (λ _. 1)) block blocks, words_of-cons block blocks)
+    omega (arith, number-le class (from + block.size) end tags blocks fills.2, one block.used (eqb (class_of block.size) class), sum_by-cons (count_in class (λ _. 1) tags) block blocks, words_of-cons block blocks)
   where
     one : (u t : Bool) → cond u 0 (cond t 1 0) ≤ 1
     one true t = omega arith
@@ -176,21 +242,18 @@ number-le class from end (block ∷ blocks) fills =
     one false false = omega arith
 
 -- one block more may be listed
-pub may_lie : (lists : ℕ → List ℕ) (before after : List Block) (block : Block) (words : ℕ) → class_of block.size < 64 → IsFree block → Fills 0 (before ++ block ∷ after) words → AreListed lists (before ++ after)
-    → length (lists (class_of block.size)) < words
-may_lie lists before after block words few free fills listed =
+pub may_lie : (lists : Lists) (tags : List ℕ) (before after : List Block) (block : Block) (words : ℕ) → class_of block.size < 64 → IsFree block → Fills 0 (before ++ block ∷ after) words → AreListed lists tags (before ++ after)
+    → length (list_of lists (class_of block.size)) < words
+may_lie lists tags before after block words few free fills listed =
     let class = class_of block.size in
-    let ones = count_in class (λ _. 1) in
     omega (
       arith,
-      number-le class 0 words (before ++ block ∷ after) fills,
+      number-le class 0 words tags (before ++ block ∷ after) fills,
       words_of-fills 0 words (before ++ block ∷ after) fills,
-      sum_by-append ones before (block ∷ after),
-      sum_by-cons ones block after,
-      sum_by-append ones before after,
-      free_counts class (λ _. 1) block free refl,
-      listed class few (λ _. 1),
-      ones_length (lists class),
+      one_of_all class (λ _. 1) tags before after block,
+      free_counts class (λ _. 1) tags block free refl,
+      listed.sums class few (λ _. 1),
+      ones_length (list_of lists class),
     )
   where
     ones_length : (xs : List ℕ) → sum_by (λ _. 1) xs ≡ length xs

@@ -1,5 +1,5 @@
 -- Block lists that fill a heap.
-use Rattle.std.proofs.Common.{◌≡◌, ℕ, ◌+◌, List, [], ◌∷◌, ◌++◌, subst, arith}
+use Rattle.std.proofs.Common.{◌≡◌, ℕ, ◌+◌, ◌≤◌, List, [], ◌∷◌, ◌++◌, subst, arith}
 use Rattle.std.proofs.lemmas.List.Sums.{sum_by-cons, sum_by-append}
 use Rattle.std.proofs.lemmas.Grind.{common_steps}
 use Rattle.block_heap.specs.declared.block.Block.{Block}
@@ -26,6 +26,9 @@ front_fills from end (x ∷ xs) ys h = grind (arith, common_steps, front_fills (
 pub back_fills : (from end : ℕ) (xs ys : List Block) → Fills from (xs ++ ys) end → Fills (from + words_of xs) ys end
 back_fills from end [] ys h = let e : from ≡ from + 0 = omega arith in subst (λ n. Fills n ys end) e h
 back_fills from end (x ∷ xs) ys h = grind (arith, common_steps, back_fills (from + x.size) end xs ys h.2)
+
+pub from-le-end : (from end : ℕ) (blocks : List Block) → Fills from blocks end → from ≤ end
+from-le-end from end blocks fills = (let e = words_of-fills from end blocks fills in omega arith)
 
 -- other blocks that fill the same words take their place
 pub fills_instead : (from end : ℕ) (xs ys zs : List Block) → Fills from (xs ++ ys) end → ((at : ℕ) → Fills at ys end → Fills at zs end) → Fills from (xs ++ zs) end

@@ -1,48 +1,82 @@
--- The places of free blocks, in lists by class.
-use Rattle.std.specs.Prelude.{◌≡◌, ◌==◌, if◌then◌else◌, ℕ, ◌+◌, ◌<◌, ◌≤◌, ◌^◌, min, List, [], ◌∷◌, ◌++◌, length, sum_by, Contains, Option, Some, None}
+-- The slots of free blocks, in lists by class.
+use Rattle.std.specs.Prelude.{◌≡◌, ◌==◌, if◌then◌else◌, ℕ, ◌+◌, ◌-◌, ◌<◌, ◌≤◌, ◌^◌, min, List, [], ◌∷◌, ◌++◌, length, sum_by, Contains, Option, Some, None}
 use Rattle.std.specs.Int.{bit_at}
 use Rattle.size_classes.specs.Classes.{class_of}
 use Rattle.block_heap.specs.declared.block.TheConstants.{MOST_WORDS}
 use Rattle.block_heap.specs.declared.block.Block.{Block}
 use Rattle.block_heap.specs.declared.links.Link.{Link}
-use Rattle.block_heap.specs.Links.{node_of, places_after, LeadOver}
+use Rattle.block_heap.specs.Blocks.{IsFree, free_sizes}
+use Rattle.block_heap.specs.Links.{node_of, place_of, slots_after, LeadOver}
+use Rattle.block_heap.specs.Slots.{most_slots, AreApart}
+use Rattle.block_heap.specs.Tags.{slot_of}
 
--- what a block counts in the list of a class, where each place counts so much
-abbrev pub count_in : ℕ → (ℕ → ℕ) → Block → ℕ
-count_in class weight block = if block.used then 0 else if class_of block.size == class then weight block.place else 0
+-- how many words there are, the links, and the spare slots
+abbrev pub Lists : Type 0
+Lists = ℕ × List Link × List ℕ
 
--- The lists have the places of the free blocks, each in the list of its class: whatever each place counts, the
--- list of a class counts as much as the free blocks of that class.
-abbrev pub AreListed : (ℕ → List ℕ) → List Block → Type 0
-AreListed lists blocks = (class : ℕ) → class < 64 → (weight : ℕ → ℕ) → sum_by weight (lists class) ≡ sum_by (count_in class weight) blocks
+-- the list of a class; after a node, the slots that are left
+abbrev pub list_of : Lists → ℕ → List ℕ
+list_of lists node = slots_after lists.1 lists.0 node
 
--- the place stands in none of the lists
+-- the place that a slot has
+abbrev pub place_in : Lists → ℕ → ℕ
+place_in lists slot = place_of lists.1 slot
+
+-- how many slots are in lists
+abbrev pub count_of : Lists → ℕ
+count_of lists = length lists.1 - 64 - length lists.2
+
+-- what a block counts in the list of a class, where each slot counts so much
+abbrev pub count_in : ℕ → (ℕ → ℕ) → List ℕ → Block → ℕ
+count_in class weight tags block = if block.used then 0 else if class_of block.size == class then weight (slot_of tags block) else 0
+
+-- The lists have the slots of the free blocks, each in the list of its class: whatever each slot counts, the
+-- list of a class counts as much as the free blocks of that class. Each slot has its block's place, and no others are in lists.
+pub record AreListed (lists : Lists) (tags : List ℕ) (blocks : List Block) : Type 0 where
+  pub sums : (class : ℕ) → class < 64 → (weight : ℕ → ℕ) → sum_by weight (list_of lists class) ≡ sum_by (count_in class weight tags) blocks
+  pub places : (block : Block) → Contains blocks block → IsFree block → place_in lists (slot_of tags block) ≡ block.place
+  pub count : count_of lists ≡ length (free_sizes blocks)
+
+-- the slot is in none of the lists
 abbrev pub IsUnlisted : (ℕ → List ℕ) → ℕ → Type 0
-IsUnlisted lists place = (class : ℕ) → class < 64 → ¬ (Contains (lists class) place)
+IsUnlisted lists slot = (class : ℕ) → class < 64 → ¬ (Contains (lists class) slot)
 
--- a list without one of its places
-pub record IsWithout (old new : List ℕ) (place : ℕ) : Type 0 where
+-- a list without one of its slots
+pub record IsWithout (old new : List ℕ) (slot : ℕ) : Type 0 where
   pub before : List ℕ
   pub after : List ℕ
-  pub was : old ≡ before ++ place ∷ after
+  pub was : old ≡ before ++ slot ∷ after
   pub now : new ≡ before ++ after
 
--- the place stands in one of the lists
-pub record IsListed (lists : ℕ → List ℕ) (place : ℕ) : Type 0 where
+-- the slot is in one of the lists
+pub record IsListed (lists : ℕ → List ℕ) (slot : ℕ) : Type 0 where
   pub class : ℕ
   pub few : class < 64
-  pub among : Contains (lists class) place
+  pub among : Contains (lists class) slot
 
--- the places from one on, in its list
+-- the slots from one on, in its list
 abbrev pub left_from : (ℕ → List ℕ) → Option ℕ → List ℕ
 left_from lists None = []
-left_from lists (Some place) = place ∷ lists (node_of place)
+left_from lists (Some slot) = slot ∷ lists (node_of slot)
 
--- What the lists keep: the links from the head of each lead over its places back to it, and the bits say which lists have one.
-pub record KeepsLists (words : ℕ) (links : List Link) (room filled : ℕ) : Type 0 where
+-- The links from the head of each list lead over its slots back to it, and the bits say which lists have one.
+pub record KeepsLists (words : ℕ) (links : List Link) (filled : ℕ) : Type 0 where
   pub limit : words ≤ MOST_WORDS
   pub heads : 64 ≤ length links
-  pub enough : words + 64 ≤ room
   pub wide : filled < 2 ^ 64
-  pub rings : (class : ℕ) → class < 64 → LeadOver links class (places_after links words class) class
-  pub bits : (class : ℕ) → class < 64 → bit_at filled class ≡ min 1 (length (places_after links words class))
+  pub rings : (class : ℕ) → class < 64 → LeadOver links class (slots_after links words class) class
+  pub bits : (class : ℕ) → class < 64 → bit_at filled class ≡ min 1 (length (slots_after links words class))
+
+-- There is room for a node and for a spare of each slot, and the spares are slots that are in no list.
+pub record KeepsSlots (words : ℕ) (links : List Link) (room : ℕ) (spares : List ℕ) (spare_room : ℕ) : Type 0 where
+  pub within : length links ≤ most_slots words + 64
+  pub enough : most_slots words + 64 ≤ room
+  pub spare_enough : most_slots words ≤ spare_room
+  pub few : length spares + 64 ≤ length links
+  pub apart : AreApart spares
+  pub nodes : (slot : ℕ) → Contains spares slot → node_of slot < length links
+  pub unlisted : (slot : ℕ) → Contains spares slot → IsUnlisted (slots_after links words) slot
+
+pub record KeepsAll (words : ℕ) (links : List Link) (room : ℕ) (spares : List ℕ) (spare_room filled : ℕ) : Type 0 where
+  pub lists : KeepsLists words links filled
+  pub slots : KeepsSlots words links room spares spare_room

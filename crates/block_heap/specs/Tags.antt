@@ -1,47 +1,62 @@
--- Blocks told by tags: the size and the use of each stand at its first word and at its last.
-use Rattle.std.specs.Prelude.{Option, Some, None, Contains, ◌++◌, ◌≡◌, ◌≢◌, ℕ, zero, suc, ◌+◌, ◌-◌, ◌≤◌, Bool, true, List, [], ◌∷◌, length, slice_index_or, nat_lt, if◌then◌else◌}
+-- Blocks told by tags: the size and the use of each stand at its first word and at its last, and a free one has a slot.
+use Rattle.std.specs.Prelude.{Option, Some, None, Contains, ◌++◌, ◌≡◌, ◌≢◌, ℕ, zero, suc, ◌+◌, ◌-◌, ◌*◌, ◌/◌, ◌%◌, ◌<◌, ◌≤◌, ◌==◌, Bool, List, [], ◌∷◌, slice_index_or, nat_lt, if◌then◌else◌}
 use Rattle.block_heap.specs.declared.block.TheConstants.{MOST_WORDS}
 use Rattle.block_heap.specs.declared.block.Block.{Block}
 use Rattle.block_heap.specs.Blocks.{Fills, IsFree, BeginsFree}
 
+-- the tag of a word, which is 0 where none was written
+abbrev pub tag_of : List ℕ → ℕ → ℕ
+tag_of tags place = slice_index_or tags place 0
+
+-- the size that a tag tells: one or two words in a tag that has a slot too, and any size in the others
+abbrev pub size_in : ℕ → ℕ
+size_in tag = if tag % 4 == 3 then tag / 4 % 2 + 1 else tag / 4 + 1
+
 -- the size and the use that a word tells
-abbrev pub tag_at : List ℕ → List Bool → ℕ → ℕ × Bool
-tag_at sizes used place = (slice_index_or sizes place 0, slice_index_or used place true)
+abbrev pub tag_at : List ℕ → ℕ → ℕ × Bool
+tag_at tags place = (size_in (tag_of tags place), nat_lt (tag_of tags place % 4) 2)
 
--- a block's first and last word tell its size and use
-pub record IsTagged (sizes : List ℕ) (used : List Bool) (block : Block) : Type 0 where
-  pub first : tag_at sizes used block.place ≡ (block.size, block.used)
-  pub last : tag_at sizes used (block.place + block.size - 1) ≡ (block.size, block.used)
+-- the slot of a free block: in the tag of its first word where it has no more than two, else that of its second word
+abbrev pub slot_of : List ℕ → Block → ℕ
+slot_of tags block = if nat_lt block.size 3 then tag_of tags block.place / 8 else tag_of tags (block.place + 1)
 
-abbrev pub AreTagged : List ℕ → List Bool → List Block → Type 0
-AreTagged sizes used [] = Unit {0}
-AreTagged sizes used (block ∷ blocks) = IsTagged sizes used block × AreTagged sizes used blocks
+-- A block's first word tells its size and use, and so does its last, unless no word is behind it.
+pub record IsTagged (words : ℕ) (tags : List ℕ) (block : Block) : Type 0 where
+  pub first : tag_at tags block.place ≡ (block.size, block.used)
+  pub last : block.place + block.size < words → tag_at tags (block.place + block.size - 1) ≡ (block.size, block.used)
+
+abbrev pub AreTagged : ℕ → List ℕ → List Block → Type 0
+AreTagged words tags [] = Unit {0}
+AreTagged words tags (block ∷ blocks) = IsTagged words tags block × AreTagged words tags blocks
 
 -- so many blocks at most, from a place on, as their first words tell them
-unfoldable pub blocks_from : List ℕ → List Bool → ℕ → ℕ → List Block
-blocks_from sizes used zero place = []
-blocks_from sizes used (suc most) place =
-    if nat_lt place (length sizes) then
-    record { place = place; size = slice_index_or sizes place 0; used = slice_index_or used place true }
-    ∷ blocks_from sizes used most (place + slice_index_or sizes place 0)
+unfoldable pub blocks_from : ℕ → List ℕ → ℕ → ℕ → List Block
+blocks_from words tags zero place = []
+blocks_from words tags (suc most) place =
+    if nat_lt place words then
+    record { place = place; size = size_in (tag_of tags place); used = nat_lt (tag_of tags place % 4) 2 }
+    ∷ blocks_from words tags most (place + size_in (tag_of tags place))
     else []
 
 -- the blocks that the tags tell, one for each word at most
-abbrev pub blocks_of : List ℕ → List Bool → List Block
-blocks_of sizes used = blocks_from sizes used (length sizes) 0
+abbrev pub blocks_of : ℕ → List ℕ → List Block
+blocks_of words tags = blocks_from words tags words 0
 
 -- the tags tell blocks that fill the words
-pub record TellBlocks (sizes : List ℕ) (used : List Bool) (blocks : List Block) : Type 0 where
-  pub fills : Fills 0 blocks (length sizes)
-  pub tagged : AreTagged sizes used blocks
-  pub both : length used ≡ length sizes
-  pub limit : length sizes ≤ MOST_WORDS
+pub record TellBlocks (words : ℕ) (tags : List ℕ) (blocks : List Block) : Type 0 where
+  pub fills : Fills 0 blocks words
+  pub tagged : AreTagged words tags blocks
+  pub limit : words ≤ MOST_WORDS
 
--- the words but those of the block's two ends tell what they told
-abbrev pub OthersStay : List ℕ → List Bool → List ℕ → List Bool → Block → Type 0
-OthersStay sizes used new_sizes new_used block =
-    (place : ℕ) → place ≢ block.place → place ≢ block.place + block.size - 1
-    → tag_at new_sizes new_used place ≡ tag_at sizes used place
+-- the words but those of the block's two ends have the tags that they had
+abbrev pub OthersStay : List ℕ → List ℕ → Block → Type 0
+OthersStay tags new block =
+    (place : ℕ) → place ≢ block.place → place ≢ block.place + block.size - 1 → tag_of new place ≡ tag_of tags place
+
+-- the tags of the words from one place to another are written, and no others
+pub record Rewrites (tags new : List ℕ) (from end : ℕ) : Type 0 where
+  pub below : (place : ℕ) → place < from → tag_of new place ≡ tag_of tags place
+  pub above : (place : ℕ) → end ≤ place → tag_of new place ≡ tag_of tags place
 
 -- a block begins at the place
 pub record HasBlock (blocks : List Block) (place : ℕ) : Type 0 where

@@ -4,9 +4,8 @@ ghost use Rattle.block_heap.specs.declared.block.TheConstants.{MOST_WORDS};
 ghost use Rattle.block_heap.specs.declared.block.Block.{Block};
 ghost use Rattle.block_heap.specs.Blocks.{free_block, IsBlockList, HasUsed, NoneFits, MayLack, IsFree, IsLargest, words_of};
 ghost use Rattle.block_heap.specs.Changes.{IsTaken, IsGiven};
-ghost use Rattle.block_heap.specs.Links.{list_of};
-ghost use Rattle.block_heap.specs.Lists.{AreListed};
-ghost use Rattle.block_heap.specs.Inside.{IsHeap, IsListable, blocks_in, words_in, HaveFree, AreShort, IsMost};
+ghost use Rattle.block_heap.specs.Lists.{AreListed, list_of};
+ghost use Rattle.block_heap.specs.Inside.{IsHeap, IsListable, blocks_in, words_in, AreShort, IsMost};
 ghost use Rattle.block_heap.specs.Bounds.{AreBounded};
 ghost use Rattle.size_classes.specs.Classes.{class_of};
 
@@ -33,44 +32,45 @@ pub struct Heap {
 impl Model for Heap {
     ghost use Rattle.std.specs.Prelude.{List};
     ghost use Rattle.block_heap.specs.declared.block.Block.{Block};
-    ghost use Rattle.block_heap.specs.Links.{list_of};
     ghost use Rattle.block_heap.specs.Inside.{IsBoundedHeap};
 
     ghost Value = { List Block };
 
-    ghost view = { λ s. s.blocks };
+    ghost view = { λ s. s.blocks.0 };
 
-    ghost invariant = { λ s. IsBoundedHeap s.blocks s.free.0 (list_of s.free) s.bounds };
+    ghost invariant = { λ s. IsBoundedHeap s.blocks.0 s.blocks.1 s.free s.bounds };
 }
 
 // Takes a free neighbour out of its list, and tells how many words it has.
-fn unlist(free: &mut FreeLists, neighbour: Option<Block>) -> u32
-    requires { IsListable (list_of free.old) neighbour }
+fn unlist(free: &mut FreeLists, blocks: &TaggedBlocks, neighbour: Option<Block>) -> u32
+    requires { IsListable free.old blocks.now.1 neighbour }
     ensures size { result ≡ words_in neighbour }
     ensures words { free.new.0 ≡ free.old.0 }
-    ensures listed { (before after : List Block) → AreListed (list_of free.old) (before ++ (blocks_in neighbour ++ after)) → AreListed (list_of free.new) (before ++ after) }
+    ensures listed { (before after : List Block) → AreListed free.old blocks.now.1 (before ++ (blocks_in neighbour ++ after)) → AreListed free.new blocks.now.1 (before ++ after) }
 {
     let Some(block) = neighbour else {
         return 0;
     };
-    free.remove(class_of(block.size), block.place);
+    let slot = blocks.slot_at(block);
+    free.remove(class_of(block.size), slot);
     block.size
 }
 
 // The first block of a class that has as many words as are needed.
 fn first_fit(blocks: &TaggedBlocks, free: &FreeLists, class: u32, need: u32) -> Option<Block>
     requires class { class < 64 }
-    requires have { HaveFree blocks.now (list_of free.now class) }
-    ensures none { IfNone result (AreShort blocks.now (list_of free.now class) need) }
-    ensures some { IfSome result (λ block. Contains blocks.now block × IsFree block × (need ≤ block.size)) }
+    requires heap { IsHeap blocks.now.0 blocks.now.1 free.now }
+    ensures none { IfNone result (AreShort blocks.now.0 blocks.now.1 (list_of free.now class) need) }
+    ensures some { IfSome result (λ block. Contains blocks.now.0 block × IsFree block × (need ≤ block.size)) }
 {
     let mut listed = free.first(class);
-    while let Some(place) = listed {
+    while let Some(slot) = listed {
+        let place = free.place(slot);
         let size = blocks.size_at(place);
         if size >= need {
             return Some(Block::free(place, size));
         }
-        listed = free.after(place);
+        listed = free.after(slot);
     }
     None
 }
@@ -78,17 +78,18 @@ fn first_fit(blocks: &TaggedBlocks, free: &FreeLists, class: u32, need: u32) -> 
 // A block of a class that has as many words as are needed, where one of its first few has.
 fn early_fit(blocks: &TaggedBlocks, free: &FreeLists, class: u32, need: u32) -> Option<Block>
     requires class { class < 64 }
-    requires have { HaveFree blocks.now (list_of free.now class) }
-    ensures some { IfSome result (λ block. Contains blocks.now block × IsFree block × (need ≤ block.size)) }
+    requires heap { IsHeap blocks.now.0 blocks.now.1 free.now }
+    ensures some { IfSome result (λ block. Contains blocks.now.0 block × IsFree block × (need ≤ block.size)) }
 {
     let mut listed = free.first(class);
     for _step in 0..FEW {
-        let place = listed?;
+        let slot = listed?;
+        let place = free.place(slot);
         let size = blocks.size_at(place);
         if need <= size {
             return Some(Block::free(place, size));
         }
-        listed = free.after(place);
+        listed = free.after(slot);
     }
     None
 }
@@ -96,12 +97,13 @@ fn early_fit(blocks: &TaggedBlocks, free: &FreeLists, class: u32, need: u32) -> 
 // The first block of the next class that has one.
 fn first_above(blocks: &TaggedBlocks, free: &FreeLists, class: u32) -> Option<Block>
     requires class { class < 64 }
-    requires heap { IsHeap blocks.now free.now.0 (list_of free.now) }
+    requires heap { IsHeap blocks.now.0 blocks.now.1 free.now }
     ensures none { IfNone result ((next : ℕ) → class < next → next < 64 → length (list_of free.now next) ≡ 0) }
-    ensures some { IfSome result (λ block. Contains blocks.now block × IsFree block × (class < class_of block.size)) }
+    ensures some { IfSome result (λ block. Contains blocks.now.0 block × IsFree block × (class < class_of block.size)) }
 {
     let next = free.next_above(class)?;
-    let place = free.first(next)?;
+    let slot = free.first(next)?;
+    let place = free.place(slot);
     Some(Block::free(place, blocks.size_at(place)))
 }
 
@@ -110,11 +112,11 @@ fn first_above(blocks: &TaggedBlocks, free: &FreeLists, class: u32) -> Option<Bl
 // on, so that the next refusal looks at the few alone.
 fn fitting(blocks: &TaggedBlocks, free: &FreeLists, bounds: &mut Bounds, need: u32) -> Option<Block>
     requires some { 1 ≤ need }
-    requires heap { IsHeap blocks.now free.now.0 (list_of free.now) }
-    requires bounded { AreBounded bounds.old blocks.now }
-    ensures none { IfNone result (NoneFits blocks.now need) }
-    ensures some { IfSome result (λ block. Contains blocks.now block × IsFree block × (need ≤ block.size)) }
-    ensures bounded { AreBounded bounds.new blocks.now }
+    requires heap { IsHeap blocks.now.0 blocks.now.1 free.now }
+    requires bounded { AreBounded bounds.old blocks.now.0 }
+    ensures none { IfNone result (NoneFits blocks.now.0 need) }
+    ensures some { IfSome result (λ block. Contains blocks.now.0 block × IsFree block × (need ≤ block.size)) }
+    ensures bounded { AreBounded bounds.new blocks.now.0 }
 {
     if need > blocks.words() {
         return None;
@@ -139,14 +141,15 @@ fn fitting(blocks: &TaggedBlocks, free: &FreeLists, bounds: &mut Bounds, need: u
 // The words of the largest block of a class.
 fn most_words(blocks: &TaggedBlocks, free: &FreeLists, class: u32) -> u32
     requires class { class < 64 }
-    requires have { HaveFree blocks.now (list_of free.now class) }
-    ensures { IsMost blocks.now (list_of free.now class) result }
+    requires heap { IsHeap blocks.now.0 blocks.now.1 free.now }
+    ensures { IsMost blocks.now.0 blocks.now.1 (list_of free.now class) result }
 {
     let mut most = 0;
     let mut listed = free.first(class);
-    while let Some(place) = listed {
+    while let Some(slot) = listed {
+        let place = free.place(slot);
         most = most.max(blocks.size_at(place));
-        listed = free.after(place);
+        listed = free.after(slot);
     }
     most
 }
@@ -158,11 +161,13 @@ impl Heap {
         requires limit { words ≤ MOST_WORDS }
         ensures { IfOk result (λ heap. heap ≡ free_block 0 words ∷ []) }
     {
-        let blocks = TaggedBlocks::new(alloc, words)?;
+        let mut blocks = TaggedBlocks::new(alloc, words)?;
         let mut free = FreeLists::new(alloc, words)?;
         let mut bounds = Bounds::new(alloc)?;
         let class = class_of(words);
-        free.add(class, 0);
+        let slot = free.add(class, 0);
+        let block = Block::free(0, words);
+        blocks.put_slot(block, slot);
         bounds.raise(class, words);
         Ok(Heap {
             blocks,
@@ -181,13 +186,15 @@ impl Heap {
         ensures blocks { IsBlockList (words_of self.old) self.new }
     {
         let block = fitting(&self.blocks, &self.free, &mut self.bounds, need)?;
-        self.free.remove(class_of(block.size), block.place);
+        let slot = self.blocks.slot_at(block);
+        self.free.remove(class_of(block.size), slot);
         self.blocks.cut(block, need);
         if need < block.size {
-            let rest = block.size - need;
-            let class = class_of(rest);
-            self.free.add(class, block.place + need);
-            self.bounds.raise(class, rest);
+            let rest = Block::free(block.place + need, block.size - need);
+            let class = class_of(rest.size);
+            let slot = self.free.add(class, rest.place);
+            self.blocks.put_slot(rest, slot);
+            self.bounds.raise(class, rest.size);
         }
         Some(block.place)
     }
@@ -201,12 +208,13 @@ impl Heap {
         let size = self.blocks.size_at(place);
         let left = self.blocks.free_before(place);
         let right = self.blocks.free_at(place + size);
-        let before = unlist(&mut self.free, left);
-        let after = unlist(&mut self.free, right);
+        let before = unlist(&mut self.free, &self.blocks, left);
+        let after = unlist(&mut self.free, &self.blocks, right);
         let block = Block::free(place - before, before + size + after);
         self.blocks.replace(block);
         let class = class_of(block.size);
-        self.free.add(class, block.place);
+        let slot = self.free.add(class, block.place);
+        self.blocks.put_slot(block, slot);
         self.bounds.raise(class, block.size);
     }
 

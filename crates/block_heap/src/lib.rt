@@ -10,6 +10,7 @@ mod bounds;
 mod heap;
 mod links;
 mod lists;
+mod row;
 mod tagged;
 
 pub use block::MOST_WORDS;

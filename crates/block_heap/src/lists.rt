@@ -1,11 +1,12 @@
-//! The places of free blocks, in lists by class.
-ghost use Rattle.std.specs.Prelude.{◌≡◌, ◌≢◌, ◌+◌, ◌<◌, ◌≤◌, ℕ, Bool, [], ◌∷◌, ◌++◌, List, length, IfOk, IfSome, IfNone, Contains, if◌then◌else◌};
+//! The slots of free blocks, in lists by class.
+ghost use Rattle.std.specs.Prelude.{◌≡◌, ◌≢◌, ◌+◌, ◌*◌, ◌<◌, ◌≤◌, ℕ, Bool, [], ◌∷◌, ◌++◌, List, length, IfOk, IfSome, IfNone, Contains, if◌then◌else◌};
 ghost use Rattle.std.specs.Int.{bit_at};
 ghost use Rattle.block_heap.specs.declared.block.TheConstants.{MOST_WORDS};
-ghost use Rattle.block_heap.specs.Links.{node_of, list_of};
-ghost use Rattle.block_heap.specs.Lists.{IsUnlisted, IsListed, IsWithout, left_from};
+ghost use Rattle.block_heap.specs.Links.{node_of};
+ghost use Rattle.block_heap.specs.Slots.{most_slots};
+ghost use Rattle.block_heap.specs.Lists.{list_of, place_in, count_of, IsListed, IsWithout, left_from};
 
-use crate::links::{Link, grow_to, join};
+use crate::links::{Link, join, slot_for};
 use mica_io::NoMemory;
 use size_classes::CLASSES;
 use std::alloc::Global;
@@ -13,25 +14,26 @@ use std::marker::Model;
 
 const HEADS: usize = CLASSES as usize;
 
-// The lists are rings of links, each with a node for its head, so that any place can leave its list. A place has its node
-// behind those of the heads, and no node is made before a place at it or behind it is listed.
+// The lists are rings of links, each with a node for its head, so that any slot can leave its list. A slot has its node
+// behind those of the heads. Slots that came back are used before one more gets a node.
 #[derive(Drop)]
 pub struct FreeLists {
     words: u32,
     links: Vec<Link>,
+    spares: Vec<u32>,
     filled: u64,
 }
 
 impl Model for FreeLists {
     ghost use Rattle.std.specs.Prelude.{List, ℕ, vec_capacity};
     ghost use Rattle.block_heap.specs.declared.links.Link.{Link};
-    ghost use Rattle.block_heap.specs.Lists.{KeepsLists};
+    ghost use Rattle.block_heap.specs.Lists.{KeepsAll};
 
-    ghost Value = { ℕ × List Link };
+    ghost Value = { ℕ × List Link × List ℕ };
 
-    ghost view = { λ s. (s.words, s.links.items) };
+    ghost view = { λ s. (s.words, s.links.items, s.spares.items) };
 
-    ghost invariant = { λ s. KeepsLists s.words s.links.items (vec_capacity s.links) s.filled };
+    ghost invariant = { λ s. KeepsAll s.words s.links.items (vec_capacity s.links) s.spares.items (vec_capacity s.spares) s.filled };
 }
 
 // The bits with one of them on or off.
@@ -49,22 +51,27 @@ impl FreeLists {
         requires { words ≤ MOST_WORDS }
         ensures words { IfOk result (λ lists. lists.0 ≡ words) }
         ensures empty { IfOk result (λ lists. (class : ℕ) → class < 64 → list_of lists class ≡ []) }
+        ensures count { IfOk result (λ lists. count_of lists ≡ 0) }
     {
-        let mut links = Vec::with_capacity(alloc, words as usize + HEADS)?;
+        let most = words.div_ceil(2) as usize;
+        let spares = Vec::with_capacity(alloc, most)?;
+        let mut links = Vec::with_capacity(alloc, most + HEADS)?;
         for class in 0..CLASSES {
             links.push_reserved(Link {
                 next: class,
                 prev: class,
+                place: 0,
             });
         }
         Ok(FreeLists {
             words,
             links,
+            spares,
             filled: 0,
         })
     }
 
-    // The first place of a class.
+    // The first slot of a class.
     pub fn first(&self, class: u32) -> Option<u32>
         requires { class < 64 }
         ensures { left_from (list_of self.now) result ≡ list_of self.now class }
@@ -72,15 +79,15 @@ impl FreeLists {
         self.links[class as usize].next.checked_sub(CLASSES)
     }
 
-    // The place behind this one in its list.
-    pub fn after(&self, place: u32) -> Option<u32>
-        requires { IsListed (list_of self.now) place }
-        ensures { left_from (list_of self.now) result ≡ list_of self.now (node_of place) }
+    // The slot behind this one in its list.
+    pub fn after(&self, slot: u32) -> Option<u32>
+        requires { IsListed (list_of self.now) slot }
+        ensures { left_from (list_of self.now) result ≡ list_of self.now (node_of slot) }
     {
-        self.links[place as usize + HEADS].next.checked_sub(CLASSES)
+        self.links[slot as usize + HEADS].next.checked_sub(CLASSES)
     }
 
-    // The next class above that has a place.
+    // The next class above that has a slot.
     pub fn next_above(&self, class: u32) -> Option<u32>
         requires { class < 64 }
         ensures some { IfSome result (λ next. (class < next) × (next < 64) × (0 < length (list_of self.now next))) }
@@ -93,7 +100,7 @@ impl FreeLists {
         Some(class + 1 + later.trailing_zeros())
     }
 
-    // The last class that has a place.
+    // The last class that has a slot.
     pub fn last(&self) -> Option<u32>
         ensures some { IfSome result (λ last. (last < 64) × (0 < length (list_of self.now last))
             × ((above : ℕ) → last < above → above < 64 → length (list_of self.now above) ≡ 0)) }
@@ -105,36 +112,51 @@ impl FreeLists {
         Some(63 - self.filled.leading_zeros())
     }
 
-    // Adds a place at the end of the list of a class.
-    pub fn add(&mut self, class: u32, place: u32)
+    // The place that a slot has.
+    pub fn place(&self, slot: u32) -> u32
+        requires { IsListed (list_of self.now) slot }
+        ensures { result ≡ place_in self.now slot }
+    {
+        self.links[slot as usize + HEADS].place
+    }
+
+    // Adds a slot for a place at the end of the list of a class.
+    pub fn add(&mut self, class: u32, place: u32) -> u32
         requires class { class < 64 }
-        requires within { place < self.old.0 }
-        requires unlisted { IsUnlisted (list_of self.old) place }
         requires room { length (list_of self.old class) < self.old.0 }
+        requires spare { count_of self.old < most_slots self.old.0 }
         ensures words { self.new.0 ≡ self.old.0 }
-        ensures added { list_of self.new class ≡ list_of self.old class ++ place ∷ [] }
+        ensures added { list_of self.new class ≡ list_of self.old class ++ result ∷ [] }
         ensures others { (other : ℕ) → other < 64 → other ≢ class → list_of self.new other ≡ list_of self.old other }
+        ensures count { count_of self.new ≡ count_of self.old + 1 }
+        ensures here { place_in self.new result ≡ place }
+        ensures stay { (slot : ℕ) → IsListed (list_of self.old) slot → place_in self.new slot ≡ place_in self.old slot }
+        ensures few { 2 * result < MOST_WORDS }
     {
         let last = self.links[class as usize].prev;
-        let node = place + CLASSES;
-        grow_to(&mut self.links, node);
+        let slot = slot_for(&mut self.links, &mut self.spares, place);
+        let node = slot + CLASSES;
         join(&mut self.links, last, node);
         join(&mut self.links, node, class);
         self.filled = with_bit(self.filled, class, true);
+        slot
     }
 
-    // Takes a place out of the list of its class.
-    pub fn remove(&mut self, class: u32, place: u32)
+    // Takes a slot out of the list of its class.
+    pub fn remove(&mut self, class: u32, slot: u32)
         requires class { class < 64 }
-        requires listed { Contains (list_of self.old class) place }
+        requires listed { Contains (list_of self.old class) slot }
+        requires some { 0 < count_of self.old }
         ensures words { self.new.0 ≡ self.old.0 }
-        ensures removed { IsWithout (list_of self.old class) (list_of self.new class) place }
+        ensures removed { IsWithout (list_of self.old class) (list_of self.new class) slot }
         ensures others { (other : ℕ) → other < 64 → other ≢ class → list_of self.new other ≡ list_of self.old other }
+        ensures count { count_of self.new + 1 ≡ count_of self.old }
+        ensures stay { (other : ℕ) → place_in self.new other ≡ place_in self.old other }
     {
-        let links = &mut self.links;
-        let link = links[place as usize + HEADS];
-        join(links, link.prev, link.next);
-        let some = links[class as usize].next >= CLASSES;
+        let link = self.links[slot as usize + HEADS];
+        join(&mut self.links, link.prev, link.next);
+        let some = self.links[class as usize].next >= CLASSES;
         self.filled = with_bit(self.filled, class, some);
+        self.spares.push_reserved(slot);
     }
 }

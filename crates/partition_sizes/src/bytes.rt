@@ -6,11 +6,13 @@ ghost use Rattle.partition_sizes.specs.Bytes.{beside, table_bytes, partition_byt
 use epoch_core::Shape;
 use partition_model::{Mode, Options};
 
-/// The bytes that a heap has beside each of its words: its size, whether it is used, and two links.
-pub const HEAP_BYTES: u64 = 13;
+/// The bytes that a heap uses beside each of its words: four for the word's tag, and one more for the slots of free blocks.
+/// A slot has 16 bytes, which are reserved and not touched before so many blocks are free at once. So one byte a word is enough
+/// for them unless more than one word in 16 begins a free block. That can't be where each block in use has 15 words or more.
+pub const HEAP_BYTES: u64 = 5;
 
 /// The bytes of the heads and the bounds of a heap's lists.
-pub const LISTS_BYTES: u64 = 768;
+pub const LISTS_BYTES: u64 = 1024;
 
 /// The bytes that an index has for each of its spares.
 pub const SPARE_BYTES: u64 = 4;

@@ -1,4 +1,4 @@
-use Rattle.block_heap.specs.Links.{list_of}
+use Rattle.block_heap.specs.Lists.{list_of}
 use Rattle.block_heap.proofs.Finding.{Walk}
 use Rattle.block_heap.proofs.heap.early_fit.Given as goal
 

@@ -1,24 +1,30 @@
-use Rattle.std.proofs.Common.{refl, subst, arith}
+use Rattle.std.proofs.Common.{refl, ap, ◌∙◌, subst, sym, arith}
 use Rattle.std.specs.List.{Contains}
-use Rattle.block_heap.specs.Blocks.{free_block}
-use Rattle.block_heap.specs.Links.{list_of}
-use Rattle.block_heap.proofs.Finding.{found_at}
-use Rattle.block_heap.proofs.Listing.{HasFree, block_listed}
-use Rattle.block_heap.proofs.heap.first_above.Goals.{In_ok-place}
+use Rattle.block_heap.specs.declared.block.Block.{Block}
+use Rattle.block_heap.specs.Lists.{list_of, place_in}
+use Rattle.block_heap.specs.Inside.{HasFreeAt}
+use Rattle.block_heap.proofs.Finding.{has_free, block_at, found_at}
+use Rattle.block_heap.proofs.Listing.{block_listed}
+use Rattle.block_heap.proofs.heap.first_above.Goals.{In_ok-slot}
 use Rattle.block_heap.proofs.heap.first_above.Goals as goal
 
-abbrev has : (c : In_ok-place) → HasFree c.args.blocks.now c.in_ok-next.next c.in_ok-place.place
-has c = block_listed (list_of c.args.free.now) c.args.blocks.now c.in_ok-next.next c.in_ok-place.place c.in_ok-next.ensures.some.1 c.requires.heap.listed
-    (subst (λ xs. Contains xs c.in_ok-place.place) c.in_ok-place.ensures (0, omega arith, refl))
+abbrev listed : (c : In_ok-slot) → Contains (list_of c.args.free.now c.in_ok-next.next) c.in_ok-slot.slot
+listed c = subst (λ xs. Contains xs c.in_ok-slot.slot) c.in_ok-slot.ensures (0, omega arith, refl)
+
+abbrev has : (c : In_ok-slot) → HasFreeAt c.args.blocks.now.0 c.args.blocks.now.1 c.args.free.now c.in_ok-slot.slot
+has c = has_free c.args.blocks.now.0 c.args.blocks.now.1 c.args.free.now c.in_ok-next.next c.in_ok-slot.slot c.requires.heap c.in_ok-next.ensures.some.1 (listed c)
 
 pub size_at-requires : goal.size_at-requires
-size_at-requires c = (let has = has c in record { block = free_block c.in_ok-place.place has.size; among = has.among; here = refl })
+size_at-requires c = block_at c.args.blocks.now.0 c.args.blocks.now.1 c.args.free.now c.in_ok-slot.slot c.place-place.result (has (goal.at.size_at-requires c).In_ok-slot) c.place-place.ensures
 
 pub returns-clause-some : goal.returns-clause-some
 returns-clause-some c =
-    let has = has (goal.at.returns-clause-some c).In_ok-place in
-    let place = c.in_ok-place.place in
-    let among = found_at c.args.blocks.now place c.size_at.result (record { size = has.size; among = has.among }) c.size_at.ensures in
-    let same = c.size_at.ensures (free_block place has.size) has.among refl in
+    let at = (goal.at.returns-clause-some c).In_ok-slot in
+    let has = has at in
+    let place = c.place-place.result in
+    let among = found_at c.args.blocks.now.0 c.args.blocks.now.1 c.args.free.now c.in_ok-slot.slot place has c.place-place.ensures c.size_at.result c.size_at.ensures in
+    let one = block_listed c.args.free.now c.args.blocks.now.1 c.args.blocks.now.0 c.in_ok-next.next c.in_ok-slot.slot c.in_ok-next.ensures.some.1 c.requires.heap.listed (listed at) in
+    let here = sym (c.requires.heap.listed.places one.block one.among one.free) ∙ ap (place_in c.args.free.now) one.here ∙ sym c.place-place.ensures in
+    let same = c.size_at.ensures one.block one.among here in
     let higher = c.in_ok-next.ensures.some.0 in
-    rw c.free.ensures (among, refl, rw same (rw has.is higher))
+    rw c.free.ensures (among, refl, rw same (rw one.is higher))

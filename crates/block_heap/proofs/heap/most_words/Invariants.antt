@@ -1,14 +1,13 @@
 use Rattle.std.proofs.Common.{length}
 use Rattle.block_heap.specs.Inside.{IsMost}
-use Rattle.block_heap.specs.Links.{list_of}
-use Rattle.block_heap.specs.Lists.{left_from}
+use Rattle.block_heap.specs.Lists.{list_of, left_from}
 use Rattle.block_heap.proofs.Finding.{Walk}
 use Rattle.block_heap.proofs.heap.most_words.Given as goal
 
 abbrev pub invariant-loop-listed : goal.invariant-loop-listed
 invariant-loop-listed l = record {
   walk : Walk (list_of l.free) l.class l.listed;
-  most : IsMost l.blocks walk.before l.most;
+  most : IsMost l.blocks.0 l.blocks.1 walk.before l.most;
 }
 
 abbrev pub decreases-loop-listed : goal.decreases-loop-listed

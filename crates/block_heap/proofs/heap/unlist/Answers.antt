@@ -1,7 +1,10 @@
-use Rattle.block_heap.specs.Links.{list_of}
+use Rattle.std.proofs.Common.{subst}
+use Rattle.block_heap.specs.Lists.{list_of, IsWithout}
 use Rattle.block_heap.proofs.Keeping.{neighbour_left}
 use Rattle.block_heap.proofs.heap.unlist.Goals as goal
 
 pub returns-clause-listed : goal.returns-clause-listed
 returns-clause-listed c = λ before after listed.
-    neighbour_left (list_of c.args.free.now) (list_of c.remove.new.self) c.args.neighbour c.in-Some.block c.in-Some.is c.requires c.class_of.result c.class_of.ensures.formula c.remove.ensures.removed c.remove.ensures.others before after listed
+    neighbour_left c.args.free.now c.remove.new.self c.args.blocks.now.1 c.args.neighbour c.in-Some.block c.in-Some.is c.requires c.class_of.result c.class_of.ensures.formula
+    (subst (IsWithout (list_of c.args.free.now c.class_of.result) (list_of c.remove.new.self c.class_of.result)) c.slot_at-slot.ensures c.remove.ensures.removed)
+    c.remove.ensures.others c.remove.ensures.stay c.remove.ensures.count before after listed

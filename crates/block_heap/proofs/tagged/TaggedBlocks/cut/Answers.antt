@@ -1,57 +1,85 @@
-use Rattle.std.proofs.Common.{List, ◌+◌, ◌-◌, ◌∙◌, arith, subst, sym}
+use Rattle.std.proofs.Common.{List, ℕ, ◌≡◌, ◌+◌, ◌-◌, ◌∷◌, ◌++◌, ◌∙◌, ap, arith, subst, sym}
 use Rattle.std.specs.List.{Contains}
 use Rattle.block_heap.specs.declared.block.Block.{Block}
 use Rattle.block_heap.specs.Blocks.{free_block, used_block}
-use Rattle.block_heap.specs.Tags.{IsTagged, OthersStay}
+use Rattle.block_heap.specs.Changes.{rest_of}
+use Rattle.block_heap.specs.Tags.{IsTagged, OthersStay, Rewrites}
 use Rattle.block_heap.proofs.Places.{parted}
-use Rattle.block_heap.proofs.TagLaws.{Cut, one_written, cut_told, cut_whole, cut_part, lies_in}
+use Rattle.block_heap.proofs.TagLaws.{LiesIn, Cut, NowTell, cut_told, cut_whole, cut_part, lies_in}
 use Rattle.block_heap.proofs.tagged.TaggedBlocks.cut.Goals as goal
+use Rattle.block_heap.proofs.tagged.TaggedBlocks.cut.Goals.{After-self}
+
+abbrev lies : (c : After-self) → LiesIn c.self.inside.row.0 c.self.inside.row.1 c.args.block
+lies c = lies_in c.self.inside.row.0 c.self.inside.row.1 _ c.args.block c.self.invariant (subst (λ (bs : List Block). Contains bs c.args.block) (sym (ap (λ v. v.0) c.self.view_is)) c.requires.among)
 
 pub tag-requires-clause-within : goal.tag-requires-clause-within
 tag-requires-clause-within c =
-    let lies = lies_in c.self.inside.sizes.items c.self.inside.used.items _ c.args.block c.self.invariant (subst (λ (bs : List Block). Contains bs c.args.block) (sym c.self.view_is) c.requires.among) in
+    let lies = lies (goal.at.tag-requires-clause-within c).After-self in
     let within = lies.within in
-    rw c.used.ensures (omega arith)
+    rw c.used-used.ensures (omega (arith, c.if-need-block.true))
 
-pub tag-requires-then-need-block-clause-within : goal.tag-requires-then-need-block-clause-within
-tag-requires-then-need-block-clause-within c =
-    let lies = lies_in c.self.inside.sizes.items c.self.inside.used.items _ c.args.block c.self.invariant (subst (λ (bs : List Block). Contains bs c.args.block) (sym c.self.view_is) c.requires.among) in
-    let within = lies.within in
-    rw c.free-rest.ensures (omega (arith, c.tag.ensures.len))
-
-abbrev whole : (c : goal.Else-need-block) → Cut c.self.inside.sizes.items c.tag.new.sizes.items c.self.inside.used.items c.tag.new.used.items c.args.block c.args.need
+abbrev whole : (c : goal.After-tag) → Cut c.self.inside.row.0 c.self.inside.row.1 c.tag.new.row.1 c.args.block c.args.need
 whole c =
-    cut_whole c.self.inside.sizes.items c.tag.new.sizes.items c.self.inside.used.items c.tag.new.used.items c.args.block c.args.need c.requires.some c.requires.enough c.if-need-block.false c.tag.ensures.len c.tag.ensures.used_len
-    (subst (OthersStay c.self.inside.sizes.items c.self.inside.used.items c.tag.new.sizes.items c.tag.new.used.items) c.used.ensures c.tag.ensures.others) (subst (IsTagged c.tag.new.sizes.items c.tag.new.used.items) c.used.ensures c.tag.ensures.here)
+    cut_whole c.self.inside.row.0 c.self.inside.row.1 c.tag.new.row.1 c.args.block c.args.need c.requires.some c.requires.enough (omega (arith, c.if-need-block.true))
+    (subst (OthersStay c.self.inside.row.1 c.tag.new.row.1) c.used-used.ensures c.tag.ensures.others)
+    (subst (λ (n : ℕ). IsTagged n c.tag.new.row.1 (used_block c.args.block.place c.args.need)) c.tag.ensures.words (subst (IsTagged c.tag.new.row.0 c.tag.new.row.1) c.used-used.ensures c.tag.ensures.here))
 
-abbrev part : (c : goal.After-tag-then-need-block) → Cut c.self.inside.sizes.items c.tag-then-need-block.new.sizes.items c.self.inside.used.items c.tag-then-need-block.new.used.items c.args.block c.args.need
-part c =
-    let sizes = c.self.inside.sizes.items in
-    let used = c.self.inside.used.items in
-    let mid_sizes = c.tag.new.sizes.items in
-    let mid_used = c.tag.new.used.items in
-    let new_sizes = c.tag-then-need-block.new.sizes.items in
-    let new_used = c.tag-then-need-block.new.used.items in
-    let first = used_block c.args.block.place c.args.need in
-    let rest = free_block (c.args.block.place + c.args.need) (c.args.block.size - c.args.need) in
-    cut_part sizes mid_sizes new_sizes used mid_used new_used c.args.block c.args.need c.requires.some c.if-need-block.true
-    (one_written sizes mid_sizes used mid_used first c.requires.some c.tag.ensures.len c.tag.ensures.used_len (subst (OthersStay sizes used mid_sizes mid_used) c.used.ensures c.tag.ensures.others))
-    (subst (IsTagged mid_sizes mid_used) c.used.ensures c.tag.ensures.here)
-    (one_written mid_sizes new_sizes mid_used new_used rest (omega arith) c.tag-then-need-block.ensures.len c.tag-then-need-block.ensures.used_len (subst (OthersStay mid_sizes mid_used new_sizes new_used) c.free-rest.ensures c.tag-then-need-block.ensures.others))
-    (subst (IsTagged new_sizes new_used) c.free-rest.ensures c.tag-then-need-block.ensures.here)
+abbrev whole_told : (c : goal.After-tag) (before after : List Block) → c.args.self.now.0 ≡ before ++ c.args.block ∷ after
+    → NowTell c.tag.new.row.0 c.tag.new.row.1 (before ++ used_block c.args.block.place c.args.need ∷ (rest_of (c.args.block.place + c.args.need) (c.args.block.size - c.args.need) ++ after))
+whole_told c before after is =
+    subst (λ (n : ℕ). NowTell n c.tag.new.row.1 (before ++ used_block c.args.block.place c.args.need ∷ (rest_of (c.args.block.place + c.args.need) (c.args.block.size - c.args.need) ++ after))) (sym c.tag.ensures.words)
+    (cut_told c.self.inside.row.0 c.self.inside.row.1 c.tag.new.row.1 c.args.block c.args.need _ before after (whole c) c.self.invariant (ap (λ v. v.0) c.self.view_is ∙ is))
 
 pub invariant_of-self : goal.invariant_of-self
-invariant_of-self c =
-    let parts = parted c.args.self.now c.args.block c.requires.among in
-    (cut_told _ _ _ _ c.args.block c.args.need _ parts.0 parts.1 (part c) c.self.invariant (c.self.view_is ∙ parts.2)).tell
+invariant_of-self c = (let parts = parted c.args.self.now.0 c.args.block c.requires.among in (whole_told c parts.0 parts.1 parts.2).tell)
 
-pub invariant_of-self-else-need-block : goal.invariant_of-self-else-need-block
-invariant_of-self-else-need-block c =
-    let parts = parted c.args.self.now c.args.block c.requires.among in
-    (cut_told _ _ _ _ c.args.block c.args.need _ parts.0 parts.1 (whole c) c.self.invariant (c.self.view_is ∙ parts.2)).tell
+pub returns-then-need-block-clause-blocks : goal.returns-then-need-block-clause-blocks
+returns-then-need-block-clause-blocks c = λ before after is. (whole_told c before after is).view
 
-pub returns-then-need-block : goal.returns-then-need-block
-returns-then-need-block c = λ before after is. (cut_told _ _ _ _ c.args.block c.args.need _ before after (part c) c.self.invariant (c.self.view_is ∙ is)).view
+pub returns-then-need-block-clause-tags : goal.returns-then-need-block-clause-tags
+returns-then-need-block-clause-tags c = subst (λ (ts : List ℕ). Rewrites ts c.tag.new.row.1 c.args.block.place (c.args.block.place + c.args.block.size)) (ap (λ v. v.1) c.self.view_is) (whole c).writes
 
-pub returns-else-need-block : goal.returns-else-need-block
-returns-else-need-block c = λ before after is. (cut_told _ _ _ _ c.args.block c.args.need _ before after (whole c) c.self.invariant (c.self.view_is ∙ is)).view
+pub overflow_add-block : goal.overflow_add-block
+overflow_add-block c =
+    let lies = lies (goal.at.overflow_add-block c).After-self in
+    let within = lies.within in
+    omega (arith, c.self.invariant.limit, c.requires.enough)
+
+pub tag-requires-2-clause-within : goal.tag-requires-2-clause-within
+tag-requires-2-clause-within c =
+    let lies = lies (goal.at.tag-requires-2-clause-within c).After-self in
+    let within = lies.within in
+    rw c.free.ensures (omega (arith, c.requires.enough))
+
+pub tag-requires-3-clause-within : goal.tag-requires-3-clause-within
+tag-requires-3-clause-within c =
+    let lies = lies (goal.at.tag-requires-3-clause-within c).After-self in
+    let within = lies.within in
+    rw c.used-used.ensures (omega (arith, c.tag-2.ensures.words, c.requires.enough))
+
+abbrev part : (c : goal.After-tag-3) → Cut c.self.inside.row.0 c.self.inside.row.1 c.tag-3.new.row.1 c.args.block c.args.need
+part c =
+    let words : c.self.inside.row.0 ≡ c.tag-3.new.row.0 = sym (c.tag-3.ensures.words ∙ c.tag-2.ensures.words) in
+    let first = used_block c.args.block.place c.args.need in
+    let rest = free_block (c.args.block.place + c.args.need) (c.args.block.size - c.args.need) in
+    cut_part c.self.inside.row.0 c.self.inside.row.1 c.tag-2.new.row.1 c.tag-3.new.row.1 c.args.block c.args.need c.requires.some (omega (arith, c.requires.enough, c.if-need-block.false))
+    (subst (OthersStay c.self.inside.row.1 c.tag-2.new.row.1) c.free.ensures c.tag-2.ensures.others)
+    (subst (λ (n : ℕ). IsTagged n c.tag-2.new.row.1 rest) c.tag-2.ensures.words (subst (IsTagged c.tag-2.new.row.0 c.tag-2.new.row.1) c.free.ensures c.tag-2.ensures.here))
+    (subst (OthersStay c.tag-2.new.row.1 c.tag-3.new.row.1) c.used-used.ensures c.tag-3.ensures.others)
+    (subst (λ (n : ℕ). IsTagged n c.tag-3.new.row.1 first) (sym words) (subst (IsTagged c.tag-3.new.row.0 c.tag-3.new.row.1) c.used-used.ensures c.tag-3.ensures.here))
+
+abbrev part_told : (c : goal.After-tag-3) (before after : List Block) → c.args.self.now.0 ≡ before ++ c.args.block ∷ after
+    → NowTell c.tag-3.new.row.0 c.tag-3.new.row.1 (before ++ used_block c.args.block.place c.args.need ∷ (rest_of (c.args.block.place + c.args.need) (c.args.block.size - c.args.need) ++ after))
+part_told c before after is =
+    subst (λ (n : ℕ). NowTell n c.tag-3.new.row.1 (before ++ used_block c.args.block.place c.args.need ∷ (rest_of (c.args.block.place + c.args.need) (c.args.block.size - c.args.need) ++ after)))
+    (sym (c.tag-3.ensures.words ∙ c.tag-2.ensures.words))
+    (cut_told c.self.inside.row.0 c.self.inside.row.1 c.tag-3.new.row.1 c.args.block c.args.need _ before after (part c) c.self.invariant (ap (λ v. v.0) c.self.view_is ∙ is))
+
+pub invariant_of-self-2 : goal.invariant_of-self-2
+invariant_of-self-2 c = (let parts = parted c.args.self.now.0 c.args.block c.requires.among in (part_told c parts.0 parts.1 parts.2).tell)
+
+pub returns-clause-blocks : goal.returns-clause-blocks
+returns-clause-blocks c = λ before after is. (part_told c before after is).view
+
+pub returns-clause-tags : goal.returns-clause-tags
+returns-clause-tags c = subst (λ (ts : List ℕ). Rewrites ts c.tag-3.new.row.1 c.args.block.place (c.args.block.place + c.args.block.size)) (ap (λ v. v.1) c.self.view_is) (part c).writes

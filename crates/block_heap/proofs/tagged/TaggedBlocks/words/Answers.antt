@@ -1,7 +1,7 @@
-use Rattle.std.proofs.Common.{arith, ap}
+use Rattle.std.proofs.Common.{arith, ap, sym, ◌∙◌}
 use Rattle.block_heap.specs.Blocks.{words_of}
-use Rattle.block_heap.proofs.Order.{words_of-fills}
+use Rattle.block_heap.proofs.TagLaws.{words_told}
 use Rattle.block_heap.proofs.tagged.TaggedBlocks.words.Goals as goal
 
 pub returns-clause-words : goal.returns-clause-words
-returns-clause-words c = omega (arith, words_of-fills 0 _ _ c.self.invariant.fills, ap words_of c.self.view_is, c.len.ensures)
+returns-clause-words c = c.words.ensures.words ∙ sym (words_told c.self.inside.row.0 c.self.inside.row.1 _ c.self.invariant) ∙ ap (λ v. words_of v.0) c.self.view_is
