@@ -25,7 +25,7 @@ use epoch_core::LendPartition;
 use locked_fronts::ServerPlan;
 use memcached_stats::Board;
 use mica_clock::Clock;
-use mica_fronts::{Ports, Totals};
+use mica_fronts::{PortOptions, Totals};
 use mica_io::{Gate, Net};
 use mica_serve::{bind_all, release_all};
 use partition_model::{Mode, Options, Write};
@@ -57,7 +57,7 @@ fn bind_and_serve<
     rt: &W,
     alloc: Global,
     options: &Options,
-    ports: &Ports,
+    ports: &PortOptions,
     streams: &StreamPorts,
     base: u64,
     board: &Board,
@@ -135,7 +135,7 @@ fn serve_named<
     rt: &W,
     alloc: Global,
     options: &Options,
-    ports: &Ports,
+    ports: &PortOptions,
     streams: &StreamPorts,
     base: u64,
     board: &Board,
@@ -211,7 +211,7 @@ fn serve_on<
     rt: &W,
     alloc: Global,
     options: &Options,
-    ports: &Ports,
+    ports: &PortOptions,
     streams: &StreamPorts,
     base: u64,
     board: &Board,
@@ -270,7 +270,7 @@ pub fn serve_locked<
     rt: &W,
     alloc: Global,
     options: &Options,
-    ports: &Ports,
+    ports: &PortOptions,
     streams: &StreamPorts,
     filling: Vec<Write>,
     net: &mut N,

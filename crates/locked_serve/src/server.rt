@@ -25,7 +25,7 @@ use epoch_core::LendPartition;
 use locked_fronts::{LockedPart, OwnedPartition, Returned, ServerPlan};
 use memcached_stats::Board;
 use mica_clock::Clock;
-use mica_fronts::{Ports, ServeFault, Totals};
+use mica_fronts::{PortOptions, ServeFault, Totals};
 use mica_io::{Datagrams, Gate, NoMemory};
 use partition_model::Options;
 use partition_table::{Note, ReaderSeat, Tables};
@@ -121,7 +121,7 @@ impl<
 > LockedServer<J, P, D, C, K> {
     pub(crate) fn new(
         alloc: Global,
-        ports: &Ports,
+        ports: &PortOptions,
         streams: &StreamPorts,
         parts: Vec<FilledPart<P>>,
     ) -> Result<LockedServer<J, P, D, C, K>, NoMemory>

@@ -12,7 +12,7 @@ use Rattle.partition_table.specs.declared.tables.KeptSeat.{KeptSeat}
 use Rattle.mica_trace.specs.declared.report.Line.{Line}
 use Rattle.mica_trace.specs.Printed.{PrintsText, PrintsPart}
 use Rattle.mica_replay.specs.Replayed.{IsReplayed}
-use Rattle.mica_fronts.specs.declared.ports.Ports.{Ports}
+use Rattle.mica_fronts.specs.declared.ports.PortOptions.{PortOptions}
 use Rattle.mica_fronts.specs.declared.totals.Totals.{Totals}
 use Rattle.mica_fronts.specs.declared.totals.ServeFault.{ServeFault}
 use Rattle.mica_fronts.specs.declared.totals.ServeFault.TheVariants.{Net}
@@ -122,7 +122,7 @@ bench_done options generator source old new net was kept link text result is wri
 -- ---- serve
 
 -- a server that served, and whose totals were printed
-pub serve_done : (options : Options) (ports : Ports) (totals : Totals) (old new : Outside) (result : Status) → HasServedOnTables alone options nothing_begun ports totals new.tables old.net new.net
+pub serve_done : (options : Options) (ports : PortOptions) (totals : Totals) (old new : Outside) (result : Status) → HasServedOnTables alone options nothing_begun ports totals new.tables old.net new.net
     → KeepsNet ports old.net new.net → new.source ≡ old.source → new.link ≡ old.link → IsTold Done (totals_text totals) old.sink new.sink result → KeepsPromise (serve_promise options ports) old new result
 serve_done options ports totals old new result served net same link printed =
     keeps_promise (serve_promise options ports) (settles_serve options ports) old new result
@@ -130,7 +130,7 @@ serve_done options ports totals old new result served net same link printed =
     (keeps_seats (IsSeatedService options ports) old new (totals_text totals) result (totals, served, refl) printed) link
 
 -- a server that a fault of the net stopped
-pub serve_stopped : (options : Options) (ports : Ports) (fault : ServeFault) (old new : Outside) (result : Status) → fault ≡ Net → IsCauseOf alone (Err fault) options nothing_begun ports new.tables old.net new.net
+pub serve_stopped : (options : Options) (ports : PortOptions) (fault : ServeFault) (old new : Outside) (result : Status) → fault ≡ Net → IsCauseOf alone (Err fault) options nothing_begun ports new.tables old.net new.net
     → KeepsNet ports old.net new.net → new.source ≡ old.source → old.tables ≡ [] → new.link ≡ old.link → IsWritten NetFault (with_line_feed (codes "net fault")) old.sink new.sink result
     → KeepsPromise (serve_promise options ports) old new result
 serve_stopped options ports fault old new result is cause net same none link written =

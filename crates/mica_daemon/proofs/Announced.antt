@@ -6,7 +6,7 @@ use Rattle.partition_model.specs.declared.write.Write.{Write}
 use Rattle.partition_table.specs.declared.tables.KeptSeat.{KeptSeat}
 use Rattle.mica_fronts.specs.declared.totals.Totals.{Totals}
 use Rattle.mica_fronts.specs.declared.totals.ServeFault.TheVariants.{Net, NoMemory as NoRoom}
-use Rattle.mica_fronts.specs.declared.ports.Ports.{Ports}
+use Rattle.mica_fronts.specs.declared.ports.PortOptions.{PortOptions}
 use Rattle.locked_serve.specs.declared.stop.Stop.{Stop}
 use Rattle.locked_serve.specs.declared.stop.Stop.TheVariants.{Refused, Unannounced, Fault}
 use Rattle.mica_serve.specs.NetRun.{NetFacts, KeepsNet}
@@ -50,7 +50,7 @@ pub written_last : (stop cause : Stop) (old new : SinkFacts) (status : Status) �
 written_last stop cause old new status is last = subst (λ (s : Stop). WritesLast (Err s) old new status) (sym is) last
 
 -- a server that came to this answer
-pub serves : (options : Options) (ports : Ports) (streams : StreamPorts) (seconds : List ℕ) (base : ℕ) (answer : Result Totals Stop) (writes : List Write) (old new : Outside) (between : SinkFacts) (status : Status)
+pub serves : (options : Options) (ports : PortOptions) (streams : StreamPorts) (seconds : List ℕ) (base : ℕ) (answer : Result Totals Stop) (writes : List Write) (old new : Outside) (between : SinkFacts) (status : Status)
     → IsCauseOfStop answer options writes base ports streams seconds new.tables old.ports new.ports
     → HasAnnounced (Says (ready_text ports streams)) (FailsToSay (ready_text ports streams)) answer old.ports new.ports old.sink between
     → KeepsNet ports old.ports.net new.ports.net → KeepsListeners streams old.ports.listens new.ports.listens → WritesLast answer between new.sink status
@@ -59,7 +59,7 @@ serves options ports streams seconds base answer writes old new between status i
     record { answer = answer; said = between; cause = is; announced = announced; last = last; kept = kept; heard = heard }
 
 -- a server whose listeners had been told where to listen, with the clocks that it took
-pub serves_placed : (options : Options) (ports : Ports) (streams : StreamOptions) (all taken : List ℕ) (base : ℕ) (writes : List Write) (sink : SinkFacts) (net : NetFacts)
+pub serves_placed : (options : Options) (ports : PortOptions) (streams : StreamOptions) (all taken : List ℕ) (base : ℕ) (writes : List Write) (sink : SinkFacts) (net : NetFacts)
     (listens told : ListenFacts) (tables : List KeptSeat) (new : Outside) (status : Status) → take streams.ports.fronts all ≡ taken
     → told ≡ record listens { place = place_of streams }
     → Serves options ports streams.ports taken base writes (outside sink net told tables) new status

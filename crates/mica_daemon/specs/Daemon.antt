@@ -3,14 +3,14 @@ use Rattle.std.specs.Prelude.{◌≡◌, ◌+◌, ◌-◌, ◌<◌, ◌≤◌, �
 use Rattle.std.specs.Fmt.{decimal}
 use Rattle.std.specs.Io.KnownBytes.{Appends}
 use Rattle.mica_io.specs.Faults.{Rose}
-use Rattle.stream_io.specs.Ports.{Place, place_at}
+use Rattle.stream_io.specs.PortLogs.{Place, place_at}
 use Rattle.partition_model.specs.declared.options.Options.{Options}
 use Rattle.partition_model.specs.declared.write.Write.{Write}
 use Rattle.partition_sizes.specs.Bytes.{start_bytes}
 use Rattle.partition_table.specs.declared.tables.KeptSeat.{KeptSeat}
 use Rattle.mica_fronts.specs.declared.totals.Totals.{Totals}
 use Rattle.mica_fronts.specs.declared.totals.ServeFault.TheVariants.{Net, NoMemory as NoRoom}
-use Rattle.mica_fronts.specs.declared.ports.Ports.{Ports}
+use Rattle.mica_fronts.specs.declared.ports.PortOptions.{PortOptions}
 use Rattle.locked_serve.specs.declared.stop.Stop.{Stop}
 use Rattle.locked_serve.specs.declared.stop.Stop.TheVariants.{Refused, Unannounced, Fault}
 use Rattle.mica_serve.specs.NetRun.{NetFacts, KeepsNet}
@@ -33,7 +33,7 @@ abbrev pub range_text : List ℕ → ℕ → ℕ → List ℕ
 range_text before first count = if count == 0 then [] else before ++ decimal first ++ codes " to " ++ decimal (first + count - 1)
 
 -- the line that says that all ports are had: those of datagrams and those of connections
-abbrev pub ready_text : Ports → StreamPorts → List ℕ
+abbrev pub ready_text : PortOptions → StreamPorts → List ℕ
 ready_text ports streams = codes "ready" ++ range_text (codes " ") ports.port ports.fronts ++ range_text (codes " memcached ") streams.port streams.fronts ++ 10 ∷ []
 
 -- the sink took the line, or a proper beginning of it where a write failed
@@ -63,7 +63,7 @@ WritesLast (Err Unannounced) old new status = (status ≡ WriteFault) × (new �
 
 -- The server, which these writes filled, came to this answer, for the cause that it names. It said that its ports are had where they were, and wrote what is due at its end.
 -- The clocks of its fronts behind connections had told these seconds before, and unique numbers of values begin at the base.
-pub record Serves (options : Options) (ports : Ports) (streams : StreamPorts) (seconds : List ℕ) (base : ℕ) (writes : List Write) (old new : Outside) (status : Status) : Type 0 where
+pub record Serves (options : Options) (ports : PortOptions) (streams : StreamPorts) (seconds : List ℕ) (base : ℕ) (writes : List Write) (old new : Outside) (status : Status) : Type 0 where
   pub answer : Result Totals Stop
   pub said : SinkFacts
   pub cause : IsCauseOfStop answer options writes base ports streams seconds new.tables old.ports new.ports
@@ -86,12 +86,12 @@ abbrev pub placed : Place → Outside → Outside
 placed place old = record old { ports = record old.ports { listens = record old.ports.listens { place = place } } }
 
 -- It served, and all ports of connections were listened at where the words say. Of the clocks each of their fronts took one.
-abbrev pub ServesPlaced : Options → Ports → StreamOptions → List ℕ → ℕ → List Write → Outside → Outside → Status → Type 0
+abbrev pub ServesPlaced : Options → PortOptions → StreamOptions → List ℕ → ℕ → List Write → Outside → Outside → Status → Type 0
 ServesPlaced options ports streams seconds base writes old new status =
     Serves options ports streams.ports (take streams.ports.fronts seconds) base writes (placed (place_of streams) old) new status
 
 -- it served so, or had no memory before it began
-abbrev pub ServesOrNot : Options → Ports → StreamOptions → List ℕ → ℕ → List Write → Outside → Outside → Status → Type 0
+abbrev pub ServesOrNot : Options → PortOptions → StreamOptions → List ℕ → ℕ → List Write → Outside → Outside → Status → Type 0
 ServesOrNot options ports streams seconds base writes old new status =
     ServesPlaced options ports streams seconds base writes old new status ⊎ (IsUnwritten old.sink new.sink status × BindsNothing old new)
 

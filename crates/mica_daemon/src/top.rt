@@ -21,7 +21,7 @@ use memcached_stats::Board;
 use mica_clock::Clock;
 use mica_cmd::{Status, print_totals, write_due};
 use mica_commands::{DaemonOptions, StreamOptions, WordsFault, read_daemon};
-use mica_fronts::{Ports, ServeFault};
+use mica_fronts::{PortOptions, ServeFault};
 use mica_io::{Gate, Net, NoMemory, Sink};
 use partition_model::{Options, Write};
 use partition_sizes::start_bytes;
@@ -54,7 +54,7 @@ fn serve_aloud<
     rt: &W,
     alloc: Global,
     options: &Options,
-    ports: &Ports,
+    ports: &PortOptions,
     streams: &StreamPorts,
     filling: Vec<Write>,
     speaker: &mut Speaker<K>,
@@ -101,7 +101,7 @@ fn stay_up<
     rt: &W,
     alloc: Global,
     options: &Options,
-    ports: &Ports,
+    ports: &PortOptions,
     streams: &StreamOptions,
     filling: Vec<Write>,
     speaker: &mut Speaker<K>,

@@ -9,9 +9,9 @@ use Rattle.std.proofs.lemmas.List.{append-nil, length-map}
 use Rattle.std.proofs.lemmas.List.Sums.{sum-map}
 use Rattle.list_laws.proofs.Places.{element_at, from_map}
 use Rattle.mica_io.specs.Traffic.{Datagram, Traffic, new_traffic}
-use Rattle.mica_io.specs.Ports.{Port, Ports, out, back, is_waiting}
+use Rattle.mica_io.specs.PortStates.{Port, PortStates, out, back, is_waiting}
 use Rattle.partition_model.specs.declared.options.Options.{Options}
-use Rattle.mica_fronts.specs.declared.ports.Ports.{Ports as PortOptions}
+use Rattle.mica_fronts.specs.declared.ports.PortOptions.{PortOptions}
 use Rattle.mica_fronts.specs.declared.totals.Totals.{Totals}
 use Rattle.mica_fronts.specs.Answered.{Answered, answers_of, writes_of, gets_of}
 use Rattle.mica_fronts.specs.Dealing.{Dealing, IsDealing, answered_in, due_to}
@@ -29,7 +29,7 @@ use Rattle.mica_serve.proofs.ServedBeside.{lawful_beside}
 use Rattle.mica_serve.proofs.CutShort.{cut_short}
 
 -- ends that were bound where a net tells its ports tell their traffic
-pub bound_tell : (first : ℕ) (ends : List EndFacts) (before mid : Ports) → BindsEnds first ends before mid → TellAll ends
+pub bound_tell : (first : ℕ) (ends : List EndFacts) (before mid : PortStates) → BindsEnds first ends before mid → TellAll ends
 bound_tell first ends before mid bound i e is = ap is_some (bound.each i e is).told
 
 -- a port is one of so many from the first on, or none of them
@@ -42,7 +42,7 @@ among first n q = elim (cases_lt q first) as (λ _. ((i : ℕ) × (i < n) × (q 
   ]
 ]
 
-module _ (ports : PortOptions) (olds news : List EndFacts) (before mid after : Ports) (many : length news ≡ length olds) (within : length olds ≤ ports.fronts)
+module _ (ports : PortOptions) (olds news : List EndFacts) (before mid after : PortStates) (many : length news ≡ length olds) (within : length olds ≤ ports.fronts)
     (bound : BindsEnds ports.port olds before mid) (released : ReleasesEnds ports.port news mid after) where
   untouched : (q : ℕ) → ((i : ℕ) → i < length olds → q ≢ ports.port + i) → after q ≡ before q
   untouched q other = released.others q (λ i lt. other i (omega (arith, lt, many))) ∙ bound.others q other
@@ -249,7 +249,7 @@ module _ (ports : PortOptions) (olds news : List EndFacts) (before mid after : P
   }
 
 -- ends that were bound and not served were left at their beginning
-pub none_served : (batches first : ℕ) (ends : List EndFacts) (before mid : Ports) → BindsEnds first ends before mid
+pub none_served : (batches first : ℕ) (ends : List EndFacts) (before mid : PortStates) → BindsEnds first ends before mid
     → (i : ℕ) (b a : EndFacts) → slice_get ends i ≡ Some b → slice_get ends i ≡ Some a → DealsInPartWithEnd batches [] [] b a
 none_served batches first ends before mid bound i b a is is' =
     let w = bound.each i b is in

@@ -17,7 +17,7 @@ use Rattle.partition_table.specs.declared.tables.KeptSeat.{KeptSeat}
 use Rattle.owner_queue.specs.JobEnds.{Inbox}
 use Rattle.owner_queue.specs.AckEnds.{AckBox}
 use Rattle.mica_fronts.specs.declared.totals.TheConstants.{MAX_BATCHES}
-use Rattle.mica_fronts.specs.declared.ports.Ports.{Ports}
+use Rattle.mica_fronts.specs.declared.ports.PortOptions.{PortOptions}
 use Rattle.mica_fronts.specs.declared.queue_front.FrontPart.{FrontPart}
 use Rattle.mica_serve.specs.declared.worker.OwnerTask.{OwnerTask}
 use Rattle.mica_serve.specs.declared.worker.FrontTask.{FrontTask}
@@ -46,7 +46,7 @@ ready_owner options fronts most owner new = record {
       record { table = ap (λ (b : AckBox). b.table) is; shape = ap (λ (b : AckBox). b.shape) is; none = ap (λ (b : AckBox). b.list) is }));
 }
 
-module _ {P D : Type 0} (owner : P → OwnerState) (home : P → TableId) (facts : D → EndFacts) (options : Options) (ports : Ports) where
+module _ {P D : Type 0} (owner : P → OwnerState) (home : P → TableId) (facts : D → EndFacts) (options : Options) (ports : PortOptions) where
   abbrev end_of_owner : OwnerTask P → OwnerEnd
   end_of_owner t = owner_end owner home t
 

@@ -1,17 +1,17 @@
 -- A server with its tables is one that served.
 use Rattle.std.proofs.Common.{ℕ, Option, Some, None, List}
-use Rattle.mica_io.specs.Ports.{Ports}
+use Rattle.mica_io.specs.PortStates.{PortStates}
 use Rattle.partition_model.specs.declared.options.Options.{Options}
 use Rattle.partition_model.specs.History.{History}
 use Rattle.partition_table.specs.declared.tables.KeptSeat.{KeptSeat}
-use Rattle.mica_fronts.specs.declared.ports.Ports.{Ports as PortOptions}
+use Rattle.mica_fronts.specs.declared.ports.PortOptions.{PortOptions}
 use Rattle.mica_fronts.specs.declared.totals.Totals.{Totals}
 use Rattle.mica_serve.specs.Others.{Others}
 use Rattle.mica_serve.specs.Served.{Serves}
 use Rattle.mica_serve.specs.Beside.{ServesOnTables}
 use Rattle.mica_serve.specs.NetRun.{NetFacts, OnPorts, HasServed, HasServedOnTables}
 
-on_ports_as : (P Q : Ports → Ports → Type 0) → ((a b : Ports) → P a b → Q a b) → (a b : Option Ports) → OnPorts P a b → OnPorts Q a b
+on_ports_as : (P Q : PortStates → PortStates → Type 0) → ((a b : PortStates) → P a b → Q a b) → (a b : Option PortStates) → OnPorts P a b → OnPorts Q a b
 on_ports_as P Q f None b p = p
 on_ports_as P Q f (Some a) None p = absurd p
 on_ports_as P Q f (Some a) (Some b) p = f a b p

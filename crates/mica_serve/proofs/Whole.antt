@@ -3,9 +3,9 @@ use Rattle.std.proofs.Common.{◌≡◌, ℕ, ◌+◌, ◌<◌, ◌≤◌, ◌�
 use Rattle.std.specs.Prelude.{is_some, min, sum_by, Result, Ok, Err, IfSome}
 use Rattle.std.proofs.lemmas.Option.{slice_get_within}
 use Rattle.list_laws.proofs.Places.{element_at}
-use Rattle.mica_io.specs.Ports.{Ports, out}
+use Rattle.mica_io.specs.PortStates.{PortStates, out}
 use Rattle.partition_model.specs.declared.options.Options.{Options}
-use Rattle.mica_fronts.specs.declared.ports.Ports.{Ports as PortOptions}
+use Rattle.mica_fronts.specs.declared.ports.PortOptions.{PortOptions}
 use Rattle.mica_fronts.specs.declared.totals.Totals.{Totals}
 use Rattle.partition_model.specs.History.{History, IsHistory}
 use Rattle.partition_table.specs.declared.tables.KeptSeat.{KeptSeat}
@@ -21,9 +21,9 @@ use Rattle.mica_serve.proofs.Binding.{rose_on, rose_before}
 use Rattle.mica_serve.proofs.Gathered.{same_kept}
 use Rattle.mica_serve.proofs.PortRuns.{bound_tell, all_back, port_left, all_begun, none_stopped, all_stopped, all_served, none_served, none_begun, kept_tell}
 
-on_ports_then : (P Q R : Ports → Ports → Type 0) → ((a b c : Ports) → P a b → Q b c → R a c) → (a b c : Option Ports)
+on_ports_then : (P Q R : PortStates → PortStates → Type 0) → ((a b c : PortStates) → P a b → Q b c → R a c) → (a b c : Option PortStates)
     → OnPorts P a b → OnPorts Q b c → OnPorts R a c
-on_ports_then P Q R f None b c p q = subst (λ (o : Option Ports). OnPorts Q o c) p q
+on_ports_then P Q R f None b c p q = subst (λ (o : Option PortStates). OnPorts Q o c) p q
 on_ports_then P Q R f (Some a) None c p q = absurd p
 on_ports_then P Q R f (Some a) (Some b) None p q = absurd q
 on_ports_then P Q R f (Some a) (Some b) (Some c) p q = f a b c p q
@@ -46,7 +46,7 @@ module _ (others : Others) (options : Options) (some : 1 ≤ options.partitions)
   no_faults : (totals : Totals) (run : BindsAndServes others options begun ports (Some (Ok totals)) kept before mid news) → HasNoFault before after
   no_faults totals run = by before.ports mid.ports before.fails refl run.bound
     where
-      by : (x y : Option Ports) (l : Option (List ℕ)) → before.fails ≡ l → OnPorts (BindsEnds ports.port run.olds) x y
+      by : (x y : Option PortStates) (l : Option (List ℕ)) → before.fails ≡ l → OnPorts (BindsEnds ports.port run.olds) x y
           → IfSome x (λ _. IfSome l (λ _. after.faults ≡ before.faults))
       by None y l is b = tt
       by (Some x) None l is b = absurd b
@@ -174,16 +174,16 @@ module _ (ports : PortOptions) (before mid : NetFacts) (olds : List EndFacts) (a
       by (Err NoMemory) m = m
 
 -- the ports of the ends are out until they are released, and the ends tell what they did
-pub out_until : (first : ℕ) (olds news : List EndFacts) (a b : Option Ports) → length news ≡ length olds → OnPorts (BindsEnds first olds) a b
+pub out_until : (first : ℕ) (olds news : List EndFacts) (a b : Option PortStates) → length news ≡ length olds → OnPorts (BindsEnds first olds) a b
     → IfSome b (λ all. (i : ℕ) → i < length news → all (first + i) ≡ out)
-out_until first olds news None b many p = subst (λ (o : Option Ports). IfSome o (λ all. (i : ℕ) → i < length news → all (first + i) ≡ out)) (sym p) tt
+out_until first olds news None b many p = subst (λ (o : Option PortStates). IfSome o (λ all. (i : ℕ) → i < length news → all (first + i) ≡ out)) (sym p) tt
 out_until first olds news (Some x) None many p = absurd p
 out_until first olds news (Some x) (Some y) many p = λ i lt. p.out i (omega (arith, many))
 
-pub tell_until : (first : ℕ) (olds news : List EndFacts) (a b : Option Ports) → length news ≡ length olds
+pub tell_until : (first : ℕ) (olds news : List EndFacts) (a b : Option PortStates) → length news ≡ length olds
     → ((i : ℕ) (b a : EndFacts) → slice_get olds i ≡ Some b → slice_get news i ≡ Some a → KeepsEnd b a) → OnPorts (BindsEnds first olds) a b
     → IfSome b (λ all. TellAll news)
-tell_until first olds news None b many kept p = subst (λ (o : Option Ports). IfSome o (λ all. TellAll news)) (sym p) tt
+tell_until first olds news None b many kept p = subst (λ (o : Option PortStates). IfSome o (λ all. TellAll news)) (sym p) tt
 tell_until first olds news (Some x) None many kept p = absurd p
 tell_until first olds news (Some x) (Some y) many kept p = kept_tell olds news many kept (bound_tell first olds x y p)
 
@@ -197,10 +197,10 @@ net_kept ports net unbound = record {
   begun = nothing net.ports;
 }
   where
-    by : (o : Option Ports) → OnPorts (ReleasesAll ports) o o
+    by : (o : Option PortStates) → OnPorts (ReleasesAll ports) o o
     by None = refl
     by (Some x) = record { released = λ port is. is; others = λ port other. refl }
 
-    nothing : (o : Option Ports) → OnPorts (BeginsPorts ports) o o
+    nothing : (o : Option PortStates) → OnPorts (BeginsPorts ports) o o
     nothing None = refl
     nothing (Some x) = λ f lt. ([], [], omega arith, inl (refl, refl, refl))

@@ -5,9 +5,9 @@ use Rattle.partition_model.specs.History.{History, IsHistory, IsPrefix}
 use Rattle.partition_model.specs.Run.{RunStep, IsRunFrom}
 use Rattle.epoch_core.specs.Shape.{shape_of}
 use Rattle.partition_table.specs.declared.tables.KeptSeat.{KeptSeat}
-use Rattle.mica_fronts.specs.declared.ports.Ports.{Ports as PortOptions}
+use Rattle.mica_fronts.specs.declared.ports.PortOptions.{PortOptions}
 use Rattle.mica_fronts.specs.declared.totals.Totals.{Totals}
-use Rattle.mica_io.specs.Ports.{Ports}
+use Rattle.mica_io.specs.PortStates.{PortStates}
 use Rattle.mica_fronts.specs.Answered.{Answered, gets_of, count_of_writes}
 use Rattle.mica_fronts.specs.Dealing.{Dealing}
 use Rattle.mica_fronts.specs.Session.{Told, Sessions, AnswersInOrder}
@@ -66,7 +66,7 @@ pub record AreServedTables (options : Options) (begun : ℕ → History) (fronts
   pub each : (p : ℕ) (entry : KeptSeat) → slice_get kept p ≡ Some entry → IsServedSeat options begun fronts runs p entry
 
 -- the fronts served beside the others, the totals count what they did, and these are their tables
-pub record ServesOnTables (others : Others) (options : Options) (begun : ℕ → History) (ports : PortOptions) (totals : Totals) (kept : List KeptSeat) (before after : Ports) : Type 0 where
+pub record ServesOnTables (others : Others) (options : Options) (begun : ℕ → History) (ports : PortOptions) (totals : Totals) (kept : List KeptSeat) (before after : PortStates) : Type 0 where
   pub fronts : List (List Dealing)
   pub runs : ℕ → List Placed
   pub served : Served others options begun ports before after fronts runs

@@ -2,7 +2,7 @@
 use Rattle.std.specs.Prelude.{◌≡◌, ◌≢◌, ◌+◌, ◌<◌, ◌≤◌, ◌⊎◌, ℕ, Bool, true, false, List, [], take, drop, map, length, slice_get, nat_lt, Option, Some, is_some, IfSome, All, Result, Ok, Err}
 use Rattle.mica_io.specs.Faults.{Rose}
 use Rattle.mica_io.specs.Traffic.{Datagram, Traffic, EndScript, new_traffic}
-use Rattle.mica_io.specs.Ports.{Ports, waiting, out, back}
+use Rattle.mica_io.specs.PortStates.{PortStates, waiting, out, back}
 use Rattle.partition_model.specs.declared.options.Options.{Options}
 use Rattle.partition_model.specs.History.{History}
 use Rattle.mica_fronts.specs.declared.totals.Totals.{Totals}
@@ -55,7 +55,7 @@ abbrev pub AreOpen : List EndFacts → Type 0
 AreOpen ends = (i : ℕ) (end : EndFacts) → slice_get ends i ≡ Some end → (end.has_ended ≡ false) × IfSome end.traffic (λ t. t ≡ new_traffic t.left)
 
 -- the end has left what its port had waiting
-pub record WaitedAt (before : Ports) (port : ℕ) (end : EndFacts) : Type 0 where
+pub record WaitedAt (before : PortStates) (port : ℕ) (end : EndFacts) : Type 0 where
   pub datagrams : List Datagram
   pub foretold : EndScript
   pub waited : before port ≡ waiting datagrams foretold
@@ -63,13 +63,13 @@ pub record WaitedAt (before : Ports) (port : ℕ) (end : EndFacts) : Type 0 wher
   pub scripted : end.has_script ≡ true
 
 -- the ports of the ends waited, and are out; no others changed
-pub record BindsEnds (first : ℕ) (ends : List EndFacts) (before after : Ports) : Type 0 where
+pub record BindsEnds (first : ℕ) (ends : List EndFacts) (before after : PortStates) : Type 0 where
   pub each : (i : ℕ) (end : EndFacts) → slice_get ends i ≡ Some end → WaitedAt before (first + i) end
   pub out : (i : ℕ) → i < length ends → after (first + i) ≡ out
   pub others : (q : ℕ) → ((i : ℕ) → i < length ends → q ≢ first + i) → after q ≡ before q
 
 -- each end is back with what it tells, and no other port changed
-pub record ReleasesEnds (first : ℕ) (ends : List EndFacts) (before after : Ports) : Type 0 where
+pub record ReleasesEnds (first : ℕ) (ends : List EndFacts) (before after : PortStates) : Type 0 where
   pub each : (i : ℕ) (end : EndFacts) (traffic : Traffic) → slice_get ends i ≡ Some end → end.traffic ≡ Some traffic
       → after (first + i) ≡ back traffic end.has_ended
   pub others : (q : ℕ) → ((i : ℕ) → i < length ends → q ≢ first + i) → after q ≡ before q

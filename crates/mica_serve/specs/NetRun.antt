@@ -1,10 +1,10 @@
 -- What a net tells before and after a call.
 use Rattle.std.specs.Prelude.{◌≡◌, ◌≢◌, ◌+◌, ◌⊎◌, ℕ, ◌<◌, ◌≤◌, true, List, [], length, slice_get, Option, Some, None, is_some, IfSome, min, sum_by, Result, Ok, Err}
-use Rattle.mica_io.specs.Ports.{Ports, out}
+use Rattle.mica_io.specs.PortStates.{PortStates, out}
 use Rattle.mica_io.specs.Faults.{Rose, LAST_COUNT}
 use Rattle.partition_model.specs.declared.options.Options.{Options}
 use Rattle.partition_model.specs.History.{History, IsHistory}
-use Rattle.mica_fronts.specs.declared.ports.Ports.{Ports as PortOptions}
+use Rattle.mica_fronts.specs.declared.ports.PortOptions.{PortOptions}
 use Rattle.mica_fronts.specs.declared.totals.Totals.{Totals}
 use Rattle.mica_fronts.specs.declared.totals.ServeFault.{ServeFault}
 use Rattle.mica_fronts.specs.declared.totals.ServeFault.TheVariants.{Net, NoMemory}
@@ -20,11 +20,11 @@ pub record NetFacts : Type 0 where
   pub binds : ℕ
   pub first : ℕ
   pub refused : ℕ
-  pub ports : Option Ports
+  pub ports : Option PortStates
   pub fails : Option (List ℕ)
 
 -- by what a net tells
-abbrev pub net_facts : {N : Type 0} → (N → ℕ) → (N → ℕ) → (N → ℕ) → (N → ℕ) → (N → Option Ports) → (N → Option (List ℕ)) → N → NetFacts
+abbrev pub net_facts : {N : Type 0} → (N → ℕ) → (N → ℕ) → (N → ℕ) → (N → ℕ) → (N → Option PortStates) → (N → Option (List ℕ)) → N → NetFacts
 net_facts faults binds first refused ports fails = λ n. record {
   faults = faults n;
   binds = binds n;
@@ -35,7 +35,7 @@ net_facts faults binds first refused ports fails = λ n. record {
 }
 
 -- a fact of the ports before and after, where the net tells them; it goes on telling them, or telling nothing
-abbrev pub OnPorts : (Ports → Ports → Type 0) → Option Ports → Option Ports → Type 0
+abbrev pub OnPorts : (PortStates → PortStates → Type 0) → Option PortStates → Option PortStates → Type 0
 OnPorts P None after = after ≡ None
 OnPorts P (Some before) None = ⊥
 OnPorts P (Some before) (Some after) = P before after
@@ -76,7 +76,7 @@ IsCauseOnceBound others (Some answer) options begun ports kept before after = Is
 IsCauseOnceBound others None options begun ports kept before after = (kept ≡ []) × OnPorts (LeavesUnserved ports) before.ports after.ports
 
 -- no end is out that was not out before, and only ports of fronts changed
-pub record ReleasesAll (ports : PortOptions) (before after : Ports) : Type 0 where
+pub record ReleasesAll (ports : PortOptions) (before after : PortStates) : Type 0 where
   pub released : (port : ℕ) → after port ≡ out → before port ≡ out
   pub others : (port : ℕ) → ((f : ℕ) → f < ports.fronts → port ≢ ports.port + f) → after port ≡ before port
 

@@ -1,11 +1,11 @@
 -- What the fronts of a server received and replied to.
 use Rattle.std.specs.Prelude.{◌≡◌, ◌+◌, ◌<◌, ◌≤◌, ◌⊎◌, ℕ, Bool, true, List, [], ◌∷◌, ◌++◌, ⊤, sum, take, drop, map, length, slice_get, nat_lt, Some, AllPairs, All}
 use Rattle.mica_io.specs.Traffic.{Datagram, Traffic, EndScript}
-use Rattle.mica_io.specs.Ports.{Port, Ports, waiting, back, is_waiting}
+use Rattle.mica_io.specs.PortStates.{Port, PortStates, waiting, back, is_waiting}
 use Rattle.partition_model.specs.declared.options.Options.{Options}
 use Rattle.partition_model.specs.History.{History, IsHistory, IsPrefix, stamp_of, answer_of}
 use Rattle.partition_model.specs.Run.{RunStep, IsRunFrom, history_of}
-use Rattle.mica_fronts.specs.declared.ports.Ports.{Ports as PortOptions}
+use Rattle.mica_fronts.specs.declared.ports.PortOptions.{PortOptions}
 use Rattle.mica_fronts.specs.declared.totals.Totals.{Totals}
 use Rattle.mica_fronts.specs.Looks.{Look, IsLookAt}
 use Rattle.mica_fronts.specs.Answered.{Answered, wrote, got, changed, kept, key_of, stamp_given, accepts, answers_of, writes_of, gets_of}
@@ -92,7 +92,7 @@ pub record AnswersLawfully (options : Options) (begun : ℕ → History) (fronts
 
 -- What the ports of a net tell before and after, what each front made of its datagrams, and a run of each partition's machine, in which what the
 -- others beside these fronts answered stands too.
-pub record Served (others : Others) (options : Options) (begun : ℕ → History) (ports : PortOptions) (before after : Ports) (fronts : List (List Dealing))
+pub record Served (others : Others) (options : Options) (begun : ℕ → History) (ports : PortOptions) (before after : PortStates) (fronts : List (List Dealing))
     (runs : ℕ → List Placed) : Type 0 where
   pub many : length fronts ≡ ports.fronts
   pub datagrams : (f : ℕ) (dealings : List Dealing) → slice_get fronts f ≡ Some dealings
@@ -100,7 +100,7 @@ pub record Served (others : Others) (options : Options) (begun : ℕ → History
   pub answered : AnswersLawfully options begun (all_answers others fronts) runs
 
 -- the fronts served, and the totals count what they did
-pub record Serves (others : Others) (options : Options) (begun : ℕ → History) (ports : PortOptions) (totals : Totals) (before after : Ports) : Type 0 where
+pub record Serves (others : Others) (options : Options) (begun : ℕ → History) (ports : PortOptions) (totals : Totals) (before after : PortStates) : Type 0 where
   pub fronts : List (List Dealing)
   pub runs : ℕ → List Placed
   pub served : Served others options begun ports before after fronts runs
@@ -127,12 +127,12 @@ LeavesPort batches before after dealings unread =
     ⊎ ((traffic : Traffic) × (ended : Bool) × (after ≡ back traffic ended) × BeginsPort batches before traffic dealings unread)
 
 -- nothing was received at the port of any front, and nothing was sent
-abbrev pub LeavesUnserved : PortOptions → Ports → Ports → Type 0
+abbrev pub LeavesUnserved : PortOptions → PortStates → PortStates → Type 0
 LeavesUnserved ports before after =
     (f : ℕ) → f < ports.fronts → LeavesPort ports.batches (before (ports.port + f)) (after (ports.port + f)) [] []
 
 -- what was sent from each port is a beginning of what is due to what came there, of which one datagram at most is unread
-abbrev pub BeginsPorts : PortOptions → Ports → Ports → Type 0
+abbrev pub BeginsPorts : PortOptions → PortStates → PortStates → Type 0
 BeginsPorts ports before after =
     (f : ℕ) → f < ports.fronts → (dealings : List Dealing) × (unread : List Datagram) × (length unread ≤ 1)
     × LeavesPort ports.batches (before (ports.port + f)) (after (ports.port + f)) dealings unread
@@ -158,7 +158,7 @@ abbrev pub IsStopped : ℕ → Port → Port → Type 0
 IsStopped batches before after = (is_waiting before ≡ true) × IsCutShort batches after
 
 -- So many faults of each front's own are all that the net counted, and a front that had none came through.
-pub record BlamesFronts (ports : PortOptions) (counts : ℕ → Type 0) (fronts : List (List Dealing)) (after : Ports) : Type 0 where
+pub record BlamesFronts (ports : PortOptions) (counts : ℕ → Type 0) (fronts : List (List Dealing)) (after : PortStates) : Type 0 where
   pub faults : List ℕ
   pub many : length faults ≡ ports.fronts
   pub counted : counts (sum faults)
@@ -167,7 +167,7 @@ pub record BlamesFronts (ports : PortOptions) (counts : ℕ → Type 0) (fronts 
 
 -- Each front began its port with these dealings, and all that was answered is lawful. A bind failed, or some front is not through, or a fault came
 -- to one of the others; and each front that is not through had a fault of its own.
-pub record StopsShort (others : Others) (options : Options) (begun : ℕ → History) (ports : PortOptions) (bind_failed : Type 0) (counts : ℕ → Type 0) (before after : Ports)
+pub record StopsShort (others : Others) (options : Options) (begun : ℕ → History) (ports : PortOptions) (bind_failed : Type 0) (counts : ℕ → Type 0) (before after : PortStates)
     : Type 0 where
   pub fronts : List (List Dealing)
   pub runs : ℕ → List Placed

@@ -15,6 +15,6 @@ mod worker;
 
 pub use answers::sum_up;
 pub use mica_fronts::{
-    Front, MAX_BATCHES, Ports, QueueFront, ServeFault, SoloFront, Totals, serve_batch,
+    Front, MAX_BATCHES, PortOptions, QueueFront, ServeFault, SoloFront, Totals, serve_batch,
 };
 pub use run::{bind_all, release_all, serve};

@@ -1,7 +1,7 @@
 //! The server: its ports bound, its fronts and owners run side by side, its ends released and its tables kept.
 ghost use Rattle.std.specs.Prelude.{◌≡◌, ◌+◌, ◌<◌, ◌≤◌, ℕ, [], true, map, vec_len, vec_capacity, is_some, Some, IfSome, OnOk, OnErr};
 ghost use Rattle.mica_io.specs.Faults.{Rose};
-ghost use Rattle.mica_io.specs.Ports.{out};
+ghost use Rattle.mica_io.specs.PortStates.{out};
 ghost use Rattle.partition_model.specs.Options.{IsValid};
 ghost use Rattle.partition_table.specs.declared.reader.Note.{Note};
 ghost use Rattle.partition_table.specs.Seats.{note_state, note_home};
@@ -18,7 +18,7 @@ use crate::running::{Server, run_all};
 use crate::tables::keep_all;
 use cache_partition::CachePartition;
 use epoch_core::LendPartition;
-use mica_fronts::{Ports, ServeFault, Totals};
+use mica_fronts::{PortOptions, ServeFault, Totals};
 use mica_io::{Datagrams, Failed, Gate, Net};
 use partition_model::{Mode, Options};
 use partition_table::{Note, OwnerSeat, ReaderSeat, Tables};
@@ -29,7 +29,7 @@ use std::thread::Threads;
 use store_partition::StorePartition;
 
 /// Binds a port for each front, in order, up to the first bind that fails.
-pub fn bind_all<N: Net>(net: &mut N, ports: &Ports, ends: &mut Vec<N::End>) -> Result<(), Failed>
+pub fn bind_all<N: Net>(net: &mut N, ports: &PortOptions, ends: &mut Vec<N::End>) -> Result<(), Failed>
     requires ports { IsPossiblePorts ports.now }
     requires unbound { N.binds net.old ≡ 0 }
     requires none { ends.old.items ≡ [] }
@@ -79,7 +79,7 @@ fn serve_all<
     rt: &W,
     alloc: Global,
     options: &Options,
-    ports: &Ports,
+    ports: &PortOptions,
     server: Server<P, D>,
     ends: &mut Vec<D>,
     gate: &G,
@@ -113,7 +113,7 @@ fn bind_and_serve<
     rt: &W,
     alloc: Global,
     options: &Options,
-    ports: &Ports,
+    ports: &PortOptions,
     server: Server<P, N::End>,
     net: &mut N,
     ends: &mut Vec<N::End>,
@@ -148,7 +148,7 @@ fn serve_on<
     rt: &W,
     alloc: Global,
     options: &Options,
-    ports: &Ports,
+    ports: &PortOptions,
     net: &mut N,
     gate: &G,
     tables: &mut Tables,
@@ -182,7 +182,7 @@ pub fn serve<W: Threads + Wait + Sync, N: Net, G: Gate>(
     rt: &W,
     alloc: Global,
     options: &Options,
-    ports: &Ports,
+    ports: &PortOptions,
     net: &mut N,
     gate: &G,
     tables: &mut Tables,

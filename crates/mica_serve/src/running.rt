@@ -16,7 +16,7 @@ use crate::meeting::meet_all;
 use crate::opening::open_all;
 use crate::worker::{FrontTask, OwnerTask, pair_up, part_fronts, run_workers};
 use epoch_core::LendPartition;
-use mica_fronts::{FrontPart, Ports, QueueFront, ServeFault, Totals};
+use mica_fronts::{FrontPart, PortOptions, QueueFront, ServeFault, Totals};
 use mica_io::{Datagrams, Gate, NoMemory};
 use partition_model::Options;
 use partition_table::{Note, ReaderSeat};
@@ -64,7 +64,7 @@ impl<P: OnTable + LendPartition<Reader = ReaderSeat, Note = Note>, D: Drop> Serv
         rt: &W,
         alloc: Global,
         options: &Options,
-        ports: &Ports,
+        ports: &PortOptions,
     ) -> Result<Server<P, D>, NoMemory>
         requires valid { IsValid options.now }
         requires mode { options.now.mode ≡ P.mode }
@@ -95,7 +95,7 @@ pub(crate) fn run_all<
     rt: &W,
     alloc: Global,
     options: &Options,
-    ports: &Ports,
+    ports: &PortOptions,
     server: Server<P, D>,
     ends: &mut Vec<D>,
     gate: &G,

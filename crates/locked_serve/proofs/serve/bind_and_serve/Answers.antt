@@ -7,7 +7,7 @@ use Rattle.mica_fronts.specs.declared.totals.ServeFault.{ServeFault}
 use Rattle.mica_fronts.specs.declared.totals.ServeFault.TheVariants.{Net, NoMemory}
 use Rattle.locked_serve.specs.declared.stop.Stop.{Stop}
 use Rattle.locked_serve.specs.declared.stop.Stop.TheVariants.{Unannounced, Fault}
-use Rattle.stream_io.specs.Ports.{Ports}
+use Rattle.stream_io.specs.PortLogs.{PortLogs}
 use Rattle.mica_serve.specs.Others.{Others}
 use Rattle.mica_serve.specs.Ends.{EndFacts, AreNewEnds, end_facts}
 use Rattle.mica_serve.specs.NetRun.{NetFacts, BindsAndServes, net_facts}

@@ -1,7 +1,7 @@
 use Rattle.std.proofs.Common.{rules, ◌≡◌, ◌+◌, ◌<◌, ℕ, length, vec_len, map, Some, ◌∙◌, subst}
 use Rattle.std.specs.Prelude.{IfSome}
 use Rattle.std.proofs.lemmas.List.{length-map}
-use Rattle.mica_io.specs.Ports.{out}
+use Rattle.mica_io.specs.PortStates.{out}
 use Rattle.mica_serve.specs.Others.{alone}
 use Rattle.mica_serve.specs.Served.{nothing_begun}
 use Rattle.mica_serve.specs.Ends.{EndFacts, end_facts}
