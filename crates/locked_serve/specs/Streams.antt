@@ -133,9 +133,9 @@ LeavesStreams None answers olds news = (news ≡ olds) × HaveAnsweredNothing (o
 LeavesStreams (Some came) answers olds news = ⊤
 
 -- Each front was served, those of connections beside those of datagrams, which came to this all together.
-pub record ServesBeside (options : Options) (begun : ℕ → History) (batches base : ℕ) (clocks : List ℕ) (answer : Result Totals ServeFault) (kept : List KeptSeat)
+pub record ServesBeside (options : Options) (origin : ℕ → History) (batches base : ℕ) (clocks : List ℕ) (answer : Result Totals ServeFault) (kept : List KeptSeat)
     (before after : List EndFacts) (olds news : List StreamFacts) : Type 0 where
   pub answers : List (List Answered)
   pub many : length answers ≡ length olds
   pub streams : AreServed options base clocks answers olds news
-  pub fronts : ServesFronts (others_of answers olds news) options begun batches answer kept before after
+  pub fronts : ServesFronts (others_of answers olds news) options origin batches answer kept before after

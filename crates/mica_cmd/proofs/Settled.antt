@@ -120,7 +120,7 @@ binds_nothing (Some (Serve options ports)) net none = record {
   first = λ some. absurd (omega (arith, none, some));
   never_fall = omega arith;
   released = releases_none ports net.ports;
-  begun = begins_none ports net.ports;
+  begins = begins_none ports net.ports;
 }
 binds_nothing (Some (Gen generator)) net none = refl
 binds_nothing (Some (Bench options generator)) net none = refl

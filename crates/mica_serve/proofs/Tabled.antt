@@ -16,10 +16,10 @@ on_ports_as P Q f None b p = p
 on_ports_as P Q f (Some a) None p = absurd p
 on_ports_as P Q f (Some a) (Some b) p = f a b p
 
-pub has_served : (others : Others) (options : Options) (begun : ℕ → History) (ports : PortOptions) (totals : Totals) (kept : List KeptSeat) (before after : NetFacts)
-    → HasServedOnTables others options begun ports totals kept before after → HasServed others options begun ports totals before after
-has_served others options begun ports totals kept before after h = record {
-  served = on_ports_as (ServesOnTables others options begun ports totals kept) (Serves others options begun ports totals)
+pub has_served : (others : Others) (options : Options) (origin : ℕ → History) (ports : PortOptions) (totals : Totals) (kept : List KeptSeat) (before after : NetFacts)
+    → HasServedOnTables others options origin ports totals kept before after → HasServed others options origin ports totals before after
+has_served others options origin ports totals kept before after h = record {
+  served = on_ports_as (ServesOnTables others options origin ports totals kept) (Serves others options origin ports totals)
       (λ a b s. record { fronts = s.fronts; runs = s.runs; served = s.served; counted = s.counted }) before.ports after.ports h.served;
   no_fault = h.no_fault;
 }

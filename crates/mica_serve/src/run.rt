@@ -8,7 +8,7 @@ ghost use Rattle.partition_table.specs.Seats.{note_state, note_home};
 ghost use Rattle.mica_fronts.specs.PortOptions.{IsValidPorts};
 ghost use Rattle.mica_serve.specs.Others.{alone};
 ghost use Rattle.mica_serve.specs.PossiblePorts.{IsPossiblePorts};
-ghost use Rattle.mica_serve.specs.Served.{nothing_begun};
+ghost use Rattle.mica_serve.specs.Served.{empty_origin};
 ghost use Rattle.mica_serve.specs.Ends.{AreNewEnds, AreAtPorts, AreOpen, BindsEnds, TellAll, ServesFronts, end_facts};
 ghost use Rattle.mica_serve.specs.Tasks.{IsServer};
 ghost use Rattle.mica_serve.specs.NetRun.{OnPorts, ReleasesNet, BindsAndServes, IsCauseOf, KeepsNet, net_facts};
@@ -93,7 +93,7 @@ fn serve_all<
     requires tables { tables.old ≡ [] }
     requires open { AreOpen (map (end_facts D.port D.traffic D.faults D.has_ended D.script) ends.old.items) }
     requires many { vec_len ends.old ≡ ports.now.fronts }
-    ensures { ServesFronts alone options.now nothing_begun ports.now.batches result tables.new
+    ensures { ServesFronts alone options.now empty_origin ports.now.batches result tables.new
         (map (end_facts D.port D.traffic D.faults D.has_ended D.script) ends.old.items)
         (map (end_facts D.port D.traffic D.faults D.has_ended D.script) ends.new.items) }
 {
@@ -129,7 +129,7 @@ fn bind_and_serve<
     requires unbound { N.binds net.old ≡ 0 }
     requires none { ends.old.items ≡ [] }
     requires room { ports.now.fronts ≤ vec_capacity ends.old }
-    ensures { BindsAndServes alone options.now nothing_begun ports.now (Some result) tables.new
+    ensures { BindsAndServes alone options.now empty_origin ports.now (Some result) tables.new
         (net_facts N.faults N.binds N.first N.refused N.ports N.fails net.old)
         (net_facts N.faults N.binds N.first N.refused N.ports N.fails net.new)
         (map (end_facts N.End.port N.End.traffic N.End.faults N.End.has_ended N.End.script) ends.new.items) }
@@ -160,7 +160,7 @@ fn serve_on<
     requires ports { IsValidPorts ports.now }
     requires unbound { N.binds net.old ≡ 0 }
     requires tables { tables.old ≡ [] }
-    ensures cause { IsCauseOf alone result options.now nothing_begun ports.now tables.new
+    ensures cause { IsCauseOf alone result options.now empty_origin ports.now tables.new
         (net_facts N.faults N.binds N.first N.refused N.ports N.fails net.old)
         (net_facts N.faults N.binds N.first N.refused N.ports N.fails net.new) }
     ensures kept { KeepsNet ports.now
@@ -192,7 +192,7 @@ pub fn serve<W: Threads + Wait + Sync, N: Net, G: Gate>(
     requires unbound { N.binds net.old ≡ 0 }
     requires tables { tables.old ≡ [] }
 
-    ensures cause { IsCauseOf alone result options.now nothing_begun ports.now tables.new
+    ensures cause { IsCauseOf alone result options.now empty_origin ports.now tables.new
         (net_facts N.faults N.binds N.first N.refused N.ports N.fails net.old)
         (net_facts N.faults N.binds N.first N.refused N.ports N.fails net.new) }
     ensures kept { KeepsNet ports.now

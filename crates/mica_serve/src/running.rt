@@ -7,7 +7,7 @@ ghost use Rattle.partition_table.specs.declared.reader.Note.{Note};
 ghost use Rattle.partition_table.specs.Seats.{note_state, note_home};
 ghost use Rattle.mica_fronts.specs.PortOptions.{IsValidPorts};
 ghost use Rattle.mica_serve.specs.Others.{alone};
-ghost use Rattle.mica_serve.specs.Served.{nothing_begun};
+ghost use Rattle.mica_serve.specs.Served.{empty_origin};
 ghost use Rattle.mica_serve.specs.Ends.{AreOpen, end_facts};
 ghost use Rattle.mica_serve.specs.FrontRuns.{RanAll};
 ghost use Rattle.mica_serve.specs.Tasks.{IsRoom, IsServer};
@@ -106,7 +106,7 @@ pub(crate) fn run_all<
     requires server { IsServer P.owner P.home options.now ports.now server }
     requires open { AreOpen (map (end_facts D.port D.traffic D.faults D.has_ended D.script) ends.old.items) }
     requires many { length ends.old.items ≡ ports.now.fronts }
-    ensures ran { RanAll alone options.now nothing_begun ports.now.batches (map (λ task. kept_seat_in (P.owner task.part)) result.0.items) result.1.items
+    ensures ran { RanAll alone options.now empty_origin ports.now.batches (map (λ task. kept_seat_in (P.owner task.part)) result.0.items) result.1.items
         (map (end_facts D.port D.traffic D.faults D.has_ended D.script) ends.old.items) (map (end_facts D.port D.traffic D.faults D.has_ended D.script) ends.new.items) }
     ensures idle { (p : ℕ) (task : OwnerTask P) → slice_get result.0.items p ≡ Some task → (P.owner task.part).phase ≡ Idle }
 {
