@@ -21,7 +21,7 @@ use Rattle.mica_cmd.specs.Outside.{SinkFacts}
 use Rattle.mica_cmd.specs.Promise.{IsUnwritten}
 use Rattle.mica_daemon.specs.Files.{FilesFacts}
 use Rattle.mica_daemon.specs.Filling.{KeepsFiles}
-use Rattle.mica_daemon.specs.Daemon.{Outside, outside, Says, FailsToSay, ready_text, WritesLast, Serves, ServesPlaced, BindsNothing, KeepsUp, place_of, placed}
+use Rattle.mica_daemon.specs.Daemon.{Outside, outside, Says, FailsToSay, ready_text, WritesLast, ServesAloud, ServesPlaced, BindsNothing, KeepsUp, place_of, placed}
 
 -- what was announced by a sink with a line at hand was announced by the sink
 module _ {A : Type 0} (line_of : A → List ℕ) (sink_of : A → SinkFacts) (line : List ℕ) (old new : A) (same : line_of old ≡ line) where
@@ -54,7 +54,7 @@ pub serves : (options : Options) (ports : PortOptions) (streams : StreamPorts) (
     → IsCauseOfStop answer options writes base ports streams seconds new.tables old.ports new.ports
     → HasAnnounced (Says (ready_text ports streams)) (FailsToSay (ready_text ports streams)) answer old.ports new.ports old.sink between
     → KeepsNet ports old.ports.net new.ports.net → KeepsListeners streams old.ports.listens new.ports.listens → WritesLast answer between new.sink status
-    → Serves options ports streams seconds base writes old new status
+    → ServesAloud options ports streams seconds base writes old new status
 serves options ports streams seconds base answer writes old new between status is announced kept heard last =
     record { answer = answer; said = between; cause = is; announced = announced; last = last; kept = kept; heard = heard }
 
@@ -62,11 +62,11 @@ serves options ports streams seconds base answer writes old new between status i
 pub serves_placed : (options : Options) (ports : PortOptions) (streams : StreamOptions) (all taken : List ℕ) (base : ℕ) (writes : List Write) (sink : SinkFacts) (net : NetFacts)
     (listens told : ListenFacts) (tables : List KeptSeat) (new : Outside) (status : Status) → take streams.ports.fronts all ≡ taken
     → told ≡ record listens { place = place_of streams }
-    → Serves options ports streams.ports taken base writes (outside sink net told tables) new status
+    → ServesAloud options ports streams.ports taken base writes (outside sink net told tables) new status
     → ServesPlaced options ports streams all base writes (outside sink net listens tables) new status
 serves_placed options ports streams all taken base writes sink net listens told tables new status same is served =
-    subst (λ s. Serves options ports streams.ports s base writes (placed (place_of streams) (outside sink net listens tables)) new status) (sym same)
-    (subst (λ l. Serves options ports streams.ports taken base writes (outside sink net l tables) new status) is served)
+    subst (λ s. ServesAloud options ports streams.ports s base writes (placed (place_of streams) (outside sink net listens tables)) new status) (sym same)
+    (subst (λ l. ServesAloud options ports streams.ports taken base writes (outside sink net l tables) new status) is served)
 
 kept_files : (image : Option Text) (files : FilesFacts) → KeepsFiles image files files
 kept_files None files = refl

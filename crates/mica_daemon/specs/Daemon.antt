@@ -63,7 +63,7 @@ WritesLast (Err Unannounced) old new status = (status ≡ WriteFault) × (new �
 
 -- The server, which these writes filled, came to this answer, for the cause that it names. It said that its ports are had where they were, and wrote what is due at its end.
 -- The clocks of its fronts behind connections had told these seconds before, and unique numbers of values begin at the base.
-pub record Serves (options : Options) (ports : PortOptions) (streams : StreamPorts) (seconds : List ℕ) (base : ℕ) (writes : List Write) (old new : Outside) (status : Status) : Type 0 where
+pub record ServesAloud (options : Options) (ports : PortOptions) (streams : StreamPorts) (seconds : List ℕ) (base : ℕ) (writes : List Write) (old new : Outside) (status : Status) : Type 0 where
   pub answer : Result Totals Stop
   pub said : SinkFacts
   pub cause : IsCauseOfStop answer options writes base ports streams seconds new.tables old.ports new.ports
@@ -88,7 +88,7 @@ placed place old = record old { ports = record old.ports { listens = record old.
 -- It served, and all ports of connections were listened at where the words say. Of the clocks each of their fronts took one.
 abbrev pub ServesPlaced : Options → PortOptions → StreamOptions → List ℕ → ℕ → List Write → Outside → Outside → Status → Type 0
 ServesPlaced options ports streams seconds base writes old new status =
-    Serves options ports streams.ports (take streams.ports.fronts seconds) base writes (placed (place_of streams) old) new status
+    ServesAloud options ports streams.ports (take streams.ports.fronts seconds) base writes (placed (place_of streams) old) new status
 
 -- it served so, or had no memory before it began
 abbrev pub ServesOrNot : Options → PortOptions → StreamOptions → List ℕ → ℕ → List Write → Outside → Outside → Status → Type 0

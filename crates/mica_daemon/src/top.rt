@@ -9,7 +9,7 @@ ghost use Rattle.mica_commands.specs.declared.daemon_words.TheConstants.{MOST_FR
 ghost use Rattle.mica_commands.specs.DaemonWords.{daemon_of, ArePossibleFronts};
 ghost use Rattle.mica_cmd.specs.Outside.{sink_facts};
 ghost use Rattle.mica_daemon.specs.Files.{files_facts};
-ghost use Rattle.mica_daemon.specs.Daemon.{HasMemory, WritesLast, Serves, ServesOrNot, KeepsUp, outside, ready_text};
+ghost use Rattle.mica_daemon.specs.Daemon.{HasMemory, WritesLast, ServesAloud, ServesOrNot, KeepsUp, outside, ready_text};
 
 use crate::Files;
 use crate::board::board_of;
@@ -73,7 +73,7 @@ fn serve_aloud<
     requires line { string_bytes speaker.old.line ≡ ready_text ports.now streams.now }
     requires unbound { N.binds net.old ≡ 0 }
     requires tables { tables.old ≡ [] }
-    ensures { Serves options.now ports.now streams.now (map C.last clocks.items) base filling.items
+    ensures { ServesAloud options.now ports.now streams.now (map C.last clocks.items) base filling.items
         (outside (sink_facts K.taken K.faults speaker.old.sink) (net_facts N.faults N.binds N.first N.refused N.ports N.fails net.old) (listen_facts L.faults L.ports L.released L.place listeners.old) tables.old)
         (outside (sink_facts K.taken K.faults speaker.new.sink) (net_facts N.faults N.binds N.first N.refused N.ports N.fails net.new) (listen_facts L.faults L.ports L.released L.place listeners.new) tables.new)
         result }

@@ -7,7 +7,7 @@ use Rattle.partition_table.specs.declared.tables.KeptSeat.{KeptSeat}
 use Rattle.mica_fronts.specs.declared.ports.PortOptions.{PortOptions}
 use Rattle.mica_fronts.specs.declared.totals.Totals.{Totals}
 use Rattle.mica_serve.specs.Others.{Others}
-use Rattle.mica_serve.specs.Served.{Serves}
+use Rattle.mica_serve.specs.Served.{ServesAndCounts}
 use Rattle.mica_serve.specs.Beside.{ServesOnTables}
 use Rattle.mica_serve.specs.NetRun.{NetFacts, OnPorts, HasServed, HasServedOnTables}
 
@@ -19,7 +19,7 @@ on_ports_as P Q f (Some a) (Some b) p = f a b p
 pub has_served : (others : Others) (options : Options) (origin : ℕ → History) (ports : PortOptions) (totals : Totals) (kept : List KeptSeat) (before after : NetFacts)
     → HasServedOnTables others options origin ports totals kept before after → HasServed others options origin ports totals before after
 has_served others options origin ports totals kept before after h = record {
-  served = on_ports_as (ServesOnTables others options origin ports totals kept) (Serves others options origin ports totals)
+  served = on_ports_as (ServesOnTables others options origin ports totals kept) (ServesAndCounts others options origin ports totals)
       (λ a b s. record { fronts = s.fronts; runs = s.runs; served = s.served; counted = s.counted }) before.ports after.ports h.served;
   no_fault = h.no_fault;
 }

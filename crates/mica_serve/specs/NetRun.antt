@@ -10,7 +10,7 @@ use Rattle.mica_fronts.specs.declared.totals.ServeFault.{ServeFault}
 use Rattle.mica_fronts.specs.declared.totals.ServeFault.TheVariants.{Net, NoMemory}
 use Rattle.partition_table.specs.declared.tables.KeptSeat.{KeptSeat}
 use Rattle.mica_serve.specs.Others.{Others, HaveAnsweredNothing}
-use Rattle.mica_serve.specs.Served.{Serves, StopsShort, BeginsPorts, LeavesUnserved}
+use Rattle.mica_serve.specs.Served.{ServesAndCounts, StopsShort, BeginsPorts, LeavesUnserved}
 use Rattle.mica_serve.specs.Beside.{ServesOnTables, HaveShapes}
 use Rattle.mica_serve.specs.Ends.{EndFacts, AreNewEnds, BindsEnds, ReleasesEnds, KeepsEnd, TellAll, BeginsEnds, MeansForEnds}
 
@@ -46,7 +46,7 @@ HasNoFault before after = IfSome before.ports (λ _. IfSome before.fails (λ _. 
 
 -- the fronts served, and the totals count what they did
 pub record HasServed (others : Others) (options : Options) (origin : ℕ → History) (ports : PortOptions) (totals : Totals) (before after : NetFacts) : Type 0 where
-  pub served : OnPorts (Serves others options origin ports totals) before.ports after.ports
+  pub served : OnPorts (ServesAndCounts others options origin ports totals) before.ports after.ports
   pub no_fault : HasNoFault before after
 
 -- where the net tells its failing binds beforehand, its count rose by so many, as far as it can count

@@ -100,7 +100,7 @@ pub record Served (others : Others) (options : Options) (origin : ℕ → Histor
   pub answered : AnswersLawfully options origin (all_answers others fronts) runs
 
 -- the fronts served, and the totals count what they did
-pub record Serves (others : Others) (options : Options) (origin : ℕ → History) (ports : PortOptions) (totals : Totals) (before after : PortStates) : Type 0 where
+pub record ServesAndCounts (others : Others) (options : Options) (origin : ℕ → History) (ports : PortOptions) (totals : Totals) (before after : PortStates) : Type 0 where
   pub fronts : List (List Dealing)
   pub runs : ℕ → List Placed
   pub served : Served others options origin ports before after fronts runs
