@@ -21,7 +21,7 @@ use Rattle.mica_cmd.specs.Outside.{SinkFacts}
 use Rattle.mica_cmd.specs.Promise.{IsUnwritten}
 use Rattle.mica_daemon.specs.Files.{FilesFacts}
 use Rattle.mica_daemon.specs.Filling.{KeepsFiles}
-use Rattle.mica_daemon.specs.Daemon.{Outside, outside, Says, FailsToSay, ready_text, WritesLast, ServesAloud, ServesPlaced, BindsNothing, KeepsUp, place_of, placed}
+use Rattle.mica_daemon.specs.Daemon.{DaemonOutside, daemon_outside, Says, FailsToSay, ready_text, WritesLast, ServesAloud, ServesPlaced, BindsNothing, KeepsUp, place_of, placed}
 
 -- what was announced by a sink with a line at hand was announced by the sink
 module _ {A : Type 0} (line_of : A → List ℕ) (sink_of : A → SinkFacts) (line : List ℕ) (old new : A) (same : line_of old ≡ line) where
@@ -50,7 +50,7 @@ pub written_last : (stop cause : Stop) (old new : SinkFacts) (status : Status) �
 written_last stop cause old new status is last = subst (λ (s : Stop). WritesLast (Err s) old new status) (sym is) last
 
 -- a server that came to this answer
-pub serves : (options : Options) (ports : PortOptions) (streams : StreamPorts) (seconds : List ℕ) (base : ℕ) (answer : Result Totals Stop) (writes : List Write) (old new : Outside) (between : SinkFacts) (status : Status)
+pub serves : (options : Options) (ports : PortOptions) (streams : StreamPorts) (seconds : List ℕ) (base : ℕ) (answer : Result Totals Stop) (writes : List Write) (old new : DaemonOutside) (between : SinkFacts) (status : Status)
     → IsCauseOfStop answer options writes base ports streams seconds new.tables old.ports new.ports
     → HasAnnounced (Says (ready_text ports streams)) (FailsToSay (ready_text ports streams)) answer old.ports new.ports old.sink between
     → KeepsNet ports old.ports.net new.ports.net → KeepsListeners streams old.ports.listens new.ports.listens → WritesLast answer between new.sink status
@@ -60,20 +60,20 @@ serves options ports streams seconds base answer writes old new between status i
 
 -- a server whose listeners had been told where to listen, with the clocks that it took
 pub serves_placed : (options : Options) (ports : PortOptions) (streams : StreamOptions) (all taken : List ℕ) (base : ℕ) (writes : List Write) (sink : SinkFacts) (net : NetFacts)
-    (listens told : ListenFacts) (tables : List KeptSeat) (new : Outside) (status : Status) → take streams.ports.fronts all ≡ taken
+    (listens told : ListenFacts) (tables : List KeptSeat) (new : DaemonOutside) (status : Status) → take streams.ports.fronts all ≡ taken
     → told ≡ record listens { place = place_of streams }
-    → ServesAloud options ports streams.ports taken base writes (outside sink net told tables) new status
-    → ServesPlaced options ports streams all base writes (outside sink net listens tables) new status
+    → ServesAloud options ports streams.ports taken base writes (daemon_outside sink net told tables) new status
+    → ServesPlaced options ports streams all base writes (daemon_outside sink net listens tables) new status
 serves_placed options ports streams all taken base writes sink net listens told tables new status same is served =
-    subst (λ s. ServesAloud options ports streams.ports s base writes (placed (place_of streams) (outside sink net listens tables)) new status) (sym same)
-    (subst (λ l. ServesAloud options ports streams.ports taken base writes (outside sink net l tables) new status) is served)
+    subst (λ s. ServesAloud options ports streams.ports s base writes (placed (place_of streams) (daemon_outside sink net listens tables)) new status) (sym same)
+    (subst (λ l. ServesAloud options ports streams.ports taken base writes (daemon_outside sink net l tables) new status) is served)
 
 kept_files : (image : Option Text) (files : FilesFacts) → KeepsFiles image files files
 kept_files None files = refl
 kept_files (Some name) files = omega arith
 
 -- where there was no memory before it began, the words do not matter
-pub unwritten : (given : Option Service) (seconds : List ℕ) (base : ℕ) (files : FilesFacts) (old new : Outside) (status : Status) → IsUnwritten old.sink new.sink status → BindsNothing old new
+pub unwritten : (given : Option Service) (seconds : List ℕ) (base : ℕ) (files : FilesFacts) (old new : DaemonOutside) (status : Status) → IsUnwritten old.sink new.sink status → BindsNothing old new
     → KeepsUp given seconds base files files old new status
 unwritten None seconds base files old new status none same = (inl none, same, refl)
 unwritten (Some service) seconds base files old new status none same = (inr (inl none, same), kept_files service.image files)
