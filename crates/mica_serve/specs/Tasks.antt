@@ -9,8 +9,8 @@ use Rattle.mica_fronts.specs.declared.totals.Totals.{Totals}
 use Rattle.mica_fronts.specs.declared.totals.ServeFault.{ServeFault}
 use Rattle.mica_serve.specs.declared.worker.OwnerTask.{OwnerTask}
 use Rattle.mica_serve.specs.declared.worker.FrontTask.{FrontTask}
-use Rattle.mica_serve.specs.declared.running.Room.{Room}
-use Rattle.mica_serve.specs.declared.running.Server.{Server}
+use Rattle.mica_serve.specs.declared.server.Room.{Room}
+use Rattle.mica_serve.specs.declared.server.Server.{Server}
 use Rattle.mica_fronts.specs.declared.ports.PortOptions.{PortOptions}
 use Rattle.partition_model.specs.declared.options.Options.{Options}
 use Rattle.mica_fronts.specs.QueueFront.{QueueView, IsQueueFront, stand_of, sessions_of, ended_part}

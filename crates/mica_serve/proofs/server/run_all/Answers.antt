@@ -7,9 +7,9 @@ use Rattle.mica_serve.specs.Served.{empty_origin}
 use Rattle.mica_serve.specs.Ends.{EndFacts, end_facts}
 use Rattle.mica_serve.specs.FrontRuns.{RanAll}
 use Rattle.mica_serve.proofs.RunAll.{Paired, Ran, owners_ready, fronts_ready, served_long, meeting, all_came, idle}
-use Rattle.mica_serve.proofs.running.run_all.Given as given
-use Rattle.mica_serve.proofs.running.run_all.Goals.{After-pair_up, After-run_workers, After-part_fronts}
-use Rattle.mica_serve.proofs.running.run_all.Goals as goal
+use Rattle.mica_serve.proofs.server.run_all.Given as given
+use Rattle.mica_serve.proofs.server.run_all.Goals.{After-pair_up, After-run_workers, After-part_fronts}
+use Rattle.mica_serve.proofs.server.run_all.Goals as goal
 
 abbrev facts : (g : given.Over) → g.row.D.Denot → EndFacts
 facts g = end_facts g.D.Datagrams.port g.D.Datagrams.traffic g.D.Datagrams.faults g.D.Datagrams.has_ended g.D.Datagrams.script

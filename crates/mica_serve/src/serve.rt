@@ -14,7 +14,7 @@ ghost use Rattle.mica_serve.specs.Tasks.{IsServer};
 ghost use Rattle.mica_serve.specs.NetRun.{OnPorts, ReleasesNet, BindsAndServes, IsCauseOf, KeepsNet, net_facts};
 
 use crate::answers::sum_up;
-use crate::running::{Server, run_all};
+use crate::server::{Server, run_all};
 use crate::tables::keep_all;
 use cache_partition::CachePartition;
 use epoch_core::LendPartition;
