@@ -8,7 +8,7 @@ ghost use Rattle.memcached_commands.specs.Fit.{IsFitAsked};
 ghost use Rattle.mica_fronts.specs.Answered.{Answered, accepts, count_of_writes};
 ghost use Rattle.mica_fronts.specs.Session.{AnswersInOrder};
 ghost use Rattle.memcached_stats.specs.Stats.{Told, stats_text};
-ghost use Rattle.memcached_fronts.specs.Exchange.{IsOpenAt, asks_stats, flush_due, flush_text, flushes_now};
+ghost use Rattle.memcached_fronts.specs.Exchange.{IsOpenAt, asks_stats, flush_due, flush_text, is_flush_all};
 ghost use Rattle.memcached_fronts.specs.FlushAnswers.{FlushesFrom, flush_at};
 ghost use Rattle.memcached_fronts.specs.Seconds.{ToldFrom, seconds_of};
 ghost use Rattle.memcached_fronts.specs.Going.{AnswersFirst, RepliesFirst, GoesOn, Replies};
@@ -82,8 +82,8 @@ fn answer_stats<C: Clock>(
     })
 }
 
-fn is_flush(next: &Next) -> bool
-    ensures { result ≡ flushes_now next.now }
+fn is_flush_all(next: &Next) -> bool
+    ensures { result ≡ is_flush_all next.now }
 {
     match next {
         Next::Command {
@@ -235,7 +235,7 @@ pub fn answer_next<'a, R: Threads + Wait + Sync, F: Changes, C: Clock>(
 {
     let style = style_of(&next);
     buffers.tally.count(counter_by(&next));
-    if is_flush(&next) {
+    if is_flush_all(&next) {
         return answer_flush(
             rt,
             front,
