@@ -8,8 +8,8 @@
 mod answers;
 mod meeting;
 mod opening;
-mod service;
 mod server;
+mod service;
 mod tables;
 mod worker;
 
