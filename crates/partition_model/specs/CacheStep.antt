@@ -10,7 +10,7 @@ use Rattle.partition_model.specs.declared.write.Op.{Op}
 use Rattle.partition_model.specs.declared.write.Op.TheVariants.{Put, Add, Touch, Del}
 use Rattle.partition_model.specs.declared.write.Outcome.{Outcome}
 use Rattle.partition_model.specs.declared.write.Outcome.TheVariants.{Stored, Deleted, Absent, Touched, FullBlock, Worn, Exists}
-use Rattle.partition_model.specs.Write.{size_of, is_accepted}
+use Rattle.partition_model.specs.Write.{size_of}
 use Rattle.partition_model.specs.Cache.{Record, Cache, has_key, record_of, is_live}
 use Rattle.partition_model.specs.Limits.{is_at_end}
 
@@ -117,11 +117,6 @@ reply_of Del options write false = Absent
 unfoldable pub reply : Options → Cache → Write → Outcome
 reply options cache write =
     if is_worn options cache then Worn else reply_of write.op options write (is_some (record_of cache write.key))
-
--- one step: the reply, and the state after it, which is as it was where the reply refuses the write
-abbrev pub cache_step : Options → Cache → Write → Outcome × Cache
-cache_step options cache write =
-    (reply options cache write, if is_accepted (reply options cache write) then after options cache write else cache)
 
 abbrev pub IsInItem : Option Record → ℕ → Type 0
 IsInItem None p = ⊥

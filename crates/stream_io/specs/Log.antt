@@ -13,9 +13,6 @@ pub record Log : Type 0 where
   pub script : Script
   pub entries : List Entry
 
-abbrev pub new_log : List Step → Script → Log
-new_log schedule script = record { schedule = schedule; script = script; entries = [] }
-
 abbrev pub with_entries : (List Entry → List Entry) → Log → Log
 with_entries f log = record log { entries = f log.entries }
 
