@@ -185,6 +185,7 @@ pub fn spelled_set(from: &[u8]) -> Option<SpelledSet>
 }
 
 impl<'a> SpelledSet<'a> {
+    /// The command that stores the item, whatever is there.
     #[inline]
     pub fn command(self) -> Command<'a>
         ensures { result ≡ Command.Store Wants.Whatever self.entry.key.now self.entry.flags self.entry.lifetime self.entry.value.now self.entry.quiet }

@@ -38,6 +38,7 @@ impl Model for Found {
 }
 
 impl Found {
+    /// How many gets there are.
     pub fn len(&self) -> u32
         ensures { result ≡ length self.now }
     {

@@ -37,6 +37,7 @@ pub(crate) struct Room<D> {
 }
 
 impl<D: Drop> Room<D> {
+    /// Room for the tasks of so many fronts.
     pub fn new(alloc: Global, fronts: usize) -> Result<Room<D>, NoMemory>
         requires { fronts ≤ 16 }
         ensures { IfOk result (IsRoom fronts) }
