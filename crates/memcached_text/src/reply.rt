@@ -1,6 +1,6 @@
 //! Texts of replies.
-ghost use Rattle.std.specs.Prelude.{◌≡◌, ◌++◌, OnOk, OnErr};
-ghost use Rattle.memcached_text.specs.Replies.{reply_text, fault_text, value_text, number_text, stat_text};
+ghost use Rattle.std.specs.Prelude.{◌≡◌, ◌+◌, ◌≤◌, ◌++◌, ◌∷◌, length, drop, codes, decimal, OnOk, OnErr};
+ghost use Rattle.memcached_text.specs.Replies.{reply_text, fault_text, value_text, unique_text, number_text, stat_text};
 
 use crate::Fault;
 use crate::append::append_parts;
@@ -99,11 +99,11 @@ fn put_numbers(
     unique: Option<u64>,
 ) -> usize
     ensures within { result ≤ NUMBERS_LEN }
-    ensures text { drop result line.new ≡ 32 ∷ decimal flags ++ 32 ∷ decimal value_len ++ unique_text unique ++ codes "\r\n" }
+    ensures text { drop result line.new ≡ 32 ∷ decimal flags ++ (32 ∷ decimal value_len ++ (unique_text unique ++ codes "\r\n")) }
 {
     let end = NUMBERS_LEN - 2;
-    line[end] = b'\r';
     line[end + 1] = b'\n';
+    line[end] = b'\r';
     let uniques = match unique {
         Some(unique) => put_before(line, unique, end),
         None => end,
