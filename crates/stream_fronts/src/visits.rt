@@ -1,5 +1,5 @@
 //! Visits of a connection, one after another.
-ghost use Rattle.std.specs.Prelude.{◌≡◌, ◌<◌, ◌≤◌, IfOk, IfSome, MatchResult, vec_len};
+ghost use Rattle.std.specs.Prelude.{◌≡◌, true, false, ◌<◌, ◌≤◌, IfOk, IfSome, MatchResult, vec_len};
 ghost use Rattle.memcached_text.specs.declared.limits.TheConstants.{MAX_WAITING_LEN};
 ghost use Rattle.stream_fronts.specs.Calls.{LeavesPort, MovesFront};
 ghost use Rattle.stream_fronts.specs.Clients.{IsClient};
@@ -20,7 +20,16 @@ use std::sync::Wait;
 use std::thread::Threads;
 use stream_io::Connections;
 
-/// Visits until there is no more to do at once, or it may be asked for again.
+// Whether a connection is left: nothing is to be done at once, or it was visited twice and may be asked for again.
+fn is_left(after: After, is_again: bool, asks: u64) -> bool
+    ensures left { result ≡ true → after ≡ After.Again → 0 < asks }
+    ensures again { result ≡ false → after ≡ After.Again }
+{
+    after != After::Again || is_again && asks > 0
+}
+
+/// Visits until there is no more to do at once, or it may be asked for again and was visited twice. Mostly the second visit finds that nothing more came: then it
+/// need not be reported again.
 pub fn visit_on<R: Threads + Wait + Sync, F: Changes, K: Clock, C: Connections>(
     rt: &R,
     alloc: Global,
@@ -51,6 +60,7 @@ pub fn visit_on<R: Threads + Wait + Sync, F: Changes, K: Clock, C: Connections>(
     ensures front { MovesFront F.options F.number F.stands F.is_alone F.sessions F.left K.last front.old clock.old front.new clock.new }
     ensures left { left.new ≤ F.left front.new }
 {
+    let mut is_again = false;
     for _ in rt.forever() {
         let after = visit_once(
             rt,
@@ -64,9 +74,10 @@ pub fn visit_on<R: Threads + Wait + Sync, F: Changes, K: Clock, C: Connections>(
             client,
             desk,
         )?;
-        if after != After::Again || client.asks > 0 {
+        if is_left(after, is_again, client.asks) {
             return Ok(after);
         }
+        is_again = true;
     }
     Ok(After::Over)
 }

@@ -58,20 +58,20 @@ returns-in_err-after-clause-front g c =
       same_stands = visit.stands ∙ inv.12;
     }
 
-pub returns-then-ne-clause-talks : goal.returns-then-ne-clause-talks
-returns-then-ne-clause-talks g c =
+pub returns-then-is_left-clause-talks : goal.returns-then-is_left-clause-talks
+returns-then-is_left-clause-talks g c =
     let log = g.C.Connections.log in
     let inv = c.loop.invariant in
     goes_then (g.F.Front.options c.args.front.now) g.F.Front.is_alone c.args.numbering.base c.args.number c.args.client.now c.loop.client (log c.args.connections.now) (log c.loop.connections)
     (log c.visit_once.new.connections) inv.8 (g.F.Front.options c.loop.front) inv.10 c.visit_once.new.client c.in_ok-after.after c.in_ok-after.ensures.talks
 
-pub returns-then-ne-clause-keeps : goal.returns-then-ne-clause-keeps
-returns-then-ne-clause-keeps g c =
+pub returns-then-is_left-clause-keeps : goal.returns-then-is_left-clause-keeps
+returns-then-is_left-clause-keeps g c =
     let log = g.C.Connections.log in
     keeps_on (log c.args.connections.now) (log c.loop.connections) (log c.visit_once.new.connections) c.loop.invariant.4 c.loop.invariant.3 c.visit_once.ensures.keeps
 
-pub returns-then-ne-clause-front : goal.returns-then-ne-clause-front
-returns-then-ne-clause-front g c =
+pub returns-then-is_left-clause-front : goal.returns-then-is_left-clause-front
+returns-then-is_left-clause-front g c =
     let log = g.C.Connections.log in
     let inv = c.loop.invariant in
     let visit = c.visit_once.ensures in
@@ -88,7 +88,7 @@ loop-preserved g c =
     let log = g.C.Connections.log in
     let inv = c.loop.invariant in
     let visit = c.in_ok-after.ensures in
-    let again : c.in_ok-after.after ≡ Again = search rules in (
+    let again : c.in_ok-after.after ≡ Again = c.is_left.ensures.again c.if-is_left.false in (
       visit.room,
       visit.client,
       visit.«open»,
