@@ -7,7 +7,7 @@ ghost use Rattle.locked_fronts.specs.Parts.{IsPartOf, IsLockedFront, locked_view
 use crate::owned::{OwnedPartition, ServerPlan};
 use crate::part::LockedPart;
 use epoch_core::LendPartition;
-use mica_fronts::{Changed, Changes, Decide, Front, Glances, Glimpse, seat_loads};
+use mica_fronts::{Changed, Changes, Counts, Decide, Front, Glances, Glimpse, seat_loads};
 use mica_io::NoMemory;
 use mica_words::{key_hash, partition_of};
 use partition_model::{Answer, ItemBuf, Op, Options, Outcome};
@@ -28,18 +28,21 @@ pub struct LockedFront<
     locks: &'a [Mutex<OwnedPartition<J, P>>],
     number: u32,
     parts: Vec<LockedPart>,
+    // How many writes it may still be given.
+    left: u64,
 }
 
 impl<'a, J: ServerPlan, P: LendPartition<Reader = ReaderSeat, Note = Note> + Drop> Model
     for LockedFront<'a, J, P> {
     ghost use Rattle.std.specs.Prelude.{◌≡◌, length};
-    ghost use Rattle.locked_fronts.specs.Parts.{LockedView, IsLockedFront, locked_view};
+    ghost use Rattle.locked_fronts.specs.Parts.{LockedView, IsLockedFront, locked_view, turns_left};
 
     ghost Value = { LockedView };
 
     ghost view = { λ f. locked_view f.options f.number f.parts.items };
 
-    ghost invariant = { λ f. IsLockedFront J.plan (locked_view f.options f.number f.parts.items) × (length f.locks.now ≡ f.options.partitions) };
+    ghost invariant = { λ f. IsLockedFront J.plan (locked_view f.options f.number f.parts.items) × (length f.locks.now ≡ f.options.partitions)
+        × (f.left ≡ turns_left f.parts.items) };
 }
 
 impl<'a, J: ServerPlan, P: LendPartition<Reader = ReaderSeat, Note = Note> + Drop> LockedFront<
@@ -68,6 +71,7 @@ impl<'a, J: ServerPlan, P: LendPartition<Reader = ReaderSeat, Note = Note> + Dro
             locks,
             number,
             parts,
+            left: u64::MAX,
         }
     }
 
@@ -122,6 +126,7 @@ impl<'a, J: ServerPlan, P: LendPartition<Reader = ReaderSeat, Note = Note> + Dro
         let number = partition_of(key_hash(key), self.options.partitions);
         let at = number as usize;
         let lock = &self.locks[at];
+        self.left -= 1;
         Ok(self.parts[at].write(rt, lock, number, op, key, value))
     }
 
@@ -152,14 +157,24 @@ impl<'a, J: ServerPlan, P: LendPartition<Reader = ReaderSeat, Note = Note> + Dro
         let number = partition_of(key_hash(key), self.options.partitions);
         let at = number as usize;
         let lock = &self.locks[at];
-        self.parts[at].change(rt, lock, number, second, key, decide, found, next)
+        let changed = self.parts[at].change(rt, lock, number, second, key, decide, found, next);
+        self.left -= u64::from(changed.outcome.is_some());
+        changed
     }
 
     fn delete<R: Threads + Wait + Sync>(&mut self, rt: &R, key: &[u8]) -> (Outcome, u64) {
         let number = partition_of(key_hash(key), self.options.partitions);
         let at = number as usize;
         let lock = &self.locks[at];
+        self.left -= 1;
         self.parts[at].write(rt, lock, number, Op::Del, key, &[])
+    }
+}
+
+impl<'a, J: ServerPlan, P: LendPartition<Reader = ReaderSeat, Note = Note> + Drop> Counts
+    for LockedFront<'a, J, P> {
+    fn writes_left(&self) -> u64 {
+        self.left
     }
 }
 
