@@ -1,6 +1,7 @@
 //! A front that owns each partition in turn.
 ghost use Rattle.std.specs.Prelude.{◌≡◌, ◌<◌, ℕ, Some, length, slice_get, vec_len};
 ghost use Rattle.partition_model.specs.Options.{IsPossible};
+ghost use Rattle.mica_fronts.specs.Changing.{count_of};
 ghost use Rattle.locked_fronts.specs.declared.part.LockedPart.{LockedPart};
 ghost use Rattle.locked_fronts.specs.Parts.{IsPartOf, IsLockedFront, locked_view, turns_taken};
 
@@ -16,6 +17,16 @@ use std::alloc::Global;
 use std::marker::Model;
 use std::sync::{Mutex, Wait};
 use std::thread::Threads;
+
+// How many writes were made.
+fn count_of(outcome: Option<Outcome>) -> u64
+    ensures { result ≡ count_of outcome }
+{
+    match outcome {
+        Some(_) => 1,
+        None => 0,
+    }
+}
 
 /// A front that takes the lock of a partition for each write, and gets by loads of its own.
 #[derive(Drop)]
@@ -126,8 +137,9 @@ impl<'a, J: ServerPlan, P: LendPartition<Reader = ReaderSeat, Note = Note> + Dro
         let number = partition_of(key_hash(key), self.options.partitions);
         let at = number as usize;
         let lock = &self.locks[at];
+        let written = self.parts[at].write(rt, lock, number, op, key, value);
         self.left -= 1;
-        Ok(self.parts[at].write(rt, lock, number, op, key, value))
+        Ok(written)
     }
 
     fn read<R: Threads + Wait + Sync>(
@@ -158,7 +170,7 @@ impl<'a, J: ServerPlan, P: LendPartition<Reader = ReaderSeat, Note = Note> + Dro
         let at = number as usize;
         let lock = &self.locks[at];
         let changed = self.parts[at].change(rt, lock, number, second, key, decide, found, next);
-        self.left -= u64::from(changed.outcome.is_some());
+        self.left -= count_of(changed.outcome);
         changed
     }
 
@@ -166,8 +178,9 @@ impl<'a, J: ServerPlan, P: LendPartition<Reader = ReaderSeat, Note = Note> + Dro
         let number = partition_of(key_hash(key), self.options.partitions);
         let at = number as usize;
         let lock = &self.locks[at];
+        let written = self.parts[at].write(rt, lock, number, Op::Del, key, &[]);
         self.left -= 1;
-        self.parts[at].write(rt, lock, number, Op::Del, key, &[])
+        written
     }
 }
 
