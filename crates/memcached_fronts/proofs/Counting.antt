@@ -9,7 +9,7 @@ use Rattle.memcached_stats.specs.Counted.{counter_by}
 use Rattle.memcached_stats.specs.Tallies.{counted}
 use Rattle.mica_fronts.specs.Answered.{Answered}
 use Rattle.memcached_fronts.specs.Counting.{tally_after, tally_after_all, tally_after_next}
-use Rattle.memcached_fronts.specs.Exchange.{flushes_now}
+use Rattle.memcached_fronts.specs.Exchange.{is_flush_all}
 
 -- one more
 pub counted_more : (base partitions : ℕ) (asks left : List Asked) (answers : List Answered) (asked : Asked) (a : Answered) (tally : Tally) → drop (length answers) asks ≡ asked ∷ left
@@ -25,16 +25,16 @@ module _ (base partitions : ℕ) (next : Next) (done : ℕ) (answers : List Answ
       if flushes then counted (counter_by next) tally else tally_after_all base partitions (drop done (asks_in next)) answers (counted (counter_by next) tally)
 
   -- a flush is counted by its command
-  pub counted_flush : flushes_now next ≡ true → tally_after_next base partitions next done answers tally ≡ counted (counter_by next) tally
+  pub counted_flush : is_flush_all next ≡ true → tally_after_next base partitions next done answers tally ≡ counted (counter_by next) tally
   counted_flush is = ap both is
 
-  pub counted_keyed : flushes_now next ≡ false
+  pub counted_keyed : is_flush_all next ≡ false
       → tally_after_next base partitions next done answers tally ≡ tally_after_all base partitions (drop done (asks_in next)) answers (counted (counter_by next) tally)
   counted_keyed is = ap both is
 
 -- and so is what asks nothing of a key
 pub counted_plain : (base partitions : ℕ) (next : Next) (done : ℕ) (tally : Tally) → tally_after_next base partitions next done [] tally ≡ counted (counter_by next) tally
-counted_plain base partitions next done tally = by (flushes_now next)
+counted_plain base partitions next done tally = by (is_flush_all next)
   where
     by : (b : Bool) → both base partitions next done [] tally b ≡ counted (counter_by next) tally
     by true = refl

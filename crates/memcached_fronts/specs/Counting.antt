@@ -13,7 +13,7 @@ use Rattle.memcached_stats.specs.Tallies.{counted, noted}
 use Rattle.mica_fronts.specs.declared.changing.When.{When}
 use Rattle.mica_fronts.specs.Answered.{Answered, changed}
 use Rattle.memcached_fronts.specs.AskAnswers.{said_of}
-use Rattle.memcached_fronts.specs.Exchange.{flushes_now}
+use Rattle.memcached_fronts.specs.Exchange.{is_flush_all}
 
 -- where a write was made, what its partition bears then was noted, of so many partitions
 abbrev pub noted_if : ℕ → List ℕ → When → Option Outcome → ℕ → Tally → Tally
@@ -38,5 +38,5 @@ tally_after_all base partitions (asked ∷ asks) (answered ∷ later) tally = ta
 -- What a client said was answered by these, behind so many.
 abbrev pub tally_after_next : ℕ → ℕ → Next → ℕ → List Answered → Tally → Tally
 tally_after_next base partitions next done answers tally =
-    if flushes_now next then counted (counter_by next) tally
+    if is_flush_all next then counted (counter_by next) tally
     else tally_after_all base partitions (drop done (asks.asks_in next)) answers (counted (counter_by next) tally)
