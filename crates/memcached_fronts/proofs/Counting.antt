@@ -15,7 +15,7 @@ use Rattle.memcached_fronts.specs.Exchange.{is_flush_all}
 pub counted_more : (base partitions : ℕ) (asks left : List Asked) (answers : List Answered) (asked : Asked) (a : Answered) (tally : Tally) → drop (length answers) asks ≡ asked ∷ left
     → tally_after_all base partitions asks (answers ++ a ∷ []) tally ≡ tally_after base partitions asked a (tally_after_all base partitions asks answers tally)
 counted_more base partitions [] left [] asked a tally here = absurd (cc)
-counted_more base partitions (x ∷ asks) left [] asked a tally here = ap (λ x. tally_after base partitions x a tally) (cc)
+counted_more base partitions (x ∷ asks) left [] asked a tally here = let first : x ≡ asked = cc in ap (λ (y : Asked). tally_after base partitions y a tally) first
 counted_more base partitions [] left (b ∷ answers) asked a tally here = absurd (cc)
 counted_more base partitions (x ∷ asks) left (b ∷ answers) asked a tally here = counted_more base partitions asks left answers asked a (tally_after base partitions x b tally) here
 

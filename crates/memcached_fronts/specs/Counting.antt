@@ -15,11 +15,14 @@ use Rattle.mica_fronts.specs.Answered.{Answered, changed}
 use Rattle.memcached_fronts.specs.AskAnswers.{said_of}
 use Rattle.memcached_fronts.specs.Exchange.{is_flush_all}
 
+abbrev pub count_of_accepted : Outcome → ℕ
+count_of_accepted outcome = if is_accepted outcome then 1 else 0
+
 -- where a write was made, what its partition bears then was noted, of so many partitions
 abbrev pub noted_if : ℕ → List ℕ → When → Option Outcome → ℕ → Tally → Tally
 noted_if partitions key when None stamp tally = tally
 noted_if partitions key when (Some outcome) stamp tally =
-    noted (partition_of key (max partitions 1)) (min (when.written + (if is_accepted outcome then 1 else 0)) LAST_COUNT) stamp tally
+    noted (partition_of key (max partitions 1)) (min (when.written + count_of_accepted outcome) LAST_COUNT) stamp tally
 
 abbrev pub noted_by : ℕ → Answered → Tally → Tally
 noted_by partitions (changed step look) tally = noted_if partitions step.write.key look.when (Some step.outcome) step.stamp tally
