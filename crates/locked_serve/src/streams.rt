@@ -68,7 +68,6 @@ impl<C: Connections, K: Clock> StreamTask<C, K> {
             numbering,
             board,
             number,
-            u64::MAX,
             &mut self.port,
             &mut self.lacked,
         );
