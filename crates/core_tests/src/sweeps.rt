@@ -9,7 +9,7 @@ use crate::changes::front_of;
 use epoch_core::LendPartition;
 use locked_fronts::ServerPlan;
 use locked_serve::{FilledPart, lend_hand, lock_parts, open_parts};
-use memcached_fronts::{Numbering, Sweeper, sweep};
+use memcached_fronts::{Noted, Numbering, Sweeper, sweep};
 use mica_clock::MemClock;
 use mica_fronts::{Front, Glances};
 use mica_words::{key_fits, value_fits};
@@ -58,13 +58,22 @@ fn sweep_all<R: Abort + AllocGlobal + Threads + Wait + Sync, F: Glances>(
 {
     let script = [Some(second)];
     let mut clock = MemClock::new(&script);
-    let mut sweeper = Sweeper::new(rt.alloc())?;
+    let mut sweeper = Sweeper::new(rt.alloc(), 1)?;
+    let mut noted = Noted::new();
     let numbering = Numbering {
         partitions: 1,
         base: 0,
     };
     for _ in 0..100u32 {
-        sweep(rt, front, &mut clock, numbering, 64, &mut sweeper);
+        sweep(
+            rt,
+            front,
+            &mut clock,
+            numbering,
+            64,
+            &mut noted,
+            &mut sweeper,
+        );
     }
     Ok(())
 }

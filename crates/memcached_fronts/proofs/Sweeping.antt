@@ -46,7 +46,7 @@ module _ (options : Options) (is_alone : Bool) (base : ℕ) where
   swept_then {old} {between} {new} {told = told} {then = then} {tells = tells} one two =
       let writes = ap length (filter_map-append step_in one.answers two.answers) ∙ length-append (steps_of one.answers) (steps_of two.answers) in record {
         answers = one.answers ++ two.answers;
-        sweeps = all_both (IsSweep base) one.answers two.answers one.sweeps two.sweeps;
+        sweeps = all_both (IsSweep options base) one.answers two.answers one.sweeps two.sweeps;
         in_order = answers_append options is_alone one.answers two.answers old between new one.in_order two.in_order;
         seconds = subst (λ s. ToldFrom told s tells) (sym (filter_map-append second_in one.answers two.answers))
             (told_then told then tells (seconds_of one.answers) (seconds_of two.answers) one.seconds two.seconds);
@@ -55,7 +55,7 @@ module _ (options : Options) (is_alone : Bool) (base : ℕ) where
 
   -- a key that was looked at
   module _ (old new : Sessions) (left left_after told second : ℕ) (key : List ℕ) (c : Changed) (buffer : List ℕ) (falls : told ≤ second) where
-    one_by : (a : Answered) → Answers options is_alone old a new → IsSweep base a → second_in a ≡ Some second → left ≤ left_after + count_of_writes (a ∷ [])
+    one_by : (a : Answered) → Answers options is_alone old a new → IsSweep options base a → second_in a ≡ Some second → left ≤ left_after + count_of_writes (a ∷ [])
         → SweepsBy options is_alone base old left told new left_after second
     one_by a here is at few = record {
       answers = a ∷ [];

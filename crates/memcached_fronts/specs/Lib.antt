@@ -5,4 +5,5 @@ pub mod Exchange
 pub mod Spells
 pub mod Going
 pub mod Sweeps
+pub mod Touches
 pub mod Laws

@@ -6,6 +6,7 @@ ghost use Rattle.memcached_fronts.specs.AskAnswers.{said_of};
 ghost use Rattle.memcached_fronts.specs.Going.{AnswersAt, ask_text, value_found};
 
 use crate::buffers::Buffers;
+use crate::noted::Noted;
 use crate::plain::Style;
 use memcached_changes::CommandOrder;
 use memcached_commands::{Asked, Says, put_last, put_part};
@@ -51,13 +52,21 @@ fn value_found(found: Option<Answer>, buffer: &ItemBuf) -> Option<&[u8]>
     }
 }
 
-// Notes what a write left of its partition, where one was made.
-fn note_write(tally: &mut Tally, partitions: u32, key: &[u8], changed: &Changed) {
+// Notes what a write left of its partition, where one was made, and what it leaves for the next sweep.
+fn note_write(
+    tally: &mut Tally,
+    noted: &mut Noted,
+    partitions: u32,
+    asked: &Asked,
+    changed: &Changed,
+) {
     if let Some(outcome) = changed.outcome {
         let accepted = u64::from(outcome.is_accepted());
         let writes = changed.when.written.saturating_add(accepted);
-        let partition = partition_of(key_hash(key), partitions.max(1));
+        let hash = key_hash(asked.key.bytes());
+        let partition = partition_of(hash, partitions.max(1));
         tally.note(partition, writes, changed.stamp);
+        noted.note(&asked.ask, hash, partition, outcome);
     }
 }
 
@@ -91,6 +100,7 @@ pub fn answer_ask<R: Threads + Wait + Sync, F: Changes, C: Clock>(
     let Buffers {
         found,
         next,
+        noted,
         tally,
         ..
     } = buffers;
@@ -101,6 +111,6 @@ pub fn answer_ask<R: Threads + Wait + Sync, F: Changes, C: Clock>(
     let stored = value_found(changed.found, found);
     let says = order.says(changed.when, stored, changed.outcome);
     tally.count(counter_of(&asked.ask, &says));
-    note_write(tally, partitions, key, &changed);
+    note_write(tally, noted, partitions, asked, &changed);
     put_said(out, style, is_last, key, &says)
 }

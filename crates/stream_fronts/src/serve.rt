@@ -180,7 +180,7 @@ fn serve_event<R: Threads + Wait + Sync, F: Changes, K: Clock, C: Connections>(
 }
 
 /// Serves the connections of a port, to its end, or until nearly so many writes were given to the front. A connection that there is no memory for is closed,
-/// and `lacked` counts it. What the front counts is shown in this place of the board. After each report it sweeps a few places of the partitions.
+/// and `lacked` counts it. What the front counts is shown in this place of the board. After each report it sweeps a few places of the partitions, and touches old items that were used.
 #[tactic(auto, using(crate::proofs::Going::by_none))]
 pub fn serve_connections<R: Threads + Wait + Sync, F: Glances, K: Clock, C: Connections>(
     rt: &R,
@@ -212,7 +212,7 @@ pub fn serve_connections<R: Threads + Wait + Sync, F: Glances, K: Clock, C: Conn
     ensures stands { F.stands front.new ≡ F.stands front.old }
 {
     let mut desk = Desk::new(alloc, board, place)?;
-    let mut sweeper = Sweeper::new(alloc)?;
+    let mut sweeper = Sweeper::new(alloc, numbering.partitions)?;
     let mut clients = Clients::new(alloc);
     let mut left = most;
     let least = LIMITS.asks as u64 + u64::from(numbering.partitions);
@@ -238,7 +238,8 @@ pub fn serve_connections<R: Threads + Wait + Sync, F: Glances, K: Clock, C: Conn
         *lacked = lacked.saturating_add(count);
         count_event(event, count, &mut desk.buffers.tally);
         desk.buffers.show();
-        left -= sweep(rt, front, clock, numbering, left, &mut sweeper);
+        let noted = &mut desk.buffers.noted;
+        left -= sweep(rt, front, clock, numbering, left, noted, &mut sweeper);
     }
     Ok(())
 }
