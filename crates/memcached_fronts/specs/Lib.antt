@@ -5,5 +5,4 @@ pub mod Exchange
 pub mod Spells
 pub mod Going
 pub mod Sweeps
-pub mod Touches
 pub mod Laws

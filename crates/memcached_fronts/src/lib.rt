@@ -18,6 +18,6 @@ mod sweeper;
 
 pub use answer::{Limits, Numbering, Progress, answer_next};
 pub use buffers::Buffers;
-pub use laws::{spells_on, touches_keep};
+pub use laws::spells_on;
 pub use noted::Noted;
 pub use sweeper::{Sweeper, sweep};
