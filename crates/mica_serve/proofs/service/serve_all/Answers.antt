@@ -9,14 +9,14 @@ use Rattle.mica_fronts.specs.declared.totals.Totals.{Totals}
 use Rattle.mica_fronts.specs.declared.totals.ServeFault.{ServeFault}
 use Rattle.mica_serve.specs.declared.worker.OwnerTask.{OwnerTask}
 use Rattle.mica_serve.specs.Others.{alone}
-use Rattle.mica_serve.specs.Served.{nothing_begun}
+use Rattle.mica_serve.specs.Served.{empty_origin}
 use Rattle.mica_serve.specs.Ends.{EndFacts, ServesFronts, end_facts}
 use Rattle.mica_fronts.specs.Totals.{IsUpTo}
 use Rattle.mica_serve.specs.FrontRuns.{SumsUp}
 use Rattle.mica_serve.proofs.Gathered.{all_ran, few_answers, small_answers}
 use Rattle.mica_serve.proofs.SumsUp.{sums_beside}
-use Rattle.mica_serve.proofs.run.serve_all.Given as given
-use Rattle.mica_serve.proofs.run.serve_all.Goals as goal
+use Rattle.mica_serve.proofs.service.serve_all.Given as given
+use Rattle.mica_serve.proofs.service.serve_all.Goals as goal
 
 abbrev facts : (g : given.Over) → g.row.D.Denot → EndFacts
 facts g = end_facts g.D.Datagrams.port g.D.Datagrams.traffic g.D.Datagrams.faults g.D.Datagrams.has_ended g.D.Datagrams.script
@@ -56,7 +56,7 @@ pub returns-in_err-totals : goal.returns-in_err-totals
 returns-in_err-totals g c =
     let is = err_from_is_err_and c.from_residual.result c.from_residual.ensures.1 in
     let same : c.from_residual.result ≡ Err c.in_err-totals.field-0.0 = is.1 ∙ ap Err is.2 in
-    subst (λ (r : Result Totals ServeFault). ServesFronts alone c.args.options.now nothing_begun c.args.ports.now.batches r c.args.tables.now (map (facts g) c.args.ends.now.items) (map (facts g) c.run_all-owners.new.ends.items)) (sym same)
+    subst (λ (r : Result Totals ServeFault). ServesFronts alone c.args.options.now empty_origin c.args.ports.now.batches r c.args.tables.now (map (facts g) c.args.ends.now.items) (map (facts g) c.run_all-owners.new.ends.items)) (sym same)
     (all_ran alone _ _ _ c.requires.options.partitions.0 _ c.args.tables.now _ _ _ c.run_all-owners.ensures.ran (Err c.in_err-totals.field-0.0)
     (sums_beside alone c.run_all-owners.result.1.items (Err c.in_err-totals.field-0.0) (subst (λ (l : List (Result Totals ServeFault)). SumsUp l (Err c.in_err-totals.field-0.0)) c.as_slice.ensures.value c.in_err-totals.ensures)) c.requires.tables)
 

@@ -3,13 +3,13 @@ use Rattle.std.proofs.lemmas.Simd.{map-map}
 use Rattle.partition_table.specs.Tabled.{kept_seat_in}
 use Rattle.mica_serve.specs.declared.worker.FrontTask.{FrontTask}
 use Rattle.mica_serve.specs.Others.{alone}
-use Rattle.mica_serve.specs.Served.{nothing_begun}
+use Rattle.mica_serve.specs.Served.{empty_origin}
 use Rattle.mica_serve.specs.Ends.{EndFacts, end_facts}
 use Rattle.mica_serve.specs.FrontRuns.{RanAll}
 use Rattle.mica_serve.proofs.RunAll.{Paired, Ran, owners_ready, fronts_ready, served_long, meeting, all_came, idle}
-use Rattle.mica_serve.proofs.running.run_all.Given as given
-use Rattle.mica_serve.proofs.running.run_all.Goals.{After-pair_up, After-run_workers, After-part_fronts}
-use Rattle.mica_serve.proofs.running.run_all.Goals as goal
+use Rattle.mica_serve.proofs.server.run_all.Given as given
+use Rattle.mica_serve.proofs.server.run_all.Goals.{After-pair_up, After-run_workers, After-part_fronts}
+use Rattle.mica_serve.proofs.server.run_all.Goals as goal
 
 abbrev facts : (g : given.Over) → g.row.D.Denot → EndFacts
 facts g = end_facts g.D.Datagrams.port g.D.Datagrams.traffic g.D.Datagrams.faults g.D.Datagrams.has_ended g.D.Datagrams.script
@@ -68,7 +68,7 @@ pub returns-clause-ran : goal.returns-clause-ran
 returns-clause-ran g c =
     let z = goal.at.returns-clause-ran g c in
     let owner = g.P.Partition.owner in
-    subst (λ a. RanAll alone c.args.options.now nothing_begun c.args.ports.now.batches (map (λ task. kept_seat_in (owner task.part)) c.meet_all.new.owners.items) a (map (facts g) c.args.ends.now.items) (map (facts g) c.part_fronts.new.ends.items))
+    subst (λ a. RanAll alone c.args.options.now empty_origin c.args.ports.now.batches (map (λ task. kept_seat_in (owner task.part)) c.meet_all.new.owners.items) a (map (facts g) c.args.ends.now.items) (map (facts g) c.part_fronts.new.ends.items))
     (sym c.part_fronts.ensures.answers)
     (all_came _ _ _ _ _ (ran g z.After-run_workers) (map (λ own. own.items) c.part_fronts.new.hands.items) (hands g z.After-part_fronts) c.meet_all.new.owners.items c.meet_all.ensures c.part_fronts.new.ends.items c.part_fronts.ensures.ends)
 

@@ -1,24 +1,24 @@
 //! The server: its ports bound, its fronts and owners run side by side, its ends released and its tables kept.
 ghost use Rattle.std.specs.Prelude.{◌≡◌, ◌+◌, ◌<◌, ◌≤◌, ℕ, [], true, map, vec_len, vec_capacity, is_some, Some, IfSome, OnOk, OnErr};
 ghost use Rattle.mica_io.specs.Faults.{Rose};
-ghost use Rattle.mica_io.specs.Ports.{out};
+ghost use Rattle.mica_io.specs.PortStates.{out};
 ghost use Rattle.partition_model.specs.Options.{IsValid};
 ghost use Rattle.partition_table.specs.declared.reader.Note.{Note};
 ghost use Rattle.partition_table.specs.Seats.{note_state, note_home};
 ghost use Rattle.mica_fronts.specs.PortOptions.{IsValidPorts};
 ghost use Rattle.mica_serve.specs.Others.{alone};
 ghost use Rattle.mica_serve.specs.PossiblePorts.{IsPossiblePorts};
-ghost use Rattle.mica_serve.specs.Served.{nothing_begun};
+ghost use Rattle.mica_serve.specs.Served.{empty_origin};
 ghost use Rattle.mica_serve.specs.Ends.{AreNewEnds, AreAtPorts, AreOpen, BindsEnds, TellAll, ServesFronts, end_facts};
 ghost use Rattle.mica_serve.specs.Tasks.{IsServer};
 ghost use Rattle.mica_serve.specs.NetRun.{OnPorts, ReleasesNet, BindsAndServes, IsCauseOf, KeepsNet, net_facts};
 
 use crate::answers::sum_up;
-use crate::running::{Server, run_all};
+use crate::server::{Server, run_all};
 use crate::tables::keep_all;
 use cache_partition::CachePartition;
 use epoch_core::LendPartition;
-use mica_fronts::{Ports, ServeFault, Totals};
+use mica_fronts::{PortOptions, ServeFault, Totals};
 use mica_io::{Datagrams, Failed, Gate, Net};
 use partition_model::{Mode, Options};
 use partition_table::{Note, OwnerSeat, ReaderSeat, Tables};
@@ -29,7 +29,7 @@ use std::thread::Threads;
 use store_partition::StorePartition;
 
 /// Binds a port for each front, in order, up to the first bind that fails.
-pub fn bind_all<N: Net>(net: &mut N, ports: &Ports, ends: &mut Vec<N::End>) -> Result<(), Failed>
+pub fn bind_all<N: Net>(net: &mut N, ports: &PortOptions, ends: &mut Vec<N::End>) -> Result<(), Failed>
     requires ports { IsPossiblePorts ports.now }
     requires unbound { N.binds net.old ≡ 0 }
     requires none { ends.old.items ≡ [] }
@@ -79,7 +79,7 @@ fn serve_all<
     rt: &W,
     alloc: Global,
     options: &Options,
-    ports: &Ports,
+    ports: &PortOptions,
     server: Server<P, D>,
     ends: &mut Vec<D>,
     gate: &G,
@@ -93,7 +93,7 @@ fn serve_all<
     requires tables { tables.old ≡ [] }
     requires open { AreOpen (map (end_facts D.port D.traffic D.faults D.has_ended D.script) ends.old.items) }
     requires many { vec_len ends.old ≡ ports.now.fronts }
-    ensures { ServesFronts alone options.now nothing_begun ports.now.batches result tables.new
+    ensures { ServesFronts alone options.now empty_origin ports.now.batches result tables.new
         (map (end_facts D.port D.traffic D.faults D.has_ended D.script) ends.old.items)
         (map (end_facts D.port D.traffic D.faults D.has_ended D.script) ends.new.items) }
 {
@@ -113,7 +113,7 @@ fn bind_and_serve<
     rt: &W,
     alloc: Global,
     options: &Options,
-    ports: &Ports,
+    ports: &PortOptions,
     server: Server<P, N::End>,
     net: &mut N,
     ends: &mut Vec<N::End>,
@@ -129,7 +129,7 @@ fn bind_and_serve<
     requires unbound { N.binds net.old ≡ 0 }
     requires none { ends.old.items ≡ [] }
     requires room { ports.now.fronts ≤ vec_capacity ends.old }
-    ensures { BindsAndServes alone options.now nothing_begun ports.now (Some result) tables.new
+    ensures { BindsAndServes alone options.now empty_origin ports.now (Some result) tables.new
         (net_facts N.faults N.binds N.first N.refused N.ports N.fails net.old)
         (net_facts N.faults N.binds N.first N.refused N.ports N.fails net.new)
         (map (end_facts N.End.port N.End.traffic N.End.faults N.End.has_ended N.End.script) ends.new.items) }
@@ -148,7 +148,7 @@ fn serve_on<
     rt: &W,
     alloc: Global,
     options: &Options,
-    ports: &Ports,
+    ports: &PortOptions,
     net: &mut N,
     gate: &G,
     tables: &mut Tables,
@@ -160,7 +160,7 @@ fn serve_on<
     requires ports { IsValidPorts ports.now }
     requires unbound { N.binds net.old ≡ 0 }
     requires tables { tables.old ≡ [] }
-    ensures cause { IsCauseOf alone result options.now nothing_begun ports.now tables.new
+    ensures cause { IsCauseOf alone result options.now empty_origin ports.now tables.new
         (net_facts N.faults N.binds N.first N.refused N.ports N.fails net.old)
         (net_facts N.faults N.binds N.first N.refused N.ports N.fails net.new) }
     ensures kept { KeepsNet ports.now
@@ -182,7 +182,7 @@ pub fn serve<W: Threads + Wait + Sync, N: Net, G: Gate>(
     rt: &W,
     alloc: Global,
     options: &Options,
-    ports: &Ports,
+    ports: &PortOptions,
     net: &mut N,
     gate: &G,
     tables: &mut Tables,
@@ -192,7 +192,7 @@ pub fn serve<W: Threads + Wait + Sync, N: Net, G: Gate>(
     requires unbound { N.binds net.old ≡ 0 }
     requires tables { tables.old ≡ [] }
 
-    ensures cause { IsCauseOf alone result options.now nothing_begun ports.now tables.new
+    ensures cause { IsCauseOf alone result options.now empty_origin ports.now tables.new
         (net_facts N.faults N.binds N.first N.refused N.ports N.fails net.old)
         (net_facts N.faults N.binds N.first N.refused N.ports N.fails net.new) }
     ensures kept { KeepsNet ports.now

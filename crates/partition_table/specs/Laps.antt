@@ -1,13 +1,13 @@
--- The rounds of the item words.
+-- The laps of the item words.
 use Rattle.std.specs.Prelude.{◌≡◌, ℕ, ◌+◌, ◌%◌, ◌^◌, ◌<◌, ◌≤◌, Option, IfSome}
 use Rattle.epoch_core.specs.declared.shape.Shape.{Shape}
 use Rattle.epoch_core.specs.Layout.{item_at}
 
--- The offset lies in the round that begins here.
-pub record BeginsRound (words offset round : ℕ) : Type 0 where
-  pub whole : round % words ≡ 0
-  pub from : round ≤ offset
-  pub below : offset < round + words
+-- The offset lies in the lap that begins here.
+pub record BeginsLap (words offset lap : ℕ) : Type 0 where
+  pub whole : lap % words ≡ 0
+  pub from : lap ≤ offset
+  pub below : offset < lap + words
 
 -- If this is the place of the first of eight item words, the others follow it.
 abbrev pub BeginsBlock : Shape → ℕ → Option ℕ → Type 0

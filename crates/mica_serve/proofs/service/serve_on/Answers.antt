@@ -1,15 +1,15 @@
 use Rattle.std.proofs.Common.{rules, ◌≡◌, ◌+◌, ◌<◌, ℕ, length, vec_len, map, Some, ◌∙◌, subst}
 use Rattle.std.specs.Prelude.{IfSome}
 use Rattle.std.proofs.lemmas.List.{length-map}
-use Rattle.mica_io.specs.Ports.{out}
+use Rattle.mica_io.specs.PortStates.{out}
 use Rattle.mica_serve.specs.Others.{alone}
-use Rattle.mica_serve.specs.Served.{nothing_begun}
+use Rattle.mica_serve.specs.Served.{empty_origin}
 use Rattle.mica_serve.specs.Ends.{EndFacts, end_facts}
 use Rattle.mica_serve.specs.NetRun.{NetFacts, net_facts}
 use Rattle.mica_serve.proofs.PortRuns.{kept_at}
 use Rattle.mica_serve.proofs.Whole.{out_until, tell_until, keeps, cause, net_kept}
-use Rattle.mica_serve.proofs.run.serve_on.Given as given
-use Rattle.mica_serve.proofs.run.serve_on.Goals as goal
+use Rattle.mica_serve.proofs.service.serve_on.Given as given
+use Rattle.mica_serve.proofs.service.serve_on.Goals as goal
 
 abbrev facts : (g : given.Over) → g.row.N-End.Denot → EndFacts
 facts g = end_facts g.N.End.Datagrams.port g.N.End.Datagrams.traffic g.N.End.Datagrams.faults g.N.End.Datagrams.has_ended g.N.End.Datagrams.script
@@ -37,12 +37,12 @@ release_all-requires-clause-tell g c _ _ =
 
 pub returns-clause-cause : goal.returns-clause-cause
 returns-clause-cause g c =
-    cause alone c.args.options.now c.requires.options.partitions.0 nothing_begun c.args.ports.now c.bind_and_serve-answer.new.tables (net_at g c.args.net.now) (net_at g c.bind_and_serve-answer.new.net)
+    cause alone c.args.options.now c.requires.options.partitions.0 empty_origin c.args.ports.now c.bind_and_serve-answer.new.tables (net_at g c.args.net.now) (net_at g c.bind_and_serve-answer.new.net)
     (net_at g c.release_all.new.net) (map (facts g) c.bind_and_serve-answer.new.ends.items) c.release_all.ensures (Some c.bind_and_serve-answer.result) c.bind_and_serve-answer.ensures
 
 pub returns-clause-kept : goal.returns-clause-kept
 returns-clause-kept g c =
-    keeps alone c.args.options.now c.requires.options.partitions.0 nothing_begun c.args.ports.now c.bind_and_serve-answer.new.tables (net_at g c.args.net.now) (net_at g c.bind_and_serve-answer.new.net)
+    keeps alone c.args.options.now c.requires.options.partitions.0 empty_origin c.args.ports.now c.bind_and_serve-answer.new.tables (net_at g c.args.net.now) (net_at g c.bind_and_serve-answer.new.net)
     (net_at g c.release_all.new.net) (map (facts g) c.bind_and_serve-answer.new.ends.items) c.release_all.ensures (Some c.bind_and_serve-answer.result) c.bind_and_serve-answer.ensures
 
 pub returns-in_err-server-clause-kept : goal.returns-in_err-server-clause-kept

@@ -7,7 +7,7 @@ ghost use Rattle.partition_table.specs.declared.reader.Note.{Note};
 ghost use Rattle.partition_table.specs.Seats.{note_state, note_home};
 ghost use Rattle.mica_fronts.specs.PortOptions.{IsValidPorts};
 ghost use Rattle.mica_serve.specs.Others.{alone};
-ghost use Rattle.mica_serve.specs.Served.{nothing_begun};
+ghost use Rattle.mica_serve.specs.Served.{empty_origin};
 ghost use Rattle.mica_serve.specs.Ends.{AreOpen, end_facts};
 ghost use Rattle.mica_serve.specs.FrontRuns.{RanAll};
 ghost use Rattle.mica_serve.specs.Tasks.{IsRoom, IsServer};
@@ -16,7 +16,7 @@ use crate::meeting::meet_all;
 use crate::opening::open_all;
 use crate::worker::{FrontTask, OwnerTask, pair_up, part_fronts, run_workers};
 use epoch_core::LendPartition;
-use mica_fronts::{FrontPart, Ports, QueueFront, ServeFault, Totals};
+use mica_fronts::{FrontPart, PortOptions, QueueFront, ServeFault, Totals};
 use mica_io::{Datagrams, Gate, NoMemory};
 use partition_model::Options;
 use partition_table::{Note, ReaderSeat};
@@ -64,7 +64,7 @@ impl<P: OnTable + LendPartition<Reader = ReaderSeat, Note = Note>, D: Drop> Serv
         rt: &W,
         alloc: Global,
         options: &Options,
-        ports: &Ports,
+        ports: &PortOptions,
     ) -> Result<Server<P, D>, NoMemory>
         requires valid { IsValid options.now }
         requires mode { options.now.mode ≡ P.mode }
@@ -95,7 +95,7 @@ pub(crate) fn run_all<
     rt: &W,
     alloc: Global,
     options: &Options,
-    ports: &Ports,
+    ports: &PortOptions,
     server: Server<P, D>,
     ends: &mut Vec<D>,
     gate: &G,
@@ -106,7 +106,7 @@ pub(crate) fn run_all<
     requires server { IsServer P.owner P.home options.now ports.now server }
     requires open { AreOpen (map (end_facts D.port D.traffic D.faults D.has_ended D.script) ends.old.items) }
     requires many { length ends.old.items ≡ ports.now.fronts }
-    ensures ran { RanAll alone options.now nothing_begun ports.now.batches (map (λ task. kept_seat_in (P.owner task.part)) result.0.items) result.1.items
+    ensures ran { RanAll alone options.now empty_origin ports.now.batches (map (λ task. kept_seat_in (P.owner task.part)) result.0.items) result.1.items
         (map (end_facts D.port D.traffic D.faults D.has_ended D.script) ends.old.items) (map (end_facts D.port D.traffic D.faults D.has_ended D.script) ends.new.items) }
     ensures idle { (p : ℕ) (task : OwnerTask P) → slice_get result.0.items p ≡ Some task → (P.owner task.part).phase ≡ Idle }
 {
