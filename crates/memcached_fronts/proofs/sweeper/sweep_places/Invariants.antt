@@ -1,6 +1,6 @@
 use Rattle.std.proofs.Common.{◌≡◌, ◌≤◌, ◌+◌}
 use Rattle.memcached_fronts.specs.Sweeps.{SweepsBy}
-use Rattle.memcached_fronts.proofs.sweeper.sweep.Given as goal
+use Rattle.memcached_fronts.proofs.sweeper.sweep_places.Given as goal
 
 abbrev pub invariant-loop : goal.invariant-loop
 invariant-loop g l =

@@ -2,7 +2,7 @@ use Rattle.std.proofs.Common.{refl, ◌∙◌, subst, arith}
 use Rattle.partition_model.specs.declared.options.Options.{Options}
 use Rattle.memcached_fronts.specs.Sweeps.{SweepsBy}
 use Rattle.memcached_fronts.proofs.Sweeping.{none_swept, swept_then}
-use Rattle.memcached_fronts.proofs.sweeper.sweep.Goals as goal
+use Rattle.memcached_fronts.proofs.sweeper.sweep_places.Goals as goal
 
 pub loop-init : goal.loop-init
 loop-init g c =
