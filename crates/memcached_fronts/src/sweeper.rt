@@ -232,22 +232,23 @@ fn sweep_places<R: Threads + Wait + Sync, F: Glances, C: Clock>(
     looked
 }
 
-// Touches a key with this hash, if its item is old. Says how often it did.
+// Touches a key with this hash, if its item is old, and if it may give a write. Says how many it gave.
 fn touch_old<R: Threads + Wait + Sync, F: Glances>(
     rt: &R,
     front: &mut F,
+    most: u64,
     hash: u64,
     key: &mut ItemBuf,
 ) -> u64
-    requires left { 0 < F.left front.old }
+    requires left { most ≤ F.left front.old }
     ensures swept { (base told : ℕ) → SweepsBy (F.options front.old) F.is_alone base (F.sessions front.old) (F.left front.old) told (F.sessions front.new) (F.left front.new) told }
-    ensures few { result ≤ 1 }
+    ensures few { result ≤ most }
     ensures left { F.left front.old ≤ F.left front.new + result }
     ensures options { F.options front.new ≡ F.options front.old }
     ensures number { F.number front.new ≡ F.number front.old }
     ensures stands { F.stands front.new ≡ F.stands front.old }
 {
-    if !front.glance_old(hash, key) {
+    if most == 0 || !front.glance_old(hash, key) {
         return 0;
     }
     front.touch(rt, key.value());
@@ -272,9 +273,7 @@ fn touch_used<R: Threads + Wait + Sync, F: Glances>(
 {
     let mut touched = 0;
     for hash in noted.used() {
-        if touched < most {
-            touched += touch_old(rt, front, *hash, key);
-        }
+        touched += touch_old(rt, front, most - touched, *hash, key);
     }
     noted.forget_used();
     touched
