@@ -11,7 +11,7 @@ use epoch_core::LendPartition;
 use mica_fronts::{Changed, Changes, Counts, Decide, Front, Glances, Glimpse, seat_loads};
 use mica_io::NoMemory;
 use mica_words::{key_hash, partition_of};
-use partition_model::{Answer, ItemBuf, Op, Options, Outcome};
+use partition_model::{Answer, ItemBuf, Mode, Op, Options, Outcome};
 use partition_table::{Note, ReaderSeat};
 use std::alloc::Global;
 use std::marker::Model;
@@ -189,11 +189,26 @@ impl<'a, J: ServerPlan, P: LendPartition<Reader = ReaderSeat, Note = Note> + Dro
     fn writes_left(&self) -> u64 {
         self.left
     }
+
+    fn touch<R: Threads + Wait + Sync>(&mut self, rt: &R, key: &[u8]) -> (Outcome, u64) {
+        let number = partition_of(key_hash(key), self.options.partitions);
+        let at = number as usize;
+        let lock = &self.locks[at];
+        self.parts[at].write(rt, lock, number, Op::Touch, key, &[])
+    }
 }
 
 impl<'a, J: ServerPlan, P: LendPartition<Reader = ReaderSeat, Note = Note> + Drop> Glances
     for LockedFront<'a, J, P> {
     fn glance(&self, partition: u32, place: u64, key: &mut ItemBuf, head: &mut ItemBuf) -> Glimpse {
         seat_loads::glance(&self.parts[partition as usize].seat, place, key, head)
+    }
+
+    fn glance_old(&self, hash: u64, key: &mut ItemBuf) -> bool {
+        let part = &self.parts[partition_of(hash, self.options.partitions) as usize];
+        match self.options.mode {
+            Mode::Cache => seat_loads::glance_old(&part.seat, part.newest, hash, key),
+            Mode::Store => false,
+        }
     }
 }

@@ -7,6 +7,7 @@ ghost use Rattle.memcached_fronts.specs.Counting.{count_of_accepted, noted_if, t
 ghost use Rattle.memcached_fronts.specs.Going.{AnswersAt, ask_text, value_found};
 
 use crate::buffers::Buffers;
+use crate::noted::Noted;
 use crate::plain::Style;
 use memcached_changes::CommandOrder;
 use memcached_commands::{Asked, Says, put_last, put_part};
@@ -59,17 +60,25 @@ fn count_of_accepted(outcome: Outcome) -> u64
     if outcome.is_accepted() { 1 } else { 0 }
 }
 
-// Notes what a write left of its partition, where one was made.
-fn note_write(tally: &mut Tally, partitions: u32, key: &[u8], changed: &Changed)
-    ensures { tally.new ≡ noted_if partitions key.now changed.now.when changed.now.outcome changed.now.stamp tally.old }
+// Notes what a write left of its partition, where one was made, and what it leaves for the next sweep.
+fn note_write(
+    tally: &mut Tally,
+    noted: &mut Noted,
+    partitions: u32,
+    asked: &Asked,
+    changed: &Changed,
+)
+    ensures { tally.new ≡ noted_if partitions asked.now.key changed.now.when changed.now.outcome changed.now.stamp tally.old }
 {
     if let Some(outcome) = changed.outcome {
         let writes = changed
             .when
             .written
             .saturating_add(count_of_accepted(outcome));
-        let partition = partition_of(key_hash(key), partitions.max(1));
+        let hash = key_hash(asked.key.bytes());
+        let partition = partition_of(hash, partitions.max(1));
         tally.note(partition, writes, changed.stamp);
+        noted.note(&asked.ask, hash, partition, outcome);
     }
 }
 
@@ -104,6 +113,7 @@ pub fn answer_ask<R: Threads + Wait + Sync, F: Changes, C: Clock>(
     let Buffers {
         found,
         next,
+        noted,
         tally,
         ..
     } = buffers;
@@ -114,6 +124,6 @@ pub fn answer_ask<R: Threads + Wait + Sync, F: Changes, C: Clock>(
     let stored = value_found(changed.found, found);
     let says = order.says(changed.when, stored, changed.outcome);
     tally.count(counter_of(&asked.ask, &says));
-    note_write(tally, partitions, key, &changed);
+    note_write(tally, noted, partitions, asked, &changed);
     put_said(out, style, is_last, key, &says)
 }

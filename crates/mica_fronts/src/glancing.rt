@@ -1,6 +1,7 @@
 //! A front that tells what stands in an index.
-ghost use Rattle.std.specs.Prelude.{◌≡◌, ◌<◌};
+ghost use Rattle.std.specs.Prelude.{◌≡◌, ◌<◌, true};
 ghost use Rattle.mica_words.specs.Item.{KeyFits};
+ghost use Rattle.partition_model.specs.declared.options.Mode.TheVariants.{Cache};
 
 use crate::counting::Counts;
 use partition_model::ItemBuf;
@@ -21,4 +22,10 @@ pub trait Glances: Counts {
     fn glance(&self, partition: u32, place: u64, key: &mut ItemBuf, head: &mut ItemBuf) -> Glimpse
         requires partition { partition < (Self.options self.now).partitions }
         ensures key { result ≡ Glimpse.Item → KeyFits key.new };
+
+    /// Loads the key of an item with this hash, if that item is old: more than half of its partition's log was written behind it. Nothing rests on what it finds. In store
+    /// mode, which has no log, it finds none.
+    fn glance_old(&self, hash: u64, key: &mut ItemBuf) -> bool
+        ensures key { result ≡ true → KeyFits key.new }
+        ensures mode { result ≡ true → (Self.options self.now).mode ≡ Cache };
 }

@@ -40,7 +40,7 @@ pub record IsDone (options : Options) (base : ℕ) (log : Log) (all : List Given
 -- connections there was no memory, as many as were counted. Where the end came, and calls can move bytes at all, the front is done.
 pub record AnswersClients (options : Options) (is_alone : Bool) (base most : ℕ) (old new : FrontAt) (log : Log) (all : List Given) : Type 0 where
   pub answers : List Answered
-  pub sweeps : HasSweeps base (answers_in all) answers
+  pub sweeps : HasSweeps options base (answers_in all) answers
   pub in_order : AnswersInOrder options is_alone old.sessions answers new.sessions
   pub seconds : ToldFrom old.second (seconds_of answers) new.second
   pub few : old.left ≤ new.left + count_of_writes answers

@@ -172,7 +172,7 @@ fn serve_event<R: Threads + Wait + Sync, F: Counts, K: Clock, C: Connections>(
 }
 
 /// Serves the connections of a port, to its end, or until the front may be given fewer writes than one command may need. A connection that there is no memory for is closed,
-/// and `lacked` counts it. What the front counts is shown in this place of the board. After each report it sweeps a few places of the partitions.
+/// and `lacked` counts it. What the front counts is shown in this place of the board. After each report it sweeps a few places of the partitions, and touches old items that were used.
 #[tactic(auto, using(crate::proofs::Going::by_none))]
 pub fn serve_connections<R: Threads + Wait + Sync, F: Glances, K: Clock, C: Connections>(
     rt: &R,
@@ -203,7 +203,7 @@ pub fn serve_connections<R: Threads + Wait + Sync, F: Glances, K: Clock, C: Conn
     ensures stands { F.stands front.new ≡ F.stands front.old }
 {
     let mut desk = Desk::new(alloc, board, place)?;
-    let mut sweeper = Sweeper::new(alloc)?;
+    let mut sweeper = Sweeper::new(alloc, numbering.partitions)?;
     let mut clients = Clients::new(alloc);
     let least = LIMITS.asks as u64 + u64::from(numbering.partitions);
     for _ in rt.forever() {
@@ -228,7 +228,8 @@ pub fn serve_connections<R: Threads + Wait + Sync, F: Glances, K: Clock, C: Conn
         count_event(event, count, &mut desk.buffers.tally);
         desk.buffers.show();
         let most = front.writes_left();
-        sweep(rt, front, clock, numbering, most, &mut sweeper);
+        let noted = &mut desk.buffers.noted;
+        sweep(rt, front, clock, numbering, most, noted, &mut sweeper);
     }
     Ok(())
 }
