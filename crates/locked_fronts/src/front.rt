@@ -149,10 +149,11 @@ impl<'a, J: ServerPlan, P: LendPartition<Reader = ReaderSeat, Note = Note> + Dro
         found: &mut ItemBuf,
         next: &mut ItemBuf,
     ) -> Changed {
-        let number = partition_of(key_hash(key), self.options.partitions);
+        let hash = key_hash(key);
+        let number = partition_of(hash, self.options.partitions);
         let at = number as usize;
         let lock = &self.locks[at];
-        self.parts[at].change(rt, lock, number, second, key, decide, found, next)
+        self.parts[at].change(rt, lock, number, second, key, hash, decide, found, next)
     }
 
     fn delete<R: Threads + Wait + Sync>(&mut self, rt: &R, key: &[u8]) -> (Outcome, u64) {
