@@ -179,8 +179,8 @@ module _ (plan : Plan) (old : Owned) (owner : OwnerState) (home : TableId) (book
   run_is : run_in book.entries ≡ steps ++ one ∷ []
   run_is = ap (λ (b : BookView Step). run_in b.entries) book_is ∙ map-append (λ (e : Entry Step). run_step e.what) old.book.entries (entry taker.number (step_by write outcome learned) ∷ [])
 
-  run_longer : IsRunFrom plan.options (plan.begun old.number) (steps ++ one ∷ [])
-  run_longer = run-append plan.options (plan.begun old.number) steps (one ∷ []) law.run (
+  run_longer : IsRunFrom plan.options (plan.origin old.number) (steps ++ one ∷ [])
+  run_longer = run-append plan.options (plan.origin old.number) steps (one ∷ []) law.run (
     subst (λ h. MayGive plan.options h write outcome) law.history may,
     stamp_is ∙ ap (λ h. stamp_of plan.options (h ++ history_of (one ∷ []))) law.history,
     tt,
@@ -194,9 +194,9 @@ module _ (plan : Plan) (old : Owned) (owner : OwnerState) (home : TableId) (book
     shape = shape;
     idle = step.idle;
     closed = ap (λ (o : OwnerState). o.closed) gains ∙ law.closed;
-    run = subst (λ (l : List RunStep). IsRunFrom plan.options (plan.begun old.number) l) (sym run_is) run_longer;
-    history = longer ∙ ap (λ h. h ++ history_of (one ∷ [])) law.history ∙ append_assoc (plan.begun old.number) (history_of steps) (history_of (one ∷ []))
-        ∙ ap (λ h. plan.begun old.number ++ h) (sym (history-append steps (one ∷ [])) ∙ ap history_of (sym run_is));
+    run = subst (λ (l : List RunStep). IsRunFrom plan.options (plan.origin old.number) l) (sym run_is) run_longer;
+    history = longer ∙ ap (λ h. h ++ history_of (one ∷ [])) law.history ∙ append_assoc (plan.origin old.number) (history_of steps) (history_of (one ∷ []))
+        ∙ ap (λ h. plan.origin old.number ++ h) (sym (history-append steps (one ∷ [])) ∙ ap history_of (sym run_is));
   }
 
   pub takes : (after : TakerView Step) → after ≡ taker_view taker.table taker.number (taker.mine ++ step_by write outcome learned ∷ [])

@@ -61,8 +61,8 @@ pub record IsOwned (plan : Plan) (owned : Owned) : Type 0 where
   pub shape : owned.owner.shape ≡ shape_of plan.options
   pub idle : owned.owner.phase ≡ Idle
   pub closed : owned.owner.closed ≡ 0
-  pub run : IsRunFrom plan.options (plan.begun owned.number) (run_in owned.book.entries)
-  pub history : owned.owner.history ≡ plan.begun owned.number ++ history_of (run_in owned.book.entries)
+  pub run : IsRunFrom plan.options (plan.origin owned.number) (run_in owned.book.entries)
+  pub history : owned.owner.history ≡ plan.origin owned.number ++ history_of (run_in owned.book.entries)
 
 -- notes are those of a partition's table
 abbrev pub NotesAre : {N : Type 0} → (N → ReaderState) → (N → TableId) → (N → ReaderState) → (N → TableId) → Type 0

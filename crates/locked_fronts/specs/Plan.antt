@@ -11,7 +11,7 @@ pub record Plan : Type 0 where
   pub fronts : ℕ
   pub books : ℕ → TableId
   pub homes : ℕ → TableId
-  pub begun : ℕ → History
+  pub origin : ℕ → History
 
 -- a plan for nothing, which each run replaces by its own
 abbrev pub no_table : TableId
@@ -23,5 +23,5 @@ no_plan = record {
   fronts = 0;
   books = λ _. no_table;
   homes = λ _. no_table;
-  begun = λ _. [];
+  origin = λ _. [];
 }

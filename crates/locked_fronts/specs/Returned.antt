@@ -22,7 +22,7 @@ pub record IsNew (plan : Plan) (number : ℕ) (home : TableId) (owner : OwnerSta
   pub shape : owner.shape ≡ shape_of plan.options
   pub idle : owner.phase ≡ Idle
   pub closed : owner.closed ≡ 0
-  pub history : owner.history ≡ plan.begun number
+  pub history : owner.history ≡ plan.origin number
 
 -- the machine's steps, each with its front
 abbrev pub placed_in : List (Entry Step) → List Placed

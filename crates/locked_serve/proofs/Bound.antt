@@ -75,8 +75,8 @@ module _ (says : Others → Option (Result Totals ServeFault) → Type 0) (leave
     }
 
     -- all fronts were served
-    module _ {begun : ℕ → History} {batches : ℕ} {kept : List KeptSeat} {ends_before ends_after : List EndFacts} {news : List StreamFacts} (full : length heard ≡ streams.fronts) where
-      are : {answer : Result Totals ServeFault} (b : ServesBeside options begun batches base clocks answer kept ends_before ends_after heard news)
+    module _ {origin : ℕ → History} {batches : ℕ} {kept : List KeptSeat} {ends_before ends_after : List EndFacts} {news : List StreamFacts} (full : length heard ≡ streams.fronts) where
+      are : {answer : Result Totals ServeFault} (b : ServesBeside options origin batches base clocks answer kept ends_before ends_after heard news)
           → AreStreams options base streams before.ports clocks b.answers heard news
       are b = record {
         are_new = new;
@@ -86,12 +86,12 @@ module _ (says : Others → Option (Result Totals ServeFault) → Type 0) (leave
         unheard = λ k own at past. absurd (let low = slice_get_within b.answers k own at in omega (arith, low, past, b.many));
       }
 
-      pub came_ok : (totals : Totals) (b : ServesBeside options begun batches base clocks (Ok totals) kept ends_before ends_after heard news)
+      pub came_ok : (totals : Totals) (b : ServesBeside options origin batches base clocks (Ok totals) kept ends_before ends_after heard news)
           → leaves news → says (others_of b.answers heard news) (Some (Ok totals)) → ComesBeside says leaves (Ok totals) options base streams clocks before after
       came_ok totals b left said =
           record { answers = b.answers; olds = heard; news = news; are = are b; left = left; all = full; came = Some (Ok totals); came_is = refl; unserved = tt; said = said }
 
-      pub came_err : (fault : ServeFault) (b : ServesBeside options begun batches base clocks (Err fault) kept ends_before ends_after heard news)
+      pub came_err : (fault : ServeFault) (b : ServesBeside options origin batches base clocks (Err fault) kept ends_before ends_after heard news)
           → leaves news → says (others_of b.answers heard news) (Some (Err fault)) → ComesBeside says leaves (Err (Fault fault)) options base streams clocks before after
       came_err fault b left said =
           record { answers = b.answers; olds = heard; news = news; are = are b; left = left; all = tt; came = Some (Err fault); came_is = came_to_fault before.faults after.faults fault; unserved = tt; said = said }

@@ -18,13 +18,13 @@ use Rattle.epoch_core.specs.OwnerState.{as_made, options_in}
 use Rattle.epoch_core.specs.OwnerStep.{IsOwnerStep}
 use Rattle.epoch_core.specs.Shape.{shape_of}
 use Rattle.epoch_core.proofs.SameMachine.{same_may_give}
-use Rattle.locked_serve.specs.Filled.{begun_by, RefusesFilling, IsFilledOwner}
+use Rattle.locked_serve.specs.Filled.{origin_of, RefusesFilling, IsFilledOwner}
 
 module _ (options : Options) (p : ℕ) where
   -- the partition accepted those of these writes that are its own
   pub record FilledBy (writes : List Write) (owner : OwnerState) : Type 0 where
     pub filled : IsFilledOwner options owner
-    pub begun : owner.history ≡ begun_by options writes p
+    pub origin : owner.history ≡ origin_of options writes p
 
   -- what a write may do to the owner of the partition where it is its own, and where it is not
   abbrev Own : Write → OwnerState → OwnerState → Bool → Type 0
@@ -34,7 +34,7 @@ module _ (options : Options) (p : ℕ) where
   Other write old new kept = partition_of write.key options.partitions ≢ p → (kept ≡ true) × (new ≡ old)
 
   pub filled_none : (owner : OwnerState) → owner ≡ as_made (shape_of options) → FilledBy [] owner
-  filled_none owner is = subst (FilledBy []) (sym is) (record { filled = record { accepted = tt; state = refl }; begun = refl })
+  filled_none owner is = subst (FilledBy []) (sym is) (record { filled = record { accepted = tt; state = refl }; origin = refl })
 
   may_give : (old : OwnerState) (write : Write) (outcome : Outcome) → IsFilledOwner options old → MayGive (options_in old) old.history write outcome → MayGive options old.history write outcome
   may_give old write outcome filled may =
@@ -55,9 +55,9 @@ module _ (options : Options) (p : ℕ) where
       )
 
   own_more : (writes : List Write) (write : Write) (b : Bool) → eqb (partition_of write.key options.partitions) p ≡ b
-      → begun_by options (writes ++ write ∷ []) p ≡ begun_by options writes p ++ cond b (write ∷ []) []
+      → origin_of options (writes ++ write ∷ []) p ≡ origin_of options writes p ++ cond b (write ∷ []) []
   own_more writes write b is =
-      filter-append (λ w. eqb (partition_of w.key options.partitions) p) writes (write ∷ []) ∙ ap (λ c. begun_by options writes p ++ cond c (write ∷ []) []) is
+      filter-append (λ w. eqb (partition_of w.key options.partitions) p) writes (write ∷ []) ∙ ap (λ c. origin_of options writes p ++ cond c (write ∷ []) []) is
 
   pub filled_more : (writes : List Write) (write : Write) (old new : OwnerState) → FilledBy writes old → Own write old new true → Other write old new true
       → FilledBy (writes ++ write ∷ []) new
@@ -67,12 +67,12 @@ module _ (options : Options) (p : ℕ) where
       by true is =
           let step = own (eqb-true (partition_of write.key options.partitions) p is) in
           let next = stepped old new write step.0 so_far.filled step.1 step.2 in
-          record { filled = next.0; begun = next.1 ∙ ap (λ (h : History). h ++ write ∷ []) so_far.begun ∙ sym (own_more writes write true is) }
+          record { filled = next.0; origin = next.1 ∙ ap (λ (h : History). h ++ write ∷ []) so_far.origin ∙ sym (own_more writes write true is) }
       by false is =
           let same = (other (λ e. absurd (true≢false (sym (eq-eqb _ _ e) ∙ is)))).1 in
           record {
             filled = subst (IsFilledOwner options) (sym same) so_far.filled;
-            begun = ap (λ (s : OwnerState). s.history) same ∙ so_far.begun ∙ sym (own_more writes write false is ∙ append-nil (begun_by options writes p));
+            origin = ap (λ (s : OwnerState). s.history) same ∙ so_far.origin ∙ sym (own_more writes write false is ∙ append-nil (origin_of options writes p));
           }
 
   -- a write that was not done was refused
@@ -84,7 +84,7 @@ module _ (options : Options) (p : ℕ) where
       by true is =
           let here = eqb-true (partition_of write.key options.partitions) p is in
           let step = own here in
-          let history : old.history ≡ begun_by options before (partition_of write.key options.partitions) = so_far.begun ∙ ap (begun_by options before) (sym here) in
+          let history : old.history ≡ origin_of options before (partition_of write.key options.partitions) = so_far.origin ∙ ap (origin_of options before) (sym here) in
           record {
             before = before;
             write = write;
@@ -107,10 +107,10 @@ split_at writes k write is =
     sym (take-append-drop (k + 1) writes) ∙ ap (λ (l : List Write). l ++ drop (k + 1) writes) (taken_more writes k write is)
     ∙ append_assoc (take k writes) (write ∷ []) (drop (k + 1) writes)
 
-pub none_there : (options : Options) → 1 ≤ options.partitions → (p : ℕ) → options.partitions ≤ p → (writes : List Write) → begun_by options writes p ≡ []
+pub none_there : (options : Options) → 1 ≤ options.partitions → (p : ℕ) → options.partitions ≤ p → (writes : List Write) → origin_of options writes p ≡ []
 none_there options some p past [] = refl
 none_there options some p past (write ∷ writes) = by (eqb (partition_of write.key options.partitions) p) refl (none_there options some p past writes)
   where
-    by : (b : Bool) → eqb (partition_of write.key options.partitions) p ≡ b → begun_by options writes p ≡ [] → cond b (write ∷ begun_by options writes p) (begun_by options writes p) ≡ []
+    by : (b : Bool) → eqb (partition_of write.key options.partitions) p ≡ b → origin_of options writes p ≡ [] → cond b (write ∷ origin_of options writes p) (origin_of options writes p) ≡ []
     by true is rest = absurd (omega (arith, eqb-true (partition_of write.key options.partitions) p is, partition_of-below write.key options.partitions some))
     by false is rest = rest

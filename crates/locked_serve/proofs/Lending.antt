@@ -29,7 +29,7 @@ enrolled v = record v { book = book_view v.book.table (v.book.takers + 1) v.book
 one_more : (plan : Plan) (k p : ℕ) (old : FilledView) → IsPlanned plan k p old → IsPlanned plan (k + 1) p (enrolled old)
 one_more plan k p old was = record {
   owner = was.owner;
-  begun = was.begun;
+  origin = was.origin;
   home = was.home;
   book = ap (λ (b : BookView Step). book_view b.table (b.takers + 1) b.entries) was.book;
   flushes = was.flushes;
@@ -56,7 +56,7 @@ lent_part plan k p old new part was lends = record {
   none = ap (λ (t : TakerView Step). t.mine) lends.taker;
   unanswered = lends.unanswered;
   closed = ap (λ (r : ReaderState). r.closed) lends.seat;
-  seen = ap (λ (r : ReaderState). r.seen) lends.seat ∙ was.begun;
+  seen = ap (λ (r : ReaderState). r.seen) lends.seat ∙ was.origin;
 }
 
 -- the first p partitions lent a front its parts
@@ -107,7 +107,7 @@ new_desk plan p filled of = record {
   shape = ap (λ (o : OwnerState). o.shape) of.owner.state;
   idle = ap (λ (o : OwnerState). o.phase) of.owner.state;
   closed = ap (λ (o : OwnerState). o.closed) of.owner.state;
-  history = of.begun;
+  history = of.origin;
 }
 
 -- the first of those that are left

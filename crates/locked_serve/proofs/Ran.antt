@@ -55,7 +55,7 @@ AreHands plan hands = (f : ℕ) (parts : List LockedPart) → slice_get hands f 
 -- What the fronts had when they were opened and have after they ran, and the partitions as they were taken back and after they took in all of that.
 pub record HaveRan (plan : Plan) (olds news : List (List LockedPart)) (lefts afters : List Owned) : Type 0 where
   pub some : 1 ≤ length news
-  pub filled : (p : ℕ) → p < plan.options.partitions → IsHistory plan.options (plan.begun p)
+  pub filled : (p : ℕ) → p < plan.options.partitions → IsHistory plan.options (plan.origin p)
   pub opened : AreNewHands plan 0 plan.fronts olds
   pub same : length news ≡ length olds
   pub are : AreHands plan news
@@ -99,11 +99,11 @@ module _ {plan : Plan} {olds news : List (List LockedPart)} {lefts afters : List
   left_of p low = let l = element_at lefts p (omega (arith, low, all.many)) in (l.0, left_at p l.0 l.1)
 
   -- its history is its run
-  history_run : {p : ℕ} {left : Owned} → LeftAt p left → left.owner.history ≡ plan.begun p ++ history_in (placed p)
+  history_run : {p : ℕ} {left : Owned} → LeftAt p left → left.owner.history ≡ plan.origin p ++ history_in (placed p)
   history_run {p} {left} l =
-      l.is.history ∙ (λ i. plan.begun (l.number i) ++ history_of (sym (steps_in_run left.book.entries) i)) ∙ ap (λ (q : List Placed). plan.begun p ++ history_in q) (sym l.placed_is)
+      l.is.history ∙ (λ i. plan.origin (l.number i) ++ history_of (sym (steps_in_run left.book.entries) i)) ∙ ap (λ (q : List Placed). plan.origin p ++ history_in q) (sym l.placed_is)
 
-  pub taken_hand : {f : ℕ} {new : List LockedPart} (a : HandAt f new) (answer : Result Totals ServeFault) → IsTakenIn plan.options plan.begun placed f (run_of a.old answer new)
+  pub taken_hand : {f : ℕ} {new : List LockedPart} (a : HandAt f new) (answer : Result Totals ServeFault) → IsTakenIn plan.options plan.origin placed f (run_of a.old answer new)
   taken_hand {f} {new} a answer = record {
     starts = λ p low.
         let o = old_part p low in
@@ -113,7 +113,7 @@ module _ {plan : Plan} {olds news : List (List LockedPart)} {lefts afters : List
     seen = λ p low.
         let x = new_part p low in
         let l = left_of p low in
-        subst (λ (s : Session). IsPrefix s.seen (plan.begun p ++ history_in (placed p))) (sym (ap session_or_none x.1))
+        subst (λ (s : Session). IsPrefix s.seen (plan.origin p ++ history_in (placed p))) (sym (ap session_or_none x.1))
         (subst (IsPrefix (reader_state x.0.seat).seen) (history_run l.1) (from x.0 p l.0 x.1 l.1.at).seen);
     took = λ p told low told_is.
         let x = new_part p low in
@@ -175,14 +175,14 @@ module _ {plan : Plan} {olds news : List (List LockedPart)} {lefts afters : List
   idle p after at = let l = after_at p after at in l.2.phase ∙ l.1.is.idle
 
   -- each partition's machine ran on the fronts' writes alone
-  pub runs_all : RunsPartitions plan.options plan.begun plan.fronts placed
+  pub runs_all : RunsPartitions plan.options plan.origin plan.fronts placed
   runs_all = record {
     filled = all.filled;
     run = λ p low.
         let l = left_of p low in
-        subst (λ (q : List Placed). IsRunFrom plan.options (plan.begun p) (steps_in q)) (sym l.1.placed_is)
-        (subst (IsRunFrom plan.options (plan.begun p)) (sym (steps_in_run l.0.book.entries))
-        (subst (λ q. IsRunFrom plan.options (plan.begun q) (run_in l.0.book.entries)) l.1.number l.1.is.run));
+        subst (λ (q : List Placed). IsRunFrom plan.options (plan.origin p) (steps_in q)) (sym l.1.placed_is)
+        (subst (IsRunFrom plan.options (plan.origin p)) (sym (steps_in_run l.0.book.entries))
+        (subst (λ q. IsRunFrom plan.options (plan.origin q) (run_in l.0.book.entries)) l.1.number l.1.is.run));
     no_others = λ p low.
         let l = left_of p low in
         let n = element_at news 0 (omega (arith, all.some)) in
@@ -199,7 +199,7 @@ module _ {plan : Plan} {olds news : List (List LockedPart)} {lefts afters : List
     shapes = λ p entry at. let k = kept_at p entry at in sym (ap (λ (e : KeptSeat). e.shape) k.4) ∙ k.3.shape ∙ k.2.is.shape;
   }
 
-  pub histories : (p : ℕ) (entry : KeptSeat) → slice_get kept p ≡ Some entry → entry.history ≡ plan.begun p ++ history_in (placed p)
+  pub histories : (p : ℕ) (entry : KeptSeat) → slice_get kept p ≡ Some entry → entry.history ≡ plan.origin p ++ history_in (placed p)
   histories p entry at = let k = kept_at p entry at in sym (ap (λ (e : KeptSeat). e.history) k.4) ∙ k.3.history ∙ history_run k.2
 
   pub closes : (p : ℕ) (entry : KeptSeat) → slice_get kept p ≡ Some entry → entry.closed ≡ sum_by (closed_at p) news

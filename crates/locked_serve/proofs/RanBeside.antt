@@ -123,15 +123,15 @@ module _ {C K : Type 0} (plan : Plan) (facts : C → StreamFacts) (last : K → 
   module _ (some : 1 ≤ plan.options.partitions) (others others_news : List (List LockedPart)) {lefts afters : List Owned}
       (all : HaveRan plan (map stream_hand olds ++ others) (map stream_hand news ++ others_news) lefts afters) where
     one_beside : (k : ℕ) (own : List Answered) (s : StreamAt k own)
-        → AnsweredBeside plan.options plan.begun (placed all) k own (sessions_of s.old.parts.items) (sessions_of s.new.parts.items)
+        → AnsweredBeside plan.options plan.origin (placed all) k own (sessions_of s.old.parts.items) (sessions_of s.new.parts.items)
     one_beside k own s =
         let a = hand_at all k s.new.parts.items (at_left (map stream_hand news) others_news k s.new.parts.items (at_map stream_hand news k s.new s.is)) in
         let same : a.old ≡ s.old.parts.items =
         same_Some _ _ (sym a.old_at ∙ at_left (map stream_hand olds) others k s.old.parts.items (at_map stream_hand olds k s.old s.was)) in
-        let t = subst (λ (l : List LockedPart). IsTakenIn plan.options plan.begun (placed all) k (run_of l (Err Net) s.new.parts.items)) same (taken_hand all a (Err Net)) in
+        let t = subst (λ (l : List LockedPart). IsTakenIn plan.options plan.origin (placed all) k (run_of l (Err Net) s.new.parts.items)) same (taken_hand all a (Err Net)) in
         record { answers = s.run.in_order; starts = t.starts; began = t.began; seen = t.seen; took = t.took; few = omega (arith, t.sent, s.run.few) }
 
-    pub streams_beside : AreAnsweredBeside plan.options plan.begun (placed all) answers
+    pub streams_beside : AreAnsweredBeside plan.options plan.origin (placed all) answers
     streams_beside k own at = let s = all_at.2 k own at in (sessions_of s.old.parts.items, sessions_of s.new.parts.items, one_beside k own s)
 
     -- their seats closed one try for each get
@@ -142,7 +142,7 @@ module _ {C K : Type 0} (plan : Plan) (facts : C → StreamFacts) (last : K → 
         let s = all_at.2 k own own_at in
         let same : s.new.parts.items ≡ parts = same_Some _ _ (sym (at_map stream_hand news k s.new s.is) ∙ at) in
         closed_told p parts ∙ ap (λ (l : List LockedPart). closed_of (sessions_of l p).told) (sym same)
-        ∙ closed_gets plan.options some plan.begun (placed all) k own (sessions_of s.old.parts.items) (sessions_of s.new.parts.items) (one_beside k own s) p low)
+        ∙ closed_gets plan.options some plan.origin (placed all) k own (sessions_of s.old.parts.items) (sessions_of s.new.parts.items) (one_beside k own s) p low)
 
 -- Fronts of datagrams
 
@@ -225,7 +225,7 @@ module _ {D : Type 0} (plan : Plan) (batches : ℕ) (facts : D → EndFacts) (fi
   -- beside all others, which come before them in number
   module _ (others others_news : List (List LockedPart)) {lefts afters : List Owned} (all : HaveRan plan (others ++ map hand_of olds) (others_news ++ map hand_of news) lefts afters)
       (many : length others ≡ first) (many_news : length others_news ≡ first) where
-    pub fronts_taken : (f : ℕ) (run : FrontRun) → slice_get runs f ≡ Some run → IsTakenIn plan.options plan.begun (placed all) (first + f) run
+    pub fronts_taken : (f : ℕ) (run : FrontRun) → slice_get runs f ≡ Some run → IsTakenIn plan.options plan.origin (placed all) (first + f) run
     fronts_taken f run at =
         let n = front_of f run at in
         let own = at_map hand_of news f n.0 n.1.is in
@@ -236,7 +236,7 @@ module _ {D : Type 0} (plan : Plan) (batches : ℕ) (facts : D → EndFacts) (fi
         (at_right others (map hand_of olds) f n.1.old.parts.items (at_map hand_of olds f n.1.old n.1.was)) in
         let a = hand_at all (first + f) n.0.parts.items here in
         let same : a.old ≡ n.1.old.parts.items = same_Some _ _ (sym a.old_at ∙ there) in
-        subst (IsTakenIn plan.options plan.begun (placed all) (first + f)) (ap (λ (l : List LockedPart). run_of l n.0.answer n.0.parts.items) same ∙ n.2) (taken_hand all a n.0.answer)
+        subst (IsTakenIn plan.options plan.origin (placed all) (first + f)) (ap (λ (l : List LockedPart). run_of l n.0.answer n.0.parts.items) same ∙ n.2) (taken_hand all a n.0.answer)
 
 -- Both
 
@@ -266,7 +266,7 @@ module _ {C K D : Type 0} (plan : Plan) (some : 1 ≤ plan.options.partitions) (
   fronts_long =
       omega (arith, all.opened.many, length-append (map stream_hand stream_olds) (map hand_of olds), length-map stream_olds stream_hand, length-map olds hand_of)
 
-  pub ran_beside : RanBeside plan.options plan.begun batches base (map (λ (t : StreamTask C K). last t.clock) stream_olds) (kept all) (map (λ (t : StreamTask C K). t.answer) stream_news)
+  pub ran_beside : RanBeside plan.options plan.origin batches base (map (λ (t : StreamTask C K). last t.clock) stream_olds) (kept all) (map (λ (t : StreamTask C K). t.answer) stream_news)
       (map (λ (t : FrontTask D). t.answer) news) (map (λ (t : FrontTask D). facts t.end) olds) (map (λ (t : FrontTask D). facts t.end) news)
       (map (λ (t : StreamTask C K). stream_facts t.port) stream_olds) (map (λ (t : StreamTask C K). stream_facts t.port) stream_news)
   ran_beside = record {
@@ -280,10 +280,10 @@ module _ {C K D : Type 0} (plan : Plan) (some : 1 ≤ plan.options.partitions) (
       run = run_fronts plan batches facts (length stream_olds) olds news ran;
       taken = record {
         runs = placed all;
-        ran = subst (λ n. RunsPartitions plan.options plan.begun n (placed all))
+        ran = subst (λ n. RunsPartitions plan.options plan.origin n (placed all))
             (omega (arith, fronts_long, own_many, runs_long plan batches facts (length stream_olds) olds news ran, ran.0)) (runs_all all);
         before = streams_beside plan stream_facts last base stream_olds stream_news streams some (map hand_of olds) (map hand_of news) all;
-        each = λ f run at. subst (λ n. IsTakenIn plan.options plan.begun (placed all) (n + f) run) (sym own_many)
+        each = λ f run at. subst (λ n. IsTakenIn plan.options plan.origin (placed all) (n + f) run) (sym own_many)
             (fronts_taken plan batches facts (length stream_olds) olds news ran (map stream_hand stream_olds) (map stream_hand stream_news) all (length-map stream_olds stream_hand)
             (length-map stream_news stream_hand ∙ streams.0) f run at);
         shapes = shapes all;

@@ -1,19 +1,19 @@
 -- Ports that were let go, one after another.
 use Rattle.std.proofs.Common.{◌≡◌, ◌≤◌, List, [], ◌∷◌, ◌++◌, length, Option, None, Some, refl, sym, ap, ◌∙◌, subst, arith}
 use Rattle.std.specs.Prelude.{option_map}
-use Rattle.stream_io.specs.Ports.{Ports, with_port}
+use Rattle.stream_io.specs.PortLogs.{PortLogs, with_port}
 use Rattle.stream_fronts.specs.declared.ports.StreamPorts.{StreamPorts}
 use Rattle.locked_serve.specs.Streams.{StreamFacts, ListenFacts, LeavesOthers, KeepsListeners, ReleasesStreams, with_ports}
 
-pub none_released : (all : Option Ports) → all ≡ option_map (with_ports []) all
+pub none_released : (all : Option PortLogs) → all ≡ option_map (with_ports []) all
 none_released None = refl
 none_released (Some all) = refl
 
-with_one : (streams : List StreamFacts) (stream : StreamFacts) (all : Ports) → with_port stream.port stream.log (with_ports streams all) ≡ with_ports (streams ++ stream ∷ []) all
+with_one : (streams : List StreamFacts) (stream : StreamFacts) (all : PortLogs) → with_port stream.port stream.log (with_ports streams all) ≡ with_ports (streams ++ stream ∷ []) all
 with_one [] stream all = refl
 with_one (first ∷ streams) stream all = with_one streams stream (with_port first.port first.log all)
 
-pub one_released : (streams : List StreamFacts) (stream : StreamFacts) (all : Option Ports)
+pub one_released : (streams : List StreamFacts) (stream : StreamFacts) (all : Option PortLogs)
     → option_map (with_port stream.port stream.log) (option_map (with_ports streams) all) ≡ option_map (with_ports (streams ++ stream ∷ [])) all
 one_released streams stream None = refl
 one_released streams stream (Some all) = ap Some (with_one streams stream all)

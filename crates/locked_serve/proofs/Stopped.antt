@@ -6,7 +6,7 @@ use Rattle.partition_model.specs.declared.options.Options.{Options}
 use Rattle.partition_model.specs.declared.write.Write.{Write}
 use Rattle.partition_model.specs.History.{History}
 use Rattle.partition_table.specs.declared.tables.KeptSeat.{KeptSeat}
-use Rattle.mica_fronts.specs.declared.ports.Ports.{Ports as PortOptions}
+use Rattle.mica_fronts.specs.declared.ports.PortOptions.{PortOptions}
 use Rattle.mica_fronts.specs.declared.totals.Totals.{Totals}
 use Rattle.mica_fronts.specs.declared.totals.ServeFault.{ServeFault}
 use Rattle.mica_fronts.specs.declared.totals.ServeFault.TheVariants.{Net, NoMemory}
@@ -16,7 +16,7 @@ use Rattle.locked_serve.specs.declared.filling.OpenFault.{OpenFault}
 use Rattle.locked_serve.specs.declared.filling.OpenFault.TheVariants as open_fault
 use Rattle.locked_serve.specs.declared.stop.Stop.{Stop}
 use Rattle.locked_serve.specs.declared.stop.Stop.TheVariants.{Refused, Unannounced, Fault}
-use Rattle.locked_serve.specs.Filled.{begun_by, RefusesFilling}
+use Rattle.locked_serve.specs.Filled.{origin_of, RefusesFilling}
 use Rattle.locked_serve.specs.Streams.{StreamFacts, ListenFacts}
 use Rattle.locked_serve.specs.Causes.{PortFacts, HasPorts, LacksPort, CameTo, ComesBeside, HasCause, stop_of, IsCauseOfStop, HasAnnounced}
 use Rattle.locked_serve.proofs.Released.{none_released}
@@ -66,9 +66,9 @@ says_then {answer = answer} {before = before} same gone then it = record {
 }
 
 -- there was no memory before any port was bound
-pub no_memory : (options : Options) (begun : ℕ → History) (base : ℕ) (ports : PortOptions) (streams : StreamPorts) (clocks : List ℕ) (kept : List KeptSeat) (all : PortFacts) → kept ≡ []
-    → HasCause (Err (Fault NoMemory)) options begun base ports streams clocks kept all all
-no_memory options begun base ports streams clocks kept all none = record {
+pub no_memory : (options : Options) (origin : ℕ → History) (base : ℕ) (ports : PortOptions) (streams : StreamPorts) (clocks : List ℕ) (kept : List KeptSeat) (all : PortFacts) → kept ≡ []
+    → HasCause (Err (Fault NoMemory)) options origin base ports streams clocks kept all all
+no_memory options origin base ports streams clocks kept all none = record {
   answers = no_answers streams.fronts;
   olds = [];
   news = [];
@@ -83,7 +83,7 @@ no_memory options begun base ports streams clocks kept all none = record {
 
 -- a server that these writes filled
 pub cause_filled : (options : Options) (writes : List Write) (base : ℕ) (ports : PortOptions) (streams : StreamPorts) (clocks : List ℕ) (kept : List KeptSeat) (before after : PortFacts)
-    (answer : Result Totals Stop) → answer ≢ Err Refused → HasCause answer options (begun_by options writes) base ports streams clocks kept before after
+    (answer : Result Totals Stop) → answer ≢ Err Refused → HasCause answer options (origin_of options writes) base ports streams clocks kept before after
     → IsCauseOfStop answer options writes base ports streams clocks kept before after
 cause_filled options writes base ports streams clocks kept before after (Ok totals) filled is = is
 cause_filled options writes base ports streams clocks kept before after (Err (Fault fault)) filled is = is
@@ -96,4 +96,4 @@ pub not_opened : {A : Type 0} (fault : OpenFault) (options : Options) (writes : 
     → IsCauseOfStop (Err (stop_of fault)) options writes base ports streams clocks kept all all × HasAnnounced says fails (Err (stop_of fault)) all all a a
 not_opened open_fault.Refused options writes base ports streams clocks kept all none why says fails a = ((none, refl, why refl), refl)
 not_opened open_fault.NoMemory options writes base ports streams clocks kept all none why says fails a =
-    (no_memory options (begun_by options writes) base ports streams clocks kept all none, inl refl)
+    (no_memory options (origin_of options writes) base ports streams clocks kept all none, inl refl)

@@ -4,7 +4,7 @@ use Rattle.std.specs.Prelude.{IfSome}
 use Rattle.std.proofs.lemmas.Option.{slice_get_within, same_Some}
 use Rattle.stream_io.specs.State.{Entry}
 use Rattle.stream_io.specs.Log.{Log}
-use Rattle.stream_io.specs.Ports.{Ports}
+use Rattle.stream_io.specs.PortLogs.{PortLogs}
 use Rattle.partition_model.specs.declared.options.Options.{Options}
 use Rattle.mica_fronts.specs.Answered.{Answered}
 use Rattle.stream_fronts.specs.declared.ports.StreamPorts.{StreamPorts}
@@ -65,7 +65,7 @@ module _ (options : Options) (base : ℕ) where
   )
 
   -- the ports that were listened at are as they were
-  pub as_heard : (streams : StreamPorts) (waited : Option Ports) (clocks : List ℕ) (heard : List StreamFacts) → AreNewStreams waited streams.port heard → length heard ≤ streams.fronts
+  pub as_heard : (streams : StreamPorts) (waited : Option PortLogs) (clocks : List ℕ) (heard : List StreamFacts) → AreNewStreams waited streams.port heard → length heard ≤ streams.fronts
       → AreStreams options base streams waited clocks (no_answers streams.fronts) heard heard
   as_heard streams waited clocks heard new within = record {
     are_new = new;
@@ -81,5 +81,5 @@ module _ (options : Options) (base : ℕ) where
   }
 
   -- there are none
-  pub none_heard : (streams : StreamPorts) (waited : Option Ports) (clocks : List ℕ) → AreStreams options base streams waited clocks (no_answers streams.fronts) [] []
+  pub none_heard : (streams : StreamPorts) (waited : Option PortLogs) (clocks : List ℕ) → AreStreams options base streams waited clocks (no_answers streams.fronts) [] []
   none_heard streams waited clocks = as_heard streams waited clocks [] (λ k s at. absurd (let low = slice_get_within [] k s at in omega arith)) (omega arith)

@@ -6,7 +6,7 @@ use Rattle.partition_model.specs.declared.write.Write.{Write}
 use Rattle.partition_model.specs.History.{History}
 use Rattle.partition_table.specs.declared.tables.KeptSeat.{KeptSeat}
 use Rattle.mica_fronts.specs.Answered.{Answered}
-use Rattle.mica_fronts.specs.declared.ports.Ports.{Ports as PortOptions}
+use Rattle.mica_fronts.specs.declared.ports.PortOptions.{PortOptions}
 use Rattle.mica_fronts.specs.declared.totals.Totals.{Totals}
 use Rattle.mica_fronts.specs.declared.totals.ServeFault.{ServeFault}
 use Rattle.mica_fronts.specs.declared.totals.ServeFault.TheVariants.{Net, NoMemory}
@@ -17,7 +17,7 @@ use Rattle.locked_serve.specs.declared.filling.OpenFault.{OpenFault}
 use Rattle.locked_serve.specs.declared.filling.OpenFault.TheVariants as open_fault
 use Rattle.locked_serve.specs.declared.stop.Stop.{Stop}
 use Rattle.locked_serve.specs.declared.stop.Stop.TheVariants.{Refused, Unannounced, Fault}
-use Rattle.locked_serve.specs.Filled.{begun_by, RefusesFilling}
+use Rattle.locked_serve.specs.Filled.{origin_of, RefusesFilling}
 use Rattle.locked_serve.specs.Streams.{StreamFacts, ListenFacts, AreStreams, LeavesStreams, others_of, with_ports}
 
 -- what contracts see of all ports at one moment: those of datagrams, and what listens at those of connections
@@ -52,15 +52,15 @@ pub record ComesBeside (says : Others → Option (Result Totals ServeFault) → 
   pub said : says (others_of answers olds news) came
 
 abbrev pub HasCause : Result Totals Stop → Options → (ℕ → History) → ℕ → PortOptions → StreamPorts → List ℕ → List KeptSeat → PortFacts → PortFacts → Type 0
-HasCause answer options begun base ports streams clocks kept before after =
-    ComesBeside (λ others came. IsCauseOnceBound others came options begun ports kept before.net after.net)
+HasCause answer options origin base ports streams clocks kept before after =
+    ComesBeside (λ others came. IsCauseOnceBound others came options origin ports kept before.net after.net)
     (λ news. after.listens.released ≡ option_map (with_ports news) before.listens.released) answer options base streams clocks before.listens after.listens
 
 -- What each answer says of a server that these writes fill. Where one of them was refused, there is no port. One that could not tell that it listens has
 -- received nothing.
 abbrev pub IsCauseOfStop : Result Totals Stop → Options → List Write → ℕ → PortOptions → StreamPorts → List ℕ → List KeptSeat → PortFacts → PortFacts → Type 0
 IsCauseOfStop (Err Refused) options writes base ports streams clocks kept before after = (kept ≡ []) × (after ≡ before) × RefusesFilling options writes
-IsCauseOfStop answer options writes base ports streams clocks kept before after = HasCause answer options (begun_by options writes) base ports streams clocks kept before after
+IsCauseOfStop answer options writes base ports streams clocks kept before after = HasCause answer options (origin_of options writes) base ports streams clocks kept before after
 
 -- the answer where the partitions could not be made and filled
 abbrev pub stop_of : OpenFault → Stop

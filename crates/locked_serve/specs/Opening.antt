@@ -16,7 +16,7 @@ use Rattle.locked_fronts.specs.Counts.{counts_after}
 use Rattle.locked_fronts.specs.Parts.{IsPartOf}
 use Rattle.mica_fronts.specs.declared.flushes.Flushes.{Flushes}
 use Rattle.mica_fronts.specs.Flushes.{flushes_in}
-use Rattle.locked_serve.specs.Filled.{IsFilledOwner, begun_by}
+use Rattle.locked_serve.specs.Filled.{IsFilledOwner, origin_of}
 use Rattle.locked_serve.specs.declared.opening.FilledPart.{FilledPart}
 
 -- the table, the owner's state, the book, and how many writes were accepted up to the last flush
@@ -32,7 +32,7 @@ filled_view owner home filled = record { home = home filled.part; owner = owner 
 -- filled by those of the writes that are to its keys, with a book of no takers
 pub record IsFilled (options : Options) (writes : List Write) (p : ℕ) (filled : FilledView) : Type 0 where
   pub owner : IsFilledOwner options filled.owner
-  pub begun : filled.owner.history ≡ begun_by options writes p
+  pub origin : filled.owner.history ≡ origin_of options writes p
   pub book : filled.book ≡ book_view filled.book.table 0 []
   pub flushes : filled.flushes ≡ flushes_in filled.owner.history
 
@@ -54,9 +54,9 @@ abbrev pub home_in : Option FilledView → TableId
 home_in None = nowhere
 home_in (Some filled) = filled.home
 
-abbrev pub begun_in : Option FilledView → History
-begun_in None = []
-begun_in (Some filled) = filled.owner.history
+abbrev pub origin_in : Option FilledView → History
+origin_in None = []
+origin_in (Some filled) = filled.owner.history
 
 -- what is named of these partitions, before so many fronts
 abbrev pub plan_of : Options → ℕ → List FilledView → Plan
@@ -65,13 +65,13 @@ plan_of options fronts all = record {
   fronts = fronts;
   books = λ p. book_in (slice_get all p);
   homes = λ p. home_in (slice_get all p);
-  begun = λ p. begun_in (slice_get all p);
+  origin = λ p. origin_in (slice_get all p);
 }
 
 -- it is the plan's of this number, and so many fronts have a part of it
 pub record IsPlanned (plan : Plan) (takers p : ℕ) (filled : FilledView) : Type 0 where
   pub owner : IsFilledOwner plan.options filled.owner
-  pub begun : filled.owner.history ≡ plan.begun p
+  pub origin : filled.owner.history ≡ plan.origin p
   pub home : filled.home ≡ plan.homes p
   pub book : filled.book ≡ book_view (plan.books p) takers []
   pub flushes : filled.flushes ≡ flushes_in filled.owner.history
@@ -98,7 +98,7 @@ pub record IsNewPart (plan : Plan) (f p : ℕ) (part : LockedPart) : Type 0 wher
   pub none : part.taker.mine ≡ []
   pub unanswered : part.last ≡ 0
   pub closed : (reader_state part.seat).closed ≡ 0
-  pub seen : (reader_state part.seat).seen ≡ plan.begun p
+  pub seen : (reader_state part.seat).seen ≡ plan.origin p
 
 -- one for each partition, in order
 pub record AreNewParts (plan : Plan) (f : ℕ) (parts : List LockedPart) : Type 0 where

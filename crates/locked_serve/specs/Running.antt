@@ -91,20 +91,20 @@ module _ {C K : Type 0} (plan : Plan) (facts : C → StreamFacts) (last : K → 
 -- All fronts
 
 -- All ran beside each other and came to these answers, and these are the seats that the partitions may leave.
-pub record RanBeside (options : Options) (begun : ℕ → History) (batches base : ℕ) (clocks : List ℕ) (kept : List KeptSeat) (streams : List (Result ⊤ ServeFault))
+pub record RanBeside (options : Options) (origin : ℕ → History) (batches base : ℕ) (clocks : List ℕ) (kept : List KeptSeat) (streams : List (Result ⊤ ServeFault))
     (fronts : List (Result Totals ServeFault)) (before after : List EndFacts) (olds news : List StreamFacts) : Type 0 where
   pub answers : List (List Answered)
   pub many : length answers ≡ length olds
   pub served : AreServed options base clocks answers olds news
   pub stopped : (k : ℕ) → slice_get streams k ≡ Some (Err Net) → StopsStream olds news
-  pub ran : RanAll (others_of answers olds news) options begun batches kept fronts before after
+  pub ran : RanAll (others_of answers olds news) options origin batches kept fronts before after
 
 -- a front of connections has this fault, where there is one
 abbrev pub IsFaultOf : List (Result ⊤ ServeFault) → Result ⊤ ServeFault → Type 0
 IsFaultOf streams (Ok none) = (k : ℕ) (fault : ServeFault) → slice_get streams k ≢ Some (Err fault)
 IsFaultOf streams (Err fault) = (k : ℕ) × (slice_get streams k ≡ Some (Err fault))
 
--- Want of memory of any front is that of all; else a fault of any; else the totals are those of the fronts of datagrams.
+-- Out of memory of any front is that of all; else a fault of any; else the totals are those of the fronts of datagrams.
 abbrev pub SumsUpBeside : List (Result ⊤ ServeFault) → List (Result Totals ServeFault) → Result Totals ServeFault → Type 0
 SumsUpBeside streams fronts (Ok totals) = ((k : ℕ) (fault : ServeFault) → slice_get streams k ≢ Some (Err fault)) × SumsUp fronts (Ok totals)
 SumsUpBeside streams fronts (Err Net) =

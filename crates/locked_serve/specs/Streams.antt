@@ -2,7 +2,7 @@
 use Rattle.std.specs.Prelude.{◌≡◌, ◌≢◌, ◌+◌, ◌<◌, ◌≤◌, ⊤, ℕ, Bool, false, List, [], ◌∷◌, length, slice_get, Option, None, Some, IfSome, option_map, Result}
 use Rattle.mica_io.specs.Faults.{Rose}
 use Rattle.stream_io.specs.Log.{Log}
-use Rattle.stream_io.specs.Ports.{Place, Ports, with_port}
+use Rattle.stream_io.specs.PortLogs.{Place, PortLogs, with_port}
 use Rattle.partition_model.specs.declared.options.Options.{Options}
 use Rattle.partition_model.specs.History.{History}
 use Rattle.partition_table.specs.declared.tables.KeptSeat.{KeptSeat}
@@ -31,17 +31,17 @@ stream_facts port faults has_ended log = λ c. record { port = port c; faults = 
 -- what they see of what listens
 pub record ListenFacts : Type 0 where
   pub faults : ℕ
-  pub ports : Option Ports
-  pub released : Option Ports
+  pub ports : Option PortLogs
+  pub released : Option PortLogs
   pub place : Place
 
-abbrev pub listen_facts : {L : Type 0} → (L → ℕ) → (L → Option Ports) → (L → Option Ports) → (L → Place) → L → ListenFacts
+abbrev pub listen_facts : {L : Type 0} → (L → ℕ) → (L → Option PortLogs) → (L → Option PortLogs) → (L → Place) → L → ListenFacts
 listen_facts faults ports released place = λ l. record { faults = faults l; ports = ports l; released = released l; place = place l }
 
 -- Before any connection came
 
 -- a port that was just listened at, where this waited at all of them
-pub record IsNewStream (waited : Option Ports) (port : ℕ) (stream : StreamFacts) : Type 0 where
+pub record IsNewStream (waited : Option PortLogs) (port : ℕ) (stream : StreamFacts) : Type 0 where
   pub port_is : stream.port ≡ port
   pub no_faults : stream.faults ≡ 0
   pub unended : stream.has_ended ≡ false
@@ -49,7 +49,7 @@ pub record IsNewStream (waited : Option Ports) (port : ℕ) (stream : StreamFact
   pub waited_is : IfSome waited (λ all. all port ≡ stream.log)
 
 -- ports one after another
-abbrev pub AreNewStreams : Option Ports → ℕ → List StreamFacts → Type 0
+abbrev pub AreNewStreams : Option PortLogs → ℕ → List StreamFacts → Type 0
 AreNewStreams waited first streams = (k : ℕ) (stream : StreamFacts) → slice_get streams k ≡ Some stream → IsNewStream waited (first + k) stream
 
 -- nothing was done with a port yet
@@ -61,7 +61,7 @@ abbrev pub AreUnserved : List StreamFacts → Type 0
 AreUnserved streams = (k : ℕ) (stream : StreamFacts) → slice_get streams k ≡ Some stream → IsUnserved stream
 
 -- What listens tells each port that it told before but these, or goes on telling none.
-abbrev pub LeavesOthers : ℕ → ℕ → Option Ports → Option Ports → Type 0
+abbrev pub LeavesOthers : ℕ → ℕ → Option PortLogs → Option PortLogs → Type 0
 LeavesOthers first count None after = after ≡ None
 LeavesOthers first count (Some before) None = ⊥
 LeavesOthers first count (Some before) (Some after) = (port : ℕ) → ((k : ℕ) → k < count → port ≢ first + k) → after port ≡ before port
@@ -74,7 +74,7 @@ pub record KeepsListeners (streams : StreamPorts) (before after : ListenFacts) :
   pub unneeded : streams.fronts ≡ 0 → after ≡ before
 
 -- these ports were let go, and what was left at each is told
-abbrev pub with_ports : List StreamFacts → Ports → Ports
+abbrev pub with_ports : List StreamFacts → PortLogs → PortLogs
 with_ports [] ports = ports
 with_ports (stream ∷ later) ports = with_ports later (with_port stream.port stream.log ports)
 
@@ -106,7 +106,7 @@ pub record AreServed (options : Options) (base : ℕ) (clocks : List ℕ) (answe
       → slice_get olds k ≡ Some b → slice_get news k ≡ Some a → (old new : FrontAt) × (old.second ≡ told) × ServesStream options base old new own b a
 
 -- The ports that were listened at, before and after, and what each front answered. One that has no port answered nothing.
-pub record AreStreams (options : Options) (base : ℕ) (streams : StreamPorts) (waited : Option Ports) (clocks : List ℕ) (answers : List (List Answered))
+pub record AreStreams (options : Options) (base : ℕ) (streams : StreamPorts) (waited : Option PortLogs) (clocks : List ℕ) (answers : List (List Answered))
     (olds news : List StreamFacts) : Type 0 where
   pub are_new : AreNewStreams waited streams.port olds
   pub within : length olds ≤ streams.fronts
@@ -133,9 +133,9 @@ LeavesStreams None answers olds news = (news ≡ olds) × HaveAnsweredNothing (o
 LeavesStreams (Some came) answers olds news = ⊤
 
 -- Each front was served, those of connections beside those of datagrams, which came to this all together.
-pub record ServesBeside (options : Options) (begun : ℕ → History) (batches base : ℕ) (clocks : List ℕ) (answer : Result Totals ServeFault) (kept : List KeptSeat)
+pub record ServesBeside (options : Options) (origin : ℕ → History) (batches base : ℕ) (clocks : List ℕ) (answer : Result Totals ServeFault) (kept : List KeptSeat)
     (before after : List EndFacts) (olds news : List StreamFacts) : Type 0 where
   pub answers : List (List Answered)
   pub many : length answers ≡ length olds
   pub streams : AreServed options base clocks answers olds news
-  pub fronts : ServesFronts (others_of answers olds news) options begun batches answer kept before after
+  pub fronts : ServesFronts (others_of answers olds news) options origin batches answer kept before after

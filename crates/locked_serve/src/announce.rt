@@ -1,12 +1,12 @@
 //! What a server tells once it listens at its ports.
 ghost use Rattle.std.specs.Prelude.{◌≡◌, None, map, length, OnOk, OnErr};
-ghost use Rattle.mica_fronts.specs.declared.ports.Ports.{Ports as PortOptions};
+ghost use Rattle.mica_fronts.specs.declared.ports.PortOptions.{PortOptions};
 ghost use Rattle.stream_fronts.specs.declared.ports.StreamPorts.{StreamPorts};
 ghost use Rattle.mica_serve.specs.Ends.{AreNewEnds, end_facts};
 ghost use Rattle.locked_serve.specs.Streams.{AreNewStreams, stream_facts};
 
 use crate::stop::Untold;
-use mica_fronts::Ports;
+use mica_fronts::PortOptions;
 use mica_io::Datagrams;
 use stream_fronts::StreamPorts;
 use stream_io::Connections;
@@ -22,7 +22,7 @@ pub trait Announce {
     /// There is an end bound at each port of datagrams, and each port of connections is listened at. Nothing was received.
     fn ready<D: Datagrams, C: Connections>(
         &mut self,
-        ports: &Ports,
+        ports: &PortOptions,
         streams: &StreamPorts,
         ends: &[D],
         connections: &[C],

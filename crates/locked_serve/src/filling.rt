@@ -8,7 +8,7 @@ ghost use Rattle.epoch_core.specs.OwnerState.{as_made};
 ghost use Rattle.epoch_core.specs.Shape.{shape_of};
 ghost use Rattle.epoch_core.specs.OwnerStep.{IsOwnerStep};
 ghost use Rattle.mica_fronts.specs.Flushes.{flushes_in};
-ghost use Rattle.locked_serve.specs.Filled.{RefusesFilling, IsFilledOwner, begun_by};
+ghost use Rattle.locked_serve.specs.Filled.{RefusesFilling, IsFilledOwner, origin_of};
 
 use epoch_core::Partition;
 use locked_fronts::write_counted;
@@ -109,7 +109,7 @@ pub(crate) fn fill<P: Partition>(
     requires made { P.owner part.old ≡ as_made (shape_of options.now) }
     requires writes { All IsWrite filling.now }
     ensures filled { OnOk result (IsFilledOwner options.now (P.owner part.new)) }
-    ensures begun { OnOk result ((P.owner part.new).history ≡ begun_by options.now filling.now number) }
+    ensures origin { OnOk result ((P.owner part.new).history ≡ origin_of options.now filling.now number) }
     ensures flushes { IfOk result (λ flushes. flushes ≡ flushes_in (P.owner part.new).history) }
     ensures refused { OnErr result (RefusesFilling options.now filling.now) }
 {

@@ -25,7 +25,7 @@ use epoch_core::LendPartition;
 use locked_fronts::ServerPlan;
 use memcached_stats::Board;
 use mica_clock::Clock;
-use mica_fronts::{Ports, Totals};
+use mica_fronts::{PortOptions, Totals};
 use mica_io::{Gate, Net};
 use mica_serve::{bind_all, release_all};
 use partition_model::{Mode, Options, Write};
@@ -57,7 +57,7 @@ fn bind_and_serve<
     rt: &W,
     alloc: Global,
     options: &Options,
-    ports: &Ports,
+    ports: &PortOptions,
     streams: &StreamPorts,
     base: u64,
     board: &Board,
@@ -80,7 +80,7 @@ fn bind_and_serve<
     requires ports { IsPossiblePorts ports.now }
     requires streams { IsPossibleStreams streams.now }
     requires clocks { length clocks.items ≡ streams.now.fronts }
-    requires filled { (p : ℕ) → p < options.now.partitions → IsHistory options.now (J.plan.begun p) }
+    requires filled { (p : ℕ) → p < options.now.partitions → IsHistory options.now (J.plan.origin p) }
     requires server { IsLockedServer J.plan streams.now.fronts ports.now.fronts (length server.locks.items)
         (map (λ hand. hand.items) server.stream_hands.items) (map (λ hand. hand.items) server.hands.items) server.room }
     requires tables { tables.old ≡ [] }
@@ -89,7 +89,7 @@ fn bind_and_serve<
     requires room { ports.now.fronts ≤ vec_capacity ends.old }
     requires no_streams { connections.old.items ≡ [] }
     requires room_of_streams { streams.now.fronts ≤ vec_capacity connections.old }
-    ensures served { ComesBeside (λ others came. BindsAndServes others options.now J.plan.begun ports.now came tables.new
+    ensures served { ComesBeside (λ others came. BindsAndServes others options.now J.plan.origin ports.now came tables.new
         (net_facts N.faults N.binds N.first N.refused N.ports N.fails net.old) (net_facts N.faults N.binds N.first N.refused N.ports N.fails net.new)
         (map (end_facts N.End.port N.End.traffic N.End.faults N.End.has_ended N.End.script) ends.new.items))
         (λ news. news ≡ map (stream_facts L.Port.port L.Port.faults L.Port.has_ended L.Port.log) connections.new.items) result options.now base streams.now (map K.last clocks.items)
@@ -135,7 +135,7 @@ fn serve_named<
     rt: &W,
     alloc: Global,
     options: &Options,
-    ports: &Ports,
+    ports: &PortOptions,
     streams: &StreamPorts,
     base: u64,
     board: &Board,
@@ -161,7 +161,7 @@ fn serve_named<
     requires unbound { N.binds net.old ≡ 0 }
     requires tables { tables.old ≡ [] }
     ensures unrefused { result ≢ Err Stop.Refused }
-    ensures cause { HasCause result options.now J.plan.begun base ports.now streams.now (map K.last clocks.items) tables.new
+    ensures cause { HasCause result options.now J.plan.origin base ports.now streams.now (map K.last clocks.items) tables.new
         (port_facts (net_facts N.faults N.binds N.first N.refused N.ports N.fails net.old) (listen_facts L.faults L.ports L.released L.place listeners.old))
         (port_facts (net_facts N.faults N.binds N.first N.refused N.ports N.fails net.new) (listen_facts L.faults L.ports L.released L.place listeners.new)) }
     ensures kept { KeepsNet ports.now
@@ -211,7 +211,7 @@ fn serve_on<
     rt: &W,
     alloc: Global,
     options: &Options,
-    ports: &Ports,
+    ports: &PortOptions,
     streams: &StreamPorts,
     base: u64,
     board: &Board,
@@ -270,7 +270,7 @@ pub fn serve_locked<
     rt: &W,
     alloc: Global,
     options: &Options,
-    ports: &Ports,
+    ports: &PortOptions,
     streams: &StreamPorts,
     filling: Vec<Write>,
     net: &mut N,

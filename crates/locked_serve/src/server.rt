@@ -25,7 +25,7 @@ use epoch_core::LendPartition;
 use locked_fronts::{LockedPart, OwnedPartition, Returned, ServerPlan};
 use memcached_stats::Board;
 use mica_clock::Clock;
-use mica_fronts::{Ports, ServeFault, Totals};
+use mica_fronts::{PortOptions, ServeFault, Totals};
 use mica_io::{Datagrams, Gate, NoMemory};
 use partition_model::Options;
 use partition_table::{Note, ReaderSeat, Tables};
@@ -121,7 +121,7 @@ impl<
 > LockedServer<J, P, D, C, K> {
     pub(crate) fn new(
         alloc: Global,
-        ports: &Ports,
+        ports: &PortOptions,
         streams: &StreamPorts,
         parts: Vec<FilledPart<P>>,
     ) -> Result<LockedServer<J, P, D, C, K>, NoMemory>
@@ -189,12 +189,12 @@ fn run_all<
     requires takers { J.plan.fronts ≡ length connections.old.items + length ends.old.items }
     requires clocks { length clocks.items ≡ length connections.old.items }
     requires batches { batches ≤ MAX_BATCHES }
-    requires filled { (p : ℕ) → p < options.now.partitions → IsHistory options.now (J.plan.begun p) }
+    requires filled { (p : ℕ) → p < options.now.partitions → IsHistory options.now (J.plan.origin p) }
     requires server { IsLockedServer J.plan (length connections.old.items) (length ends.old.items) (length server.locks.items)
         (map (λ hand. hand.items) server.stream_hands.items) (map (λ hand. hand.items) server.hands.items) server.room }
     requires unserved { AreOpen (map (end_facts D.port D.traffic D.faults D.has_ended D.script) ends.old.items) }
     requires fresh { AreUnserved (map (stream_facts C.port C.faults C.has_ended C.log) connections.old.items) }
-    ensures ran { RanBeside options.now J.plan.begun batches base (map K.last clocks.items)
+    ensures ran { RanBeside options.now J.plan.origin batches base (map K.last clocks.items)
         (map (λ left. kept_seat_in left.owner) (map (λ part. left_view P.owner P.home part) result.parts.items)) result.streams.items result.fronts.items
         (map (end_facts D.port D.traffic D.faults D.has_ended D.script) ends.old.items) (map (end_facts D.port D.traffic D.faults D.has_ended D.script) ends.new.items)
         (map (stream_facts C.port C.faults C.has_ended C.log) connections.old.items) (map (stream_facts C.port C.faults C.has_ended C.log) connections.new.items) }
@@ -286,13 +286,13 @@ pub(crate) fn serve_all<
     requires takers { J.plan.fronts ≡ length connections.old.items + length ends.old.items }
     requires clocks { length clocks.items ≡ length connections.old.items }
     requires batches { batches ≤ MAX_BATCHES }
-    requires filled { (p : ℕ) → p < options.now.partitions → IsHistory options.now (J.plan.begun p) }
+    requires filled { (p : ℕ) → p < options.now.partitions → IsHistory options.now (J.plan.origin p) }
     requires server { IsLockedServer J.plan (length connections.old.items) (length ends.old.items) (length server.locks.items)
         (map (λ hand. hand.items) server.stream_hands.items) (map (λ hand. hand.items) server.hands.items) server.room }
     requires tables { tables.old ≡ [] }
     requires unserved { AreOpen (map (end_facts D.port D.traffic D.faults D.has_ended D.script) ends.old.items) }
     requires fresh { AreUnserved (map (stream_facts C.port C.faults C.has_ended C.log) connections.old.items) }
-    ensures { ServesBeside options.now J.plan.begun batches base (map K.last clocks.items) result tables.new
+    ensures { ServesBeside options.now J.plan.origin batches base (map K.last clocks.items) result tables.new
         (map (end_facts D.port D.traffic D.faults D.has_ended D.script) ends.old.items) (map (end_facts D.port D.traffic D.faults D.has_ended D.script) ends.new.items)
         (map (stream_facts C.port C.faults C.has_ended C.log) connections.old.items) (map (stream_facts C.port C.faults C.has_ended C.log) connections.new.items) }
 {

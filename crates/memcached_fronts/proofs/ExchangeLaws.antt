@@ -17,7 +17,7 @@ use Rattle.memcached_stats.specs.Stats.{Told, stats_text}
 use Rattle.memcached_stats.proofs.Untold.{untold}
 use Rattle.memcached_fronts.specs.AskAnswers.{AnswersAsks, asks_text}
 use Rattle.memcached_fronts.specs.FlushAnswers.{FlushesFrom, flush_at}
-use Rattle.memcached_fronts.specs.Exchange.{Exchange, AnswersBy, AnswersNext, asks_stats, flushes_now, flush_due, count_of_answers, is_answered, is_quiet, wants_numbers, plain_text, keyed_text, flush_text, text_by, due_to, due_before, IsOpenAt, longer}
+use Rattle.memcached_fronts.specs.Exchange.{Exchange, AnswersBy, AnswersNext, asks_stats, is_flush_all, flush_due, count_of_answers, is_answered, is_quiet, wants_numbers, plain_text, keyed_text, flush_text, text_by, due_to, due_before, IsOpenAt, longer}
 use Rattle.mica_fronts.specs.Session.{Sessions, AnswersInOrder}
 use Rattle.memcached_fronts.specs.declared.answer.Limits.{Limits}
 use Rattle.memcached_fronts.specs.declared.answer.Progress.{Progress}
@@ -61,13 +61,13 @@ module _ (options : Options) (base : ℕ) (next : Next) (done : ℕ) where
   keyed_is told [] answers some = absurd (omega (arith, some))
   keyed_is told (asked ∷ asks) answers some = refl
 
-  text_is : (told : Told) (answers : List Answered) → flushes_now next ≡ false → 0 < length (asks_in next)
+  text_is : (told : Told) (answers : List Answered) → is_flush_all next ≡ false → 0 < length (asks_in next)
       → text_by options base told next answers ≡ asks_text base (wants_numbers next) (asks_in next) answers
   text_is told answers keyed some =
       ap (λ t. cond t (flush_text (length answers == options.partitions) answers) (keyed_text options.partitions base told next (asks_in next) answers)) keyed
       ∙ keyed_is told (asks_in next) answers some
 
-  module _ (told : Told) (answers : List Answered) (keyed : flushes_now next ≡ false) where
+  module _ (told : Told) (answers : List Answered) (keyed : is_flush_all next ≡ false) where
     pub asks_go_on : AnswersAsks base (drop done (asks_in next)) answers → (e : Exchange) → StandsAt options base next done e
         → AnswersNext options base e.next (e.answers ++ answers)
     asks_go_on is e at =
@@ -101,7 +101,7 @@ module _ (options : Options) (base : ℕ) (next : Next) (done : ℕ) where
   pub nothing_more : (e : Exchange) → StandsAt options base next done e → AnswersNext options base e.next (e.answers ++ [])
   nothing_more e at = subst (AnswersNext options base e.next) (sym (append-nil e.answers)) at.answers
 
-  pub plain_is_due : (told : Told) → flushes_now next ≡ false → asks_in next ≡ [] → done ≡ 0 → (e : Exchange) → StandsAt options base next done e
+  pub plain_is_due : (told : Told) → is_flush_all next ≡ false → asks_in next ≡ [] → done ≡ 0 → (e : Exchange) → StandsAt options base next done e
       → due_to options base (longer e [] told) ≡ due_before options base e ++ unless_quiet (is_quiet next) (plain_text options.partitions told next)
   plain_is_due told keyed none first e at =
       let whole : is_answered options e ≡ true =
@@ -116,10 +116,10 @@ module _ (options : Options) (base : ℕ) (next : Next) (done : ℕ) where
 -- Flushes
 
 -- a flush asks nothing of keys
-pub no_asks : (next : Next) → flushes_now next ≡ true → asks_in next ≡ []
+pub no_asks : (next : Next) → is_flush_all next ≡ true → asks_in next ≡ []
 no_asks (nexts.Command command len) is = go command is
   where
-    go : (command : Command) → flushes_now (nexts.Command command len) ≡ true → asks_of command ≡ []
+    go : (command : Command) → is_flush_all (nexts.Command command len) ≡ true → asks_of command ≡ []
     go (commands.Get keys unique lifetime) is = absurd (true≢false (sym is))
     go (commands.Store wants key flags lifetime value quiet) is = absurd (true≢false (sym is))
     go (commands.Join side key value quiet) is = absurd (true≢false (sym is))
@@ -137,7 +137,7 @@ no_asks nexts.More is = refl
 no_asks nexts.LongLine is = refl
 
 -- how many bytes are due before a flush, and after it
-module _ (options : Options) (base : ℕ) (next : Next) (flushes : flushes_now next ≡ true) (e : Exchange) (at : StandsAt options base next 0 e) (told : Told) (answers : List Answered) where
+module _ (options : Options) (base : ℕ) (next : Next) (flushes : is_flush_all next ≡ true) (e : Exchange) (at : StandsAt options base next 0 e) (told : Told) (answers : List Answered) where
   none_yet : (given : List Answered) → length given ≡ 0 → given ≡ []
   none_yet [] is = refl
   none_yet (a ∷ given) is = absurd (omega (arith, is))
@@ -178,7 +178,7 @@ module _ (options : Options) (base : ℕ) (next : Next) (flushes : flushes_now n
 
 -- what is due where that is asked: nothing is asked of keys
 pub record AsksStats (next : Next) : Type 0 where
-  pub keyed : flushes_now next ≡ false
+  pub keyed : is_flush_all next ≡ false
   pub none : asks_in next ≡ []
   pub due : (partitions : ℕ) (told : Told) → unless_quiet (is_quiet next) (plain_text partitions told next) ≡ stats_text partitions told
 
@@ -210,7 +210,7 @@ at_first next done stands none =
 module _ (options : Options) (is_alone : Bool) (base : ℕ) (next : Next) (done : ℕ) (stands : IsOpenAt next done) (old new : Sessions) (told tells : ℕ) where
   -- A flush
 
-  module _ (flushes : flushes_now next ≡ true) (answers : List Answered) (is : (second : ℕ) × FlushesFrom options (flush_at second (flush_due next)) 0 answers) where
+  module _ (flushes : is_flush_all next ≡ true) (answers : List Answered) (is : (second : ℕ) × FlushesFrom options (flush_at second (flush_due next)) 0 answers) where
     first : done ≡ 0
     first = at_first next done stands (no_asks next flushes)
 
@@ -241,7 +241,7 @@ module _ (options : Options) (is_alone : Bool) (base : ℕ) (next : Next) (done 
 
   -- What asks nothing
 
-  module _ (keyed : flushes_now next ≡ false) (none : asks_in next ≡ []) where
+  module _ (keyed : is_flush_all next ≡ false) (none : asks_in next ≡ []) where
     pub plain_goes : GoesOn options is_alone base next done old told old told []
     plain_goes = record { in_order = λ q. refl; seconds = refl; next_ones = nothing_more options base next done }
 
@@ -260,7 +260,7 @@ module _ (options : Options) (is_alone : Bool) (base : ℕ) (next : Next) (done 
 
   -- Asks of keys
 
-  module _ (keyed : flushes_now next ≡ false) (answers : List Answered) where
+  module _ (keyed : is_flush_all next ≡ false) (answers : List Answered) where
     pub asks_go : AnswersFirst options is_alone base (drop done (asks_in next)) old told new tells answers → GoesOn options is_alone base next done old told new tells answers
     asks_go first = record {
       in_order = first.in_order;

@@ -15,7 +15,7 @@ use Rattle.memcached_commands.specs.Asks.{asks_in}
 use Rattle.memcached_commands.specs.Answers.{unless_quiet}
 use Rattle.mica_fronts.specs.Answered.{Answered}
 use Rattle.memcached_stats.specs.Stats.{Told}
-use Rattle.memcached_fronts.specs.Exchange.{Exchange, AnswersNext, flushes_now, is_answered, is_quiet, keyed_text, flush_text, due_to, due_before, longer}
+use Rattle.memcached_fronts.specs.Exchange.{Exchange, AnswersNext, is_flush_all, is_answered, is_quiet, keyed_text, flush_text, due_to, due_before, longer}
 use Rattle.memcached_fronts.specs.Spells.{Begins, MayFollow, Spells, taken_by, MayGoOn, due_to_all, answers_to_all}
 
 -- nothing stands in no bytes
@@ -118,7 +118,7 @@ module _ (options : Options) (base : ℕ) where
 
   -- nothing was due before anything was answered
   pub nothing_before : (next : Next) (told : Told) → due_before options base (record { next = next; answers = []; told = told }) ≡ []
-  nothing_before next told = go (flushes_now next) (asks_in next)
+  nothing_before next told = go (is_flush_all next) (asks_in next)
     where
       flush : (t : Bool) → cond t [] (unless_quiet (is_quiet next) (flush_text t [])) ≡ []
       flush true = refl

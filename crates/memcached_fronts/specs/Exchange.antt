@@ -29,9 +29,9 @@ pub record Exchange : Type 0 where
 -- Answers
 
 -- whether it is a flush of all partitions, and when that is to take place
-abbrev pub flushes_now : Next → Bool
-flushes_now (nexts.Command (commands.Flush due quiet) len) = true
-flushes_now _ = false
+abbrev pub is_flush_all : Next → Bool
+is_flush_all (nexts.Command (commands.Flush due quiet) len) = true
+is_flush_all _ = false
 
 abbrev pub flush_due : Next → Due
 flush_due (nexts.Command (commands.Flush due quiet) len) = due
@@ -44,11 +44,11 @@ AnswersBy false options base due asked answers = AnswersAsks base asked answers
 
 -- These are answers to what was said, in order.
 abbrev pub AnswersNext : Options → ℕ → Next → List Answered → Type 0
-AnswersNext options base next answers = AnswersBy (flushes_now next) options base (flush_due next) (asks.asks_in next) answers
+AnswersNext options base next answers = AnswersBy (is_flush_all next) options base (flush_due next) (asks.asks_in next) answers
 
 -- how many answers there are once all is answered
 abbrev pub count_of_answers : Options → Next → ℕ
-count_of_answers options next = if flushes_now next then options.partitions else length (asks.asks_in next)
+count_of_answers options next = if is_flush_all next then options.partitions else length (asks.asks_in next)
 
 abbrev pub is_answered : Options → Exchange → Bool
 is_answered options e = length e.answers == count_of_answers options e.next
@@ -104,7 +104,7 @@ flush_text true answers = reply_text (if list_all accepts answers then replies.D
 
 abbrev pub text_by : Options → ℕ → Told → Next → List Answered → List ℕ
 text_by options base told next answers =
-    if flushes_now next then flush_text (length answers == options.partitions) answers
+    if is_flush_all next then flush_text (length answers == options.partitions) answers
     else keyed_text options.partitions base told next (asks.asks_in next) answers
 
 -- What is due so far.
@@ -121,6 +121,6 @@ IsOpenAt next done = (done ≡ 0) ⊎ (done < length (asks.asks_in next))
 abbrev pub due_before : Options → ℕ → Exchange → List ℕ
 due_before options base e = if is_answered options e then [] else due_to options base e
 
--- the same with these answers more, where this was told
+-- an exchange with these answers more, where this was told
 abbrev pub longer : Exchange → List Answered → Told → Exchange
 longer e more told = record e { answers = e.answers ++ more; told = told }

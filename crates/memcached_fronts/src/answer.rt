@@ -8,7 +8,7 @@ ghost use Rattle.memcached_commands.specs.Fit.{IsFitAsked};
 ghost use Rattle.mica_fronts.specs.Answered.{Answered, accepts, count_of_writes};
 ghost use Rattle.mica_fronts.specs.Session.{AnswersInOrder};
 ghost use Rattle.memcached_stats.specs.Stats.{Told, stats_text};
-ghost use Rattle.memcached_fronts.specs.Exchange.{IsOpenAt, asks_stats, flush_due, flush_text, flushes_now};
+ghost use Rattle.memcached_fronts.specs.Exchange.{IsOpenAt, asks_stats, flush_due, flush_text, is_flush_all};
 ghost use Rattle.memcached_fronts.specs.FlushAnswers.{FlushesFrom, flush_at};
 ghost use Rattle.memcached_fronts.specs.Seconds.{ToldFrom, seconds_of};
 ghost use Rattle.memcached_fronts.specs.Going.{AnswersFirst, RepliesFirst, GoesOn, Replies};
@@ -62,7 +62,7 @@ fn is_stats(next: &Next) -> bool
     }
 }
 
-// Tells what the server counts. After want of memory nothing is appended.
+// Tells what the server counts. When out of memory, nothing is appended.
 fn answer_stats<C: Clock>(
     clock: &C,
     partitions: u32,
@@ -82,8 +82,8 @@ fn answer_stats<C: Clock>(
     })
 }
 
-fn is_flush(next: &Next) -> bool
-    ensures { result ≡ flushes_now next.now }
+fn is_flush_all(next: &Next) -> bool
+    ensures { result ≡ is_flush_all next.now }
 {
     match next {
         Next::Command {
@@ -164,7 +164,7 @@ fn skip(asks: &mut Asks, count: usize)
     }
 }
 
-// Answers asks in order, as far as the limits allow, and appends the text that is due to them. After want of memory some of it may be appended.
+// Answers asks in order, as far as the limits allow, and appends the text that is due to them. When out of memory, some of it may be appended.
 fn answer_asks<'a, R: Threads + Wait + Sync, F: Changes, C: Clock>(
     rt: &R,
     front: &mut F,
@@ -205,7 +205,7 @@ fn answer_asks<'a, R: Threads + Wait + Sync, F: Changes, C: Clock>(
     Ok(count)
 }
 
-/// Answers what a client said, of which so many answers were given, and appends the text that is due. After want of memory nothing is appended, though
+/// Answers what a client said, of which so many answers were given, and appends the text that is due. When out of memory, nothing is appended, though
 /// some of it may be done: then the connection is to end.
 pub fn answer_next<'a, R: Threads + Wait + Sync, F: Changes, C: Clock>(
     rt: &R,
@@ -235,7 +235,7 @@ pub fn answer_next<'a, R: Threads + Wait + Sync, F: Changes, C: Clock>(
 {
     let style = style_of(&next);
     buffers.tally.count(counter_by(&next));
-    if is_flush(&next) {
+    if is_flush_all(&next) {
         return answer_flush(
             rt,
             front,

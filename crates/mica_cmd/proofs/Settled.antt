@@ -2,10 +2,10 @@
 use Rattle.std.proofs.Common.{◌≡◌, ℕ, List, [], Option, Some, None, inl, inr, refl, sym, ap, ◌∙◌, subst, arith}
 use Rattle.std.proofs.KnownBytes.{Consumes-nil, Keeps-refl}
 use Rattle.mica_io.specs.Faults.{Rose}
-use Rattle.mica_io.specs.Ports.{Ports as NetPorts}
+use Rattle.mica_io.specs.PortStates.{PortStates}
 use Rattle.partition_model.specs.declared.options.Options.{Options}
 use Rattle.mica_trace.specs.declared.line.TraceLine.{TraceLine}
-use Rattle.mica_fronts.specs.declared.ports.Ports.{Ports}
+use Rattle.mica_fronts.specs.declared.ports.PortOptions.{PortOptions}
 use Rattle.mica_serve.specs.Served.{BeginsPorts}
 use Rattle.mica_serve.specs.NetRun.{NetFacts, OnPorts, ReleasesAll}
 use Rattle.mica_client.specs.declared.options.AskOptions.{AskOptions}
@@ -44,13 +44,13 @@ settles_trace due is_kind once =
 pub settles_replay : (options : Options) → Settles (replay_promise options)
 settles_replay options = settles_trace (IsDueOfReplay options) IsAlwaysDone (λ old new status free trace other text is done. at_done (IsLawfulText options trace) status text is ∙ sym done)
 
-serve_once : (options : Options) (ports : Ports) (old new : Outside) (status : Status) (text : List ℕ) → ¬ (Rose old.net.faults new.net.faults)
+serve_once : (options : Options) (ports : PortOptions) (old new : Outside) (status : Status) (text : List ℕ) → ¬ (Rose old.net.faults new.net.faults)
     → IsDueOfServe options ports old new status text → status ≡ Done
 serve_once options ports old new Done text quiet is = refl
 serve_once options ports old new NetFault text quiet is = absurd (elim is.0.rose as (λ _. ⊥) [ inl rose ↦ quiet rose | inr other ↦ other ])
 serve_once options ports old new _ text quiet is = absurd is
 
-pub settles_serve : (options : Options) (ports : Ports) → Settles (serve_promise options ports)
+pub settles_serve : (options : Options) (ports : PortOptions) → Settles (serve_promise options ports)
 settles_serve options ports = λ old new free told. (told.1.1, λ status text is. serve_once options ports old new status text told.0 is ∙ sym told.1.0)
 
 pub settles_gen : (generator : GenOptions) → Settles (gen_promise generator)
@@ -105,11 +105,11 @@ reads_nothing (Some (Image options)) source = ([], omega arith, Consumes-nil sou
 reads_nothing (Some Unpack) source = ([], omega arith, Consumes-nil source.left)
 reads_nothing None source = refl
 
-releases_none : (ports : Ports) (told : Option NetPorts) → OnPorts (ReleasesAll ports) told told
+releases_none : (ports : PortOptions) (told : Option PortStates) → OnPorts (ReleasesAll ports) told told
 releases_none ports None = refl
 releases_none ports (Some all) = record { released = λ _ is. is; others = λ _ _. refl }
 
-begins_none : (ports : Ports) (told : Option NetPorts) → OnPorts (BeginsPorts ports) told told
+begins_none : (ports : PortOptions) (told : Option PortStates) → OnPorts (BeginsPorts ports) told told
 begins_none ports None = refl
 begins_none ports (Some all) = λ f below. ([], [], omega arith, inl (refl, refl, refl))
 
@@ -120,7 +120,7 @@ binds_nothing (Some (Serve options ports)) net none = record {
   first = λ some. absurd (omega (arith, none, some));
   never_fall = omega arith;
   released = releases_none ports net.ports;
-  begun = begins_none ports net.ports;
+  begins = begins_none ports net.ports;
 }
 binds_nothing (Some (Gen generator)) net none = refl
 binds_nothing (Some (Bench options generator)) net none = refl

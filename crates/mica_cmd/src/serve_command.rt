@@ -10,7 +10,7 @@ ghost use Rattle.mica_cmd.specs.Promises.{serve_promise, totals_text};
 use crate::Status;
 use crate::output::write_due;
 use mica_io::{Gate, Net, Sink};
-use mica_serve::{Ports, ServeFault, Totals, serve};
+use mica_serve::{PortOptions, ServeFault, Totals, serve};
 use partition_model::Options;
 use partition_table::Tables;
 use std::alloc::Global;
@@ -22,7 +22,7 @@ pub fn serve_command<W: Threads + Wait + Sync, K: Sink, N: Net, G: Gate>(
     rt: &W,
     alloc: Global,
     options: &Options,
-    ports: &Ports,
+    ports: &PortOptions,
     sink: &mut K,
     net: &mut N,
     gate: &G,

@@ -13,7 +13,7 @@ use Rattle.partition_sizes.specs.declared.sizes.TheConstants.{LEAST_MEMORY, MOST
 use Rattle.partition_sizes.specs.Sizes.{with_sizes, sizes_for}
 use Rattle.partition_sizes.proofs.Fitting as fitting
 use Rattle.mica_fronts.specs.declared.totals.TheConstants.{MAX_BATCHES}
-use Rattle.mica_fronts.specs.declared.ports.Ports.{Ports}
+use Rattle.mica_fronts.specs.declared.ports.PortOptions.{PortOptions}
 use Rattle.stream_fronts.specs.declared.ports.TheConstants.{MOST_STREAM_FRONTS}
 use Rattle.stream_fronts.specs.StreamPorts.{IsPossibleStreams}
 use Rattle.mica_commands.specs.declared.stream_words.StreamOptions.{StreamOptions}
@@ -86,16 +86,16 @@ service_possible given options is =
     (value_bounds wear.name 1 MOST_WEAR MOST_WEAR (given wear.name) e.0 (omega arith, omega arith) e.1)))
 
 -- ports of datagrams and of connections that may be given, apart from each other
-record ArePorts (ports : Ports) : Type 0 where
+record ArePorts (ports : PortOptions) : Type 0 where
   port : InRange 1024 65000 ports.port
   fronts : InRange 0 MOST_FRONTS ports.fronts
   batches : InRange 1 MAX_BATCHES ports.batches
 
-lasting_valid : (given : Text → Option Text) (ports : Ports) → lasting_ports given ≡ Some ports → ArePorts ports
+lasting_valid : (given : Text → Option Text) (ports : PortOptions) → lasting_ports given ≡ Some ports → ArePorts ports
 lasting_valid given ports is =
     let p = both_told (value_of port given) _ ports is in
     let f = both_told (value_of fronts given) _ ports p.2 in
-    let made : Ports = record { port = p.0; fronts = f.0; batches = MAX_BATCHES } in
+    let made : PortOptions = record { port = p.0; fronts = f.0; batches = MAX_BATCHES } in
     subst ArePorts (ap (λ o. unwrap_or o made) f.2) (record {
       port = required_bounds port.name 1024 65000 (given port.name) p.0 p.1;
       fronts = (omega arith, (value_bounds fronts.name 1 MOST_FRONTS 1 (given fronts.name) f.0 (omega arith, omega arith) f.1).1);
@@ -105,7 +105,7 @@ lasting_valid given ports is =
 no_ports_valid : ArePorts no_ports
 no_ports_valid = record { port = (omega arith, omega arith); fronts = (omega arith, omega arith); batches = (omega arith, omega arith) }
 
-ports_valid : (given : Text → Option Text) (first : Option Text) (ports : Ports) → ports_by given first ≡ Some ports → ArePorts ports
+ports_valid : (given : Text → Option Text) (first : Option Text) (ports : PortOptions) → ports_by given first ≡ Some ports → ArePorts ports
 ports_valid given None ports is =
     elim (is_some (given fronts.name)) as (λ b. (if b then None else Some no_ports) ≡ Some ports → ArePorts ports) [
       | true ↦ λ none. absurd (none-some ports none)
@@ -132,7 +132,7 @@ streams_valid given None streams is =
     ] is
 streams_valid given (Some text) streams is = some_streams_valid given streams is
 
-both_valid : (ports : Ports) (streams : StreamOptions) → ArePorts ports → IsPossibleStreams streams.ports → are_possible ports streams ≡ true → ArePossibleFronts ports streams.ports
+both_valid : (ports : PortOptions) (streams : StreamOptions) → ArePorts ports → IsPossibleStreams streams.ports → are_possible ports streams ≡ true → ArePossibleFronts ports streams.ports
 both_valid ports streams p s is = record {
   port = p.port;
   fronts = p.fronts;

@@ -18,7 +18,7 @@ use Rattle.mica_client.specs.declared.options.AskOptions.{AskOptions}
 use Rattle.mica_client.specs.AskOptions.{IsValidAsk}
 use Rattle.partition_model.specs.Options.{InRange, IsPowerUpTo, IsValid}
 use Rattle.partition_model.proofs.PowersOfTwo.{small_power_of_two}
-use Rattle.mica_fronts.specs.declared.ports.Ports.{Ports}
+use Rattle.mica_fronts.specs.declared.ports.PortOptions.{PortOptions}
 use Rattle.mica_fronts.specs.PortOptions.{IsValidPorts}
 use Rattle.mica_commands.specs.Words.{Text}
 use Rattle.mica_commands.specs.CommandLine.{mode, partitions, buckets, spares, words, readers, tries, wear, port, fronts, batches, number, power_of_two, required_number, number_of, is_number, value_by, value_of, options_with, replay_options, serve_options, without_readers, exclusive_options, image_options, ask_options, per, wait, port_options, ◌>>=◌}
@@ -149,12 +149,12 @@ ask_valid given options is =
       wait = value_bounds wait.name 1 3600 5 (given wait.name) w.0 (omega arith, omega arith) w.1;
     })
 
-pub ports_valid : (given : Text → Option Text) (ports : Ports) → port_options given ≡ Some ports → IsValidPorts ports
+pub ports_valid : (given : Text → Option Text) (ports : PortOptions) → port_options given ≡ Some ports → IsValidPorts ports
 ports_valid given ports is =
     let p = both_told (value_of port given) _ ports is in
     let f = both_told (value_of fronts given) _ ports p.2 in
     let b = both_told (value_of batches given) _ ports f.2 in
-    let made : Ports = record { port = p.0; fronts = f.0; batches = b.0 } in
+    let made : PortOptions = record { port = p.0; fronts = f.0; batches = b.0 } in
     let count = required_bounds batches.name 1 1000000 (given batches.name) b.0 b.1 in
     subst IsValidPorts (ap (λ o. unwrap_or o made) b.2) (record {
       port = required_bounds port.name 1024 65000 (given port.name) p.0 p.1;

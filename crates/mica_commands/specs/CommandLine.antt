@@ -8,7 +8,7 @@ use Rattle.partition_model.specs.declared.options.Options.{Options}
 use Rattle.partition_model.specs.declared.options.Mode.{Mode}
 use Rattle.partition_model.specs.declared.options.Mode.TheVariants.{Cache, Store}
 use Rattle.partition_model.specs.Options.{IsValid}
-use Rattle.mica_fronts.specs.declared.ports.Ports.{Ports}
+use Rattle.mica_fronts.specs.declared.ports.PortOptions.{PortOptions}
 use Rattle.mica_fronts.specs.PortOptions.{IsValidPorts}
 use Rattle.mica_commands.specs.declared.command.Command.{Command}
 use Rattle.mica_commands.specs.declared.command.Command.TheVariants.{Replay, Serve, Gen, Bench, Check, Exclusive, Ask, Image, Unpack}
@@ -231,7 +231,7 @@ ask_options given =
     Some (record { port = port; partitions = partitions; fronts = fronts; per = per; wait = wait })
 
 -- the ports of `serve`
-abbrev pub port_options : (Text → Option Text) → Option Ports
+abbrev pub port_options : (Text → Option Text) → Option PortOptions
 port_options given =
     value_of port given >>= λ port.
     value_of fronts given >>= λ fronts.

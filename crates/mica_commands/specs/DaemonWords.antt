@@ -9,7 +9,7 @@ use Rattle.partition_model.specs.Options.{InRange, IsPossible}
 use Rattle.partition_sizes.specs.declared.sizes.Sizes.{Sizes}
 use Rattle.partition_sizes.specs.Sizes.{sizes_for}
 use Rattle.mica_fronts.specs.declared.totals.TheConstants.{MAX_BATCHES}
-use Rattle.mica_fronts.specs.declared.ports.Ports.{Ports}
+use Rattle.mica_fronts.specs.declared.ports.PortOptions.{PortOptions}
 use Rattle.stream_fronts.specs.declared.ports.StreamPorts.{StreamPorts}
 use Rattle.stream_fronts.specs.StreamPorts.{IsPossibleStreams}
 use Rattle.mica_commands.specs.declared.command.WordsFault.{WordsFault}
@@ -98,32 +98,32 @@ abbrev pub daemon_names : List Text
 daemon_names = mode.name ∷ partitions.name ∷ buckets.name ∷ spares.name ∷ words.name ∷ memory_name ∷ tries.name ∷ wear.name ∷ port.name ∷ fronts.name ∷ image_name ∷ stream_names
 
 -- the ports of datagrams, each of whose fronts takes as many as can be counted
-abbrev pub lasting_ports : (Text → Option Text) → Option Ports
+abbrev pub lasting_ports : (Text → Option Text) → Option PortOptions
 lasting_ports given =
     value_of port given >>= λ port.
     value_of fronts given >>= λ fronts.
     Some (record { port = port; fronts = fronts; batches = MAX_BATCHES })
 
 -- none
-abbrev pub no_ports : Ports
+abbrev pub no_ports : PortOptions
 no_ports = record { port = 1024; fronts = 0; batches = MAX_BATCHES }
 
 -- There are some where their first port is given, and nothing more is said of them where it is not.
-abbrev pub ports_by : (Text → Option Text) → Option Text → Option Ports
+abbrev pub ports_by : (Text → Option Text) → Option Text → Option PortOptions
 ports_by given None = if is_some (given fronts.name) then None else Some no_ports
 ports_by given (Some text) = lasting_ports given
 
-abbrev pub ports_given : (Text → Option Text) → Option Ports
+abbrev pub ports_given : (Text → Option Text) → Option PortOptions
 ports_given given = ports_by given (given port.name)
 
 -- the number of fronts of both kinds is possible
-abbrev pub are_possible : Ports → StreamOptions → Bool
+abbrev pub are_possible : PortOptions → StreamOptions → Bool
 are_possible ports streams = is_in_range 1 MOST_FRONTS (ports.fronts + streams.ports.fronts)
 
 -- what it is to do: its partitions, its ports of datagrams and of connections, and the file whose image fills it, if one does
 pub record Service : Type 0 where
   pub options : Options
-  pub ports : Ports
+  pub ports : PortOptions
   pub streams : StreamOptions
   pub image : Option Text
 
@@ -150,7 +150,7 @@ abbrev pub service_of : DaemonOptions → Service
 service_of read = record { options = read.options; ports = read.ports; streams = read.streams; image = option_map (λ name. name.now) read.image }
 
 -- the ranges of its ports: there is a front of one kind at least
-pub record ArePossibleFronts (ports : Ports) (streams : StreamPorts) : Type 0 where
+pub record ArePossibleFronts (ports : PortOptions) (streams : StreamPorts) : Type 0 where
   pub port : InRange 1024 65000 ports.port
   pub fronts : InRange 0 MOST_FRONTS ports.fronts
   pub batches : InRange 1 MAX_BATCHES ports.batches

@@ -9,7 +9,7 @@ use crate::option_values::{
     serve_options,
 };
 use mica_client::AskOptions;
-use mica_fronts::Ports;
+use mica_fronts::PortOptions;
 use mica_io::NoMemory;
 use partition_model::Options;
 use std::alloc::Global;
@@ -22,7 +22,7 @@ pub enum Command {
     /// To replay the trace that the source gives.
     Replay(Options),
     /// To answer the requests that come to these ports.
-    Serve(Options, Ports),
+    Serve(Options, PortOptions),
     /// To print a generated trace.
     Gen(GenOptions),
     /// To run a generated trace and print a summary.

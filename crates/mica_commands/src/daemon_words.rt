@@ -9,7 +9,7 @@ use crate::memory::memory_of;
 use crate::option_values::{count, mode, number, power_of_two, required};
 use crate::stream_words::{StreamOptions, streams_given};
 use clap::ArgMatches;
-use mica_fronts::{MAX_BATCHES, Ports};
+use mica_fronts::{MAX_BATCHES, PortOptions};
 use partition_model::{MOST_PARTITIONS, MOST_SPARES, MOST_WEAR, MOST_WORDS, Mode, Options};
 use partition_sizes::{Sizes, sizes_for};
 use std::alloc::Global;
@@ -22,7 +22,7 @@ pub const MOST_FRONTS: u32 = 64;
 pub struct DaemonOptions<'a> {
     pub options: Options,
     /// The ports of datagrams. There may be none.
-    pub ports: Ports,
+    pub ports: PortOptions,
     /// The ports of connections. There may be none.
     pub streams: StreamOptions,
     /// The file whose image fills the store.
@@ -112,10 +112,10 @@ fn service_options(found: &ArgMatches<'_>) -> Option<Options>
 }
 
 // The ports of datagrams, each of whose fronts takes as many as can be counted.
-fn lasting_ports(found: &ArgMatches<'_>) -> Option<Ports>
+fn lasting_ports(found: &ArgMatches<'_>) -> Option<PortOptions>
     ensures { result ≡ lasting_ports (first_value (found_of found.now)) }
 {
-    Some(Ports {
+    Some(PortOptions {
         port: required(found, "port", 1_024, 65_000)? as u16,
         fronts: count(found, "fronts", 1, MOST_FRONTS, 1)?,
         batches: MAX_BATCHES,
@@ -123,7 +123,7 @@ fn lasting_ports(found: &ArgMatches<'_>) -> Option<Ports>
 }
 
 // The ports of datagrams. There are some where their first port is given; else nothing more may be said of them.
-fn ports_given(found: &ArgMatches<'_>) -> Option<Ports>
+fn ports_given(found: &ArgMatches<'_>) -> Option<PortOptions>
     ensures { result ≡ ports_given (first_value (found_of found.now)) }
 {
     if found.get_str("port").is_some() {
@@ -132,7 +132,7 @@ fn ports_given(found: &ArgMatches<'_>) -> Option<Ports>
     if found.get_str("fronts").is_some() {
         return None;
     }
-    Some(Ports {
+    Some(PortOptions {
         port: 1_024,
         fronts: 0,
         batches: MAX_BATCHES,
@@ -140,7 +140,7 @@ fn ports_given(found: &ArgMatches<'_>) -> Option<Ports>
 }
 
 // Whether there is a front, and there are not too many.
-fn are_possible(ports: &Ports, streams: &StreamOptions) -> bool
+fn are_possible(ports: &PortOptions, streams: &StreamOptions) -> bool
     ensures { result ≡ are_possible ports.now streams.now }
 {
     let all = u64::from(ports.fronts) + u64::from(streams.ports.fronts);

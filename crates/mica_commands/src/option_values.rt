@@ -7,7 +7,7 @@ ghost use Rattle.mica_commands.specs.CommandLine.{begins_number, mode, power_of_
 use crate::GenOptions;
 use clap::ArgMatches;
 use mica_client::AskOptions;
-use mica_fronts::Ports;
+use mica_fronts::PortOptions;
 use partition_model::{MAX_WEAR, Mode, Options};
 
 fn begins_number(text: &str) -> bool
@@ -165,10 +165,10 @@ pub fn ask_options(found: &ArgMatches<'_>) -> Option<AskOptions>
 }
 
 /// The ports of `serve`, or `None` where one is missing or its text is no value of it.
-pub fn port_options(found: &ArgMatches<'_>) -> Option<Ports>
+pub fn port_options(found: &ArgMatches<'_>) -> Option<PortOptions>
     ensures { result ≡ port_options (first_value (found_of found.now)) }
 {
-    Some(Ports {
+    Some(PortOptions {
         port: required(found, "port", 1_024, 65_000)? as u16,
         fronts: count(found, "fronts", 1, 16, 1)?,
         batches: u64::from(required(found, "batches", 1, 1_000_000)?),

@@ -3,14 +3,14 @@ use Rattle.std.specs.Prelude.{◌≡◌, ◌+◌, ◌-◌, ◌<◌, ◌≤◌, �
 use Rattle.std.specs.Fmt.{decimal}
 use Rattle.std.specs.Io.KnownBytes.{Appends}
 use Rattle.mica_io.specs.Faults.{Rose}
-use Rattle.stream_io.specs.Ports.{Place, place_at}
+use Rattle.stream_io.specs.PortLogs.{Place, place_at}
 use Rattle.partition_model.specs.declared.options.Options.{Options}
 use Rattle.partition_model.specs.declared.write.Write.{Write}
 use Rattle.partition_sizes.specs.Bytes.{start_bytes}
 use Rattle.partition_table.specs.declared.tables.KeptSeat.{KeptSeat}
 use Rattle.mica_fronts.specs.declared.totals.Totals.{Totals}
 use Rattle.mica_fronts.specs.declared.totals.ServeFault.TheVariants.{Net, NoMemory as NoRoom}
-use Rattle.mica_fronts.specs.declared.ports.Ports.{Ports}
+use Rattle.mica_fronts.specs.declared.ports.PortOptions.{PortOptions}
 use Rattle.locked_serve.specs.declared.stop.Stop.{Stop}
 use Rattle.locked_serve.specs.declared.stop.Stop.TheVariants.{Refused, Unannounced, Fault}
 use Rattle.mica_serve.specs.NetRun.{NetFacts, KeepsNet}
@@ -33,7 +33,7 @@ abbrev pub range_text : List ℕ → ℕ → ℕ → List ℕ
 range_text before first count = if count == 0 then [] else before ++ decimal first ++ codes " to " ++ decimal (first + count - 1)
 
 -- the line that says that all ports are had: those of datagrams and those of connections
-abbrev pub ready_text : Ports → StreamPorts → List ℕ
+abbrev pub ready_text : PortOptions → StreamPorts → List ℕ
 ready_text ports streams = codes "ready" ++ range_text (codes " ") ports.port ports.fronts ++ range_text (codes " memcached ") streams.port streams.fronts ++ 10 ∷ []
 
 -- the sink took the line, or a proper beginning of it where a write failed
@@ -44,14 +44,14 @@ abbrev pub FailsToSay : List ℕ → SinkFacts → SinkFacts → Type 0
 FailsToSay line old new = Rose old.faults new.faults × ((n : ℕ) × (n < length line) × Appends old.taken new.taken (take n line))
 
 -- all that a run touches, but files
-pub record Outside : Type 0 where
+pub record DaemonOutside : Type 0 where
   pub sink : SinkFacts
   pub ports : PortFacts
   pub tables : List KeptSeat
 
 -- of its parts
-abbrev pub outside : SinkFacts → NetFacts → ListenFacts → List KeptSeat → Outside
-outside sink net listens tables = record { sink = sink; ports = port_facts net listens; tables = tables }
+abbrev pub daemon_outside : SinkFacts → NetFacts → ListenFacts → List KeptSeat → DaemonOutside
+daemon_outside sink net listens tables = record { sink = sink; ports = port_facts net listens; tables = tables }
 
 -- what is written last, by what the server came to, and the status
 abbrev pub WritesLast : Result Totals Stop → SinkFacts → SinkFacts → Status → Type 0
@@ -63,7 +63,7 @@ WritesLast (Err Unannounced) old new status = (status ≡ WriteFault) × (new �
 
 -- The server, which these writes filled, came to this answer, for the cause that it names. It said that its ports are had where they were, and wrote what is due at its end.
 -- The clocks of its fronts behind connections had told these seconds before, and unique numbers of values begin at the base.
-pub record Serves (options : Options) (ports : Ports) (streams : StreamPorts) (seconds : List ℕ) (base : ℕ) (writes : List Write) (old new : Outside) (status : Status) : Type 0 where
+pub record ServesAloud (options : Options) (ports : PortOptions) (streams : StreamPorts) (seconds : List ℕ) (base : ℕ) (writes : List Write) (old new : DaemonOutside) (status : Status) : Type 0 where
   pub answer : Result Totals Stop
   pub said : SinkFacts
   pub cause : IsCauseOfStop answer options writes base ports streams seconds new.tables old.ports new.ports
@@ -73,7 +73,7 @@ pub record Serves (options : Options) (ports : Ports) (streams : StreamPorts) (s
   pub heard : KeepsListeners streams old.ports.listens new.ports.listens
 
 -- no port was had, and no table is kept
-pub record BindsNothing (old new : Outside) : Type 0 where
+pub record BindsNothing (old new : DaemonOutside) : Type 0 where
   pub ports : new.ports ≡ old.ports
   pub tables : new.tables ≡ old.tables
 
@@ -82,16 +82,16 @@ abbrev pub place_of : StreamOptions → Place
 place_of streams = place_at streams.address streams.connections
 
 -- the listeners were told a place
-abbrev pub placed : Place → Outside → Outside
+abbrev pub placed : Place → DaemonOutside → DaemonOutside
 placed place old = record old { ports = record old.ports { listens = record old.ports.listens { place = place } } }
 
 -- It served, and all ports of connections were listened at where the words say. Of the clocks each of their fronts took one.
-abbrev pub ServesPlaced : Options → Ports → StreamOptions → List ℕ → ℕ → List Write → Outside → Outside → Status → Type 0
+abbrev pub ServesPlaced : Options → PortOptions → StreamOptions → List ℕ → ℕ → List Write → DaemonOutside → DaemonOutside → Status → Type 0
 ServesPlaced options ports streams seconds base writes old new status =
-    Serves options ports streams.ports (take streams.ports.fronts seconds) base writes (placed (place_of streams) old) new status
+    ServesAloud options ports streams.ports (take streams.ports.fronts seconds) base writes (placed (place_of streams) old) new status
 
 -- it served so, or had no memory before it began
-abbrev pub ServesOrNot : Options → Ports → StreamOptions → List ℕ → ℕ → List Write → Outside → Outside → Status → Type 0
+abbrev pub ServesOrNot : Options → PortOptions → StreamOptions → List ℕ → ℕ → List Write → DaemonOutside → DaemonOutside → Status → Type 0
 ServesOrNot options ports streams seconds base writes old new status =
     ServesPlaced options ports streams seconds base writes old new status ⊎ (IsUnwritten old.sink new.sink status × BindsNothing old new)
 
@@ -100,13 +100,13 @@ abbrev pub HasMemory : FilesFacts → Options → Type 0
 HasMemory files options = IfSome files.free (λ free. start_bytes options ≤ free)
 
 -- It served with partitions that there is memory for, and that were filled as it was asked; or it wrote why there is nothing to fill them with, or had no memory, before it began.
-abbrev pub FillsAndServes : Service → List ℕ → ℕ → FilesFacts → FilesFacts → Outside → Outside → Status → Type 0
+abbrev pub FillsAndServes : Service → List ℕ → ℕ → FilesFacts → FilesFacts → DaemonOutside → DaemonOutside → Status → Type 0
 FillsAndServes service seconds base before after old new status =
     ((writes : List Write) × HasMemory before service.options × Fills before service.image writes
     × ServesPlaced service.options service.ports service.streams seconds base writes old new status)
     ⊎ (WritesDue (IsDueOfFile before after service.image) old.sink new.sink status × BindsNothing old new)
 
 -- What a run promises by its words: it served as they ask, or said that they are none of its own.
-abbrev pub KeepsUp : Option Service → List ℕ → ℕ → FilesFacts → FilesFacts → Outside → Outside → Status → Type 0
+abbrev pub KeepsUp : Option Service → List ℕ → ℕ → FilesFacts → FilesFacts → DaemonOutside → DaemonOutside → Status → Type 0
 KeepsUp (Some service) seconds base before after old new status = FillsAndServes service seconds base before after old new status × KeepsFiles service.image before after
 KeepsUp None seconds base before after old new status = IsTold Usage (with_line_feed (codes "usage")) old.sink new.sink status × BindsNothing old new × KeepsFiles None before after

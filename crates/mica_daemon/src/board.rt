@@ -3,7 +3,7 @@
 use memcached_stats::{Board, Server, Tally};
 use mica_clock::Clock;
 use mica_commands::StreamOptions;
-use mica_fronts::Ports;
+use mica_fronts::PortOptions;
 use mica_io::NoMemory;
 use mica_words::{key_hash, partition_of};
 use partition_model::{MOST_PARTITIONS, Options, Write};
@@ -27,7 +27,7 @@ fn tally_of(partitions: u32, filling: &[Write]) -> Tally {
 pub(crate) fn board_of<C: Clock>(
     alloc: Global,
     options: &Options,
-    ports: &Ports,
+    ports: &PortOptions,
     streams: &StreamOptions,
     clocks: &[C],
     filling: &[Write],

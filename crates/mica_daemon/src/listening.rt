@@ -1,6 +1,6 @@
 //! What listens at the ports of connections.
 ghost use Rattle.std.specs.Prelude.{◌≡◌};
-ghost use Rattle.stream_io.specs.Ports.{place_at};
+ghost use Rattle.stream_io.specs.PortLogs.{place_at};
 
 use std::net::{Ipv4Addr, Net as Sockets};
 use stream_io::{Listeners, TcpListeners};

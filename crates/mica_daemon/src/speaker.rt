@@ -5,7 +5,7 @@ ghost use Rattle.stream_fronts.specs.StreamPorts.{IsPossibleStreams};
 ghost use Rattle.mica_daemon.specs.Daemon.{range_text, ready_text};
 
 use locked_serve::{Announce, Untold};
-use mica_fronts::Ports;
+use mica_fronts::PortOptions;
 use mica_io::{Datagrams, NoMemory, Sink, write_all};
 use std::alloc::Global;
 use stream_fronts::StreamPorts;
@@ -29,7 +29,7 @@ impl<K: Sink + Drop> Announce for Speaker<K> {
 
     fn ready<D: Datagrams, C: Connections>(
         &mut self,
-        _ports: &Ports,
+        _ports: &PortOptions,
         _streams: &StreamPorts,
         _ends: &[D],
         _connections: &[C],
@@ -59,7 +59,7 @@ fn range_text(alloc: Global, before: &str, first: u16, count: u32) -> Result<Str
 /// The line that says that the ports are had: the first one and the last one of each kind.
 pub(crate) fn ready_line(
     alloc: Global,
-    ports: &Ports,
+    ports: &PortOptions,
     streams: &StreamPorts,
 ) -> Result<String, NoMemory>
     requires ports { IsPossiblePorts ports.now }

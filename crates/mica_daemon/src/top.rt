@@ -9,7 +9,7 @@ ghost use Rattle.mica_commands.specs.declared.daemon_words.TheConstants.{MOST_FR
 ghost use Rattle.mica_commands.specs.DaemonWords.{daemon_of, ArePossibleFronts};
 ghost use Rattle.mica_cmd.specs.Outside.{sink_facts};
 ghost use Rattle.mica_daemon.specs.Files.{files_facts};
-ghost use Rattle.mica_daemon.specs.Daemon.{HasMemory, WritesLast, Serves, ServesOrNot, KeepsUp, outside, ready_text};
+ghost use Rattle.mica_daemon.specs.Daemon.{HasMemory, WritesLast, ServesAloud, ServesOrNot, KeepsUp, daemon_outside, ready_text};
 
 use crate::Files;
 use crate::board::board_of;
@@ -21,7 +21,7 @@ use memcached_stats::Board;
 use mica_clock::Clock;
 use mica_cmd::{Status, print_totals, write_due};
 use mica_commands::{DaemonOptions, StreamOptions, WordsFault, read_daemon};
-use mica_fronts::{Ports, ServeFault};
+use mica_fronts::{PortOptions, ServeFault};
 use mica_io::{Gate, Net, NoMemory, Sink};
 use partition_model::{Options, Write};
 use partition_sizes::start_bytes;
@@ -54,7 +54,7 @@ fn serve_aloud<
     rt: &W,
     alloc: Global,
     options: &Options,
-    ports: &Ports,
+    ports: &PortOptions,
     streams: &StreamPorts,
     filling: Vec<Write>,
     speaker: &mut Speaker<K>,
@@ -73,9 +73,9 @@ fn serve_aloud<
     requires line { string_bytes speaker.old.line ≡ ready_text ports.now streams.now }
     requires unbound { N.binds net.old ≡ 0 }
     requires tables { tables.old ≡ [] }
-    ensures { Serves options.now ports.now streams.now (map C.last clocks.items) base filling.items
-        (outside (sink_facts K.taken K.faults speaker.old.sink) (net_facts N.faults N.binds N.first N.refused N.ports N.fails net.old) (listen_facts L.faults L.ports L.released L.place listeners.old) tables.old)
-        (outside (sink_facts K.taken K.faults speaker.new.sink) (net_facts N.faults N.binds N.first N.refused N.ports N.fails net.new) (listen_facts L.faults L.ports L.released L.place listeners.new) tables.new)
+    ensures { ServesAloud options.now ports.now streams.now (map C.last clocks.items) base filling.items
+        (daemon_outside (sink_facts K.taken K.faults speaker.old.sink) (net_facts N.faults N.binds N.first N.refused N.ports N.fails net.old) (listen_facts L.faults L.ports L.released L.place listeners.old) tables.old)
+        (daemon_outside (sink_facts K.taken K.faults speaker.new.sink) (net_facts N.faults N.binds N.first N.refused N.ports N.fails net.new) (listen_facts L.faults L.ports L.released L.place listeners.new) tables.new)
         result }
 {
     match serve_locked(
@@ -101,7 +101,7 @@ fn stay_up<
     rt: &W,
     alloc: Global,
     options: &Options,
-    ports: &Ports,
+    ports: &PortOptions,
     streams: &StreamOptions,
     filling: Vec<Write>,
     speaker: &mut Speaker<K>,
@@ -120,8 +120,8 @@ fn stay_up<
     requires unbound { N.binds net.old ≡ 0 }
     requires tables { tables.old ≡ [] }
     ensures { ServesOrNot options.now ports.now streams.now (map C.last clocks.items) base filling.items
-        (outside (sink_facts K.taken K.faults speaker.old.sink) (net_facts N.faults N.binds N.first N.refused N.ports N.fails net.old) (listen_facts L.faults L.ports L.released L.place listeners.old) tables.old)
-        (outside (sink_facts K.taken K.faults speaker.new.sink) (net_facts N.faults N.binds N.first N.refused N.ports N.fails net.new) (listen_facts L.faults L.ports L.released L.place listeners.new) tables.new)
+        (daemon_outside (sink_facts K.taken K.faults speaker.old.sink) (net_facts N.faults N.binds N.first N.refused N.ports N.fails net.old) (listen_facts L.faults L.ports L.released L.place listeners.old) tables.old)
+        (daemon_outside (sink_facts K.taken K.faults speaker.new.sink) (net_facts N.faults N.binds N.first N.refused N.ports N.fails net.new) (listen_facts L.faults L.ports L.released L.place listeners.new) tables.new)
         result }
 {
     let Ok(board) = board_of(
@@ -201,8 +201,8 @@ pub fn daemon<
     requires clocks { MOST_FRONTS ≤ length clocks.items }
     requires tables { tables.old ≡ [] }
     ensures { KeepsUp (daemon_of (map string_bytes words.now)) (map C.last clocks.items) base (files_facts F.file F.free F.faults files.old) (files_facts F.file F.free F.faults files.new)
-        (outside (sink_facts K.taken K.faults speaker.old.sink) (net_facts N.faults N.binds N.first N.refused N.ports N.fails net.old) (listen_facts L.faults L.ports L.released L.place listeners.old) tables.old)
-        (outside (sink_facts K.taken K.faults speaker.new.sink) (net_facts N.faults N.binds N.first N.refused N.ports N.fails net.new) (listen_facts L.faults L.ports L.released L.place listeners.new) tables.new)
+        (daemon_outside (sink_facts K.taken K.faults speaker.old.sink) (net_facts N.faults N.binds N.first N.refused N.ports N.fails net.old) (listen_facts L.faults L.ports L.released L.place listeners.old) tables.old)
+        (daemon_outside (sink_facts K.taken K.faults speaker.new.sink) (net_facts N.faults N.binds N.first N.refused N.ports N.fails net.new) (listen_facts L.faults L.ports L.released L.place listeners.new) tables.new)
         result }
 {
     let DaemonOptions {

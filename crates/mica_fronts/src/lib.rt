@@ -27,7 +27,7 @@ pub use flushes::{FLUSH_LEN, Flush, Flushes, flush_in};
 pub use front::Front;
 pub use glancing::{Glances, Glimpse};
 pub use owner_work::serve_owner;
-pub use ports::Ports;
+pub use ports::PortOptions;
 pub use queue_front::{FrontPart, QueueFront};
 pub use solo::SoloFront;
 pub use totals::{MAX_BATCHES, ServeFault, Totals};

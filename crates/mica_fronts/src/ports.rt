@@ -5,13 +5,13 @@ use crate::totals::MAX_BATCHES;
 
 /// The first port, how many fronts there are, one behind each port from there on, and how many datagrams a front takes.
 #[derive(Clone, Copy, Debug, PartialEq, Eq)]
-pub struct Ports {
+pub struct PortOptions {
     pub port: u16,
     pub fronts: u32,
     pub batches: u64,
 }
 
-impl Ports {
+impl PortOptions {
     ghost use Rattle.mica_fronts.specs.PortOptions.{IsValidPorts};
 
     /// Whether each number is in its range.

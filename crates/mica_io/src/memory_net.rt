@@ -1,6 +1,6 @@
 //! A net over memory.
 ghost use Rattle.std.specs.Prelude.{◌≡◌, ◌+◌, ◌≤◌, [], true, Some, IfOk, IfSome, OnOk, OnErr, option_map};
-ghost use Rattle.mica_io.specs.Ports.{absent, waiting, with_port, with_datagram, takes_datagram, is_added, reply_sent};
+ghost use Rattle.mica_io.specs.PortStates.{absent, waiting, with_port, with_datagram, takes_datagram, is_added, reply_sent};
 ghost use Rattle.mica_io.specs.MemoryPorts.{ports_in};
 
 use crate::memory_end::MemEnd;

@@ -1,6 +1,6 @@
 //! The ports of a net over memory.
 ghost use Rattle.std.specs.Prelude.{◌≡◌, ◌==◌, false, true, IfSome, IfNone, OnOk, OnErr, position};
-ghost use Rattle.mica_io.specs.Ports.{out, with_port, with_datagram, takes_datagram, is_waiting};
+ghost use Rattle.mica_io.specs.PortStates.{out, with_port, with_datagram, takes_datagram, is_waiting};
 ghost use Rattle.mica_io.specs.MemoryPorts.{ports_in, told_port};
 
 use crate::memory_end::MemEnd;

@@ -3,7 +3,7 @@ ghost use Rattle.std.specs.Prelude.{◌≡◌, ◌<◌, ◌≤◌, ◌+◌, ◌�
 ghost use Rattle.mica_io.specs.Faults.{Rose, LAST_COUNT, faults_after};
 ghost use Rattle.mica_io.specs.Script.{is_listed};
 ghost use Rattle.mica_io.specs.Traffic.{new_traffic};
-ghost use Rattle.mica_io.specs.Ports.{Ports, out, back, with_port, is_waiting, BindsEnd};
+ghost use Rattle.mica_io.specs.PortStates.{PortStates, out, back, with_port, is_waiting, BindsEnd};
 
 use crate::{Datagrams, Failed};
 
@@ -24,7 +24,7 @@ pub trait Net {
     ghost refused: { Self → ℕ };
 
     /// What the net tells of its ports, where it tells its datagrams.
-    ghost ports: { Self → Option Ports };
+    ghost ports: { Self → Option PortStates };
 
     /// Which binds fail, by their numbers from 1, where the net tells it.
     ghost fails: { Self → Option (List ℕ) };

@@ -2,7 +2,7 @@
 ghost use Rattle.std.specs.Prelude.{◌≡◌, ◌+◌, ◌≤◌, ◌<◌, ◌⊎◌, ◌||◌, ◌==◌, true, false, [], None, option_map, is_some, is_none, is_err, length, take, IfOk, IfSome, IfNone, OnOk, OnErr, if◌then◌else◌};
 ghost use Rattle.mica_io.specs.Faults.{Rose, faults_after};
 ghost use Rattle.mica_io.specs.Traffic.{ReceivesNext, new_traffic, sent_one};
-ghost use Rattle.mica_io.specs.Ports.{BindsEnd};
+ghost use Rattle.mica_io.specs.PortStates.{BindsEnd};
 
 use crate::{Datagrams, Failed, Net};
 use std::io;

@@ -34,16 +34,16 @@ pub all_long : (others : Others) (fronts : List (List Dealing)) → length (all_
 all_long others fronts = omega (arith, length-append others.answers (map answered_in fronts), length-map fronts answered_in)
 
 -- all were answered beside each other, where those over datagrams and the others were
-pub beside_all : (others : Others) (options : Options) (begun : ℕ → History) (runs : ℕ → List Placed) (fronts : List (List Dealing)) → AreAnsweredBeside options begun runs others.answers
+pub beside_all : (others : Others) (options : Options) (origin : ℕ → History) (runs : ℕ → List Placed) (fronts : List (List Dealing)) → AreAnsweredBeside options origin runs others.answers
     → ((f : ℕ) (dealings : List Dealing) → slice_get fronts f ≡ Some dealings
-    → (old : Sessions) × (new : Sessions) × AnsweredBeside options begun runs (length others.answers + f) (answered_in dealings) old new)
-    → AreAnsweredBeside options begun runs (all_answers others fronts)
-beside_all others options begun runs fronts before own f answers is = by (front_at others fronts f answers is)
+    → (old : Sessions) × (new : Sessions) × AnsweredBeside options origin runs (length others.answers + f) (answered_in dealings) old new)
+    → AreAnsweredBeside options origin runs (all_answers others fronts)
+beside_all others options origin runs fronts before own f answers is = by (front_at others fronts f answers is)
   where
     by : (slice_get others.answers f ≡ Some answers)
         ⊎ ((j : ℕ) × (dealings : List Dealing) × (f ≡ length others.answers + j) × (slice_get fronts j ≡ Some dealings) × (answered_in dealings ≡ answers))
-        → (old : Sessions) × (new : Sessions) × AnsweredBeside options begun runs f answers old new
+        → (old : Sessions) × (new : Sessions) × AnsweredBeside options origin runs f answers old new
     by (inl h) = before f answers h
     by (inr h) =
         let k = own h.0 h.1 h.3 in
-        (k.0, k.1, subst (λ (y : ℕ × List Answered). AnsweredBeside options begun runs y.0 y.1 k.0 k.1) (λ i. (sym h.2 i, h.4 i)) k.2)
+        (k.0, k.1, subst (λ (y : ℕ × List Answered). AnsweredBeside options origin runs y.0 y.1 k.0 k.1) (λ i. (sym h.2 i, h.4 i)) k.2)

@@ -3,7 +3,7 @@ use Rattle.std.proofs.Common.{◌≡◌, ℕ, zero, suc, ◌+◌, ◌<◌, ◌�
 use Rattle.std.specs.Prelude.{◌≢◌, IfSome, IfNone, is_some, min, sum_by}
 use Rattle.std.proofs.lemmas.Bool.{eq-eqb, ne_eqb, true≢false, cases_lt}
 use Rattle.mica_io.specs.Traffic.{Traffic, EndScript}
-use Rattle.mica_io.specs.Ports.{Port, Ports, out, back, with_port, BindsEnd}
+use Rattle.mica_io.specs.PortStates.{Port, PortStates, out, back, with_port, BindsEnd}
 use Rattle.mica_serve.specs.Ends.{EndFacts, IsNewEnd, AreNewEnds, WaitedAt, BindsEnds, ReleasesEnds, TellAll}
 use Rattle.mica_io.specs.Faults.{Rose, LAST_COUNT}
 use Rattle.std.proofs.lemmas.List.{length-map}
@@ -29,14 +29,14 @@ new_more first ends end each one i e is = elim (at_snoc ends end i e is) as (λ 
   | inr h ↦ subst (λ (x : EndFacts). IsNewEnd (first + i) x) h.1 (subst (λ (n : ℕ). IsNewEnd (first + n) end) (sym h.0) one)
 ]
 
-at_port : (number : ℕ) (port : Port) (ports : Ports) → with_port number port ports number ≡ port
+at_port : (number : ℕ) (port : Port) (ports : PortStates) → with_port number port ports number ≡ port
 at_port number port ports = ap (λ b. cond b port (ports number)) (eq-eqb number number refl)
 
-off_port : (number q : ℕ) (port : Port) (ports : Ports) → q ≢ number → with_port number port ports q ≡ ports q
+off_port : (number q : ℕ) (port : Port) (ports : PortStates) → q ≢ number → with_port number port ports q ≡ ports q
 off_port number q port ports other = ap (λ b. cond b port (ports q)) (ne_eqb q number other)
 
 -- one end more was bound
-pub binds_more : (first : ℕ) (ends : List EndFacts) (end : EndFacts) (script : Option EndScript) (before between after : Ports)
+pub binds_more : (first : ℕ) (ends : List EndFacts) (end : EndFacts) (script : Option EndScript) (before between after : PortStates)
     → BindsEnds first ends before between → BindsEnd between (first + length ends) end.traffic script (Some after) → end.has_script ≡ true
     → BindsEnds first (ends ++ end ∷ []) before after
 binds_more first ends end script before between after so_far one scripted =
@@ -55,11 +55,11 @@ binds_more first ends end script before between after so_far one scripted =
           scripted = scripted;
         })
       ];
-      out = λ i lt. ap (λ (f : Ports). f (first + i)) now ∙ elim (eqb (first + i) port) as (λ b. eqb (first + i) port ≡ b → cond b out (between (first + i)) ≡ out) [
+      out = λ i lt. ap (λ (f : PortStates). f (first + i)) now ∙ elim (eqb (first + i) port) as (λ b. eqb (first + i) port ≡ b → cond b out (between (first + i)) ≡ out) [
         | true ↦ λ e. refl
         | false ↦ λ e. so_far.out i (below i (length ends) (omega (arith, lt, length-append ends (end ∷ []))) (λ same. absurd (true≢false (sym (eq-eqb (first + i) port (ap (λ n. first + n) same)) ∙ e))))
       ] refl;
-      others = λ q other. ap (λ (f : Ports). f q) now
+      others = λ q other. ap (λ (f : PortStates). f q) now
           ∙ off_port port q out between (other (length ends) (omega (arith, length-append ends (end ∷ []))))
           ∙ so_far.others q (λ i lt. other i (omega (arith, lt, length-append ends (end ∷ []))));
     }
@@ -67,28 +67,28 @@ binds_more first ends end script before between after so_far one scripted =
     below : (i n : ℕ) → i ≤ n → ¬ (i ≡ n) → i < n
     below i n le other = elim (cases_lt i n) as (λ _. i < n) [ inl lt ↦ lt | inr ge ↦ absurd (other (omega arith)) ]
 
--- the same, where the net may tell its ports or not
-pub bound_more : (first : ℕ) (ends : List EndFacts) (end : EndFacts) (script : Option EndScript) (a b c : Option Ports) → OnPorts (BindsEnds first ends) a b
+-- one end more is bound, where the net may tell its ports or not
+pub bound_more : (first : ℕ) (ends : List EndFacts) (end : EndFacts) (script : Option EndScript) (a b c : Option PortStates) → OnPorts (BindsEnds first ends) a b
     → IfSome b (λ y. BindsEnd y (first + length ends) end.traffic script c) → end.has_script ≡ is_some script
     → IfNone b (c ≡ None) → OnPorts (BindsEnds first (ends ++ end ∷ [])) a c
-bound_more first ends end script None b c p q scripted silent = subst (λ (o : Option Ports). IfNone o (c ≡ None)) p silent
+bound_more first ends end script None b c p q scripted silent = subst (λ (o : Option PortStates). IfNone o (c ≡ None)) p silent
 bound_more first ends end script (Some x) None c p q scripted silent = absurd p
 bound_more first ends end script (Some x) (Some y) c p q scripted silent =
     let port = first + length ends in
     let is = q.result in
-    subst (λ (t : Option Ports). OnPorts (BindsEnds first (ends ++ end ∷ [])) (Some x) t) (sym is)
-    (binds_more first ends end script x y (with_port port out y) p (subst (λ (t : Option Ports). BindsEnd y port end.traffic script t) is q)
+    subst (λ (t : Option PortStates). OnPorts (BindsEnds first (ends ++ end ∷ [])) (Some x) t) (sym is)
+    (binds_more first ends end script x y (with_port port out y) p (subst (λ (t : Option PortStates). BindsEnd y port end.traffic script t) is q)
     (scripted ∙ ap is_some q.script_is))
 
 -- What stands while ends are released, the last one first, where the first k are still out.
-pub record Releasing (first : ℕ) (ends : List EndFacts) (k : ℕ) (before now : Ports) : Type 0 where
+pub record Releasing (first : ℕ) (ends : List EndFacts) (k : ℕ) (before now : PortStates) : Type 0 where
   pub still : (i : ℕ) → i < k → now (first + i) ≡ out
   pub came : (i : ℕ) (end : EndFacts) (traffic : Traffic) → k ≤ i → slice_get ends i ≡ Some end → end.traffic ≡ Some traffic
       → now (first + i) ≡ back traffic end.has_ended
   pub others : (q : ℕ) → ((i : ℕ) → i < length ends → q ≢ first + i) → now q ≡ before q
 
 -- at first all are out
-pub releasing_none : (first : ℕ) (ends : List EndFacts) (k : ℕ) (o : Option Ports) → length ends ≡ k → IfSome o (λ all. (i : ℕ) → i < k → all (first + i) ≡ out)
+pub releasing_none : (first : ℕ) (ends : List EndFacts) (k : ℕ) (o : Option PortStates) → length ends ≡ k → IfSome o (λ all. (i : ℕ) → i < k → all (first + i) ≡ out)
     → OnPorts (Releasing first ends k) o o
 releasing_none first ends k None many outs = refl
 releasing_none first ends k (Some x) many outs = record {
@@ -97,7 +97,7 @@ releasing_none first ends k (Some x) many outs = record {
   others = λ q other. refl;
 }
 
-pub one_released : (first : ℕ) (ends : List EndFacts) (j : ℕ) (end : EndFacts) (traffic : Traffic) (before now : Ports)
+pub one_released : (first : ℕ) (ends : List EndFacts) (j : ℕ) (end : EndFacts) (traffic : Traffic) (before now : PortStates)
     → Releasing first ends (suc j) before now → slice_get ends j ≡ Some end → end.traffic ≡ Some traffic
     → Releasing first ends j before (with_port (first + j) (back traffic end.has_ended) now)
 one_released first ends j end traffic before now r here told = record {
@@ -115,14 +115,14 @@ one_released first ends j end traffic before now r here told = record {
   others = λ q other. off_port (first + j) q (back traffic end.has_ended) now (other j (slice_get_within ends j end here)) ∙ r.others q other;
 }
 
-pub all_released : (first : ℕ) (ends : List EndFacts) (before now : Ports) → Releasing first ends 0 before now → ReleasesEnds first ends before now
+pub all_released : (first : ℕ) (ends : List EndFacts) (before now : PortStates) → Releasing first ends 0 before now → ReleasesEnds first ends before now
 all_released first ends before now r = record { each = λ i e t is is'. r.came i e t (omega arith) is is'; others = r.others }
 
-pub released_more : (first : ℕ) (ends : List EndFacts) (j : ℕ) (end : EndFacts) (a b c : Option Ports) → OnPorts (Releasing first ends (suc j)) a b
+pub released_more : (first : ℕ) (ends : List EndFacts) (j : ℕ) (end : EndFacts) (a b c : Option PortStates) → OnPorts (Releasing first ends (suc j)) a b
     → slice_get ends j ≡ Some end → end.port ≡ first + j → IfSome a (λ _. is_some end.traffic ≡ true)
     → IfSome b (λ all. IfSome end.traffic (λ traffic. c ≡ Some (with_port end.port (back traffic end.has_ended) all)))
     → IfNone b (c ≡ None) → OnPorts (Releasing first ends j) a c
-released_more first ends j end None b c p here port told q silent = subst (λ (o : Option Ports). IfNone o (c ≡ None)) p silent
+released_more first ends j end None b c p here port told q silent = subst (λ (o : Option PortStates). IfNone o (c ≡ None)) p silent
 released_more first ends j end (Some x) None c p here port told q silent = absurd p
 released_more first ends j end (Some x) (Some y) c p here port told q silent = by end.traffic refl told q
   where
@@ -130,11 +130,11 @@ released_more first ends j end (Some x) (Some y) c p here port told q silent = b
         → OnPorts (Releasing first ends j) (Some x) c
     by None is never q = absurd (true≢false (sym never))
     by (Some traffic) is told q =
-        subst (λ (o : Option Ports). OnPorts (Releasing first ends j) (Some x) o)
+        subst (λ (o : Option PortStates). OnPorts (Releasing first ends j) (Some x) o)
         (sym (q ∙ ap (λ (n : ℕ). Some (with_port n (back traffic end.has_ended) y)) port))
         (one_released first ends j end traffic x y p here is)
 
-pub all_told : (first : ℕ) (ends : List EndFacts) (a b : Option Ports) → OnPorts (Releasing first ends 0) a b → OnPorts (ReleasesEnds first ends) a b
+pub all_told : (first : ℕ) (ends : List EndFacts) (a b : Option PortStates) → OnPorts (Releasing first ends 0) a b → OnPorts (ReleasesEnds first ends) a b
 all_told first ends None b p = p
 all_told first ends (Some x) None p = absurd p
 all_told first ends (Some x) (Some y) p = all_released first ends x y p
@@ -182,13 +182,13 @@ counts_more ends n end a b c is now before =
     added_up : (a b c f rest all : ℕ) → all ≡ f + rest → c ≡ min (b + f) LAST_COUNT → min b LAST_COUNT ≡ min (a + rest) LAST_COUNT → min c LAST_COUNT ≡ min (a + all) LAST_COUNT
     added_up a b c f rest all whole now before = omega arith
 
-pub still_out : (first : ℕ) (ends : List EndFacts) (n j port : ℕ) (a b : Option Ports) → OnPorts (Releasing first ends n) a b → j < n → port ≡ first + j
+pub still_out : (first : ℕ) (ends : List EndFacts) (n j port : ℕ) (a b : Option PortStates) → OnPorts (Releasing first ends n) a b → j < n → port ≡ first + j
     → IfSome b (λ all. all port ≡ out)
-still_out first ends n j port None b p lt is = subst (λ (o : Option Ports). IfSome o (λ all. all port ≡ out)) (sym p) tt
+still_out first ends n j port None b p lt is = subst (λ (o : Option PortStates). IfSome o (λ all. all port ≡ out)) (sym p) tt
 still_out first ends n j port (Some x) None p lt is = absurd p
 still_out first ends n j port (Some x) (Some y) p lt is = ap y is ∙ p.still j lt
 
-pub tells_at : (ends : List EndFacts) (j : ℕ) (end : EndFacts) (a : Option Ports) → IfSome a (λ all. TellAll ends) → slice_get ends j ≡ Some end
+pub tells_at : (ends : List EndFacts) (j : ℕ) (end : EndFacts) (a : Option PortStates) → IfSome a (λ all. TellAll ends) → slice_get ends j ≡ Some end
     → IfSome a (λ _. is_some end.traffic ≡ true)
 tells_at ends j end None h is = tt
 tells_at ends j end (Some x) h is = h j end is

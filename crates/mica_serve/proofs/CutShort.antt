@@ -3,7 +3,7 @@ use Rattle.std.proofs.Common.{◌≡◌, ℕ, ◌<◌, ◌⊎◌, inl, inr, Bool
 use Rattle.std.specs.List.{All}
 use Rattle.std.proofs.lemmas.Bool.{true≢false}
 use Rattle.mica_io.specs.Traffic.{Traffic}
-use Rattle.mica_io.specs.Ports.{back}
+use Rattle.mica_io.specs.PortStates.{back}
 use Rattle.mica_fronts.specs.Dealing.{Dealing, IsDealing, due_to}
 use Rattle.mica_fronts.specs.OneEnd.{BeginsAs}
 use Rattle.mica_fronts.proofs.SentReplies.{never_all}

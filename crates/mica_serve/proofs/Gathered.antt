@@ -97,7 +97,7 @@ module _ {Y : Type 0} where
       let rest = chosen (λ i. Q (suc i)) n (λ i lt. has (suc i) (omega arith)) in
       (one.0 ∷ rest.0, ap suc rest.1, consed Q one.0 one.1 rest.0 rest.2)
 
-module _ (others : Others) (options : Options) (begun : ℕ → History) (batches : ℕ) where
+module _ (others : Others) (options : Options) (origin : ℕ → History) (batches : ℕ) where
   -- what the fronts made of ends that tell, where all were served
   record Built (rs : List FrontRun) (totals : Totals) (bs es : List EndFacts) : Type 0 where
     pub fronts : List (List Dealing)
@@ -185,21 +185,21 @@ module _ (others : Others) (options : Options) (begun : ℕ → History) (batche
       omega (arith, sum_by-cons g x xs, sum_by-cons h y ys, same 0 x y refl refl, same_sums g h xs ys (omega arith) (λ i. same (suc i)))
 
   -- a front over datagrams was answered beside all others
-  beside_one : {rs : List FrontRun} {left : List KeptSeat} (taken : AreTakenIn others options begun rs left) (f : ℕ) (r : FrontRun) (d : List Dealing) → slice_get rs f ≡ Some r
+  beside_one : {rs : List FrontRun} {left : List KeptSeat} (taken : AreTakenIn others options origin rs left) (f : ℕ) (r : FrontRun) (d : List Dealing) → slice_get rs f ≡ Some r
       → AnswersInOrder options false r.old (answered_in d) r.new → r.left ≤ r.left_after + count_of_writes (answered_in d)
-      → AnsweredBeside options begun taken.runs (length others.answers + f) (answered_in d) r.old r.new
+      → AnsweredBeside options origin taken.runs (length others.answers + f) (answered_in d) r.old r.new
   beside_one taken f r d at answers few =
       let t = taken.each f r at in
       record { answers = answers; starts = t.starts; began = t.began; seen = t.seen; took = t.took; few = omega (arith, t.sent, few) }
 
   -- the partitions ran the writes of all fronts
-  all_run : {rs : List FrontRun} {left : List KeptSeat} (taken : AreTakenIn others options begun rs left) (fronts : List (List Dealing)) → length fronts ≡ length rs
-      → RunsPartitions options begun (length (all_answers others fronts)) taken.runs
+  all_run : {rs : List FrontRun} {left : List KeptSeat} (taken : AreTakenIn others options origin rs left) (fronts : List (List Dealing)) → length fronts ≡ length rs
+      → RunsPartitions options origin (length (all_answers others fronts)) taken.runs
   all_run taken fronts many =
-      subst (λ (n : ℕ). RunsPartitions options begun n taken.runs) (sym (all_long others fronts ∙ ap (λ (n : ℕ). length others.answers + n) many)) taken.ran
+      subst (λ (n : ℕ). RunsPartitions options origin n taken.runs) (sym (all_long others fronts ∙ ap (λ (n : ℕ). length others.answers + n) many)) taken.ran
 
   all_served : (some : 1 ≤ options.partitions) (rs : List FrontRun) (totals : Totals) (kept : List KeptSeat) (olds news : List EndFacts) → length olds ≡ length rs
-      → AreTakenIn others options begun rs kept → Built rs totals olds news → ServesAll others options begun batches totals kept olds news
+      → AreTakenIn others options origin rs kept → Built rs totals olds news → ServesAll others options origin batches totals kept olds news
   all_served some rs totals kept olds news many taken b =
       record {
         fronts = b.fronts;
@@ -207,24 +207,24 @@ module _ (others : Others) (options : Options) (begun : ℕ → History) (batche
         many = b.many ∙ sym many;
         each = b.each;
         ran = all_run taken b.fronts b.many;
-        answered = beside_all others options begun taken.runs b.fronts taken.before (λ f d is.
+        answered = beside_all others options origin taken.runs b.fronts taken.before (λ f d is.
             let r = element_at rs f (omega (arith, slice_get_within b.fronts f d is, b.many)) in
             (r.0.old, r.0.new, one taken b f r.0 d r.1 is));
         counted = b.counted;
         tables = record { each = λ p entry is. record { history = taken.history p entry is; closed = closed taken b p entry is } };
       }
     where
-      one : (taken : AreTakenIn others options begun rs kept) (b : Built rs totals olds news) (f : ℕ) (r : FrontRun) (d : List Dealing) → slice_get rs f ≡ Some r → slice_get b.fronts f ≡ Some d
-          → AnsweredBeside options begun taken.runs (length others.answers + f) (answered_in d) r.old r.new
+      one : (taken : AreTakenIn others options origin rs kept) (b : Built rs totals olds news) (f : ℕ) (r : FrontRun) (d : List Dealing) → slice_get rs f ≡ Some r → slice_get b.fronts f ≡ Some d
+          → AnsweredBeside options origin taken.runs (length others.answers + f) (answered_in d) r.old r.new
       one taken b f r d at at' = let a = b.answers f r d at at' in beside_one taken f r d at a.0 a.1
 
-      closed : (taken : AreTakenIn others options begun rs kept) (b : Built rs totals olds news) (p : ℕ) (entry : KeptSeat) → slice_get kept p ≡ Some entry
+      closed : (taken : AreTakenIn others options origin rs kept) (b : Built rs totals olds news) (p : ℕ) (entry : KeptSeat) → slice_get kept p ≡ Some entry
           → entry.closed ≡ gets_answered options p (all_answers others b.fronts)
       closed taken b p entry is =
           let gets = λ (answers : List Answered). length (gets_of options p answers) in
           let own = same_sums (closed_in p) gets rs (map answered_in b.fronts) (length-map b.fronts answered_in ∙ b.many) (λ f r answers at at'.
           let d = from_map answered_in b.fronts f answers at' in
-          closed_gets options some begun taken.runs (length others.answers + f) (answered_in d.0) r.old r.new (one taken b f r d.0 at d.1) p
+          closed_gets options some origin taken.runs (length others.answers + f) (answered_in d.0) r.old r.new (one taken b f r d.0 at d.1) p
           (omega (arith, slice_get_within kept p entry is, taken.shapes.many)) ∙ ap gets d.2) in
           omega (arith, taken.closed p entry is, own, sum_by-append gets others.answers (map answered_in b.fronts))
 
@@ -278,8 +278,8 @@ module _ (others : Others) (options : Options) (begun : ℕ → History) (batche
 
   -- what is kept: the seats where all were served, and else nothing
   abbrev pub KeepsWhere : Result Totals ServeFault → List FrontRun → List KeptSeat → Type 0
-  KeepsWhere (Ok totals) rs kept = AreTakenIn others options begun rs kept
-  KeepsWhere (Err fault) rs kept = (kept ≡ []) × (left : List KeptSeat) × AreTakenIn others options begun rs left
+  KeepsWhere (Ok totals) rs kept = AreTakenIn others options origin rs kept
+  KeepsWhere (Err fault) rs kept = (kept ≡ []) × (left : List KeptSeat) × AreTakenIn others options origin rs left
 
   -- what one of these fronts dealt with
   record StoppedAt (rs : List FrontRun) (olds news : List EndFacts) (f : ℕ) (dealings : List Dealing) : Type 0 where
@@ -292,8 +292,8 @@ module _ (others : Others) (options : Options) (begun : ℕ → History) (batche
     pub stopped : Stopped run before after dealings
 
   -- what all fronts dealt with beside each other, where there was memory for all
-  all_stopped : (rs : List FrontRun) (left : List KeptSeat) (olds news : List EndFacts) → RunFronts options batches rs olds news → AreTakenIn others options begun rs left
-      → ((f : ℕ) (r : FrontRun) → slice_get rs f ≡ Some r → r.answer ≢ Err NoMemory) → TellAll olds → StopsBeside others options begun batches olds news
+  all_stopped : (rs : List FrontRun) (left : List KeptSeat) (olds news : List EndFacts) → RunFronts options batches rs olds news → AreTakenIn others options origin rs left
+      → ((f : ℕ) (r : FrontRun) → slice_get rs f ≡ Some r → r.answer ≢ Err NoMemory) → TellAll olds → StopsBeside others options origin batches olds news
   all_stopped rs left olds news run taken other tell = record {
     fronts = all.0;
     runs = taken.runs;
@@ -304,7 +304,7 @@ module _ (others : Others) (options : Options) (begun : ℕ → History) (batche
         let new : q.after ≡ a = same_Some q.after a (sym q.is ∙ is'') in
         subst (λ (x : EndFacts). MayStopAtEnd batches d x a) old (subst (λ (x : EndFacts). MayStopAtEnd batches d q.before x) new q.stopped.may);
     ran = all_run taken all.0 (all.1 ∙ run.many_before);
-    answered = beside_all others options begun taken.runs all.0 taken.before (λ f d is.
+    answered = beside_all others options origin taken.runs all.0 taken.before (λ f d is.
         let q = all.2 f d is in
         (q.run.old, q.run.new, beside_one taken f q.run d q.ran q.stopped.answers q.stopped.few));
   }
@@ -318,13 +318,13 @@ module _ (others : Others) (options : Options) (begun : ℕ → History) (batche
           (s.0, record { run = r.0; before = b.0; after = a.0; ran = r.1; was = b.1; is = a.1; stopped = s.1 }))
 
   pub gathered : (some : 1 ≤ options.partitions) (rs : List FrontRun) (kept : List KeptSeat) (olds news : List EndFacts) (run : RunFronts options batches rs olds news)
-      (answer : Result Totals ServeFault) → ComesTo others (map (λ (r : FrontRun). r.answer) rs) answer → KeepsWhere answer rs kept → ServesFronts others options begun batches answer kept olds news
+      (answer : Result Totals ServeFault) → ComesTo others (map (λ (r : FrontRun). r.answer) rs) answer → KeepsWhere answer rs kept → ServesFronts others options origin batches answer kept olds news
   gathered some rs kept olds news run answer sums keeps = record {
     many = run.many_after ∙ sym run.many_before;
     keeps = λ i b a is is'.
         let r = element_at rs i (omega (arith, slice_get_within olds i b is, run.many_before)) in
         (run.each i r.0 b a r.1 is is').keeps;
-    begun = λ tell i b a is is'.
+    begins = λ tell i b a is is'.
         let r = element_at rs i (omega (arith, slice_get_within olds i b is, run.many_before)) in
         in_part r.0 b a r.0.answer (run.each i r.0 b a r.1 is is').means (tell i b is);
     means = means answer sums keeps;
@@ -348,7 +348,7 @@ module _ (others : Others) (options : Options) (begun : ℕ → History) (batche
                 record { dealings = t.4.dealings; part = record { had = t.0; has = t.1; had_is = t.2; has_is = t.3; begins = t.4.begins }; short = t.4.short };
           }
 
-      means : (answer : Result Totals ServeFault) → ComesTo others (map (λ (r : FrontRun). r.answer) rs) answer → KeepsWhere answer rs kept → MeansForEnds others answer options begun batches kept olds news
+      means : (answer : Result Totals ServeFault) → ComesTo others (map (λ (r : FrontRun). r.answer) rs) answer → KeepsWhere answer rs kept → MeansForEnds others answer options origin batches kept olds news
       means (Ok totals) sums taken = (
         taken.shapes,
         λ i b a is is' scripted.
@@ -375,20 +375,20 @@ module _ (others : Others) (options : Options) (begun : ℕ → History) (batche
   KeepsOf (Ok totals) left kept = kept ≡ left
   KeepsOf (Err fault) left kept = kept ≡ []
 
-  pub all_ran : (some : 1 ≤ options.partitions) (left kept : List KeptSeat) (answers : List (Result Totals ServeFault)) (olds news : List EndFacts) (ran : RanAll others options begun batches left answers olds news)
-      (answer : Result Totals ServeFault) → ComesTo others answers answer → KeepsOf answer left kept → ServesFronts others options begun batches answer kept olds news
+  pub all_ran : (some : 1 ≤ options.partitions) (left kept : List KeptSeat) (answers : List (Result Totals ServeFault)) (olds news : List EndFacts) (ran : RanAll others options origin batches left answers olds news)
+      (answer : Result Totals ServeFault) → ComesTo others answers answer → KeepsOf answer left kept → ServesFronts others options origin batches answer kept olds news
   all_ran some left kept answers olds news ran answer sums keeps =
       gathered some ran.fronts kept olds news ran.run answer (subst (λ (l : List (Result Totals ServeFault)). ComesTo others l answer) ran.answers_are sums) (by answer keeps)
     where
       by : (answer : Result Totals ServeFault) → KeepsOf answer left kept → KeepsWhere answer ran.fronts kept
-      by (Ok totals) same = subst (AreTakenIn others options begun ran.fronts) (sym same) ran.taken
+      by (Ok totals) same = subst (AreTakenIn others options origin ran.fronts) (sym same) ran.taken
       by (Err fault) none = (none, left, ran.taken)
 
   -- as many answers as ends, and each that counts counts no more than its front was given
-  pub few_answers : (left : List KeptSeat) (answers : List (Result Totals ServeFault)) (olds news : List EndFacts) → RanAll others options begun batches left answers olds news → length answers ≡ length olds
+  pub few_answers : (left : List KeptSeat) (answers : List (Result Totals ServeFault)) (olds news : List EndFacts) → RanAll others options origin batches left answers olds news → length answers ≡ length olds
   few_answers left answers olds news ran = ap length ran.answers_are ∙ length-map ran.fronts (λ (r : FrontRun). r.answer) ∙ sym ran.run.many_before
 
-  pub small_answers : (left : List KeptSeat) (answers : List (Result Totals ServeFault)) (olds news : List EndFacts) → RanAll others options begun batches left answers olds news → batches ≤ MAX_BATCHES
+  pub small_answers : (left : List KeptSeat) (answers : List (Result Totals ServeFault)) (olds news : List EndFacts) → RanAll others options origin batches left answers olds news → batches ≤ MAX_BATCHES
       → (f : ℕ) (totals : Totals) → slice_get answers f ≡ Some (Ok totals) → IsUpTo MAX_BATCHES totals
   small_answers left answers olds news ran few f totals is =
       let r = answer_at ran.fronts f (Ok totals) (ap (λ l. slice_get l f) (sym ran.answers_are) ∙ is) in

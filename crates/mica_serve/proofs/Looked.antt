@@ -34,32 +34,32 @@ front_stands f (q ∷ placed) n step at = by n (q.front == f) (λ m h. front_sta
     by n false rest at = stands_later step q.step (steps_in placed) (rest n at)
 
 -- the stamp of a step is that of the history up to it
-stamp_at : (options : Options) (earlier later : List RunStep) (step : RunStep) (begun : History) → IsRunFrom options begun (earlier ++ step ∷ later)
-    → step.stamp ≡ stamp_of options ((begun ++ history_of earlier) ++ history_of (step ∷ []))
-stamp_at options [] later step begun run = run.1 ∙ ap (λ h. stamp_of options (h ++ history_of (step ∷ []))) (sym (append-nil begun))
-stamp_at options (s ∷ earlier) later step begun run =
-    stamp_at options earlier later step (begun ++ history_of (s ∷ [])) run.2
-    ∙ ap (λ h. stamp_of options (h ++ history_of (step ∷ []))) (append_assoc begun (history_of (s ∷ [])) (history_of earlier) ∙ ap (λ h. begun ++ h) (sym (history-append (s ∷ []) earlier)))
+stamp_at : (options : Options) (earlier later : List RunStep) (step : RunStep) (origin : History) → IsRunFrom options origin (earlier ++ step ∷ later)
+    → step.stamp ≡ stamp_of options ((origin ++ history_of earlier) ++ history_of (step ∷ []))
+stamp_at options [] later step origin run = run.1 ∙ ap (λ h. stamp_of options (h ++ history_of (step ∷ []))) (sym (append-nil origin))
+stamp_at options (s ∷ earlier) later step origin run =
+    stamp_at options earlier later step (origin ++ history_of (s ∷ [])) run.2
+    ∙ ap (λ h. stamp_of options (h ++ history_of (step ∷ []))) (append_assoc origin (history_of (s ∷ [])) (history_of earlier) ∙ ap (λ h. origin ++ h) (sym (history-append (s ∷ []) earlier)))
 
-module _ (options : Options) (begun : History) (run : List RunStep) (runs : IsRunFrom options begun run) where
-  changes_at : (step : RunStep) (look : Look) → Stands step run → MadeOfLast options begun (begun ++ history_of run) step look → ServesChange options begun run step look
+module _ (options : Options) (origin : History) (run : List RunStep) (runs : IsRunFrom options origin run) where
+  changes_at : (step : RunStep) (look : Look) → Stands step run → MadeOfLast options origin (origin ++ history_of run) step look → ServesChange options origin run step look
   changes_at step look (earlier, later, is) made =
-      let ended = (begun ++ history_of earlier) ++ history_of (step ∷ []) in
-      let whole : begun ++ history_of run ≡ ended ++ history_of later =
-      ap (λ r. begun ++ history_of r) is ∙ ap (λ h. begun ++ h) (history-append earlier (step ∷ later) ∙ ap (λ h. history_of earlier ++ h) (history-append (step ∷ []) later))
-      ∙ sym (append_assoc begun (history_of earlier) (history_of (step ∷ []) ++ history_of later)) ∙ sym (append_assoc (begun ++ history_of earlier) (history_of (step ∷ [])) (history_of later)) in
-      let same = one_cut options (begun ++ history_of run) step.stamp (made.before ++ history_of (step ∷ [])) ended
+      let ended = (origin ++ history_of earlier) ++ history_of (step ∷ []) in
+      let whole : origin ++ history_of run ≡ ended ++ history_of later =
+      ap (λ r. origin ++ history_of r) is ∙ ap (λ h. origin ++ h) (history-append earlier (step ∷ later) ∙ ap (λ h. history_of earlier ++ h) (history-append (step ∷ []) later))
+      ∙ sym (append_assoc origin (history_of earlier) (history_of (step ∷ []) ++ history_of later)) ∙ sym (append_assoc (origin ++ history_of earlier) (history_of (step ∷ [])) (history_of later)) in
+      let same = one_cut options (origin ++ history_of run) step.stamp (made.before ++ history_of (step ∷ [])) ended
       (record { begins = made.begins; stamped = sym made.stamped })
-      (record { begins = (history_of later, whole); stamped = sym (stamp_at options earlier later step begun (subst (IsRunFrom options begun) is runs)) }) in
+      (record { begins = (history_of later, whole); stamped = sym (stamp_at options earlier later step origin (subst (IsRunFrom options origin) is runs)) }) in
       record {
         earlier = earlier;
         later = later;
         stands = is;
-        looked = subst (λ h. IsLookAt options h step.write.key look) (append_cancel_right made.before (begun ++ history_of earlier) (history_of (step ∷ [])) same) made.looked;
+        looked = subst (λ h. IsLookAt options h step.write.key look) (append_cancel_right made.before (origin ++ history_of earlier) (history_of (step ∷ [])) same) made.looked;
       }
 
   serves_each : (own : List Answered) → ((n : ℕ) (step : RunStep) → slice_get (steps_of own) n ≡ Some step → Stands step run)
-      → AllByRecursion (IsOf options begun (begun ++ history_of run)) own → AllByRecursion (ServesLook options begun run) own
+      → AllByRecursion (IsOf options origin (origin ++ history_of run)) own → AllByRecursion (ServesLook options origin run) own
   serves_each [] stand known = tt
   serves_each (wrote step ∷ own) stand known = (tt, serves_each own (λ n. stand (suc n)) known.1)
   serves_each (got key stamp value ∷ own) stand known = (tt, serves_each own stand known.1)
@@ -67,9 +67,9 @@ module _ (options : Options) (begun : History) (run : List RunStep) (runs : IsRu
   serves_each (kept key stamp look ∷ own) stand known = (known.0, serves_each own stand known.1)
 
 -- the looks of a front, where its writes are its steps in the run
-pub serves_looks : (options : Options) (begun : History) (f : ℕ) (placed : List Placed) (own : List Answered) → IsRunFrom options begun (steps_in placed) → steps_of own ≡ steps_by f placed
-    → All (IsOf options begun (begun ++ history_of (steps_in placed))) own → All (ServesLook options begun (steps_in placed)) own
-serves_looks options begun f placed own runs written known =
-    All-from_recursion (ServesLook options begun (steps_in placed)) own (serves_each options begun (steps_in placed) runs own
+pub serves_looks : (options : Options) (origin : History) (f : ℕ) (placed : List Placed) (own : List Answered) → IsRunFrom options origin (steps_in placed) → steps_of own ≡ steps_by f placed
+    → All (IsOf options origin (origin ++ history_of (steps_in placed))) own → All (ServesLook options origin (steps_in placed)) own
+serves_looks options origin f placed own runs written known =
+    All-from_recursion (ServesLook options origin (steps_in placed)) own (serves_each options origin (steps_in placed) runs own
     (λ n step at. front_stands f placed n step (ap (λ (l : List RunStep). slice_get l n) (sym written) ∙ at))
-    (recursion_from_All (IsOf options begun (begun ++ history_of (steps_in placed))) own known))
+    (recursion_from_All (IsOf options origin (origin ++ history_of (steps_in placed))) own known))

@@ -9,9 +9,9 @@ use Rattle.std.proofs.lemmas.List.{append-nil, length-map}
 use Rattle.std.proofs.lemmas.List.Sums.{sum-map}
 use Rattle.list_laws.proofs.Places.{element_at, from_map}
 use Rattle.mica_io.specs.Traffic.{Datagram, Traffic, new_traffic}
-use Rattle.mica_io.specs.Ports.{Port, Ports, out, back, is_waiting}
+use Rattle.mica_io.specs.PortStates.{Port, PortStates, out, back, is_waiting}
 use Rattle.partition_model.specs.declared.options.Options.{Options}
-use Rattle.mica_fronts.specs.declared.ports.Ports.{Ports as PortOptions}
+use Rattle.mica_fronts.specs.declared.ports.PortOptions.{PortOptions}
 use Rattle.mica_fronts.specs.declared.totals.Totals.{Totals}
 use Rattle.mica_fronts.specs.Answered.{Answered, answers_of, writes_of, gets_of}
 use Rattle.mica_fronts.specs.Dealing.{Dealing, IsDealing, answered_in, due_to}
@@ -29,7 +29,7 @@ use Rattle.mica_serve.proofs.ServedBeside.{lawful_beside}
 use Rattle.mica_serve.proofs.CutShort.{cut_short}
 
 -- ends that were bound where a net tells its ports tell their traffic
-pub bound_tell : (first : ℕ) (ends : List EndFacts) (before mid : Ports) → BindsEnds first ends before mid → TellAll ends
+pub bound_tell : (first : ℕ) (ends : List EndFacts) (before mid : PortStates) → BindsEnds first ends before mid → TellAll ends
 bound_tell first ends before mid bound i e is = ap is_some (bound.each i e is).told
 
 -- a port is one of so many from the first on, or none of them
@@ -42,7 +42,7 @@ among first n q = elim (cases_lt q first) as (λ _. ((i : ℕ) × (i < n) × (q 
   ]
 ]
 
-module _ (ports : PortOptions) (olds news : List EndFacts) (before mid after : Ports) (many : length news ≡ length olds) (within : length olds ≤ ports.fronts)
+module _ (ports : PortOptions) (olds news : List EndFacts) (before mid after : PortStates) (many : length news ≡ length olds) (within : length olds ≤ ports.fronts)
     (bound : BindsEnds ports.port olds before mid) (released : ReleasesEnds ports.port news mid after) where
   untouched : (q : ℕ) → ((i : ℕ) → i < length olds → q ≢ ports.port + i) → after q ≡ before q
   untouched q other = released.others q (λ i lt. other i (omega (arith, lt, many))) ∙ bound.others q other
@@ -144,10 +144,10 @@ module _ (ports : PortOptions) (olds news : List EndFacts) (before mid after : P
     pub none : dealings ≡ []
     pub left : LeavesPort ports.batches (before (ports.port + f)) (after (ports.port + f)) dealings []
 
-  module _ (others : Others) (options : Options) (begun : ℕ → History) (bind_failed : Type 0) (counts : ℕ → Type 0) where
+  module _ (others : Others) (options : Options) (origin : ℕ → History) (bind_failed : Type 0) (counts : ℕ → Type 0) where
     -- a bind failed, so no front dealt with anything
-    pub none_stopped : HaveAnsweredNothing others → ((p : ℕ) → p < options.partitions → IsHistory options (begun p)) → bind_failed → ((i : ℕ) (b a : EndFacts) → slice_get olds i ≡ Some b → slice_get news i ≡ Some a → DealsInPartWithEnd ports.batches [] [] b a)
-        → StopsShort others options begun ports bind_failed counts before after
+    pub none_stopped : HaveAnsweredNothing others → ((p : ℕ) → p < options.partitions → IsHistory options (origin p)) → bind_failed → ((i : ℕ) (b a : EndFacts) → slice_get olds i ≡ Some b → slice_get news i ≡ Some a → DealsInPartWithEnd ports.batches [] [] b a)
+        → StopsShort others options origin ports bind_failed counts before after
     none_stopped silent filled failed part = record {
       fronts = nothing.0;
       runs = λ p. [];
@@ -160,8 +160,8 @@ module _ (ports : PortOptions) (olds news : List EndFacts) (before mid after : P
           each = λ f answers is. ap (writes_of options p) (none_asked f answers is);
           no_others = All-from_recursion (λ q. q.front < length (all_answers others nothing.0)) [] tt;
         };
-        gets = λ p f answers lt is. subst (λ (l : List Answered). All (ServesGet options (begun p) (begun p ++ [])) (gets_of options p l)) (sym (none_asked f answers is)) (All-nil (ServesGet options (begun p) (begun p ++ [])));
-        looks = λ p f answers lt is. subst (λ (l : List Answered). All (ServesLook options (begun p) []) (answers_of options p l)) (sym (none_asked f answers is)) (All-nil (ServesLook options (begun p) []));
+        gets = λ p f answers lt is. subst (λ (l : List Answered). All (ServesGet options (origin p) (origin p ++ [])) (gets_of options p l)) (sym (none_asked f answers is)) (All-nil (ServesGet options (origin p) (origin p ++ [])));
+        looks = λ p f answers lt is. subst (λ (l : List Answered). All (ServesLook options (origin p) []) (answers_of options p l)) (sym (none_asked f answers is)) (All-nil (ServesLook options (origin p) []));
         order = λ p f answers lt is. subst (λ (l : List Answered). AllPairs NoFall (answers_of options p l)) (sym (none_asked f answers is)) (λ i j d less within. absurd (omega arith));
       };
       some = inl failed;
@@ -186,13 +186,13 @@ module _ (ports : PortOptions) (olds news : List EndFacts) (before mid after : P
 
     -- a front stopped, and what all dealt with beside each other is lawful
     pub all_stopped : 1 ≤ options.partitions → length olds ≡ ports.fronts → StopsSome ports.batches olds news ⊎ others.stopped
-        → counts (sum_by (λ e. e.faults) news) → StopsBeside others options begun ports.batches olds news → StopsShort others options begun ports bind_failed counts before after
+        → counts (sum_by (λ e. e.faults) news) → StopsBeside others options origin ports.batches olds news → StopsShort others options origin ports bind_failed counts before after
     all_stopped some full stops counted all = record {
       fronts = all.fronts;
       runs = all.runs;
       many = all.many ∙ full;
       each = λ f d is. let e = ends_at f d is in port_left ports.batches f d [] e.0 e.1 e.2 e.3 e.4.part;
-      answered = lawful_beside options some begun all.runs (all_answers others all.fronts) all.ran all.answered;
+      answered = lawful_beside options some origin all.runs (all_answers others all.fronts) all.ran all.answered;
       some = inr (elim stops as (λ _. ((f : ℕ) × (f < ports.fronts) × IsStopped ports.batches (before (ports.port + f)) (after (ports.port + f))) ⊎ others.stopped) [
         | inl one ↦ inl (stopped_some ports.batches one)
         | inr other ↦ inr other
@@ -230,9 +230,9 @@ module _ (ports : PortOptions) (olds news : List EndFacts) (before mid after : P
             let a = element_at news f (omega (arith, lt, all.many, many)) in
             (b.0, a.0, b.1, a.1, all.each f d b.0 a.0 is b.1 a.1)
 
-  pub all_served : (others : Others) (options : Options) (begun : ℕ → History) (totals : Totals) (kept : List KeptSeat) → 1 ≤ options.partitions → length olds ≡ ports.fronts
-      → ServesAll others options begun ports.batches totals kept olds news → ServesOnTables others options begun ports totals kept before after
-  all_served others options begun totals kept some full all = record {
+  pub all_served : (others : Others) (options : Options) (origin : ℕ → History) (totals : Totals) (kept : List KeptSeat) → 1 ≤ options.partitions → length olds ≡ ports.fronts
+      → ServesAll others options origin ports.batches totals kept olds news → ServesOnTables others options origin ports totals kept before after
+  all_served others options origin totals kept some full all = record {
     fronts = all.fronts;
     runs = all.runs;
     served = record {
@@ -242,14 +242,14 @@ module _ (ports : PortOptions) (olds news : List EndFacts) (before mid after : P
           let b = element_at olds f (omega (arith, lt, all.many)) in
           let a = element_at news f (omega (arith, lt, all.many, many)) in
           port_served ports.batches f dealings b.0 a.0 b.1 a.1 (all.each f dealings b.0 a.0 is b.1 a.1);
-      answered = lawful_beside options some begun all.runs (all_answers others all.fronts) all.ran all.answered;
+      answered = lawful_beside options some origin all.runs (all_answers others all.fronts) all.ran all.answered;
     };
     counted = all.counted;
     tables = all.tables;
   }
 
 -- ends that were bound and not served were left at their beginning
-pub none_served : (batches first : ℕ) (ends : List EndFacts) (before mid : Ports) → BindsEnds first ends before mid
+pub none_served : (batches first : ℕ) (ends : List EndFacts) (before mid : PortStates) → BindsEnds first ends before mid
     → (i : ℕ) (b a : EndFacts) → slice_get ends i ≡ Some b → slice_get ends i ≡ Some a → DealsInPartWithEnd batches [] [] b a
 none_served batches first ends before mid bound i b a is is' =
     let w = bound.each i b is in

@@ -17,12 +17,12 @@ use Rattle.partition_table.specs.declared.tables.KeptSeat.{KeptSeat}
 use Rattle.owner_queue.specs.JobEnds.{Inbox}
 use Rattle.owner_queue.specs.AckEnds.{AckBox}
 use Rattle.mica_fronts.specs.declared.totals.TheConstants.{MAX_BATCHES}
-use Rattle.mica_fronts.specs.declared.ports.Ports.{Ports}
+use Rattle.mica_fronts.specs.declared.ports.PortOptions.{PortOptions}
 use Rattle.mica_fronts.specs.declared.queue_front.FrontPart.{FrontPart}
 use Rattle.mica_serve.specs.declared.worker.OwnerTask.{OwnerTask}
 use Rattle.mica_serve.specs.declared.worker.FrontTask.{FrontTask}
 use Rattle.mica_serve.specs.Others.{alone}
-use Rattle.mica_serve.specs.Served.{nothing_begun}
+use Rattle.mica_serve.specs.Served.{empty_origin}
 use Rattle.mica_serve.specs.Ends.{EndFacts, AreOpen}
 use Rattle.mica_serve.specs.FrontRuns.{RanAll}
 use Rattle.mica_serve.specs.Hands.{OwnerEnd, IsReadyOwner, IsNewOwner, AreFrontsOf, RanOwner, MayMeetAll, HaveMetAll}
@@ -46,7 +46,7 @@ ready_owner options fronts most owner new = record {
       record { table = ap (λ (b : AckBox). b.table) is; shape = ap (λ (b : AckBox). b.shape) is; none = ap (λ (b : AckBox). b.list) is }));
 }
 
-module _ {P D : Type 0} (owner : P → OwnerState) (home : P → TableId) (facts : D → EndFacts) (options : Options) (ports : Ports) where
+module _ {P D : Type 0} (owner : P → OwnerState) (home : P → TableId) (facts : D → EndFacts) (options : Options) (ports : PortOptions) where
   abbrev end_of_owner : OwnerTask P → OwnerEnd
   end_of_owner t = owner_end owner home t
 
@@ -109,7 +109,7 @@ module _ {P D : Type 0} (owner : P → OwnerState) (home : P → TableId) (facts
 
         -- what all came to
         pub all_came : (news : List D) → news ≡ map (λ (t : FrontTask D). t.end) served
-            → RanAll alone options nothing_begun ports.batches (map (λ (t : OwnerTask P). kept_seat_in (owner t.part)) after) (map (λ (t : FrontTask D). t.answer) served) (map facts ends) (map facts news)
+            → RanAll alone options empty_origin ports.batches (map (λ (t : OwnerTask P). kept_seat_in (owner t.part)) after) (map (λ (t : FrontTask D). t.answer) served) (map facts ends) (map facts news)
         all_came news news_are =
             let it = ran_all all (map end_of_owner after) here in
             let kept = map-map (λ (o : OwnerEnd). kept_seat_in o.state) end_of_owner after in
@@ -117,9 +117,9 @@ module _ {P D : Type 0} (owner : P → OwnerState) (home : P → TableId) (facts
             let two : map (λ (t : FrontTask D). facts t.end) served ≡ map facts news = sym (map-map facts (λ (t : FrontTask D). t.end) served) ∙ ap (map facts) (sym news_are) in
             let left = map (λ (o : OwnerEnd). kept_seat_in o.state) (map end_of_owner after) in
             let answers = map (λ (t : FrontTask D). t.answer) served in
-            subst (λ (k : List KeptSeat). RanAll alone options nothing_begun ports.batches k answers (map facts ends) (map facts news)) kept
-            (subst (λ (b : List EndFacts). RanAll alone options nothing_begun ports.batches left answers b (map facts news)) one
-            (subst (λ (a : List EndFacts). RanAll alone options nothing_begun ports.batches left answers (map (λ (t : FrontTask D). facts t.end) tasks) a) two it))
+            subst (λ (k : List KeptSeat). RanAll alone options empty_origin ports.batches k answers (map facts ends) (map facts news)) kept
+            (subst (λ (b : List EndFacts). RanAll alone options empty_origin ports.batches left answers b (map facts news)) one
+            (subst (λ (a : List EndFacts). RanAll alone options empty_origin ports.batches left answers (map (λ (t : FrontTask D). facts t.end) tasks) a) two it))
 
         -- the owners are idle
         pub idle : (p : ℕ) (task : OwnerTask P) → slice_get after p ≡ Some task → (owner task.part).phase ≡ Idle

@@ -17,8 +17,8 @@ use Rattle.mica_serve.proofs.Beside.{Beside, TellsAnswers, IsOf, beside_of, all_
 use Rattle.mica_serve.proofs.Looked.{serves_looks}
 use Rattle.mica_serve.proofs.PartitionTotals.{total_all, writes_total}
 
-module _ (options : Options) (some : 1 ≤ options.partitions) (begun : ℕ → History) (runs : ℕ → List Placed) (f : ℕ) (answers : List Answered) (old new : Sessions)
-    (known : AnsweredBeside options begun runs f answers old new) where
+module _ (options : Options) (some : 1 ≤ options.partitions) (origin : ℕ → History) (runs : ℕ → List Placed) (f : ℕ) (answers : List Answered) (old new : Sessions)
+    (known : AnsweredBeside options origin runs f answers old new) where
   beside : (p : ℕ) → Beside options (old p) (new p) (answers_of options p answers)
   beside p = beside_of options (answers_of options p answers) (old p) (new p) (in_partition options p answers old new known.answers)
 
@@ -44,16 +44,16 @@ module _ (options : Options) (some : 1 ≤ options.partitions) (begun : ℕ → 
       (omega (arith, known.few, writes_total options some answers)) p lt)
 
   -- what it got and looked at
-  known_of_run : (p : ℕ) → p < options.partitions → All (IsOf options (begun p) (begun p ++ history_in (runs p))) (answers_of options p answers)
+  known_of_run : (p : ℕ) → p < options.partitions → All (IsOf options (origin p) (origin p ++ history_in (runs p))) (answers_of options p answers)
   known_of_run p lt =
-      all_grow options (old p).seen (begun p) (new p).seen (begun p ++ history_in (runs p)) ([], known.began p lt ∙ sym (append-nil (begun p))) (known.seen p lt)
+      all_grow options (old p).seen (origin p) (new p).seen (origin p ++ history_in (runs p)) ([], known.began p lt ∙ sym (append-nil (origin p))) (known.seen p lt)
       (answers_of options p answers) (beside p).known
 
-  pub gets_of_run : (p : ℕ) → p < options.partitions → All (ServesGet options (begun p) (begun p ++ history_in (runs p))) (gets_of options p answers)
-  gets_of_run p lt = gets_among options (begun p) (begun p ++ history_in (runs p)) (answers_of options p answers) (known_of_run p lt)
+  pub gets_of_run : (p : ℕ) → p < options.partitions → All (ServesGet options (origin p) (origin p ++ history_in (runs p))) (gets_of options p answers)
+  gets_of_run p lt = gets_among options (origin p) (origin p ++ history_in (runs p)) (answers_of options p answers) (known_of_run p lt)
 
-  pub looks_of_run : (p : ℕ) → p < options.partitions → IsRunFrom options (begun p) (steps_in (runs p)) → All (ServesLook options (begun p) (steps_in (runs p))) (answers_of options p answers)
-  looks_of_run p lt run = serves_looks options (begun p) f (runs p) (answers_of options p answers) run (all_written p lt) (known_of_run p lt)
+  pub looks_of_run : (p : ℕ) → p < options.partitions → IsRunFrom options (origin p) (steps_in (runs p)) → All (ServesLook options (origin p) (steps_in (runs p))) (answers_of options p answers)
+  looks_of_run p lt run = serves_looks options (origin p) f (runs p) (answers_of options p answers) run (all_written p lt) (known_of_run p lt)
 
   pub order_in : (p : ℕ) → AllPairs NoFall (answers_of options p answers)
   order_in p = order_of options (answers_of options p answers) (old p) (new p) (in_partition options p answers old new known.answers)
@@ -66,16 +66,16 @@ module _ (options : Options) (some : 1 ≤ options.partitions) (begun : ℕ → 
       omega (arith, ap closed_of tells.is, tells.closed, t.2)
 
 -- what is known of each front makes all that was answered lawful
-pub lawful_beside : (options : Options) → 1 ≤ options.partitions → (begun : ℕ → History) (runs : ℕ → List Placed) (fronts : List (List Answered))
-    → RunsPartitions options begun (length fronts) runs → AreAnsweredBeside options begun runs fronts → AnswersLawfully options begun fronts runs
-lawful_beside options some begun runs fronts ran known = record {
+pub lawful_beside : (options : Options) → 1 ≤ options.partitions → (origin : ℕ → History) (runs : ℕ → List Placed) (fronts : List (List Answered))
+    → RunsPartitions options origin (length fronts) runs → AreAnsweredBeside options origin runs fronts → AnswersLawfully options origin fronts runs
+lawful_beside options some origin runs fronts ran known = record {
   writes = λ p lt. record {
     filled = ran.filled p lt;
     run = ran.run p lt;
-    each = λ f answers is. let k = known f answers is in all_written options some begun runs f answers k.0 k.1 k.2 p lt;
+    each = λ f answers is. let k = known f answers is in all_written options some origin runs f answers k.0 k.1 k.2 p lt;
     no_others = ran.no_others p lt;
   };
-  gets = λ p f answers lt is. let k = known f answers is in gets_of_run options some begun runs f answers k.0 k.1 k.2 p lt;
-  looks = λ p f answers lt is. let k = known f answers is in looks_of_run options some begun runs f answers k.0 k.1 k.2 p lt (ran.run p lt);
-  order = λ p f answers lt is. let k = known f answers is in order_in options some begun runs f answers k.0 k.1 k.2 p;
+  gets = λ p f answers lt is. let k = known f answers is in gets_of_run options some origin runs f answers k.0 k.1 k.2 p lt;
+  looks = λ p f answers lt is. let k = known f answers is in looks_of_run options some origin runs f answers k.0 k.1 k.2 p lt (ran.run p lt);
+  order = λ p f answers lt is. let k = known f answers is in order_in options some origin runs f answers k.0 k.1 k.2 p;
 }

@@ -33,7 +33,7 @@ use Rattle.mica_fronts.specs.Stand.{Stand}
 use Rattle.mica_fronts.specs.Session.{Told, Session}
 use Rattle.mica_fronts.specs.Placed.{Placed, steps_in, steps_by, history_in}
 use Rattle.mica_serve.specs.Others.{alone}
-use Rattle.mica_serve.specs.Served.{nothing_begun}
+use Rattle.mica_serve.specs.Served.{empty_origin}
 use Rattle.mica_serve.specs.Beside.{closed_of, total_below, RunsPartitions}
 use Rattle.mica_fronts.specs.QueueFront.{QueueView, IsFrontPart, queue_view, stand_of, told_by, session_or_none, sessions_of, ended_part, step_by, acknowledged_by}
 use Rattle.owner_queue.specs.Worked.{Acknowledged, DoneJob, jobs_in, job_of}
@@ -250,7 +250,7 @@ module _ {D : Type 0} {batches : ℕ} {facts : D → EndFacts} {options : Option
     met_part : {f p : ℕ} {n : FrontTask D} {owner : OwnerEnd} (a : FrontAt f n) (o : OwnerAt p owner) (part : FrontPart) → PartAt a o part → HasMet f owner part
     met_part {f} {p} {n} {owner} a o part x = met.met f p n.parts.items part owner (at_map hand_of news f n a.at) x.at o.at
 
-    taken_front : {f : ℕ} {n : FrontTask D} (a : FrontAt f n) → IsTakenIn options nothing_begun placed f (run_of a.old n a.ran)
+    taken_front : {f : ℕ} {n : FrontTask D} (a : FrontAt f n) → IsTakenIn options empty_origin placed f (run_of a.old n a.ran)
     taken_front {f} {n} a = record {
       starts = λ p low.
           let x = (part_of a (owner_of p low).1).1 in (
@@ -272,14 +272,14 @@ module _ {D : Type 0} {batches : ℕ} {facts : D → EndFacts} {options : Option
           let o = owner_of p low in
           let x = part_of a o.1 in
           let box = element_at o.0.acks f (omega (arith, front_low a, acks_many o.1)) in
-          let begun = (met_part a o.1 x.0 x.1).begins box.0 box.1 in
+          let later = (met_part a o.1 x.0 x.1).begins box.0 box.1 in
           let sent = (o.1.ran.served.sent f x.1.first.acks box.0 x.1.lent.answers box.1).answers in
           let own : told_by x.1.last ≡ told = same_Some _ _ (sym (ap (λ (y : Option FrontPart). (session_or_none y).told) x.1.last_at) ∙ told_is) in
           let list : x.0.acks.list ≡ x.1.last.acks.list = ap (λ (y : FrontPart). y.acks.list) x.1.part_is in (
-            map step_by begun.0,
+            map step_by later.0,
             ap (steps_by f) o.1.placed_is ∙ steps_answered f o.1.ran.served.done ∙ ap (map step_of) (sym sent)
-                ∙ map-map step_of acknowledged_by box.0.list ∙ ap (map step_by) (begun.1 ∙ ap (λ (l : List Ack). l ++ begun.0) list)
-                ∙ map-append step_by x.1.last.acks.list begun.0 ∙ ap (λ (t : Told). t.steps ++ map step_by begun.0) own,
+                ∙ map-map step_of acknowledged_by box.0.list ∙ ap (map step_by) (later.1 ∙ ap (λ (l : List Ack). l ++ later.0) list)
+                ∙ map-append step_by x.1.last.acks.list later.0 ∙ ap (λ (t : Told). t.steps ++ map step_by later.0) own,
           );
       sent =
           let total = subst (λ (m : ℕ). total_below m (λ p. length (steps_by f (placed p))) ≤ sum_by (λ (y : FrontPart). length y.jobs.sent) a.ran.ran.new.parts) a.new_many
@@ -310,10 +310,10 @@ module _ {D : Type 0} {batches : ℕ} {facts : D → EndFacts} {options : Option
         let owner = element_at owners p (omega (arith, slice_get_within after p new.0 new.1, met.many)) in
         (owner.0, new.0, owner_at p owner.0 owner.1, sym new.2 ∙ ap (λ (o : OwnerEnd). kept_seat_in o.state) (met.same p owner.0 new.0 owner.1 new.1))
 
-    taken : AreTakenIn alone options nothing_begun runs kept
+    taken : AreTakenIn alone options empty_origin runs kept
     taken = record {
       runs = placed;
-      ran = subst (λ (n : ℕ). RunsPartitions options nothing_begun n placed) (numbered (length runs)) (record {
+      ran = subst (λ (n : ℕ). RunsPartitions options empty_origin n placed) (numbered (length runs)) (record {
         filled = λ p low. tt;
         run = λ p low.
             let o = (owner_of p low).1 in
@@ -333,7 +333,7 @@ module _ {D : Type 0} {batches : ℕ} {facts : D → EndFacts} {options : Option
       before = λ f answers is. absurd (cc);
       each = λ f run is.
           let n = front_of f run is in
-          subst (λ (k : ℕ). IsTakenIn options nothing_begun placed k run) (numbered f) (subst (IsTakenIn options nothing_begun placed f) n.2 (taken_front n.1));
+          subst (λ (k : ℕ). IsTakenIn options empty_origin placed k run) (numbered f) (subst (IsTakenIn options empty_origin placed f) n.2 (taken_front n.1));
       shapes = record {
         many = length-map after (λ (o : OwnerEnd). kept_seat_in o.state) ∙ met.many ∙ owners_long;
         shapes = λ p entry is.
@@ -378,7 +378,7 @@ module _ {D : Type 0} {batches : ℕ} {facts : D → EndFacts} {options : Option
             ∙ sum-map (closed_in p) runs
 
     -- the workers of a server ran, and their owners took in all fronts
-    pub ran_all : RanAll alone options nothing_begun batches kept (map (λ (t : FrontTask D). t.answer) news) (map end_of olds) (map end_of news)
+    pub ran_all : RanAll alone options empty_origin batches kept (map (λ (t : FrontTask D). t.answer) news) (map end_of olds) (map end_of news)
     ran_all = record {
       fronts = runs;
       answers_are = made_map run_of (λ (t : FrontTask D). t.answer) (λ (r : FrontRun). r.answer) (λ o n r. refl) olds news all.fronts_ran;

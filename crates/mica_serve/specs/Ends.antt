@@ -2,7 +2,7 @@
 use Rattle.std.specs.Prelude.{◌≡◌, ◌≢◌, ◌+◌, ◌<◌, ◌≤◌, ◌⊎◌, ℕ, Bool, true, false, List, [], take, drop, map, length, slice_get, nat_lt, Option, Some, is_some, IfSome, All, Result, Ok, Err}
 use Rattle.mica_io.specs.Faults.{Rose}
 use Rattle.mica_io.specs.Traffic.{Datagram, Traffic, EndScript, new_traffic}
-use Rattle.mica_io.specs.Ports.{Ports, waiting, out, back}
+use Rattle.mica_io.specs.PortStates.{PortStates, waiting, out, back}
 use Rattle.partition_model.specs.declared.options.Options.{Options}
 use Rattle.partition_model.specs.History.{History}
 use Rattle.mica_fronts.specs.declared.totals.Totals.{Totals}
@@ -55,7 +55,7 @@ abbrev pub AreOpen : List EndFacts → Type 0
 AreOpen ends = (i : ℕ) (end : EndFacts) → slice_get ends i ≡ Some end → (end.has_ended ≡ false) × IfSome end.traffic (λ t. t ≡ new_traffic t.left)
 
 -- the end has left what its port had waiting
-pub record WaitedAt (before : Ports) (port : ℕ) (end : EndFacts) : Type 0 where
+pub record WaitedAt (before : PortStates) (port : ℕ) (end : EndFacts) : Type 0 where
   pub datagrams : List Datagram
   pub foretold : EndScript
   pub waited : before port ≡ waiting datagrams foretold
@@ -63,13 +63,13 @@ pub record WaitedAt (before : Ports) (port : ℕ) (end : EndFacts) : Type 0 wher
   pub scripted : end.has_script ≡ true
 
 -- the ports of the ends waited, and are out; no others changed
-pub record BindsEnds (first : ℕ) (ends : List EndFacts) (before after : Ports) : Type 0 where
+pub record BindsEnds (first : ℕ) (ends : List EndFacts) (before after : PortStates) : Type 0 where
   pub each : (i : ℕ) (end : EndFacts) → slice_get ends i ≡ Some end → WaitedAt before (first + i) end
   pub out : (i : ℕ) → i < length ends → after (first + i) ≡ out
   pub others : (q : ℕ) → ((i : ℕ) → i < length ends → q ≢ first + i) → after q ≡ before q
 
 -- each end is back with what it tells, and no other port changed
-pub record ReleasesEnds (first : ℕ) (ends : List EndFacts) (before after : Ports) : Type 0 where
+pub record ReleasesEnds (first : ℕ) (ends : List EndFacts) (before after : PortStates) : Type 0 where
   pub each : (i : ℕ) (end : EndFacts) (traffic : Traffic) → slice_get ends i ≡ Some end → end.traffic ≡ Some traffic
       → after (first + i) ≡ back traffic end.has_ended
   pub others : (q : ℕ) → ((i : ℕ) → i < length ends → q ≢ first + i) → after q ≡ before q
@@ -119,16 +119,16 @@ abbrev pub TellAll : List EndFacts → Type 0
 TellAll ends = (i : ℕ) (end : EndFacts) → slice_get ends i ≡ Some end → is_some end.traffic ≡ true
 
 -- each front dealt with its end, beside each other and the others, and these are the tables of their partitions
-pub record ServesAll (others : Others) (options : Options) (begun : ℕ → History) (batches : ℕ) (totals : Totals) (kept : List KeptSeat) (before after : List EndFacts) : Type 0 where
+pub record ServesAll (others : Others) (options : Options) (origin : ℕ → History) (batches : ℕ) (totals : Totals) (kept : List KeptSeat) (before after : List EndFacts) : Type 0 where
   pub fronts : List (List Dealing)
   pub runs : ℕ → List Placed
   pub many : length fronts ≡ length before
   pub each : (f : ℕ) (dealings : List Dealing) (b a : EndFacts) → slice_get fronts f ≡ Some dealings → slice_get before f ≡ Some b → slice_get after f ≡ Some a
       → DealsWithEnd batches dealings b a
-  pub ran : RunsPartitions options begun (length (all_answers others fronts)) runs
-  pub answered : AreAnsweredBeside options begun runs (all_answers others fronts)
+  pub ran : RunsPartitions options origin (length (all_answers others fronts)) runs
+  pub answered : AreAnsweredBeside options origin runs (all_answers others fronts)
   pub counted : Counts fronts totals
-  pub tables : AreServedTables options begun (all_answers others fronts) runs kept
+  pub tables : AreServedTables options origin (all_answers others fronts) runs kept
 
 -- one of the fronts stopped at a fault
 pub record StopsSome (batches : ℕ) (before after : List EndFacts) : Type 0 where
@@ -146,27 +146,27 @@ HasNoEndFault before after = (i : ℕ) (old new : EndFacts) → slice_get before
     → new.faults ≡ old.faults
 
 -- each front dealt with its end in part, beside each other and the others
-pub record StopsBeside (others : Others) (options : Options) (begun : ℕ → History) (batches : ℕ) (before after : List EndFacts) : Type 0 where
+pub record StopsBeside (others : Others) (options : Options) (origin : ℕ → History) (batches : ℕ) (before after : List EndFacts) : Type 0 where
   pub fronts : List (List Dealing)
   pub runs : ℕ → List Placed
   pub many : length fronts ≡ length before
   pub each : (f : ℕ) (dealings : List Dealing) (b a : EndFacts) → slice_get fronts f ≡ Some dealings → slice_get before f ≡ Some b → slice_get after f ≡ Some a
       → MayStopAtEnd batches dealings b a
-  pub ran : RunsPartitions options begun (length (all_answers others fronts)) runs
-  pub answered : AreAnsweredBeside options begun runs (all_answers others fronts)
+  pub ran : RunsPartitions options origin (length (all_answers others fronts)) runs
+  pub answered : AreAnsweredBeside options origin runs (all_answers others fronts)
 
 -- what each answer says of the ends and of the tables that are kept
 abbrev pub MeansForEnds : Others → Result Totals ServeFault → Options → (ℕ → History) → ℕ → List KeptSeat → List EndFacts → List EndFacts → Type 0
-MeansForEnds others (Ok totals) options begun batches kept before after =
-    HaveShapes options kept × HasNoEndFault before after × (TellAll before → ServesAll others options begun batches totals kept before after)
-MeansForEnds others (Err Net) options begun batches kept before after =
-    (kept ≡ []) × (StopsSome batches before after ⊎ others.stopped) × (TellAll before → StopsBeside others options begun batches before after)
-MeansForEnds others (Err NoMemory) options begun batches kept before after = kept ≡ []
+MeansForEnds others (Ok totals) options origin batches kept before after =
+    HaveShapes options kept × HasNoEndFault before after × (TellAll before → ServesAll others options origin batches totals kept before after)
+MeansForEnds others (Err Net) options origin batches kept before after =
+    (kept ≡ []) × (StopsSome batches before after ⊎ others.stopped) × (TellAll before → StopsBeside others options origin batches before after)
+MeansForEnds others (Err NoMemory) options origin batches kept before after = kept ≡ []
 
 -- the fronts were served, beside each other and the others
 pub record ServesFronts (others : Others) (options : Options) (origin : ℕ → History) (batches : ℕ) (answer : Result Totals ServeFault) (kept : List KeptSeat)
     (before after : List EndFacts) : Type 0 where
   pub many : length after ≡ length before
   pub keeps : (i : ℕ) (b a : EndFacts) → slice_get before i ≡ Some b → slice_get after i ≡ Some a → KeepsEnd b a
-  pub begun : TellAll before → BeginsEnds batches before after
+  pub begins : TellAll before → BeginsEnds batches before after
   pub means : MeansForEnds others answer options origin batches kept before after

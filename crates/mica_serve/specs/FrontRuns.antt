@@ -50,30 +50,30 @@ abbrev pub closed_in : ℕ → FrontRun → ℕ
 closed_in p run = closed_of (run.new p).told
 
 -- The owners took in all that a front had in hand: its seats, its jobs and the answers that it took.
-pub record IsTakenIn (options : Options) (begun : ℕ → History) (runs : ℕ → List Placed) (f : ℕ) (run : FrontRun) : Type 0 where
+pub record IsTakenIn (options : Options) (origin : ℕ → History) (runs : ℕ → List Placed) (f : ℕ) (run : FrontRun) : Type 0 where
   pub starts : (p : ℕ) → p < options.partitions → (told : Told) × ((run.old p).told ≡ Some told) × IsUntold told
-  pub began : (p : ℕ) → p < options.partitions → (run.old p).seen ≡ begun p
-  pub seen : (p : ℕ) → p < options.partitions → IsPrefix (run.new p).seen (begun p ++ history_in (runs p))
+  pub began : (p : ℕ) → p < options.partitions → (run.old p).seen ≡ origin p
+  pub seen : (p : ℕ) → p < options.partitions → IsPrefix (run.new p).seen (origin p ++ history_in (runs p))
   pub took : (p : ℕ) (told : Told) → p < options.partitions → (run.new p).told ≡ Some told
       → (later : List RunStep) × (steps_by f (runs p) ≡ told.steps ++ later)
   pub sent : total_below options.partitions (λ p. length (steps_by f (runs p))) + run.left_after ≤ run.left
 
 -- the owners took in all fronts, and the others before them, and these are the seats that they may leave
-pub record AreTakenIn (others : Others) (options : Options) (begun : ℕ → History) (fronts : List FrontRun) (kept : List KeptSeat) : Type 0 where
+pub record AreTakenIn (others : Others) (options : Options) (origin : ℕ → History) (fronts : List FrontRun) (kept : List KeptSeat) : Type 0 where
   pub runs : ℕ → List Placed
-  pub ran : RunsPartitions options begun (length others.answers + length fronts) runs
-  pub before : AreAnsweredBeside options begun runs others.answers
-  pub each : (f : ℕ) (run : FrontRun) → slice_get fronts f ≡ Some run → IsTakenIn options begun runs (length others.answers + f) run
+  pub ran : RunsPartitions options origin (length others.answers + length fronts) runs
+  pub before : AreAnsweredBeside options origin runs others.answers
+  pub each : (f : ℕ) (run : FrontRun) → slice_get fronts f ≡ Some run → IsTakenIn options origin runs (length others.answers + f) run
   pub shapes : HaveShapes options kept
-  pub history : (p : ℕ) (entry : KeptSeat) → slice_get kept p ≡ Some entry → entry.history ≡ begun p ++ history_in (runs p)
+  pub history : (p : ℕ) (entry : KeptSeat) → slice_get kept p ≡ Some entry → entry.history ≡ origin p ++ history_in (runs p)
   pub closed : (p : ℕ) (entry : KeptSeat) → slice_get kept p ≡ Some entry → entry.closed ≡ gets_answered options p others.answers + sum_by (closed_in p) fronts
 
 -- the workers of a server ran beside the others, and their owners took in all fronts
-pub record RanAll (others : Others) (options : Options) (begun : ℕ → History) (batches : ℕ) (kept : List KeptSeat) (answers : List (Result Totals ServeFault)) (before after : List EndFacts) : Type 0 where
+pub record RanAll (others : Others) (options : Options) (origin : ℕ → History) (batches : ℕ) (kept : List KeptSeat) (answers : List (Result Totals ServeFault)) (before after : List EndFacts) : Type 0 where
   pub fronts : List FrontRun
   pub answers_are : answers ≡ map (λ r. r.answer) fronts
   pub run : RunFronts options batches fronts before after
-  pub taken : AreTakenIn others options begun fronts kept
+  pub taken : AreTakenIn others options origin fronts kept
 
 -- the totals of all
 abbrev pub sum_of_totals : List Totals → Totals

@@ -1,16 +1,16 @@
 -- What a net tells before and after a call.
 use Rattle.std.specs.Prelude.{◌≡◌, ◌≢◌, ◌+◌, ◌⊎◌, ℕ, ◌<◌, ◌≤◌, true, List, [], length, slice_get, Option, Some, None, is_some, IfSome, min, sum_by, Result, Ok, Err}
-use Rattle.mica_io.specs.Ports.{Ports, out}
+use Rattle.mica_io.specs.PortStates.{PortStates, out}
 use Rattle.mica_io.specs.Faults.{Rose, LAST_COUNT}
 use Rattle.partition_model.specs.declared.options.Options.{Options}
 use Rattle.partition_model.specs.History.{History, IsHistory}
-use Rattle.mica_fronts.specs.declared.ports.Ports.{Ports as PortOptions}
+use Rattle.mica_fronts.specs.declared.ports.PortOptions.{PortOptions}
 use Rattle.mica_fronts.specs.declared.totals.Totals.{Totals}
 use Rattle.mica_fronts.specs.declared.totals.ServeFault.{ServeFault}
 use Rattle.mica_fronts.specs.declared.totals.ServeFault.TheVariants.{Net, NoMemory}
 use Rattle.partition_table.specs.declared.tables.KeptSeat.{KeptSeat}
 use Rattle.mica_serve.specs.Others.{Others, HaveAnsweredNothing}
-use Rattle.mica_serve.specs.Served.{Serves, StopsShort, BeginsPorts, LeavesUnserved}
+use Rattle.mica_serve.specs.Served.{ServesAndCounts, StopsShort, BeginsPorts, LeavesUnserved}
 use Rattle.mica_serve.specs.Beside.{ServesOnTables, HaveShapes}
 use Rattle.mica_serve.specs.Ends.{EndFacts, AreNewEnds, BindsEnds, ReleasesEnds, KeepsEnd, TellAll, BeginsEnds, MeansForEnds}
 
@@ -20,11 +20,11 @@ pub record NetFacts : Type 0 where
   pub binds : ℕ
   pub first : ℕ
   pub refused : ℕ
-  pub ports : Option Ports
+  pub ports : Option PortStates
   pub fails : Option (List ℕ)
 
 -- by what a net tells
-abbrev pub net_facts : {N : Type 0} → (N → ℕ) → (N → ℕ) → (N → ℕ) → (N → ℕ) → (N → Option Ports) → (N → Option (List ℕ)) → N → NetFacts
+abbrev pub net_facts : {N : Type 0} → (N → ℕ) → (N → ℕ) → (N → ℕ) → (N → ℕ) → (N → Option PortStates) → (N → Option (List ℕ)) → N → NetFacts
 net_facts faults binds first refused ports fails = λ n. record {
   faults = faults n;
   binds = binds n;
@@ -35,7 +35,7 @@ net_facts faults binds first refused ports fails = λ n. record {
 }
 
 -- a fact of the ports before and after, where the net tells them; it goes on telling them, or telling nothing
-abbrev pub OnPorts : (Ports → Ports → Type 0) → Option Ports → Option Ports → Type 0
+abbrev pub OnPorts : (PortStates → PortStates → Type 0) → Option PortStates → Option PortStates → Type 0
 OnPorts P None after = after ≡ None
 OnPorts P (Some before) None = ⊥
 OnPorts P (Some before) (Some after) = P before after
@@ -45,8 +45,8 @@ abbrev pub HasNoFault : NetFacts → NetFacts → Type 0
 HasNoFault before after = IfSome before.ports (λ _. IfSome before.fails (λ _. after.faults ≡ before.faults))
 
 -- the fronts served, and the totals count what they did
-pub record HasServed (others : Others) (options : Options) (begun : ℕ → History) (ports : PortOptions) (totals : Totals) (before after : NetFacts) : Type 0 where
-  pub served : OnPorts (Serves others options begun ports totals) before.ports after.ports
+pub record HasServed (others : Others) (options : Options) (origin : ℕ → History) (ports : PortOptions) (totals : Totals) (before after : NetFacts) : Type 0 where
+  pub served : OnPorts (ServesAndCounts others options origin ports totals) before.ports after.ports
   pub no_fault : HasNoFault before after
 
 -- where the net tells its failing binds beforehand, its count rose by so many, as far as it can count
@@ -54,29 +54,29 @@ abbrev pub CountsFaults : NetFacts → NetFacts → ℕ → Type 0
 CountsFaults before after faults = is_some before.fails ≡ true → min after.faults LAST_COUNT ≡ min (before.faults + faults) LAST_COUNT
 
 -- A fault of the net stopped a front or a bind, or a fault came to one of the others. What was answered until then is lawful.
-pub record HasStopped (others : Others) (options : Options) (begun : ℕ → History) (ports : PortOptions) (before after : NetFacts) : Type 0 where
+pub record HasStopped (others : Others) (options : Options) (origin : ℕ → History) (ports : PortOptions) (before after : NetFacts) : Type 0 where
   pub rose : Rose before.faults after.faults ⊎ others.stopped
-  pub stopped : OnPorts (StopsShort others options begun ports (before.refused < after.refused) (CountsFaults before after)) before.ports after.ports
+  pub stopped : OnPorts (StopsShort others options origin ports (before.refused < after.refused) (CountsFaults before after)) before.ports after.ports
 
 -- the fronts served, the totals count what they did, and these are the tables of their partitions
-pub record HasServedOnTables (others : Others) (options : Options) (begun : ℕ → History) (ports : PortOptions) (totals : Totals) (kept : List KeptSeat) (before after : NetFacts) : Type 0 where
-  pub served : OnPorts (ServesOnTables others options begun ports totals kept) before.ports after.ports
+pub record HasServedOnTables (others : Others) (options : Options) (origin : ℕ → History) (ports : PortOptions) (totals : Totals) (kept : List KeptSeat) (before after : NetFacts) : Type 0 where
+  pub served : OnPorts (ServesOnTables others options origin ports totals kept) before.ports after.ports
   pub no_fault : HasNoFault before after
   pub shapes : HaveShapes options kept
 
 -- What each answer says of the net and of the tables that are kept. Out of memory says nothing more of the net than `KeepsNet`.
 abbrev pub IsCauseOf : Others → Result Totals ServeFault → Options → (ℕ → History) → PortOptions → List KeptSeat → NetFacts → NetFacts → Type 0
-IsCauseOf others (Ok totals) options begun ports kept before after = HasServedOnTables others options begun ports totals kept before after
-IsCauseOf others (Err Net) options begun ports kept before after = (kept ≡ []) × HasStopped others options begun ports before after
-IsCauseOf others (Err NoMemory) options begun ports kept before after = kept ≡ []
+IsCauseOf others (Ok totals) options origin ports kept before after = HasServedOnTables others options origin ports totals kept before after
+IsCauseOf others (Err Net) options origin ports kept before after = (kept ≡ []) × HasStopped others options origin ports before after
+IsCauseOf others (Err NoMemory) options origin ports kept before after = kept ≡ []
 
 -- What an answer says where one was come to. Where there is none, the ports were bound, and the fronts were not served.
 abbrev pub IsCauseOnceBound : Others → Option (Result Totals ServeFault) → Options → (ℕ → History) → PortOptions → List KeptSeat → NetFacts → NetFacts → Type 0
-IsCauseOnceBound others (Some answer) options begun ports kept before after = IsCauseOf others answer options begun ports kept before after
-IsCauseOnceBound others None options begun ports kept before after = (kept ≡ []) × OnPorts (LeavesUnserved ports) before.ports after.ports
+IsCauseOnceBound others (Some answer) options origin ports kept before after = IsCauseOf others answer options origin ports kept before after
+IsCauseOnceBound others None options origin ports kept before after = (kept ≡ []) × OnPorts (LeavesUnserved ports) before.ports after.ports
 
 -- no end is out that was not out before, and only ports of fronts changed
-pub record ReleasesAll (ports : PortOptions) (before after : Ports) : Type 0 where
+pub record ReleasesAll (ports : PortOptions) (before after : PortStates) : Type 0 where
   pub released : (port : ℕ) → after port ≡ out → before port ≡ out
   pub others : (port : ℕ) → ((f : ℕ) → f < ports.fronts → port ≢ ports.port + f) → after port ≡ before port
 
@@ -86,7 +86,7 @@ pub record KeepsNet (ports : PortOptions) (before after : NetFacts) : Type 0 whe
   pub first : 0 < after.binds → after.first ≡ ports.port
   pub never_fall : before.faults ≤ after.faults
   pub released : OnPorts (ReleasesAll ports) before.ports after.ports
-  pub begun : OnPorts (BeginsPorts ports) before.ports after.ports
+  pub begins : OnPorts (BeginsPorts ports) before.ports after.ports
 
 -- a bind failed, and no end was served
 pub record FailsToBind (before after : NetFacts) (olds news : List EndFacts) : Type 0 where
@@ -96,15 +96,15 @@ pub record FailsToBind (before after : NetFacts) (olds news : List EndFacts) : T
 
 -- What each answer says, once the ends were bound; out of memory says nothing but that no table is kept. With no answer the ends were not served.
 abbrev pub MeansForRun : Others → Option (Result Totals ServeFault) → Options → (ℕ → History) → PortOptions → List KeptSeat → NetFacts → NetFacts → List EndFacts → List EndFacts → Type 0
-MeansForRun others (Some (Ok totals)) options begun ports kept before after olds news =
+MeansForRun others (Some (Ok totals)) options origin ports kept before after olds news =
     (length olds ≡ ports.fronts) × (is_some before.fails ≡ true → after.faults ≡ before.faults)
-    × MeansForEnds others (Ok totals) options begun ports.batches kept olds news
-MeansForRun others (Some (Err Net)) options begun ports kept before after olds news =
+    × MeansForEnds others (Ok totals) options origin ports.batches kept olds news
+MeansForRun others (Some (Err Net)) options origin ports kept before after olds news =
     (FailsToBind before after olds news × (kept ≡ []) × HaveAnsweredNothing others)
     ⊎ ((length olds ≡ ports.fronts) × (is_some before.fails ≡ true → after.faults ≡ before.faults)
-    × MeansForEnds others (Err Net) options begun ports.batches kept olds news)
-MeansForRun others (Some (Err NoMemory)) options begun ports kept before after olds news = kept ≡ []
-MeansForRun others None options begun ports kept before after olds news = (length olds ≡ ports.fronts) × (news ≡ olds) × (kept ≡ [])
+    × MeansForEnds others (Err Net) options origin ports.batches kept olds news)
+MeansForRun others (Some (Err NoMemory)) options origin ports kept before after olds news = kept ≡ []
+MeansForRun others None options origin ports kept before after olds news = (length olds ≡ ports.fronts) × (news ≡ olds) × (kept ≡ [])
 
 -- The ports were bound, up to the first bind that failed, and the fronts served; these ends are left to be released.
 pub record BindsAndServes (others : Others) (options : Options) (origin : ℕ → History) (ports : PortOptions) (answer : Option (Result Totals ServeFault)) (kept : List KeptSeat)
@@ -120,7 +120,7 @@ pub record BindsAndServes (others : Others) (options : Options) (origin : ℕ �
   pub fails : after.fails ≡ before.fails
   pub binds : after.binds ≤ ports.fronts
   pub first : 0 < after.binds → after.first ≡ ports.port
-  pub begun : TellAll olds → BeginsEnds ports.batches olds news
+  pub begins : TellAll olds → BeginsEnds ports.batches olds news
   pub means : MeansForRun others answer options origin ports kept before after olds news
 
 -- the ends were released, and the net tells what they tell

@@ -1,9 +1,9 @@
 -- The ranges of the ports of any server: one whose fronts are all of another kind has none.
 use Rattle.partition_model.specs.Options.{InRange}
 use Rattle.mica_fronts.specs.declared.totals.TheConstants.{MAX_BATCHES}
-use Rattle.mica_fronts.specs.declared.ports.Ports.{Ports}
+use Rattle.mica_fronts.specs.declared.ports.PortOptions.{PortOptions}
 
-pub record IsPossiblePorts (ports : Ports) : Type 0 where
+pub record IsPossiblePorts (ports : PortOptions) : Type 0 where
   pub port : InRange 1024 65000 ports.port
   pub fronts : InRange 0 64 ports.fronts
   pub batches : InRange 1 MAX_BATCHES ports.batches

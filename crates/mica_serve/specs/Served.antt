@@ -1,11 +1,11 @@
 -- What the fronts of a server received and replied to.
 use Rattle.std.specs.Prelude.{◌≡◌, ◌+◌, ◌<◌, ◌≤◌, ◌⊎◌, ℕ, Bool, true, List, [], ◌∷◌, ◌++◌, ⊤, sum, take, drop, map, length, slice_get, nat_lt, Some, AllPairs, All}
 use Rattle.mica_io.specs.Traffic.{Datagram, Traffic, EndScript}
-use Rattle.mica_io.specs.Ports.{Port, Ports, waiting, back, is_waiting}
+use Rattle.mica_io.specs.PortStates.{Port, PortStates, waiting, back, is_waiting}
 use Rattle.partition_model.specs.declared.options.Options.{Options}
 use Rattle.partition_model.specs.History.{History, IsHistory, IsPrefix, stamp_of, answer_of}
 use Rattle.partition_model.specs.Run.{RunStep, IsRunFrom, history_of}
-use Rattle.mica_fronts.specs.declared.ports.Ports.{Ports as PortOptions}
+use Rattle.mica_fronts.specs.declared.ports.PortOptions.{PortOptions}
 use Rattle.mica_fronts.specs.declared.totals.Totals.{Totals}
 use Rattle.mica_fronts.specs.Looks.{Look, IsLookAt}
 use Rattle.mica_fronts.specs.Answered.{Answered, wrote, got, changed, kept, key_of, stamp_given, accepts, answers_of, writes_of, gets_of}
@@ -31,45 +31,45 @@ pub record ServesPort (batches : ℕ) (before after : Port) (dealings : List Dea
 -- Partitions
 
 -- no partition was filled
-abbrev pub nothing_begun : ℕ → History
-nothing_begun partition = []
+abbrev pub empty_origin : ℕ → History
+empty_origin partition = []
 
 -- The partition's machine accepted what it began with. The writes of all fronts are one run of it from there, in which those of each front stand in
 -- the order in which they were answered.
-pub record ServesWrites (options : Options) (begun : History) (partition : ℕ) (fronts : List (List Answered)) (placed : List Placed) : Type 0 where
-  pub filled : IsHistory options begun
-  pub run : IsRunFrom options begun (steps_in placed)
+pub record ServesWrites (options : Options) (origin : History) (partition : ℕ) (fronts : List (List Answered)) (placed : List Placed) : Type 0 where
+  pub filled : IsHistory options origin
+  pub run : IsRunFrom options origin (steps_in placed)
   pub each : (f : ℕ) (answers : List Answered) → slice_get fronts f ≡ Some answers → writes_of options partition answers ≡ steps_by f placed
   pub no_others : All (λ q. q.front < length fronts) placed
 
 -- a get is answered as of a beginning of the history, with all that its partition began with
-pub record ServesGet (options : Options) (begun history : History) (answered : Answered) : Type 0 where
+pub record ServesGet (options : Options) (origin history : History) (answered : Answered) : Type 0 where
   pub cut : History
   pub begins : IsPrefix cut history
-  pub filled : IsPrefix begun cut
+  pub filled : IsPrefix origin cut
   pub is : answered ≡ got (key_of answered) (stamp_of options cut) (answer_of options cut (key_of answered))
 
 -- The partition's run is some steps, then this one, then others: it was made of what the machine has behind those before it.
-pub record ServesChange (options : Options) (begun : History) (run : List RunStep) (step : RunStep) (look : Look) : Type 0 where
+pub record ServesChange (options : Options) (origin : History) (run : List RunStep) (step : RunStep) (look : Look) : Type 0 where
   pub earlier : List RunStep
   pub later : List RunStep
   pub stands : run ≡ earlier ++ step ∷ later
-  pub looked : IsLookAt options (begun ++ history_of earlier) step.write.key look
+  pub looked : IsLookAt options (origin ++ history_of earlier) step.write.key look
 
 -- what was found and left is what the machine has behind a beginning of the history, with all that its partition began with
-pub record ServesKept (options : Options) (begun history : History) (key : List ℕ) (stamp : ℕ) (look : Look) : Type 0 where
+pub record ServesKept (options : Options) (origin history : History) (key : List ℕ) (stamp : ℕ) (look : Look) : Type 0 where
   pub cut : History
   pub begins : IsPrefix cut history
-  pub filled : IsPrefix begun cut
+  pub filled : IsPrefix origin cut
   pub stamped : stamp ≡ stamp_of options cut
   pub looked : IsLookAt options cut key look
 
 -- a look under a hold of the partition
 abbrev pub ServesLook : Options → History → List RunStep → Answered → Type 0
-ServesLook options begun run (wrote step) = ⊤
-ServesLook options begun run (got key stamp value) = ⊤
-ServesLook options begun run (changed step look) = ServesChange options begun run step look
-ServesLook options begun run (kept key stamp look) = ServesKept options begun (begun ++ history_of run) key stamp look
+ServesLook options origin run (wrote step) = ⊤
+ServesLook options origin run (got key stamp value) = ⊤
+ServesLook options origin run (changed step look) = ServesChange options origin run step look
+ServesLook options origin run (kept key stamp look) = ServesKept options origin (origin ++ history_of run) key stamp look
 
 -- No stamp falls, of a write or of a get, and an accepted write's is above all before it: so a get sees each write of its front that was accepted
 -- before it, and none behind it.
@@ -81,29 +81,29 @@ NoFall earlier later =
 
 -- The writes of all fronts are one run of each partition's machine, from what it began with, each get is its answer, each look under a hold is what
 -- it has there, with nothing between a look and the write made of it, and the stamps given to each front never fall.
-pub record AnswersLawfully (options : Options) (begun : ℕ → History) (fronts : List (List Answered)) (runs : ℕ → List Placed) : Type 0 where
-  pub writes : (p : ℕ) → p < options.partitions → ServesWrites options (begun p) p fronts (runs p)
+pub record AnswersLawfully (options : Options) (origin : ℕ → History) (fronts : List (List Answered)) (runs : ℕ → List Placed) : Type 0 where
+  pub writes : (p : ℕ) → p < options.partitions → ServesWrites options (origin p) p fronts (runs p)
   pub gets : (p f : ℕ) (answers : List Answered) → p < options.partitions → slice_get fronts f ≡ Some answers
-      → All (ServesGet options (begun p) (begun p ++ history_in (runs p))) (gets_of options p answers)
+      → All (ServesGet options (origin p) (origin p ++ history_in (runs p))) (gets_of options p answers)
   pub looks : (p f : ℕ) (answers : List Answered) → p < options.partitions → slice_get fronts f ≡ Some answers
-      → All (ServesLook options (begun p) (steps_in (runs p))) (answers_of options p answers)
+      → All (ServesLook options (origin p) (steps_in (runs p))) (answers_of options p answers)
   pub order : (p f : ℕ) (answers : List Answered) → p < options.partitions → slice_get fronts f ≡ Some answers
       → AllPairs NoFall (answers_of options p answers)
 
 -- What the ports of a net tell before and after, what each front made of its datagrams, and a run of each partition's machine, in which what the
 -- others beside these fronts answered stands too.
-pub record Served (others : Others) (options : Options) (begun : ℕ → History) (ports : PortOptions) (before after : Ports) (fronts : List (List Dealing))
+pub record Served (others : Others) (options : Options) (origin : ℕ → History) (ports : PortOptions) (before after : PortStates) (fronts : List (List Dealing))
     (runs : ℕ → List Placed) : Type 0 where
   pub many : length fronts ≡ ports.fronts
   pub datagrams : (f : ℕ) (dealings : List Dealing) → slice_get fronts f ≡ Some dealings
       → ServesPort ports.batches (before (ports.port + f)) (after (ports.port + f)) dealings
-  pub answered : AnswersLawfully options begun (all_answers others fronts) runs
+  pub answered : AnswersLawfully options origin (all_answers others fronts) runs
 
 -- the fronts served, and the totals count what they did
-pub record Serves (others : Others) (options : Options) (begun : ℕ → History) (ports : PortOptions) (totals : Totals) (before after : Ports) : Type 0 where
+pub record ServesAndCounts (others : Others) (options : Options) (origin : ℕ → History) (ports : PortOptions) (totals : Totals) (before after : PortStates) : Type 0 where
   pub fronts : List (List Dealing)
   pub runs : ℕ → List Placed
-  pub served : Served others options begun ports before after fronts runs
+  pub served : Served others options origin ports before after fronts runs
   pub counted : Counts fronts totals
 
 -- Where a fault came
@@ -127,12 +127,12 @@ LeavesPort batches before after dealings unread =
     ⊎ ((traffic : Traffic) × (ended : Bool) × (after ≡ back traffic ended) × BeginsPort batches before traffic dealings unread)
 
 -- nothing was received at the port of any front, and nothing was sent
-abbrev pub LeavesUnserved : PortOptions → Ports → Ports → Type 0
+abbrev pub LeavesUnserved : PortOptions → PortStates → PortStates → Type 0
 LeavesUnserved ports before after =
     (f : ℕ) → f < ports.fronts → LeavesPort ports.batches (before (ports.port + f)) (after (ports.port + f)) [] []
 
 -- what was sent from each port is a beginning of what is due to what came there, of which one datagram at most is unread
-abbrev pub BeginsPorts : PortOptions → Ports → Ports → Type 0
+abbrev pub BeginsPorts : PortOptions → PortStates → PortStates → Type 0
 BeginsPorts ports before after =
     (f : ℕ) → f < ports.fronts → (dealings : List Dealing) × (unread : List Datagram) × (length unread ≤ 1)
     × LeavesPort ports.batches (before (ports.port + f)) (after (ports.port + f)) dealings unread
@@ -158,7 +158,7 @@ abbrev pub IsStopped : ℕ → Port → Port → Type 0
 IsStopped batches before after = (is_waiting before ≡ true) × IsCutShort batches after
 
 -- So many faults of each front's own are all that the net counted, and a front that had none came through.
-pub record BlamesFronts (ports : PortOptions) (counts : ℕ → Type 0) (fronts : List (List Dealing)) (after : Ports) : Type 0 where
+pub record BlamesFronts (ports : PortOptions) (counts : ℕ → Type 0) (fronts : List (List Dealing)) (after : PortStates) : Type 0 where
   pub faults : List ℕ
   pub many : length faults ≡ ports.fronts
   pub counted : counts (sum faults)
@@ -167,13 +167,13 @@ pub record BlamesFronts (ports : PortOptions) (counts : ℕ → Type 0) (fronts 
 
 -- Each front began its port with these dealings, and all that was answered is lawful. A bind failed, or some front is not through, or a fault came
 -- to one of the others; and each front that is not through had a fault of its own.
-pub record StopsShort (others : Others) (options : Options) (begun : ℕ → History) (ports : PortOptions) (bind_failed : Type 0) (counts : ℕ → Type 0) (before after : Ports)
+pub record StopsShort (others : Others) (options : Options) (origin : ℕ → History) (ports : PortOptions) (bind_failed : Type 0) (counts : ℕ → Type 0) (before after : PortStates)
     : Type 0 where
   pub fronts : List (List Dealing)
   pub runs : ℕ → List Placed
   pub many : length fronts ≡ ports.fronts
   pub each : (f : ℕ) (dealings : List Dealing) → slice_get fronts f ≡ Some dealings
       → LeavesPort ports.batches (before (ports.port + f)) (after (ports.port + f)) dealings []
-  pub answered : AnswersLawfully options begun (all_answers others fronts) runs
+  pub answered : AnswersLawfully options origin (all_answers others fronts) runs
   pub some : bind_failed ⊎ ((f : ℕ) × (f < ports.fronts) × IsStopped ports.batches (before (ports.port + f)) (after (ports.port + f))) ⊎ others.stopped
   pub blamed : bind_failed ⊎ BlamesFronts ports counts fronts after

@@ -9,9 +9,9 @@ use Rattle.mica_fronts.specs.declared.totals.Totals.{Totals}
 use Rattle.mica_fronts.specs.declared.totals.ServeFault.{ServeFault}
 use Rattle.mica_serve.specs.declared.worker.OwnerTask.{OwnerTask}
 use Rattle.mica_serve.specs.declared.worker.FrontTask.{FrontTask}
-use Rattle.mica_serve.specs.declared.running.Room.{Room}
-use Rattle.mica_serve.specs.declared.running.Server.{Server}
-use Rattle.mica_fronts.specs.declared.ports.Ports.{Ports}
+use Rattle.mica_serve.specs.declared.server.Room.{Room}
+use Rattle.mica_serve.specs.declared.server.Server.{Server}
+use Rattle.mica_fronts.specs.declared.ports.PortOptions.{PortOptions}
 use Rattle.partition_model.specs.declared.options.Options.{Options}
 use Rattle.mica_fronts.specs.QueueFront.{QueueView, IsQueueFront, stand_of, sessions_of, ended_part}
 use Rattle.mica_serve.specs.Ends.{EndFacts}
@@ -70,6 +70,6 @@ module _ {D : Type 0} where
 
 module _ {P D : Type 0} where
   -- the owners as made, a front before them for each port, and room for all
-  pub record IsServer (owner : P → OwnerState) (home : P → TableId) (options : Options) (ports : Ports) (server : Server P D) : Type 0 where
+  pub record IsServer (owner : P → OwnerState) (home : P → TableId) (options : Options) (ports : PortOptions) (server : Server P D) : Type 0 where
     pub made : AreFrontsOf options ports.fronts (255 * ports.batches) (map (owner_end owner home) server.owners.items) server.fronts.items
     pub room : IsRoom (length server.fronts.items) server.room

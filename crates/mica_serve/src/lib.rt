@@ -8,13 +8,13 @@
 mod answers;
 mod meeting;
 mod opening;
-mod run;
-mod running;
+mod server;
+mod service;
 mod tables;
 mod worker;
 
 pub use answers::sum_up;
 pub use mica_fronts::{
-    Front, MAX_BATCHES, Ports, QueueFront, ServeFault, SoloFront, Totals, serve_batch,
+    Front, MAX_BATCHES, PortOptions, QueueFront, ServeFault, SoloFront, Totals, serve_batch,
 };
-pub use run::{bind_all, release_all, serve};
+pub use service::{bind_all, release_all, serve};

@@ -9,7 +9,7 @@ ghost use Rattle.mica_serve.specs.Tasks.{owner_end};
 
 use crate::worker::OwnerTask;
 use epoch_core::{LendPartition, Shape};
-use mica_fronts::{FrontPart, Ports, QueueFront};
+use mica_fronts::{FrontPart, PortOptions, QueueFront};
 use mica_io::NoMemory;
 use owner_queue::{JobSender, ack_queue, job_queue};
 use partition_model::Options;
@@ -92,7 +92,7 @@ fn open_owner<P: OnTable + LendPartition<Reader = ReaderSeat, Note = Note>>(
 fn open_owners<P: OnTable + LendPartition<Reader = ReaderSeat, Note = Note>>(
     alloc: Global,
     options: &Options,
-    ports: &Ports,
+    ports: &PortOptions,
     hands: &mut Vec<Vec<FrontPart>>,
 ) -> Result<Vec<OwnerTask<P>>, NoMemory>
     requires valid { IsValid options.now }
@@ -121,7 +121,7 @@ fn open_owners<P: OnTable + LendPartition<Reader = ReaderSeat, Note = Note>>(
 pub(crate) fn open_all<P: OnTable + LendPartition<Reader = ReaderSeat, Note = Note>>(
     alloc: Global,
     options: &Options,
-    ports: &Ports,
+    ports: &PortOptions,
     fronts: &mut Vec<QueueFront>,
 ) -> Result<Vec<OwnerTask<P>>, NoMemory>
     requires valid { IsValid options.now }

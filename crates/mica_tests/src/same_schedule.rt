@@ -1,6 +1,6 @@
 //! Ports of connections in memory, at each of which the same schedule happens.
 ghost use Rattle.std.specs.Prelude.{◌≡◌};
-ghost use Rattle.stream_io.specs.Ports.{place_at};
+ghost use Rattle.stream_io.specs.PortLogs.{place_at};
 
 use mica_daemon::PlacedListeners;
 use mica_io::Failed;

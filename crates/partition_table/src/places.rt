@@ -1,22 +1,22 @@
 //! Where words lie, with what was divided last at hand.
 ghost use Rattle.std.specs.Prelude.{◌≡◌, ◌+◌, ◌*◌, ◌%◌, ◌^◌, ◌<◌};
 ghost use Rattle.epoch_core.specs.Layout.{place_at, item_at};
-ghost use Rattle.partition_table.specs.Rounds.{BeginsRound, BeginsBlock};
+ghost use Rattle.partition_table.specs.Laps.{BeginsLap, BeginsBlock};
 
 use epoch_core::{Shape, WordAt};
 
-/// The places of a shape's words. Item words go round the end of the words: the round that was asked for last is
-/// kept, so that the words of one item take one division, and none where they lie in that round.
+/// The places of a shape's words. Item words go round the end of the words: the lap that was asked for last is
+/// kept, so that the words of one item take one division, and none where they lie in that lap.
 #[derive(Clone, Copy)]
 pub(crate) struct Places {
     pub shape: Shape,
     // The place of the first item word.
     items: usize,
-    // The offset at which the round begins.
-    round: u64,
+    // The offset at which the lap begins.
+    lap: u64,
     pub ghost some: { 0 < shape.words },
     pub ghost first: { items ≡ 1 + 17 * shape.buckets + 16 * shape.spares },
-    pub ghost whole: { round % shape.words ≡ 0 },
+    pub ghost whole: { lap % shape.words ≡ 0 },
 }
 
 impl Places {
@@ -27,7 +27,7 @@ impl Places {
         Places {
             shape: *shape,
             items: shape.place(WordAt::Item(0)),
-            round: 0,
+            lap: 0,
         }
     }
 
@@ -46,8 +46,8 @@ impl Places {
         ensures place { result ≡ item_at self.old.shape offset }
         ensures shape { self.new.shape ≡ self.old.shape }
     {
-        self.round = self.round_of(offset);
-        self.items + (offset - self.round) as usize
+        self.lap = self.lap_of(offset);
+        self.items + (offset - self.lap) as usize
     }
 
     /// Where the first of eight item words lies, if they lie side by side.
@@ -56,8 +56,8 @@ impl Places {
         ensures first { BeginsBlock self.old.shape offset result }
         ensures shape { self.new.shape ≡ self.old.shape }
     {
-        self.round = self.round_of(offset);
-        let into = offset - self.round;
+        self.lap = self.lap_of(offset);
+        let into = offset - self.lap;
         if into + 8 <= u64::from(self.shape.words) {
             Some(self.items + into as usize)
         } else {
@@ -65,13 +65,13 @@ impl Places {
         }
     }
 
-    // Where the round of the offset begins.
-    fn round_of(&self, offset: u64) -> u64
-        ensures { BeginsRound self.now.shape.words offset result }
+    // Where the lap of the offset begins.
+    fn lap_of(&self, offset: u64) -> u64
+        ensures { BeginsLap self.now.shape.words offset result }
     {
         let words = u64::from(self.shape.words);
-        if self.round <= offset && offset - self.round < words {
-            self.round
+        if self.lap <= offset && offset - self.lap < words {
+            self.lap
         } else {
             offset - offset % words
         }

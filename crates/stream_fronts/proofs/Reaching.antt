@@ -14,7 +14,7 @@ use Rattle.mica_fronts.specs.Answered.{Answered}
 use Rattle.mica_fronts.specs.Session.{Sessions}
 use Rattle.memcached_stats.specs.Stats.{Told}
 use Rattle.memcached_stats.proofs.Untold.{untold}
-use Rattle.memcached_fronts.specs.Exchange.{Exchange, AnswersBy, AnswersNext, IsOpenAt, flushes_now, flush_due, is_answered, count_of_answers, due_to, due_before}
+use Rattle.memcached_fronts.specs.Exchange.{Exchange, AnswersBy, AnswersNext, IsOpenAt, is_flush_all, flush_due, is_answered, count_of_answers, due_to, due_before}
 use Rattle.memcached_fronts.specs.Spells.{Spells, taken_by, due_to_all, answers_to_all}
 use Rattle.memcached_fronts.specs.declared.answer.Limits.{Limits}
 use Rattle.memcached_fronts.specs.declared.answer.Progress.{Progress}
@@ -38,7 +38,7 @@ left_by (x ∷ y ∷ es) e = left_by (y ∷ es) e
 
 module _ (options : Options) (base : ℕ) where
   pub no_answers : (next : Next) → AnswersNext options base next []
-  no_answers next = go (flushes_now next)
+  no_answers next = go (is_flush_all next)
     where
       go : (t : Bool) → AnswersBy t options base (flush_due next) (asks_in next) []
       go true = (0, tt)
@@ -170,7 +170,7 @@ module _ (options : Options) (base : ℕ) where
   -- what is due grows
   due_grows : (bytes : List ℕ) (done : ℕ) (part answers : List Answered) (told : Told) → IsOpenAt (next_of bytes) done → StandsAt options base (next_of bytes) done (begun bytes part told)
       → (later : List ℕ) × (due_to options base (begun bytes (part ++ answers) told) ≡ due_before options base (begun bytes part told) ++ later)
-  due_grows bytes done part answers told stands at = by (flushes_now (next_of bytes)) refl (asks_in (next_of bytes)) refl
+  due_grows bytes done part answers told stands at = by (is_flush_all (next_of bytes)) refl (asks_in (next_of bytes)) refl
     where
       at_once : asks_in (next_of bytes) ≡ [] → (later : List ℕ) × (due_to options base (begun bytes (part ++ answers) told) ≡ due_before options base (begun bytes part told) ++ later)
       at_once none = (
@@ -178,7 +178,7 @@ module _ (options : Options) (base : ℕ) where
         ap (λ t. t ++ due_to options base (begun bytes (part ++ answers) told)) (sym (none_begun bytes part told (at.count ∙ at_first (next_of bytes) done stands none))),
       )
 
-      by : (flushes : Bool) → flushes_now (next_of bytes) ≡ flushes → (asks : List Asked) → asks_in (next_of bytes) ≡ asks
+      by : (flushes : Bool) → is_flush_all (next_of bytes) ≡ flushes → (asks : List Asked) → asks_in (next_of bytes) ≡ asks
           → (later : List ℕ) × (due_to options base (begun bytes (part ++ answers) told) ≡ due_before options base (begun bytes part told) ++ later)
       by true flushes asks is = at_once (no_asks (next_of bytes) flushes)
       by false keyed [] is = at_once is

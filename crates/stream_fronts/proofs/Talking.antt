@@ -10,7 +10,7 @@ use Rattle.memcached_text.specs.Stream.{len_of}
 use Rattle.memcached_commands.specs.Asks.{asks_in}
 use Rattle.mica_fronts.specs.Answered.{Answered}
 use Rattle.memcached_stats.specs.Stats as stats
-use Rattle.memcached_fronts.specs.Exchange.{IsOpenAt, flushes_now, count_of_answers, is_answered, due_before}
+use Rattle.memcached_fronts.specs.Exchange.{IsOpenAt, is_flush_all, count_of_answers, is_answered, due_before}
 use Rattle.memcached_fronts.specs.Spells.{due_to_all, answers_to_all}
 use Rattle.memcached_fronts.proofs.ExchangeLaws.{no_asks}
 use Rattle.memcached_fronts.proofs.SpellsLaws.{spells_next, due_then, answers_then, nothing_before, due_still}
@@ -33,9 +33,9 @@ not_more next done less more = let none : length (asks_in next) ≡ 0 = ap (λ n
 module _ (options : Options) (base : ℕ) where
   -- and not answered
   not_yet : (next : Next) (part : List Answered) (told : stats.Told) → length part < length (asks_in next) → is_answered options (record { next = next; answers = part; told = told }) ≡ false
-  not_yet next part told less = go (flushes_now next) refl (is_answered options (record { next = next; answers = part; told = told })) refl
+  not_yet next part told less = go (is_flush_all next) refl (is_answered options (record { next = next; answers = part; told = told })) refl
     where
-      go : (f : Bool) → flushes_now next ≡ f → (t : Bool) → is_answered options (record { next = next; answers = part; told = told }) ≡ t → is_answered options (record { next = next; answers = part; told = told }) ≡ false
+      go : (f : Bool) → is_flush_all next ≡ f → (t : Bool) → is_answered options (record { next = next; answers = part; told = told }) ≡ t → is_answered options (record { next = next; answers = part; told = told }) ≡ false
       go true flushes t is = let none : length (asks_in next) ≡ 0 = ap length (no_asks next flushes) in absurd (omega (arith, less, none))
       go false keyed false is = is
       go false keyed true is =

@@ -29,7 +29,7 @@ pub record IsDone (options : Options) (base : ℕ) (log : Log) (all : List Given
 -- All answers of the front are one list: its sessions went on by them in this order, and the clock told their seconds; it was given no writes but those among
 -- them. They are those to clients, and between them sweeps and nothing else. At each moment of the log those to clients are what it talked with them. For some
 -- connections there was no memory, as many as were counted. Where the end came, and calls can move bytes at all, the front is done.
-pub record Serves (options : Options) (is_alone : Bool) (base most : ℕ) (old new : FrontAt) (log : Log) (all : List Given) : Type 0 where
+pub record AnswersClients (options : Options) (is_alone : Bool) (base most : ℕ) (old new : FrontAt) (log : Log) (all : List Given) : Type 0 where
   pub answers : List Answered
   pub sweeps : HasSweeps base (answers_in all) answers
   pub in_order : AnswersInOrder options is_alone old.sessions answers new.sessions
@@ -44,7 +44,7 @@ pub record Serves (options : Options) (is_alone : Bool) (base most : ℕ) (old n
 pub record ServesLog (options : Options) (is_alone : Bool) (base most : ℕ) (old new : FrontAt) (before after : Log) : Type 0 where
   pub same : after.schedule ≡ before.schedule
   pub all : List Given
-  pub serves : Serves options is_alone base most old new after all
+  pub serves : AnswersClients options is_alone base most old new after all
 
 -- so, from where nothing had been done
 abbrev pub ServesFromNone : Options → Bool → ℕ → ℕ → FrontAt → FrontAt → Log → Log → Type 0

@@ -2,7 +2,7 @@ pub mod Connection
 pub mod State
 pub mod Log
 pub mod Calls
-pub mod Ports
+pub mod PortLogs
 pub mod MemoryLog
 pub mod MemoryConnection
 pub mod Stage

@@ -1,7 +1,7 @@
 //! What listens at ports.
 ghost use Rattle.std.specs.Prelude.{◌≡◌, ◌≤◌, ℕ, false, [], Option, option_map, is_none, is_err, IfOk, IfSome, OnErr};
 ghost use Rattle.mica_io.specs.Faults.{Rose, faults_after};
-ghost use Rattle.stream_io.specs.Ports.{Place, Ports, with_port, without_port};
+ghost use Rattle.stream_io.specs.PortLogs.{Place, PortLogs, with_port, without_port};
 
 use crate::Connections;
 use mica_io::Failed;
@@ -14,10 +14,10 @@ pub trait Listeners {
     ghost faults: { Self → ℕ };
 
     /// What waits at each port, where it is told.
-    ghost ports: { Self → Option Ports };
+    ghost ports: { Self → Option PortLogs };
 
     /// What was left at each port that was let go, where it is told.
-    ghost released: { Self → Option Ports };
+    ghost released: { Self → Option PortLogs };
 
     /// Where it listens.
     ghost place: { Self → Place };

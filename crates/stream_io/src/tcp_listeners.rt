@@ -1,7 +1,7 @@
 //! The TCP ports of this machine.
 ghost use Rattle.std.specs.Prelude.{◌≡◌, ◌≤◌, false, None, is_err, IfOk, IfSome, OnErr};
 ghost use Rattle.mica_io.specs.Faults.{Rose, faults_after};
-ghost use Rattle.stream_io.specs.Ports.{place_at};
+ghost use Rattle.stream_io.specs.PortLogs.{place_at};
 
 use crate::{Listeners, TcpConnections};
 use mica_io::Failed;

@@ -5,7 +5,7 @@ use Rattle.mica_io.specs.declared.fault.Failed.{Failed}
 use Rattle.std.proofs.lemmas.List.{length-map, map-append}
 use Rattle.std.proofs.lemmas.Option.{slice_get_within}
 use Rattle.mica_io.specs.Faults.{Rose}
-use Rattle.stream_io.specs.Ports.{Ports, without_port}
+use Rattle.stream_io.specs.PortLogs.{PortLogs, without_port}
 use Rattle.locked_serve.specs.Streams.{StreamFacts, ListenFacts, AreNewStreams, LeavesOthers, listen_facts, stream_facts}
 use Rattle.locked_serve.proofs.Heard.{waits_still, leaves_none, leaves_more, leaves_few, streams_more}
 use Rattle.locked_serve.proofs.listening.listen_all.Given as given

@@ -1,7 +1,7 @@
 use Rattle.std.proofs.Common.{◌≡◌, ◌++◌, ◌∷◌, [], List, map, sym, ap, ◌∙◌, subst, refl}
 use Rattle.std.specs.Prelude.{option_map}
 use Rattle.std.proofs.lemmas.List.{map-append}
-use Rattle.stream_io.specs.Ports.{with_port}
+use Rattle.stream_io.specs.PortLogs.{with_port}
 use Rattle.locked_serve.specs.Streams.{StreamFacts, stream_facts, with_ports}
 use Rattle.locked_serve.proofs.Released.{none_released, one_released}
 use Rattle.locked_serve.proofs.listening.release_streams.Given as given

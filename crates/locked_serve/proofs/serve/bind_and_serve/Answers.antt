@@ -7,7 +7,7 @@ use Rattle.mica_fronts.specs.declared.totals.ServeFault.{ServeFault}
 use Rattle.mica_fronts.specs.declared.totals.ServeFault.TheVariants.{Net, NoMemory}
 use Rattle.locked_serve.specs.declared.stop.Stop.{Stop}
 use Rattle.locked_serve.specs.declared.stop.Stop.TheVariants.{Unannounced, Fault}
-use Rattle.stream_io.specs.Ports.{Ports}
+use Rattle.stream_io.specs.PortLogs.{PortLogs}
 use Rattle.mica_serve.specs.Others.{Others}
 use Rattle.mica_serve.specs.Ends.{EndFacts, AreNewEnds, end_facts}
 use Rattle.mica_serve.specs.NetRun.{NetFacts, BindsAndServes, net_facts}
@@ -60,7 +60,7 @@ returns-in_err-bind_all-clause-served g c =
     let size : vec_len c.bind_all.new.ends ≡ length c.bind_all.new.ends.items = search rules in
     let is = err_from_is_err_and c.from_residual.result c.from_residual.ensures.1 in
     let leaves = λ (news : List StreamFacts). news ≡ map (of_stream g) c.args.connections.now.items in
-    let says = λ (others : Others) (came : Option (Result Totals ServeFault)). BindsAndServes others c.args.options.now g.J.ServerPlan.plan.begun c.args.ports.now came c.args.tables.now
+    let says = λ (others : Others) (came : Option (Result Totals ServeFault)). BindsAndServes others c.args.options.now g.J.ServerPlan.plan.origin c.args.ports.now came c.args.tables.now
     (net_at g c.args.net.now) (net_at g c.bind_all.new.net) (map (facts g) c.bind_all.new.ends.items) in
     let listens = listens_at g c.args.listeners.now in
     let clocks = map g.K.Clock.last c.args.clocks.items in
@@ -68,7 +68,7 @@ returns-in_err-bind_all-clause-served g c =
     (unbound says leaves c.args.options.now c.args.base c.args.streams.now clocks listens listens (sym (ap (map (of_stream g)) c.requires.no_streams))
     (run_failed c.args.ports.now (net_at g c.args.net.now) (net_at g c.bind_all.new.net) (map (facts g) c.bind_all.new.ends.items)
     bound.new bound.bound (omega (arith, bound.few, many, size)) bound.never_fall bound.fails bound.binds bound.first
-    _ c.args.options.now g.J.ServerPlan.plan.begun c.requires.filled (Some (Err Net)) c.args.tables.now refl c.requires.tables failed.cause failed.refused (silent c.args.streams.now [] [])))
+    _ c.args.options.now g.J.ServerPlan.plan.origin c.requires.filled (Some (Err Net)) c.args.tables.now refl c.requires.tables failed.cause failed.refused (silent c.args.streams.now [] [])))
 
 pub returns-in_err-bind_all-clause-unrefused : goal.returns-in_err-bind_all-clause-unrefused
 returns-in_err-bind_all-clause-unrefused g c refused =
@@ -96,7 +96,7 @@ returns-in_err-listen_all-clause-served g c =
     let heard_many = length-map c.listen_all.new.connections.items (of_stream g) in
     let is = err_from_is_err_and c.from_residual-in_err-listen_all.result c.from_residual-in_err-listen_all.ensures.1 in
     let leaves = λ (news : List StreamFacts). news ≡ map (of_stream g) c.listen_all.new.connections.items in
-    let says = λ (others : Others) (came : Option (Result Totals ServeFault)). BindsAndServes others c.args.options.now g.J.ServerPlan.plan.begun c.args.ports.now came c.args.tables.now
+    let says = λ (others : Others) (came : Option (Result Totals ServeFault)). BindsAndServes others c.args.options.now g.J.ServerPlan.plan.origin c.args.ports.now came c.args.tables.now
     (net_at g c.args.net.now) (net_at g c.bind_all.new.net) (map (facts g) c.bind_all.new.ends.items) in
     let before = listens_at g c.args.listeners.now in
     let after = listens_at g c.listen_all.new.listeners in
@@ -106,7 +106,7 @@ returns-in_err-listen_all-clause-served g c =
     (omega (arith, heard.few, heard_many, c.listen_all.new.connections.ok)) refl c.in_err-listen_all.ensures.cause
     (run_left c.args.ports.now (net_at g c.args.net.now) (net_at g c.bind_all.new.net) (map (facts g) c.bind_all.new.ends.items)
     bound.new bound.bound (omega (arith, bound.few, many, size)) bound.never_fall bound.fails bound.binds bound.first
-    _ c.args.options.now g.J.ServerPlan.plan.begun c.requires.filled None c.args.tables.now refl c.requires.tables (many ∙ sym size ∙ c.in_ok-bind_all.ensures.all)))
+    _ c.args.options.now g.J.ServerPlan.plan.origin c.requires.filled None c.args.tables.now refl c.requires.tables (many ∙ sym size ∙ c.in_ok-bind_all.ensures.all)))
 
 pub returns-in_err-listen_all-clause-unrefused : goal.returns-in_err-listen_all-clause-unrefused
 returns-in_err-listen_all-clause-unrefused g c refused =
@@ -131,7 +131,7 @@ returns-in_err-ready-clause-served g c =
     let heard_many = length-map c.listen_all.new.connections.items (of_stream g) in
     let is = err_from_is_err_and c.from_residual-in_err-ready.result c.from_residual-in_err-ready.ensures.1 in
     let leaves = λ (news : List StreamFacts). news ≡ map (of_stream g) c.listen_all.new.connections.items in
-    let says = λ (others : Others) (came : Option (Result Totals ServeFault)). BindsAndServes others c.args.options.now g.J.ServerPlan.plan.begun c.args.ports.now came c.args.tables.now
+    let says = λ (others : Others) (came : Option (Result Totals ServeFault)). BindsAndServes others c.args.options.now g.J.ServerPlan.plan.origin c.args.ports.now came c.args.tables.now
     (net_at g c.args.net.now) (net_at g c.bind_all.new.net) (map (facts g) c.bind_all.new.ends.items) in
     let before = listens_at g c.args.listeners.now in
     let after = listens_at g c.listen_all.new.listeners in
@@ -141,7 +141,7 @@ returns-in_err-ready-clause-served g c =
     (omega (arith, heard.few, heard_many, c.listen_all.new.connections.ok)) refl
     (run_left c.args.ports.now (net_at g c.args.net.now) (net_at g c.bind_all.new.net) (map (facts g) c.bind_all.new.ends.items)
     bound.new bound.bound (omega (arith, bound.few, many, size)) bound.never_fall bound.fails bound.binds bound.first
-    _ c.args.options.now g.J.ServerPlan.plan.begun c.requires.filled None c.args.tables.now refl c.requires.tables (many ∙ sym size ∙ c.in_ok-bind_all.ensures.all)))
+    _ c.args.options.now g.J.ServerPlan.plan.origin c.requires.filled None c.args.tables.now refl c.requires.tables (many ∙ sym size ∙ c.in_ok-bind_all.ensures.all)))
 
 pub returns-in_err-ready-clause-unrefused : goal.returns-in_err-ready-clause-unrefused
 returns-in_err-ready-clause-unrefused g c refused =
@@ -168,7 +168,7 @@ returns-in_err-totals-clause-served g c =
     omega (arith, c.in_ok-listen_all.ensures.all, heard_many, c.listen_all.new.connections.ok) in
     let is = err_from_is_err_and c.from_residual-in_err-totals.result c.from_residual-in_err-totals.ensures.1 in
     let leaves = λ (news : List StreamFacts). news ≡ map (of_stream g) c.serve_all.new.connections.items in
-    let says = λ (others : Others) (came : Option (Result Totals ServeFault)). BindsAndServes others c.args.options.now g.J.ServerPlan.plan.begun c.args.ports.now came c.serve_all.new.tables
+    let says = λ (others : Others) (came : Option (Result Totals ServeFault)). BindsAndServes others c.args.options.now g.J.ServerPlan.plan.origin c.args.ports.now came c.serve_all.new.tables
     (net_at g c.args.net.now) (net_at g c.bind_all.new.net) (map (facts g) c.serve_all.new.ends.items) in
     let before = listens_at g c.args.listeners.now in
     let after = listens_at g c.listen_all.new.listeners in
@@ -177,7 +177,7 @@ returns-in_err-totals-clause-served g c =
     (came_err says leaves c.args.options.now c.args.base c.args.streams.now clocks before after (map (of_stream g) c.listen_all.new.connections.items) heard.new (omega (arith, full)) full c.in_err-totals.field-0.0 c.in_err-totals.ensures refl
     (run_served c.args.ports.now (net_at g c.args.net.now) (net_at g c.bind_all.new.net) (map (facts g) c.bind_all.new.ends.items)
     bound.new bound.bound (omega (arith, bound.few, many, size)) bound.never_fall bound.fails bound.binds bound.first
-    _ c.args.options.now g.J.ServerPlan.plan.begun c.requires.filled (Err c.in_err-totals.field-0.0) c.serve_all.new.tables (map (facts g) c.serve_all.new.ends.items)
+    _ c.args.options.now g.J.ServerPlan.plan.origin c.requires.filled (Err c.in_err-totals.field-0.0) c.serve_all.new.tables (map (facts g) c.serve_all.new.ends.items)
     (many ∙ sym size ∙ c.in_ok-bind_all.ensures.all) c.in_ok-bind_all.ensures.steady c.in_err-totals.ensures.fronts))
 
 pub returns-in_err-totals-clause-unrefused : goal.returns-in_err-totals-clause-unrefused
@@ -208,11 +208,11 @@ returns-clause-served g c =
     let full : length (map (of_stream g) c.listen_all.new.connections.items) ≡ c.args.streams.now.fronts =
     omega (arith, c.in_ok-listen_all.ensures.all, heard_many, c.listen_all.new.connections.ok) in
     let leaves = λ (news : List StreamFacts). news ≡ map (of_stream g) c.serve_all.new.connections.items in
-    let says = λ (others : Others) (came : Option (Result Totals ServeFault)). BindsAndServes others c.args.options.now g.J.ServerPlan.plan.begun c.args.ports.now came c.serve_all.new.tables
+    let says = λ (others : Others) (came : Option (Result Totals ServeFault)). BindsAndServes others c.args.options.now g.J.ServerPlan.plan.origin c.args.ports.now came c.serve_all.new.tables
     (net_at g c.args.net.now) (net_at g c.bind_all.new.net) (map (facts g) c.serve_all.new.ends.items) in
     came_ok says leaves c.args.options.now c.args.base c.args.streams.now (map g.K.Clock.last c.args.clocks.items) (listens_at g c.args.listeners.now) (listens_at g c.listen_all.new.listeners)
     (map (of_stream g) c.listen_all.new.connections.items) heard.new (omega (arith, full)) full c.in_ok-totals.totals c.in_ok-totals.ensures refl
     (run_served c.args.ports.now (net_at g c.args.net.now) (net_at g c.bind_all.new.net) (map (facts g) c.bind_all.new.ends.items)
     bound.new bound.bound (omega (arith, bound.few, many, size)) bound.never_fall bound.fails bound.binds bound.first
-    _ c.args.options.now g.J.ServerPlan.plan.begun c.requires.filled (Ok c.in_ok-totals.totals) c.serve_all.new.tables (map (facts g) c.serve_all.new.ends.items)
+    _ c.args.options.now g.J.ServerPlan.plan.origin c.requires.filled (Ok c.in_ok-totals.totals) c.serve_all.new.tables (map (facts g) c.serve_all.new.ends.items)
     (many ∙ sym size ∙ c.in_ok-bind_all.ensures.all) c.in_ok-bind_all.ensures.steady c.in_ok-totals.ensures.fronts)

@@ -2,7 +2,7 @@ use Rattle.std.proofs.Common.{rules, ◌≡◌, ◌+◌, ◌<◌, ℕ, List, len
 use Rattle.std.specs.Prelude.{IfSome, Option, option_map, Result, Ok, Err}
 use Rattle.std.proofs.lemmas.List.{length-map}
 use Rattle.std.proofs.lemmas.Result.{err_from_is_err_and}
-use Rattle.mica_io.specs.Ports.{out}
+use Rattle.mica_io.specs.PortStates.{out}
 use Rattle.mica_fronts.specs.declared.totals.Totals.{Totals}
 use Rattle.mica_fronts.specs.declared.totals.ServeFault.{ServeFault}
 use Rattle.mica_serve.specs.Others.{Others}
@@ -60,13 +60,13 @@ pub returns-clause-cause : goal.returns-clause-cause
 returns-clause-cause g c =
     let listens = c.release_streams.ensures in
     says_then listens.faults (λ news is. listens.released ∙ (λ i. option_map (with_ports (sym is i)) (c.bind_and_serve-answer.ensures.unreleased i))) (λ (others : Others) (came : Option (Result Totals ServeFault)).
-    cause others c.args.options.now c.requires.options.partitions.0 g.J.ServerPlan.plan.begun c.args.ports.now c.bind_and_serve-answer.new.tables (net_at g c.args.net.now)
+    cause others c.args.options.now c.requires.options.partitions.0 g.J.ServerPlan.plan.origin c.args.ports.now c.bind_and_serve-answer.new.tables (net_at g c.args.net.now)
     (net_at g c.bind_and_serve-answer.new.net) (net_at g c.release_all.new.net) (map (facts g) c.bind_and_serve-answer.new.ends.items) c.release_all.ensures came) c.bind_and_serve-answer.ensures.served
 
 pub returns-clause-kept : goal.returns-clause-kept
 returns-clause-kept g c =
     let served = c.bind_and_serve-answer.ensures.served in
-    keeps _ c.args.options.now c.requires.options.partitions.0 g.J.ServerPlan.plan.begun c.args.ports.now c.bind_and_serve-answer.new.tables (net_at g c.args.net.now)
+    keeps _ c.args.options.now c.requires.options.partitions.0 g.J.ServerPlan.plan.origin c.args.ports.now c.bind_and_serve-answer.new.tables (net_at g c.args.net.now)
     (net_at g c.bind_and_serve-answer.new.net) (net_at g c.release_all.new.net) (map (facts g) c.bind_and_serve-answer.new.ends.items) c.release_all.ensures served.came served.said
 
 pub returns-clause-heard : goal.returns-clause-heard
@@ -85,7 +85,7 @@ returns-clause-announced g c =
 
 pub bind_and_serve-answer-requires-clause-filled : goal.bind_and_serve-answer-requires-clause-filled
 bind_and_serve-answer-requires-clause-filled g c κs within =
-    subst (λ (o : Options). (p : ℕ) → p < o.partitions → IsHistory o (g.J.ServerPlan.plan.begun p)) (sym c.requires.named)
+    subst (λ (o : Options). (p : ℕ) → p < o.partitions → IsHistory o (g.J.ServerPlan.plan.origin p)) (sym c.requires.named)
     (accepted g.J.ServerPlan.plan 0 (map (λ f. filled_view g.P.Partition.owner g.P.Partition.home f) c.args.parts.items) c.requires.of)
 
 pub returns-in_err-server-clause-kept : goal.returns-in_err-server-clause-kept
@@ -99,8 +99,8 @@ returns-in_err-server-clause-cause g c =
     let is = err_from_is_err_and c.from_residual.result c.from_residual.ensures.1 in
     let all = ports_at g c.args.net.now c.args.listeners.now in
     let clocks = map g.K.Clock.last c.args.clocks.items in
-    subst (λ (r : Result Totals Stop). HasCause r c.args.options.now g.J.ServerPlan.plan.begun c.args.base c.args.ports.now c.args.streams.now clocks c.args.tables.now all all) (sym (is.1 ∙ ap Err is.2))
-    (no_memory c.args.options.now g.J.ServerPlan.plan.begun c.args.base c.args.ports.now c.args.streams.now clocks c.args.tables.now all c.requires.tables)
+    subst (λ (r : Result Totals Stop). HasCause r c.args.options.now g.J.ServerPlan.plan.origin c.args.base c.args.ports.now c.args.streams.now clocks c.args.tables.now all all) (sym (is.1 ∙ ap Err is.2))
+    (no_memory c.args.options.now g.J.ServerPlan.plan.origin c.args.base c.args.ports.now c.args.streams.now clocks c.args.tables.now all c.requires.tables)
 
 pub returns-in_err-ends-clause-kept : goal.returns-in_err-ends-clause-kept
 returns-in_err-ends-clause-kept g c = net_kept c.args.ports.now (net_at g c.args.net.now) c.requires.unbound
@@ -113,8 +113,8 @@ returns-in_err-ends-clause-cause g c =
     let is = err_from_is_err_and c.from_residual-in_err-ends.result c.from_residual-in_err-ends.ensures.1 in
     let all = ports_at g c.args.net.now c.args.listeners.now in
     let clocks = map g.K.Clock.last c.args.clocks.items in
-    subst (λ (r : Result Totals Stop). HasCause r c.args.options.now g.J.ServerPlan.plan.begun c.args.base c.args.ports.now c.args.streams.now clocks c.args.tables.now all all) (sym (is.1 ∙ ap Err is.2))
-    (no_memory c.args.options.now g.J.ServerPlan.plan.begun c.args.base c.args.ports.now c.args.streams.now clocks c.args.tables.now all c.requires.tables)
+    subst (λ (r : Result Totals Stop). HasCause r c.args.options.now g.J.ServerPlan.plan.origin c.args.base c.args.ports.now c.args.streams.now clocks c.args.tables.now all all) (sym (is.1 ∙ ap Err is.2))
+    (no_memory c.args.options.now g.J.ServerPlan.plan.origin c.args.base c.args.ports.now c.args.streams.now clocks c.args.tables.now all c.requires.tables)
 
 pub returns-in_err-connections-clause-kept : goal.returns-in_err-connections-clause-kept
 returns-in_err-connections-clause-kept g c = net_kept c.args.ports.now (net_at g c.args.net.now) c.requires.unbound
@@ -127,5 +127,5 @@ returns-in_err-connections-clause-cause g c =
     let is = err_from_is_err_and c.from_residual-in_err-connections.result c.from_residual-in_err-connections.ensures.1 in
     let all = ports_at g c.args.net.now c.args.listeners.now in
     let clocks = map g.K.Clock.last c.args.clocks.items in
-    subst (λ (r : Result Totals Stop). HasCause r c.args.options.now g.J.ServerPlan.plan.begun c.args.base c.args.ports.now c.args.streams.now clocks c.args.tables.now all all) (sym (is.1 ∙ ap Err is.2))
-    (no_memory c.args.options.now g.J.ServerPlan.plan.begun c.args.base c.args.ports.now c.args.streams.now clocks c.args.tables.now all c.requires.tables)
+    subst (λ (r : Result Totals Stop). HasCause r c.args.options.now g.J.ServerPlan.plan.origin c.args.base c.args.ports.now c.args.streams.now clocks c.args.tables.now all all) (sym (is.1 ∙ ap Err is.2))
+    (no_memory c.args.options.now g.J.ServerPlan.plan.origin c.args.base c.args.ports.now c.args.streams.now clocks c.args.tables.now all c.requires.tables)

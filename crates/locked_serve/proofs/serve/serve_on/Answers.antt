@@ -10,13 +10,13 @@ use Rattle.locked_serve.specs.declared.stop.Stop.{Stop}
 use Rattle.locked_serve.specs.declared.stop.Stop.TheVariants.{Fault}
 use Rattle.mica_serve.specs.NetRun.{NetFacts, net_facts}
 use Rattle.mica_serve.proofs.Whole.{net_kept}
-use Rattle.locked_serve.specs.Filled.{begun_by, RefusesFilling}
+use Rattle.locked_serve.specs.Filled.{origin_of, RefusesFilling}
 use Rattle.locked_serve.specs.Streams.{listen_facts}
 use Rattle.locked_serve.specs.Causes.{PortFacts, HasCause, IsCauseOfStop, HasAnnounced, port_facts}
 use Rattle.locked_serve.specs.declared.opening.FilledPart.{FilledPart}
 use Rattle.locked_serve.specs.Opening.{FilledView, AreFilled, filled_view}
 use Rattle.locked_serve.proofs.Heard.{kept_unheard}
-use Rattle.locked_serve.proofs.Named.{of_plan, begun_is}
+use Rattle.locked_serve.proofs.Named.{of_plan, origin_is}
 use Rattle.locked_serve.proofs.Stopped.{not_opened, cause_filled, no_memory}
 use Rattle.locked_serve.proofs.serve.serve_on.Given as given
 use Rattle.locked_serve.proofs.serve.serve_on.Goals as goal
@@ -42,7 +42,7 @@ returns-clause-cause g c =
     let clocks = map g.K.Clock.last c.args.clocks.items in
     cause_filled c.args.options.now c.args.filling.items c.args.base c.args.ports.now c.args.streams.now clocks c.serve_named.new.tables before after c.serve_named.result c.serve_named.ensures.unrefused
     (subst (λ (b : ℕ → History). HasCause c.serve_named.result c.args.options.now b c.args.base c.args.ports.now c.args.streams.now clocks c.serve_named.new.tables before after)
-    (begun_is c.args.options.now (c.args.streams.now.fronts + c.args.ports.now.fronts) c.args.filling.items (views g c.in_ok-parts.parts.items) c.requires.options.partitions.0 filled)
+    (origin_is c.args.options.now (c.args.streams.now.fronts + c.args.ports.now.fronts) c.args.filling.items (views g c.in_ok-parts.parts.items) c.requires.options.partitions.0 filled)
     c.serve_named.ensures.cause)
 
 pub returns-in_err-parts-clause-cause : goal.returns-in_err-parts-clause-cause
@@ -86,4 +86,4 @@ returns-in_err-rehearse-clause-cause g c =
     let all = ports_at g c.args.net.now c.args.listeners.now in
     let clocks = map g.K.Clock.last c.args.clocks.items in
     subst (λ (r : Result Totals Stop). IsCauseOfStop r c.args.options.now c.args.filling.items c.args.base c.args.ports.now c.args.streams.now clocks c.args.tables.now all all) (sym (is.1 ∙ ap Err is.2))
-    (no_memory c.args.options.now (begun_by c.args.options.now c.args.filling.items) c.args.base c.args.ports.now c.args.streams.now clocks c.args.tables.now all c.requires.tables)
+    (no_memory c.args.options.now (origin_of c.args.options.now c.args.filling.items) c.args.base c.args.ports.now c.args.streams.now clocks c.args.tables.now all c.requires.tables)

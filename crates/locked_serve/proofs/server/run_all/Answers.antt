@@ -227,7 +227,7 @@ module _ (g : given.Over) (c : After-take_hands-2 g) (open_streams : AreNewHands
       (map stream_hand c.run_workers-stream_tasks.result.0.items ++ map hand_of c.run_workers-stream_tasks.result.1.items) (map (view g) c.take_all_back.new.parts.items) (map (view g) c.take_hands-2.new.parts.items)
   all = record {
     some = at_least news_long opens.many c.requires.some;
-    filled = subst (λ (o : Options). (p : ℕ) → p < o.partitions → IsHistory o ((plan_of g).begun p)) c.requires.named c.requires.filled;
+    filled = subst (λ (o : Options). (p : ℕ) → p < o.partitions → IsHistory o ((plan_of g).origin p)) c.requires.named c.requires.filled;
     opened = opens;
     same = news_long;
     are = hands_are;
@@ -261,7 +261,7 @@ returns-clause-ran g c =
     let left : map (λ (t : StreamTask g.row.C.Denot g.row.K.Denot). of_stream g t.port) streams ≡ map (of_stream g) c.part_streams.new.ports.items =
     sym (map-map (of_stream g) (λ (t : StreamTask g.row.C.Denot g.row.K.Denot). t.port) streams) ∙ ap (map (of_stream g)) (sym c.part_streams.ensures.ports) in
     subst (λ (y : Options × List ℕ × List (Result ⊤ ServeFault) × List (Result Totals ServeFault) × List EndFacts × List EndFacts × List StreamFacts × List StreamFacts).
-    RanBeside y.0 plan.begun c.args.batches c.args.base y.1 kept y.2 y.3 y.4 y.5 y.6 y.7)
+    RanBeside y.0 plan.origin c.args.batches c.args.base y.1 kept y.2 y.3 y.4 y.5 y.6 y.7)
     (λ i. (sym c.requires.named i, clocks i, sym c.part_streams.ensures.answers i, sym c.part_fronts.ensures.answers i, before i, after i, ports i, left i)) it
 
 pub returns-clause-idle : goal.returns-clause-idle

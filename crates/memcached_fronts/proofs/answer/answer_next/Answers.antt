@@ -11,7 +11,7 @@ use Rattle.memcached_commands.specs.Answers.{unless_quiet}
 use Rattle.memcached_fronts.specs.declared.answer.Progress.{Progress}
 use Rattle.memcached_fronts.specs.AskAnswers.{AnswersAsks}
 use Rattle.memcached_fronts.specs.FlushAnswers.{FlushesFrom, flush_at}
-use Rattle.memcached_fronts.specs.Exchange.{IsOpenAt, flush_due, flush_text, flushes_now, wants_numbers}
+use Rattle.memcached_fronts.specs.Exchange.{IsOpenAt, flush_due, flush_text, is_flush_all, wants_numbers}
 use Rattle.memcached_fronts.specs.Going.{AnswersFirst, RepliesFirst, Replies}
 use Rattle.memcached_fronts.proofs.AskLaws.{none_left, some_left, few_answers}
 use Rattle.memcached_stats.specs.Stats.{stats_text}
@@ -26,8 +26,8 @@ if_ok P Q (Err e) then is = is
 abbrev progress_of : ℕ → Bool → Progress
 progress_of done whole = record { done = done; is_whole = whole }
 
-pub returns-then-is_flush-clause-answered : goal.returns-then-is_flush-clause-answered
-returns-then-is_flush-clause-answered g c =
+pub returns-then-is_flush_all-clause-answered : goal.returns-then-is_flush_all-clause-answered
+returns-then-is_flush_all-clause-answered g c =
     let F = g.F.Front in
     let options = F.options c.args.front.now in
     let old = F.sessions c.args.front.now in
@@ -35,7 +35,7 @@ returns-then-is_flush-clause-answered g c =
     let told = g.C.Clock.last c.args.clock.now in
     let next = c.args.next in
     let done = c.args.done in
-    let flushes : flushes_now next ≡ true = sym c.is_flush.ensures ∙ c.if-is_flush.true in
+    let flushes : is_flush_all next ≡ true = sym c.is_flush_all.ensures ∙ c.if-is_flush_all.true in
     let tells = g.C.Clock.last c.answer_flush.new.clock in
     let r = c.answer_flush.ensures.flushed in
     let asked : (second : ℕ) × FlushesFrom options (flush_at second (flush_due next)) 0 r.0 = (r.3.0, subst (λ due. FlushesFrom options (flush_at r.3.0 due) 0 r.0) c.flush_due.ensures r.3.1) in (
@@ -75,7 +75,7 @@ returns-then-is_empty-clause-answered g c =
     let old = F.sessions c.args.front.now in
     let told = g.C.Clock.last c.args.clock.now in
     let next = c.args.next in
-    let keyed : flushes_now next ≡ false = sym c.is_flush.ensures ∙ c.if-is_flush.false in
+    let keyed : is_flush_all next ≡ false = sym c.is_flush_all.ensures ∙ c.if-is_flush_all.false in
     let none : asks_in next ≡ [] = sym c.by-asks.ensures.asks ∙ none_left c.by-asks.result (sym c.is_empty.ensures ∙ c.if-is_empty.true) in
     let text = c.in-Ok.ensures.ok ∙ (λ i. c.args.out.now.items ++ unless_quiet (c.style_of-style.ensures.quiet i)
     (c.plain_line-line.ensures (sym c.is_stats.ensures ∙ c.if-is_stats.false) options.partitions untold i)) in (
@@ -92,7 +92,7 @@ returns-in_default-clause-answered g c =
     let options = F.options c.args.front.now in
     let old = F.sessions c.args.front.now in
     let told = g.C.Clock.last c.args.clock.now in
-    let keyed : flushes_now c.args.next ≡ false = sym c.is_flush.ensures ∙ c.if-is_flush.false in
+    let keyed : is_flush_all c.args.next ≡ false = sym c.is_flush_all.ensures ∙ c.if-is_flush_all.false in
     let none : asks_in c.args.next ≡ [] = sym c.by-asks.ensures.asks ∙ none_left c.by-asks.result (sym c.is_empty.ensures ∙ c.if-is_empty.true) in
     ([], plain_goes options F.is_alone c.args.numbering.base c.args.next c.args.done c.requires.open old old told told keyed none, tt, omega arith)
 
@@ -140,7 +140,7 @@ returns-in-Ok-answer_asks-clause-answered g c =
     let before = c.args.out.now.items in
     let after = c.answer_asks.new.out.items in
     let left = c.answer_asks.new.asks in
-    let keyed : flushes_now next ≡ false = sym c.is_flush.ensures ∙ c.if-is_flush.false in
+    let keyed : is_flush_all next ≡ false = sym c.is_flush_all.ensures ∙ c.if-is_flush_all.false in
     let asks_are : c.skip.new.asks ≡ drop done (asks_in next) = c.skip.ensures ∙ ap (drop done) c.by-asks.ensures.asks in
     let some = some_asked next c.by-asks.result c.by-asks.ensures.asks done c.requires.open (sym c.is_empty.ensures ∙ c.if-is_empty.false) in
     let r = c.in-Ok-answer_asks.ensures.answered in
@@ -165,7 +165,7 @@ returns-in-Err-clause-answered g c =
     let new = F.sessions c.answer_asks.new.front in
     let told = g.C.Clock.last c.args.clock.now in
     let tells = g.C.Clock.last c.answer_asks.new.clock in
-    let keyed : flushes_now c.args.next ≡ false = sym c.is_flush.ensures ∙ c.if-is_flush.false in
+    let keyed : is_flush_all c.args.next ≡ false = sym c.is_flush_all.ensures ∙ c.if-is_flush_all.false in
     let asks_are : c.skip.new.asks ≡ drop c.args.done (asks_in c.args.next) = c.skip.ensures ∙ ap (drop c.args.done) c.by-asks.ensures.asks in
     let r = c.answer_asks.ensures.answered in
     let first = subst (λ (l : List Asked). AnswersFirst options F.is_alone c.args.numbering.base l old told new tells r.0) asks_are r.1 in

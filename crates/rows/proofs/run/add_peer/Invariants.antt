@@ -1,5 +1,5 @@
 use Rattle.std.proofs.Common.{◌≡◌, true}
-use Rattle.mica_io.specs.Ports.{takes_datagram}
+use Rattle.mica_io.specs.PortStates.{takes_datagram}
 use Rattle.mica_io.specs.MemoryPorts.{ports_in}
 use Rattle.rows.proofs.run.add_peer.Given as goal
 

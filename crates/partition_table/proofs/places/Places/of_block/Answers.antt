@@ -1,5 +1,5 @@
 use Rattle.std.proofs.Common.{◌+◌, arith, rules}
-use Rattle.partition_table.proofs.Rounds.{in_round}
+use Rattle.partition_table.proofs.Laps.{in_lap}
 use Rattle.partition_table.proofs.places.Places.of_block.Goals as goal
 
 pub returns-then-into-from-clause-first : goal.returns-then-into-from-clause-first
@@ -7,9 +7,9 @@ returns-then-into-from-clause-first c = (
   search rules,
   λ i l.
       let self = c.args.self.now in
-      let round = c.round_of-self.ensures in
-      let same = in_round self.shape.words (c.args.offset + i) c.round_of-self.result
-      record { whole = round.whole; from = omega (arith, round.from); below = omega (arith, l, round.from, c.if-into-from.true, c.from.ensures) } in
+      let lap = c.lap_of-self.ensures in
+      let same = in_lap self.shape.words (c.args.offset + i) c.lap_of-self.result
+      record { whole = lap.whole; from = omega (arith, lap.from); below = omega (arith, l, lap.from, c.if-into-from.true, c.from.ensures) } in
       let first = self.first in
-      omega (arith, round.from),
+      omega (arith, lap.from),
 )

@@ -1,0 +1,210 @@
+//! The server: its ports bound, its fronts and owners run side by side, its ends released and its tables kept.
+ghost use Rattle.std.specs.Prelude.{◌≡◌, ◌+◌, ◌<◌, ◌≤◌, ℕ, [], true, map, vec_len, vec_capacity, is_some, Some, IfSome, OnOk, OnErr};
+ghost use Rattle.mica_io.specs.Faults.{Rose};
+ghost use Rattle.mica_io.specs.PortStates.{out};
+ghost use Rattle.partition_model.specs.Options.{IsValid};
+ghost use Rattle.partition_table.specs.declared.reader.Note.{Note};
+ghost use Rattle.partition_table.specs.Seats.{note_state, note_home};
+ghost use Rattle.mica_fronts.specs.PortOptions.{IsValidPorts};
+ghost use Rattle.mica_serve.specs.Others.{alone};
+ghost use Rattle.mica_serve.specs.PossiblePorts.{IsPossiblePorts};
+ghost use Rattle.mica_serve.specs.Served.{empty_origin};
+ghost use Rattle.mica_serve.specs.Ends.{AreNewEnds, AreAtPorts, AreOpen, BindsEnds, TellAll, ServesFronts, end_facts};
+ghost use Rattle.mica_serve.specs.Tasks.{IsServer};
+ghost use Rattle.mica_serve.specs.NetRun.{OnPorts, ReleasesNet, BindsAndServes, IsCauseOf, KeepsNet, net_facts};
+
+use crate::answers::sum_up;
+use crate::server::{Server, run_all};
+use crate::tables::keep_all;
+use cache_partition::CachePartition;
+use epoch_core::LendPartition;
+use mica_fronts::{PortOptions, ServeFault, Totals};
+use mica_io::{Datagrams, Failed, Gate, Net};
+use partition_model::{Mode, Options};
+use partition_table::{Note, OwnerSeat, ReaderSeat, Tables};
+use seated_partition::OnTable;
+use std::alloc::Global;
+use std::sync::Wait;
+use std::thread::Threads;
+use store_partition::StorePartition;
+
+/// Binds a port for each front, in order, up to the first bind that fails.
+pub fn bind_all<N: Net>(net: &mut N, ports: &PortOptions, ends: &mut Vec<N::End>) -> Result<(), Failed>
+    requires ports { IsPossiblePorts ports.now }
+    requires unbound { N.binds net.old ≡ 0 }
+    requires none { ends.old.items ≡ [] }
+    requires room { ports.now.fronts ≤ vec_capacity ends.old }
+    ensures new { AreNewEnds ports.now.port (map (end_facts N.End.port N.End.traffic N.End.faults N.End.has_ended N.End.script) ends.new.items) }
+    ensures bound { OnPorts (BindsEnds ports.now.port (map (end_facts N.End.port N.End.traffic N.End.faults N.End.has_ended N.End.script) ends.new.items)) (N.ports net.old) (N.ports net.new) }
+    ensures all { OnOk result (vec_len ends.new ≡ ports.now.fronts) }
+    ensures few { vec_len ends.new ≤ ports.now.fronts }
+    ensures none_refused { OnOk result (N.refused net.new ≡ N.refused net.old) }
+    ensures steady { OnOk result (is_some (N.fails net.old) ≡ true → N.faults net.new ≡ N.faults net.old) }
+    ensures cause { OnErr result (Rose (N.faults net.old) (N.faults net.new)) }
+    ensures refused { OnErr result (N.refused net.old < N.refused net.new) }
+    ensures never_fall { N.faults net.old ≤ N.faults net.new }
+    ensures fails { N.fails net.new ≡ N.fails net.old }
+    ensures binds { N.binds net.new ≤ ports.now.fronts }
+    ensures first { 0 < N.binds net.new → N.first net.new ≡ ports.now.port }
+{
+    for f in 0..ports.fronts {
+        let end = net.bind(ports.port + f as u16)?;
+        ends.push_reserved(end);
+    }
+    Ok(())
+}
+
+/// Releases the ends, the last one first.
+pub fn release_all<N: Net>(net: &mut N, ends: Vec<N::End>, first: u16)
+    requires ports { AreAtPorts first (map (end_facts N.End.port N.End.traffic N.End.faults N.End.has_ended N.End.script) ends.items) }
+    requires out { IfSome (N.ports net.old) (λ all. (i : ℕ) → i < vec_len ends → all (first + i) ≡ out) }
+    requires tell { IfSome (N.ports net.old) (λ all. TellAll (map (end_facts N.End.port N.End.traffic N.End.faults N.End.has_ended N.End.script) ends.items)) }
+    ensures { ReleasesNet first (map (end_facts N.End.port N.End.traffic N.End.faults N.End.has_ended N.End.script) ends.items)
+        (net_facts N.faults N.binds N.first N.refused N.ports N.fails net.old)
+        (net_facts N.faults N.binds N.first N.refused N.ports N.fails net.new) }
+{
+    let mut ends = ends;
+    while let Some(end) = ends.pop() {
+        net.release(end);
+    }
+}
+
+/// Serves the fronts side by side, and keeps the owners' seats where no front failed.
+fn serve_all<
+    W: Threads + Wait + Sync,
+    P: OnTable + LendPartition<Reader = ReaderSeat, Note = Note> + Send,
+    D: Datagrams + Drop + Send,
+    G: Gate,
+>(
+    rt: &W,
+    alloc: Global,
+    options: &Options,
+    ports: &PortOptions,
+    server: Server<P, D>,
+    ends: &mut Vec<D>,
+    gate: &G,
+    tables: &mut Tables,
+) -> Result<Totals, ServeFault>
+    requires same { (p : P) → P.state p ≡ P.owner p }
+    requires notes { (n : Note) → (P.noted n ≡ note_state n) × (P.note_home n ≡ note_home n) }
+    requires options { IsValid options.now }
+    requires ports { IsValidPorts ports.now }
+    requires server { IsServer P.owner P.home options.now ports.now server }
+    requires tables { tables.old ≡ [] }
+    requires open { AreOpen (map (end_facts D.port D.traffic D.faults D.has_ended D.script) ends.old.items) }
+    requires many { vec_len ends.old ≡ ports.now.fronts }
+    ensures { ServesFronts alone options.now empty_origin ports.now.batches result tables.new
+        (map (end_facts D.port D.traffic D.faults D.has_ended D.script) ends.old.items)
+        (map (end_facts D.port D.traffic D.faults D.has_ended D.script) ends.new.items) }
+{
+    let (owners, answers) = run_all(rt, alloc, options, ports, server, ends, gate);
+    let totals = sum_up(answers.as_slice())?;
+    keep_all(owners, tables);
+    Ok(totals)
+}
+
+/// Binds the ports, and serves the fronts where all were bound.
+fn bind_and_serve<
+    W: Threads + Wait + Sync,
+    P: OnTable + LendPartition<Reader = ReaderSeat, Note = Note> + Send,
+    N: Net,
+    G: Gate,
+>(
+    rt: &W,
+    alloc: Global,
+    options: &Options,
+    ports: &PortOptions,
+    server: Server<P, N::End>,
+    net: &mut N,
+    ends: &mut Vec<N::End>,
+    gate: &G,
+    tables: &mut Tables,
+) -> Result<Totals, ServeFault>
+    requires same { (p : P) → P.state p ≡ P.owner p }
+    requires notes { (n : Note) → (P.noted n ≡ note_state n) × (P.note_home n ≡ note_home n) }
+    requires options { IsValid options.now }
+    requires ports { IsValidPorts ports.now }
+    requires server { IsServer P.owner P.home options.now ports.now server }
+    requires tables { tables.old ≡ [] }
+    requires unbound { N.binds net.old ≡ 0 }
+    requires none { ends.old.items ≡ [] }
+    requires room { ports.now.fronts ≤ vec_capacity ends.old }
+    ensures { BindsAndServes alone options.now empty_origin ports.now (Some result) tables.new
+        (net_facts N.faults N.binds N.first N.refused N.ports N.fails net.old)
+        (net_facts N.faults N.binds N.first N.refused N.ports N.fails net.new)
+        (map (end_facts N.End.port N.End.traffic N.End.faults N.End.has_ended N.End.script) ends.new.items) }
+{
+    bind_all(net, ports, ends)?;
+    serve_all(rt, alloc, options, ports, server, ends, gate, tables)
+}
+
+/// Serves the ports before partitions of one mode.
+fn serve_on<
+    W: Threads + Wait + Sync,
+    P: OnTable + LendPartition<Reader = ReaderSeat, Note = Note> + Send,
+    N: Net,
+    G: Gate,
+>(
+    rt: &W,
+    alloc: Global,
+    options: &Options,
+    ports: &PortOptions,
+    net: &mut N,
+    gate: &G,
+    tables: &mut Tables,
+) -> Result<Totals, ServeFault>
+    requires notes { (n : Note) → (P.noted n ≡ note_state n) × (P.note_home n ≡ note_home n) }
+    requires options { IsValid options.now }
+    requires mode { options.now.mode ≡ P.mode }
+    requires same { (p : P) → P.state p ≡ P.owner p }
+    requires ports { IsValidPorts ports.now }
+    requires unbound { N.binds net.old ≡ 0 }
+    requires tables { tables.old ≡ [] }
+    ensures cause { IsCauseOf alone result options.now empty_origin ports.now tables.new
+        (net_facts N.faults N.binds N.first N.refused N.ports N.fails net.old)
+        (net_facts N.faults N.binds N.first N.refused N.ports N.fails net.new) }
+    ensures kept { KeepsNet ports.now
+        (net_facts N.faults N.binds N.first N.refused N.ports N.fails net.old)
+        (net_facts N.faults N.binds N.first N.refused N.ports N.fails net.new) }
+{
+    let server = Server::<P, N::End>::open(rt, alloc, options, ports)?;
+    let mut ends = Vec::with_capacity(alloc, ports.fronts as usize)?;
+    let answer = bind_and_serve(
+        rt, alloc, options, ports, server, net, &mut ends, gate, tables,
+    );
+    release_all(net, ends, ports.port);
+    answer
+}
+
+/// Binds a port for each front, in order; then the fronts and the owners of the partitions run side by side, each in a thread of its own. All ends
+/// are released. The owners' seats are kept, in the order of the partitions, where no front failed.
+pub fn serve<W: Threads + Wait + Sync, N: Net, G: Gate>(
+    rt: &W,
+    alloc: Global,
+    options: &Options,
+    ports: &PortOptions,
+    net: &mut N,
+    gate: &G,
+    tables: &mut Tables,
+) -> Result<Totals, ServeFault>
+    requires options { IsValid options.now }
+    requires ports { IsValidPorts ports.now }
+    requires unbound { N.binds net.old ≡ 0 }
+    requires tables { tables.old ≡ [] }
+
+    ensures cause { IsCauseOf alone result options.now empty_origin ports.now tables.new
+        (net_facts N.faults N.binds N.first N.refused N.ports N.fails net.old)
+        (net_facts N.faults N.binds N.first N.refused N.ports N.fails net.new) }
+    ensures kept { KeepsNet ports.now
+        (net_facts N.faults N.binds N.first N.refused N.ports N.fails net.old)
+        (net_facts N.faults N.binds N.first N.refused N.ports N.fails net.new) }
+{
+    match options.mode {
+        Mode::Cache => serve_on::<W, CachePartition<OwnerSeat>, N, G>(
+            rt, alloc, options, ports, net, gate, tables,
+        ),
+        Mode::Store => serve_on::<W, StorePartition<OwnerSeat>, N, G>(
+            rt, alloc, options, ports, net, gate, tables,
+        ),
+    }
+}
