@@ -166,10 +166,11 @@ impl<'a, J: ServerPlan, P: LendPartition<Reader = ReaderSeat, Note = Note> + Dro
         found: &mut ItemBuf,
         next: &mut ItemBuf,
     ) -> Changed {
-        let number = partition_of(key_hash(key), self.options.partitions);
+        let hash = key_hash(key);
+        let number = partition_of(hash, self.options.partitions);
         let at = number as usize;
         let lock = &self.locks[at];
-        let changed = self.parts[at].change(rt, lock, number, second, key, decide, found, next);
+        let changed = self.parts[at].change(rt, lock, number, second, key, hash, decide, found, next);
         self.left -= count_of(changed.outcome);
         changed
     }
