@@ -90,16 +90,16 @@ fn bind_and_serve<
     requires no_streams { connections.old.items ≡ [] }
     requires room_of_streams { streams.now.fronts ≤ vec_capacity connections.old }
     ensures served { ComesBeside (λ others came. BindsAndServes others options.now J.plan.origin ports.now came tables.new
-        (net_facts N.faults N.binds N.first N.refused N.ports N.fails net.old) (net_facts N.faults N.binds N.first N.refused N.ports N.fails net.new)
-        (map (end_facts N.End.port N.End.traffic N.End.faults N.End.has_ended N.End.script) ends.new.items))
-        (λ news. news ≡ map (stream_facts L.Port.port L.Port.faults L.Port.has_ended L.Port.log) connections.new.items) result options.now base streams.now (map K.last clocks.items)
-        (listen_facts L.faults L.ports L.released L.place listeners.old) (listen_facts L.faults L.ports L.released L.place listeners.new) }
+        (net_facts N.Net net.old) (net_facts N.Net net.new)
+        (map (end_facts N.End.Datagrams) ends.new.items))
+        (λ news. news ≡ map (stream_facts L.Port.Connections) connections.new.items) result options.now base streams.now (map K.last clocks.items)
+        (listen_facts L.Listeners listeners.old) (listen_facts L.Listeners listeners.new) }
     ensures unrefused { result ≢ Err Stop.Refused }
     ensures unreleased { L.released listeners.new ≡ L.released listeners.old }
-    ensures heard { KeepsListeners streams.now (listen_facts L.faults L.ports L.released L.place listeners.old) (listen_facts L.faults L.ports L.released L.place listeners.new) }
+    ensures heard { KeepsListeners streams.now (listen_facts L.Listeners listeners.old) (listen_facts L.Listeners listeners.new) }
     ensures announced { HasAnnounced (A.says ports.now streams.now) (A.fails ports.now streams.now) result
-        (port_facts (net_facts N.faults N.binds N.first N.refused N.ports N.fails net.old) (listen_facts L.faults L.ports L.released L.place listeners.old))
-        (port_facts (net_facts N.faults N.binds N.first N.refused N.ports N.fails net.new) (listen_facts L.faults L.ports L.released L.place listeners.new)) announce.old announce.new }
+        (port_facts (net_facts N.Net net.old) (listen_facts L.Listeners listeners.old))
+        (port_facts (net_facts N.Net net.new) (listen_facts L.Listeners listeners.new)) announce.old announce.new }
 {
     bind_all(net, ports, ends)?;
     listen_all(listeners, streams, connections)?;
@@ -162,15 +162,15 @@ fn serve_named<
     requires tables { tables.old ≡ [] }
     ensures unrefused { result ≢ Err Stop.Refused }
     ensures cause { HasCause result options.now J.plan.origin base ports.now streams.now (map K.last clocks.items) tables.new
-        (port_facts (net_facts N.faults N.binds N.first N.refused N.ports N.fails net.old) (listen_facts L.faults L.ports L.released L.place listeners.old))
-        (port_facts (net_facts N.faults N.binds N.first N.refused N.ports N.fails net.new) (listen_facts L.faults L.ports L.released L.place listeners.new)) }
+        (port_facts (net_facts N.Net net.old) (listen_facts L.Listeners listeners.old))
+        (port_facts (net_facts N.Net net.new) (listen_facts L.Listeners listeners.new)) }
     ensures kept { KeepsNet ports.now
-        (net_facts N.faults N.binds N.first N.refused N.ports N.fails net.old)
-        (net_facts N.faults N.binds N.first N.refused N.ports N.fails net.new) }
-    ensures heard { KeepsListeners streams.now (listen_facts L.faults L.ports L.released L.place listeners.old) (listen_facts L.faults L.ports L.released L.place listeners.new) }
+        (net_facts N.Net net.old)
+        (net_facts N.Net net.new) }
+    ensures heard { KeepsListeners streams.now (listen_facts L.Listeners listeners.old) (listen_facts L.Listeners listeners.new) }
     ensures announced { HasAnnounced (A.says ports.now streams.now) (A.fails ports.now streams.now) result
-        (port_facts (net_facts N.faults N.binds N.first N.refused N.ports N.fails net.old) (listen_facts L.faults L.ports L.released L.place listeners.old))
-        (port_facts (net_facts N.faults N.binds N.first N.refused N.ports N.fails net.new) (listen_facts L.faults L.ports L.released L.place listeners.new)) announce.old announce.new }
+        (port_facts (net_facts N.Net net.old) (listen_facts L.Listeners listeners.old))
+        (port_facts (net_facts N.Net net.new) (listen_facts L.Listeners listeners.new)) announce.old announce.new }
 {
     let server = LockedServer::<J, P, N::End, L::Port, K>::new(alloc, ports, streams, parts)?;
     let mut ends = Vec::with_capacity(alloc, ports.fronts as usize)?;
@@ -236,15 +236,15 @@ fn serve_on<
     requires unbound { N.binds net.old ≡ 0 }
     requires tables { tables.old ≡ [] }
     ensures cause { IsCauseOfStop result options.now filling.items base ports.now streams.now (map K.last clocks.items) tables.new
-        (port_facts (net_facts N.faults N.binds N.first N.refused N.ports N.fails net.old) (listen_facts L.faults L.ports L.released L.place listeners.old))
-        (port_facts (net_facts N.faults N.binds N.first N.refused N.ports N.fails net.new) (listen_facts L.faults L.ports L.released L.place listeners.new)) }
+        (port_facts (net_facts N.Net net.old) (listen_facts L.Listeners listeners.old))
+        (port_facts (net_facts N.Net net.new) (listen_facts L.Listeners listeners.new)) }
     ensures kept { KeepsNet ports.now
-        (net_facts N.faults N.binds N.first N.refused N.ports N.fails net.old)
-        (net_facts N.faults N.binds N.first N.refused N.ports N.fails net.new) }
-    ensures heard { KeepsListeners streams.now (listen_facts L.faults L.ports L.released L.place listeners.old) (listen_facts L.faults L.ports L.released L.place listeners.new) }
+        (net_facts N.Net net.old)
+        (net_facts N.Net net.new) }
+    ensures heard { KeepsListeners streams.now (listen_facts L.Listeners listeners.old) (listen_facts L.Listeners listeners.new) }
     ensures announced { HasAnnounced (A.says ports.now streams.now) (A.fails ports.now streams.now) result
-        (port_facts (net_facts N.faults N.binds N.first N.refused N.ports N.fails net.old) (listen_facts L.faults L.ports L.released L.place listeners.old))
-        (port_facts (net_facts N.faults N.binds N.first N.refused N.ports N.fails net.new) (listen_facts L.faults L.ports L.released L.place listeners.new)) announce.old announce.new }
+        (port_facts (net_facts N.Net net.old) (listen_facts L.Listeners listeners.old))
+        (port_facts (net_facts N.Net net.new) (listen_facts L.Listeners listeners.new)) announce.old announce.new }
 {
     rehearse(rt, alloc, streams.fronts + ports.fronts)?;
     let parts = open_parts::<P>(alloc, options, filling.as_slice())?;
@@ -293,15 +293,15 @@ pub fn serve_locked<
     requires tables { tables.old ≡ [] }
 
     ensures cause { IsCauseOfStop result options.now filling.items base ports.now streams.now (map K.last clocks.items) tables.new
-        (port_facts (net_facts N.faults N.binds N.first N.refused N.ports N.fails net.old) (listen_facts L.faults L.ports L.released L.place listeners.old))
-        (port_facts (net_facts N.faults N.binds N.first N.refused N.ports N.fails net.new) (listen_facts L.faults L.ports L.released L.place listeners.new)) }
+        (port_facts (net_facts N.Net net.old) (listen_facts L.Listeners listeners.old))
+        (port_facts (net_facts N.Net net.new) (listen_facts L.Listeners listeners.new)) }
     ensures kept { KeepsNet ports.now
-        (net_facts N.faults N.binds N.first N.refused N.ports N.fails net.old)
-        (net_facts N.faults N.binds N.first N.refused N.ports N.fails net.new) }
-    ensures heard { KeepsListeners streams.now (listen_facts L.faults L.ports L.released L.place listeners.old) (listen_facts L.faults L.ports L.released L.place listeners.new) }
+        (net_facts N.Net net.old)
+        (net_facts N.Net net.new) }
+    ensures heard { KeepsListeners streams.now (listen_facts L.Listeners listeners.old) (listen_facts L.Listeners listeners.new) }
     ensures announced { HasAnnounced (A.says ports.now streams.now) (A.fails ports.now streams.now) result
-        (port_facts (net_facts N.faults N.binds N.first N.refused N.ports N.fails net.old) (listen_facts L.faults L.ports L.released L.place listeners.old))
-        (port_facts (net_facts N.faults N.binds N.first N.refused N.ports N.fails net.new) (listen_facts L.faults L.ports L.released L.place listeners.new)) announce.old announce.new }
+        (port_facts (net_facts N.Net net.old) (listen_facts L.Listeners listeners.old))
+        (port_facts (net_facts N.Net net.new) (listen_facts L.Listeners listeners.new)) announce.old announce.new }
 {
     match options.mode {
         Mode::Cache => serve_on::<W, CachePartition<OwnerSeat>, N, L, K, G, A>(

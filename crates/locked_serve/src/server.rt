@@ -192,12 +192,12 @@ fn run_all<
     requires filled { (p : ℕ) → p < options.now.partitions → IsHistory options.now (J.plan.origin p) }
     requires server { IsLockedServer J.plan (length connections.old.items) (length ends.old.items) (length server.locks.items)
         (map (λ hand. hand.items) server.stream_hands.items) (map (λ hand. hand.items) server.hands.items) server.room }
-    requires unserved { AreOpen (map (end_facts D.port D.traffic D.faults D.has_ended D.script) ends.old.items) }
-    requires fresh { AreUnserved (map (stream_facts C.port C.faults C.has_ended C.log) connections.old.items) }
+    requires unserved { AreOpen (map (end_facts D.Datagrams) ends.old.items) }
+    requires fresh { AreUnserved (map (stream_facts C.Connections) connections.old.items) }
     ensures ran { RanBeside options.now J.plan.origin batches base (map K.last clocks.items)
         (map (λ left. kept_seat_in left.owner) (map (λ part. left_view P.owner P.home part) result.parts.items)) result.streams.items result.fronts.items
-        (map (end_facts D.port D.traffic D.faults D.has_ended D.script) ends.old.items) (map (end_facts D.port D.traffic D.faults D.has_ended D.script) ends.new.items)
-        (map (stream_facts C.port C.faults C.has_ended C.log) connections.old.items) (map (stream_facts C.port C.faults C.has_ended C.log) connections.new.items) }
+        (map (end_facts D.Datagrams) ends.old.items) (map (end_facts D.Datagrams) ends.new.items)
+        (map (stream_facts C.Connections) connections.old.items) (map (stream_facts C.Connections) connections.new.items) }
     ensures idle { (p : ℕ) (left : Owned) → slice_get (map (λ part. left_view P.owner P.home part) result.parts.items) p ≡ Some left → left.owner.phase ≡ Idle }
 {
     let LockedServer {
@@ -290,11 +290,11 @@ pub(crate) fn serve_all<
     requires server { IsLockedServer J.plan (length connections.old.items) (length ends.old.items) (length server.locks.items)
         (map (λ hand. hand.items) server.stream_hands.items) (map (λ hand. hand.items) server.hands.items) server.room }
     requires tables { tables.old ≡ [] }
-    requires unserved { AreOpen (map (end_facts D.port D.traffic D.faults D.has_ended D.script) ends.old.items) }
-    requires fresh { AreUnserved (map (stream_facts C.port C.faults C.has_ended C.log) connections.old.items) }
+    requires unserved { AreOpen (map (end_facts D.Datagrams) ends.old.items) }
+    requires fresh { AreUnserved (map (stream_facts C.Connections) connections.old.items) }
     ensures { ServesBeside options.now J.plan.origin batches base (map K.last clocks.items) result tables.new
-        (map (end_facts D.port D.traffic D.faults D.has_ended D.script) ends.old.items) (map (end_facts D.port D.traffic D.faults D.has_ended D.script) ends.new.items)
-        (map (stream_facts C.port C.faults C.has_ended C.log) connections.old.items) (map (stream_facts C.port C.faults C.has_ended C.log) connections.new.items) }
+        (map (end_facts D.Datagrams) ends.old.items) (map (end_facts D.Datagrams) ends.new.items)
+        (map (stream_facts C.Connections) connections.old.items) (map (stream_facts C.Connections) connections.new.items) }
 {
     let Came {
         parts,

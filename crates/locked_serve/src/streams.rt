@@ -51,8 +51,8 @@ impl<C: Connections, K: Clock> StreamTask<C, K> {
         requires options { options.now ≡ J.plan.options }
         requires locks { length locks.now ≡ options.now.partitions }
         requires low { number < J.plan.fronts }
-        requires ready { IsReadyStream J.plan (stream_facts C.port C.faults C.has_ended C.log) K.last number self.old }
-        ensures { StreamRan J.plan (stream_facts C.port C.faults C.has_ended C.log) K.last base number self.old self.new }
+        requires ready { IsReadyStream J.plan (stream_facts C.Connections) K.last number self.old }
+        ensures { StreamRan J.plan (stream_facts C.Connections) K.last base number self.old self.new }
     {
         let parts = mem::replace(&mut self.parts, Vec::new(alloc));
         let mut front = LockedFront::new(options, locks, number, parts);
@@ -97,8 +97,8 @@ pub(crate) fn run_streams<
     requires locks { length locks.now ≡ options.now.partitions }
     requires few { J.plan.fronts ≤ MOST_FRONTS }
     requires many { length streams.old.items ≤ J.plan.fronts }
-    requires ready { AreReadyStreams J.plan (stream_facts C.port C.faults C.has_ended C.log) K.last streams.old.items }
-    ensures { StreamsRan J.plan (stream_facts C.port C.faults C.has_ended C.log) K.last base streams.old.items streams.new.items }
+    requires ready { AreReadyStreams J.plan (stream_facts C.Connections) K.last streams.old.items }
+    ensures { StreamsRan J.plan (stream_facts C.Connections) K.last base streams.old.items streams.new.items }
 {
     let threads = streams.len().max(1);
     for_each_mut(
@@ -107,8 +107,8 @@ pub(crate) fn run_streams<
         threads,
         &|number, stream|
             requires { (number < J.plan.fronts) × (J.plan.fronts ≤ MOST_FRONTS) × IsPossible options.now × (options.now ≡ J.plan.options) × (length locks.now ≡ options.now.partitions)
-                × IsReadyStream J.plan (stream_facts C.port C.faults C.has_ended C.log) K.last number stream.now }
-            ensures { StreamRan J.plan (stream_facts C.port C.faults C.has_ended C.log) K.last base number stream.entry.now stream.exit.now }
+                × IsReadyStream J.plan (stream_facts C.Connections) K.last number stream.now }
+            ensures { StreamRan J.plan (stream_facts C.Connections) K.last base number stream.entry.now stream.exit.now }
         { stream.run(rt, alloc, options, base, board, locks, number as u32) },
     );
 }

@@ -52,8 +52,8 @@ impl<D: Datagrams> FrontTask<D> {
         requires locks { length locks.now ≡ options.now.partitions }
         requires low { number < J.plan.fronts }
         requires few { J.plan.fronts ≤ MOST_FRONTS }
-        requires ready { IsReadyTask J.plan batches (end_facts D.port D.traffic D.faults D.has_ended D.script) number self.old }
-        ensures { TaskRan J.plan batches (end_facts D.port D.traffic D.faults D.has_ended D.script) number self.old self.new }
+        requires ready { IsReadyTask J.plan batches (end_facts D.Datagrams) number self.old }
+        ensures { TaskRan J.plan batches (end_facts D.Datagrams) number self.old self.new }
     {
         let parts = mem::replace(&mut self.parts, Vec::new(alloc));
         let mut front = LockedFront::new(options, locks, number, parts);
@@ -92,8 +92,8 @@ fn run_fronts<
     requires locks { length locks.now ≡ options.now.partitions }
     requires few { J.plan.fronts ≤ MOST_FRONTS }
     requires many { first + length fronts.old.items ≡ J.plan.fronts }
-    requires ready { AreReadyTasks J.plan batches (end_facts D.port D.traffic D.faults D.has_ended D.script) first fronts.old.items }
-    ensures { TasksRan J.plan batches (end_facts D.port D.traffic D.faults D.has_ended D.script) first fronts.old.items fronts.new.items }
+    requires ready { AreReadyTasks J.plan batches (end_facts D.Datagrams) first fronts.old.items }
+    ensures { TasksRan J.plan batches (end_facts D.Datagrams) first fronts.old.items fronts.new.items }
 {
     let threads = fronts.len().max(1);
     for_each_mut(
@@ -102,8 +102,8 @@ fn run_fronts<
         threads,
         &|at, front|
             requires { (first + at < J.plan.fronts) × (J.plan.fronts ≤ MOST_FRONTS) × IsPossible options.now × (options.now ≡ J.plan.options) × (length locks.now ≡ options.now.partitions)
-                × IsReadyTask J.plan batches (end_facts D.port D.traffic D.faults D.has_ended D.script) (first + at) front.now }
-            ensures { TaskRan J.plan batches (end_facts D.port D.traffic D.faults D.has_ended D.script) (first + at) front.entry.now front.exit.now }
+                × IsReadyTask J.plan batches (end_facts D.Datagrams) (first + at) front.now }
+            ensures { TaskRan J.plan batches (end_facts D.Datagrams) (first + at) front.entry.now front.exit.now }
         { front.run(rt, alloc, options, batches, locks, gate, first + at as u32) },
     );
 }
@@ -129,8 +129,8 @@ fn serve_streams<
     requires locks { length locks.now ≡ options.now.partitions }
     requires few { J.plan.fronts ≤ MOST_FRONTS }
     requires many { length streams.items ≤ J.plan.fronts }
-    requires ready { AreReadyStreams J.plan (stream_facts C.port C.faults C.has_ended C.log) K.last streams.items }
-    ensures { StreamsRan J.plan (stream_facts C.port C.faults C.has_ended C.log) K.last base streams.items result.items }
+    requires ready { AreReadyStreams J.plan (stream_facts C.Connections) K.last streams.items }
+    ensures { StreamsRan J.plan (stream_facts C.Connections) K.last base streams.items result.items }
 {
     let mut tasks = streams;
     run_streams(rt, alloc, options, base, board, locks, &mut tasks);
@@ -158,8 +158,8 @@ fn serve_fronts<
     requires locks { length locks.now ≡ options.now.partitions }
     requires few { J.plan.fronts ≤ MOST_FRONTS }
     requires many { first + length fronts.items ≡ J.plan.fronts }
-    requires ready { AreReadyTasks J.plan batches (end_facts D.port D.traffic D.faults D.has_ended D.script) first fronts.items }
-    ensures { TasksRan J.plan batches (end_facts D.port D.traffic D.faults D.has_ended D.script) first fronts.items result.items }
+    requires ready { AreReadyTasks J.plan batches (end_facts D.Datagrams) first fronts.items }
+    ensures { TasksRan J.plan batches (end_facts D.Datagrams) first fronts.items result.items }
 {
     let mut tasks = fronts;
     run_fronts(rt, alloc, options, batches, locks, gate, first, &mut tasks);
@@ -194,23 +194,23 @@ pub(crate) fn run_workers<
     requires few { J.plan.fronts ≤ MOST_FRONTS }
     requires first { length streams.items ≤ first }
     requires many { first + length fronts.items ≡ J.plan.fronts }
-    requires ready_streams { AreReadyStreams J.plan (stream_facts C.port C.faults C.has_ended C.log) K.last streams.items }
-    requires ready { AreReadyTasks J.plan batches (end_facts D.port D.traffic D.faults D.has_ended D.script) first fronts.items }
-    ensures streams { StreamsRan J.plan (stream_facts C.port C.faults C.has_ended C.log) K.last base streams.items result.0.items }
-    ensures fronts { TasksRan J.plan batches (end_facts D.port D.traffic D.faults D.has_ended D.script) first fronts.items result.1.items }
+    requires ready_streams { AreReadyStreams J.plan (stream_facts C.Connections) K.last streams.items }
+    requires ready { AreReadyTasks J.plan batches (end_facts D.Datagrams) first fronts.items }
+    ensures streams { StreamsRan J.plan (stream_facts C.Connections) K.last base streams.items result.0.items }
+    ensures fronts { TasksRan J.plan batches (end_facts D.Datagrams) first fronts.items result.1.items }
 {
     join(
         rt,
         move || -> Vec<StreamTask<C, K>>
             requires { IsSync W.row × IsSync J.row × IsPossible options.now × (options.now ≡ J.plan.options) × (length locks.now ≡ options.now.partitions) × (J.plan.fronts ≤ MOST_FRONTS)
-                × (length streams.items ≤ J.plan.fronts) × AreReadyStreams J.plan (stream_facts C.port C.faults C.has_ended C.log) K.last streams.items }
-            ensures { StreamsRan J.plan (stream_facts C.port C.faults C.has_ended C.log) K.last base streams.items result.items }
+                × (length streams.items ≤ J.plan.fronts) × AreReadyStreams J.plan (stream_facts C.Connections) K.last streams.items }
+            ensures { StreamsRan J.plan (stream_facts C.Connections) K.last base streams.items result.items }
         { serve_streams(rt, alloc, options, base, board, locks, streams) },
         move || -> Vec<FrontTask<D>>
             requires { IsSync W.row × IsSync J.row × IsSync G.row × IsPossible options.now × (options.now ≡ J.plan.options) × (length locks.now ≡ options.now.partitions)
                 × (J.plan.fronts ≤ MOST_FRONTS) × (first + length fronts.items ≡ J.plan.fronts)
-                × AreReadyTasks J.plan batches (end_facts D.port D.traffic D.faults D.has_ended D.script) first fronts.items }
-            ensures { TasksRan J.plan batches (end_facts D.port D.traffic D.faults D.has_ended D.script) first fronts.items result.items }
+                × AreReadyTasks J.plan batches (end_facts D.Datagrams) first fronts.items }
+            ensures { TasksRan J.plan batches (end_facts D.Datagrams) first fronts.items result.items }
         { serve_fronts(rt, alloc, options, batches, locks, gate, first, fronts) },
     )
 }

@@ -34,7 +34,7 @@ use stream_io::Listeners;
 
 // Writes the line of a fault that stopped the server.
 fn write_fault<K: Sink>(fault: ServeFault, sink: &mut K) -> Status
-    ensures { WritesLast (Err (Fault fault)) (sink_facts K.taken K.faults sink.old) (sink_facts K.taken K.faults sink.new) result }
+    ensures { WritesLast (Err (Fault fault)) (sink_facts K.Sink sink.old) (sink_facts K.Sink sink.new) result }
 {
     match fault {
         ServeFault::Net => write_due(sink, b"net fault\n", Status::NetFault),
@@ -74,8 +74,8 @@ fn serve_aloud<
     requires unbound { N.binds net.old ≡ 0 }
     requires tables { tables.old ≡ [] }
     ensures { ServesAloud options.now ports.now streams.now (map C.last clocks.items) base filling.items
-        (daemon_outside (sink_facts K.taken K.faults speaker.old.sink) (net_facts N.faults N.binds N.first N.refused N.ports N.fails net.old) (listen_facts L.faults L.ports L.released L.place listeners.old) tables.old)
-        (daemon_outside (sink_facts K.taken K.faults speaker.new.sink) (net_facts N.faults N.binds N.first N.refused N.ports N.fails net.new) (listen_facts L.faults L.ports L.released L.place listeners.new) tables.new)
+        (daemon_outside (sink_facts K.Sink speaker.old.sink) (net_facts N.Net net.old) (listen_facts L.Listeners listeners.old) tables.old)
+        (daemon_outside (sink_facts K.Sink speaker.new.sink) (net_facts N.Net net.new) (listen_facts L.Listeners listeners.new) tables.new)
         result }
 {
     match serve_locked(
@@ -120,8 +120,8 @@ fn stay_up<
     requires unbound { N.binds net.old ≡ 0 }
     requires tables { tables.old ≡ [] }
     ensures { ServesOrNot options.now ports.now streams.now (map C.last clocks.items) base filling.items
-        (daemon_outside (sink_facts K.taken K.faults speaker.old.sink) (net_facts N.faults N.binds N.first N.refused N.ports N.fails net.old) (listen_facts L.faults L.ports L.released L.place listeners.old) tables.old)
-        (daemon_outside (sink_facts K.taken K.faults speaker.new.sink) (net_facts N.faults N.binds N.first N.refused N.ports N.fails net.new) (listen_facts L.faults L.ports L.released L.place listeners.new) tables.new)
+        (daemon_outside (sink_facts K.Sink speaker.old.sink) (net_facts N.Net net.old) (listen_facts L.Listeners listeners.old) tables.old)
+        (daemon_outside (sink_facts K.Sink speaker.new.sink) (net_facts N.Net net.new) (listen_facts L.Listeners listeners.new) tables.new)
         result }
 {
     let Ok(board) = board_of(
@@ -201,8 +201,8 @@ pub fn daemon<
     requires clocks { MOST_FRONTS ≤ length clocks.items }
     requires tables { tables.old ≡ [] }
     ensures { KeepsUp (daemon_of (map string_bytes words.now)) (map C.last clocks.items) base (files_facts F.file F.free F.faults files.old) (files_facts F.file F.free F.faults files.new)
-        (daemon_outside (sink_facts K.taken K.faults speaker.old.sink) (net_facts N.faults N.binds N.first N.refused N.ports N.fails net.old) (listen_facts L.faults L.ports L.released L.place listeners.old) tables.old)
-        (daemon_outside (sink_facts K.taken K.faults speaker.new.sink) (net_facts N.faults N.binds N.first N.refused N.ports N.fails net.new) (listen_facts L.faults L.ports L.released L.place listeners.new) tables.new)
+        (daemon_outside (sink_facts K.Sink speaker.old.sink) (net_facts N.Net net.old) (listen_facts L.Listeners listeners.old) tables.old)
+        (daemon_outside (sink_facts K.Sink speaker.new.sink) (net_facts N.Net net.new) (listen_facts L.Listeners listeners.new) tables.new)
         result }
 {
     let DaemonOptions {

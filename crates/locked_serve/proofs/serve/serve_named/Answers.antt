@@ -24,16 +24,16 @@ use Rattle.locked_serve.proofs.serve.serve_named.Given as given
 use Rattle.locked_serve.proofs.serve.serve_named.Goals as goal
 
 abbrev facts : (g : given.Over) → g.row.N-End.Denot → EndFacts
-facts g = end_facts g.N.End.Datagrams.port g.N.End.Datagrams.traffic g.N.End.Datagrams.faults g.N.End.Datagrams.has_ended g.N.End.Datagrams.script
+facts g = end_facts g.N.End.Datagrams
 
 abbrev of_stream : (g : given.Over) → g.row.L-Port.Denot → StreamFacts
-of_stream g = stream_facts g.L.Port.Connections.port g.L.Port.Connections.faults g.L.Port.Connections.has_ended g.L.Port.Connections.log
+of_stream g = stream_facts g.L.Port.Connections
 
 abbrev net_at : (g : given.Over) → g.row.N.Denot → NetFacts
-net_at g = net_facts g.N.Net.faults g.N.Net.binds g.N.Net.first g.N.Net.refused g.N.Net.ports g.N.Net.fails
+net_at g = net_facts g.N.Net
 
 abbrev listens_at : (g : given.Over) → g.row.L.Denot → ListenFacts
-listens_at g = listen_facts g.L.Listeners.faults g.L.Listeners.ports g.L.Listeners.released g.L.Listeners.place
+listens_at g = listen_facts g.L.Listeners
 
 abbrev ports_at : (g : given.Over) → g.row.N.Denot → g.row.L.Denot → PortFacts
 ports_at g net listeners = port_facts (net_at g net) (listens_at g listeners)

@@ -22,10 +22,10 @@ use Rattle.locked_serve.proofs.serve.serve_on.Given as given
 use Rattle.locked_serve.proofs.serve.serve_on.Goals as goal
 
 abbrev net_at : (g : given.Over) → g.row.N.Denot → NetFacts
-net_at g = net_facts g.N.Net.faults g.N.Net.binds g.N.Net.first g.N.Net.refused g.N.Net.ports g.N.Net.fails
+net_at g = net_facts g.N.Net
 
 abbrev ports_at : (g : given.Over) → g.row.N.Denot → g.row.L.Denot → PortFacts
-ports_at g net listeners = port_facts (net_at g net) (listen_facts g.L.Listeners.faults g.L.Listeners.ports g.L.Listeners.released g.L.Listeners.place listeners)
+ports_at g net listeners = port_facts (net_at g net) (listen_facts g.L.Listeners listeners)
 
 abbrev views : (g : given.Over) → List (FilledPart g.row.P.Denot) → List FilledView
 views g parts = map (λ f. filled_view g.P.Partition.owner g.P.Partition.home f) parts
@@ -72,13 +72,13 @@ pub returns-in_err-parts-clause-kept : goal.returns-in_err-parts-clause-kept
 returns-in_err-parts-clause-kept g c = net_kept c.args.ports.now (net_at g c.args.net.now) c.requires.unbound
 
 pub returns-in_err-parts-clause-heard : goal.returns-in_err-parts-clause-heard
-returns-in_err-parts-clause-heard g c = kept_unheard c.args.streams.now (listen_facts g.L.Listeners.faults g.L.Listeners.ports g.L.Listeners.released g.L.Listeners.place c.args.listeners.now)
+returns-in_err-parts-clause-heard g c = kept_unheard c.args.streams.now (listen_facts g.L.Listeners c.args.listeners.now)
 
 pub returns-in_err-rehearse-clause-kept : goal.returns-in_err-rehearse-clause-kept
 returns-in_err-rehearse-clause-kept g c = net_kept c.args.ports.now (net_at g c.args.net.now) c.requires.unbound
 
 pub returns-in_err-rehearse-clause-heard : goal.returns-in_err-rehearse-clause-heard
-returns-in_err-rehearse-clause-heard g c = kept_unheard c.args.streams.now (listen_facts g.L.Listeners.faults g.L.Listeners.ports g.L.Listeners.released g.L.Listeners.place c.args.listeners.now)
+returns-in_err-rehearse-clause-heard g c = kept_unheard c.args.streams.now (listen_facts g.L.Listeners c.args.listeners.now)
 
 pub returns-in_err-rehearse-clause-cause : goal.returns-in_err-rehearse-clause-cause
 returns-in_err-rehearse-clause-cause g c =

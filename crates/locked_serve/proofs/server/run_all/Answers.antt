@@ -27,10 +27,10 @@ use Rattle.locked_serve.proofs.server.run_all.Goals.{After-pair_up, After-take_a
 use Rattle.locked_serve.proofs.server.run_all.Goals as goal
 
 abbrev facts : (g : given.Over) → g.row.D.Denot → EndFacts
-facts g = end_facts g.D.Datagrams.port g.D.Datagrams.traffic g.D.Datagrams.faults g.D.Datagrams.has_ended g.D.Datagrams.script
+facts g = end_facts g.D.Datagrams
 
 abbrev of_stream : (g : given.Over) → g.row.C.Denot → StreamFacts
-of_stream g = stream_facts g.C.Connections.port g.C.Connections.faults g.C.Connections.has_ended g.C.Connections.log
+of_stream g = stream_facts g.C.Connections
 
 abbrev view : (g : given.Over) → Returned g.row.P.Denot → Owned
 view g part = left_view g.P.Partition.owner g.P.Partition.home part

@@ -11,7 +11,7 @@ for_each_mut-requires-clause-accepts g c κs within i p low is =
     let value = c.as_mut_slice.ensures.value in
     let fits : i < length c.args.streams.now.items = omega (arith, low, ap length value) in
     let here : p.now ≡ get_or c.args.streams.now.items i p.now = is ∙ ap (λ (l : List (StreamTask g.row.C.Denot g.row.K.Denot)). get_or l i p.now) value in
-    let facts = stream_facts g.C.Connections.port g.C.Connections.faults g.C.Connections.has_ended g.C.Connections.log in (
+    let facts = stream_facts g.C.Connections in (
       (
         omega (arith, fits, c.requires.many),
         c.requires.few,
@@ -28,7 +28,7 @@ returns g c =
     let value = c.as_mut_slice.ensures.value in
     let items = c.args.streams.now.items in
     let new = c.for_each_mut.new.s in
-    let facts = stream_facts g.C.Connections.port g.C.Connections.faults g.C.Connections.has_ended g.C.Connections.log in
+    let facts = stream_facts g.C.Connections in
     let many : length new ≡ length items = search rules in
     let whole : take c.args.streams.now.len (new ++ drop (length new) items) ≡ new =
     ap (λ (l : List (StreamTask g.row.C.Denot g.row.K.Denot)). take c.args.streams.now.len (new ++ l)) (drop_all (length new) items (omega (arith, many)))

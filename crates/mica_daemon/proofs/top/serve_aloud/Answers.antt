@@ -12,10 +12,10 @@ use Rattle.mica_daemon.proofs.top.serve_aloud.Goals as goal
 
 abbrev ports_at : (g : given.Over) → g.row.N.Denot → g.row.L.Denot → PortFacts
 ports_at g net listeners =
-    port_facts (net_facts g.N.Net.faults g.N.Net.binds g.N.Net.first g.N.Net.refused g.N.Net.ports g.N.Net.fails net) (listen_facts g.L.Listeners.faults g.L.Listeners.ports g.L.Listeners.released g.L.Listeners.place listeners)
+    port_facts (net_facts g.N.Net net) (listen_facts g.L.Listeners listeners)
 
 abbrev sink_at : (g : given.Over) → Speaker g.row.K.Denot → SinkFacts
-sink_at g speaker = sink_facts g.K.Sink.taken g.K.Sink.faults speaker.sink
+sink_at g speaker = sink_facts g.K.Sink speaker.sink
 
 abbrev line_at : (g : given.Over) → Speaker g.row.K.Denot → List ℕ
 line_at g speaker = string_bytes speaker.line

@@ -29,7 +29,7 @@ pub returns : goal.returns
 returns g c =
     let plan = g.J.ServerPlan.plan in
     let last = g.K.Clock.last in
-    let facts : g.row.C.Denot → StreamFacts = stream_facts g.C.Connections.port g.C.Connections.faults g.C.Connections.has_ended g.C.Connections.log in
+    let facts : g.row.C.Denot → StreamFacts = stream_facts g.C.Connections in
     let old : LockedView = c.new-front.result in
     let new : LockedView = c.serve_connections-self.new.front in
     let served = c.serve_connections-self.ensures in

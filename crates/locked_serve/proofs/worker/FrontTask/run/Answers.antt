@@ -28,7 +28,7 @@ serve_end-self-requires-clause-left g c =
 pub returns : goal.returns
 returns g c =
     let plan = g.J.ServerPlan.plan in
-    let facts : g.row.D.Denot → EndFacts = end_facts g.D.Datagrams.port g.D.Datagrams.traffic g.D.Datagrams.faults g.D.Datagrams.has_ended g.D.Datagrams.script in
+    let facts : g.row.D.Denot → EndFacts = end_facts g.D.Datagrams in
     let old : LockedView = c.new-front.result in
     let new : LockedView = c.serve_end-self.new.front in
     let b = facts c.args.self.now.end in
