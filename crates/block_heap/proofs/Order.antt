@@ -38,7 +38,7 @@ pub back_merged : (xs ys : List Block) → IsCoalesced (xs ++ ys) → IsCoalesce
 back_merged [] ys h = h
 back_merged (x ∷ xs) ys h = back_merged xs ys h.1
 
--- the same for blocks that begin with a free one only where the others did
+-- blocks that begin with a free one only where the last ones did may take their place, and no two free ones touch
 pub merged_instead : (xs ys zs : List Block) → IsCoalesced (xs ++ ys) → (BeginsFree zs → BeginsFree ys) → IsCoalesced zs → IsCoalesced (xs ++ zs)
 merged_instead [] ys zs h begins is = is
 merged_instead (x ∷ []) ys zs h begins is = (λ both. h.0 (both.0, begins both.1), is)

@@ -26,7 +26,7 @@ module _ (o : OwnerState) (b : ℕ) (one : marked_in o.phase b ≡ 1) where
   pub may_enter : (n : OwnerState) → n ≡ o → (c slot : ℕ) → InChain o b c ⊎ IsFreeSpare o c → slot < SLOTS → MayPutEntry n c slot
   may_enter n is c slot h low = subst (λ (z : OwnerState). MayPutEntry z c slot) (sym is) record { its_bucket = its_own c h; in_bucket = low }
 
--- The same after a store of an entry, which changes no chain
+-- Entries may be stored after a store of an entry too, which changes no chain.
 module _ (o : OwnerState) (s : Chained o) (b : ℕ) (main : IsMain o.shape b) (one : marked_in o.phase b ≡ 1) (c slot x : ℕ) (low : slot < SLOTS) where
   abbrev m : OwnerState
   m = after (PutsEntry c slot x) o

@@ -4,7 +4,7 @@ use Rattle.partition_model.specs.declared.change.Change.{Change}
 use Rattle.partition_model.specs.declared.change.Change.TheVariants.{Stay, Become, Go}
 use Rattle.mica_fronts.specs.Changing.{Becoming, stays, becomes, goes}
 
--- the same, whatever the key has
+-- a decision that is made whatever the key has
 abbrev pub fixed : Change → List ℕ → Becoming
 fixed Stay value = stays
 fixed Become value = becomes value

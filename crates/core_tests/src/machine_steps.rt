@@ -303,7 +303,7 @@ const GROWN: &[Step] = &[
     Step::Del(b"a", Outcome::Deleted, 5),
 ];
 
-// The same in store mode, where an add that finds its key needs no block.
+// Adds of long values in store mode, where an add that finds its key needs no block.
 const ADDED_IN_STORE: &[Step] = &[
     Step::Add(b"a", &[b'x'; 1024], Outcome::Stored, 1),
     Step::Add(b"a", &[b'x'; 1024], Outcome::Exists, 1),

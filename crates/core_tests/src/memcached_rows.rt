@@ -153,7 +153,7 @@ pub static SAME: [&[Turn]; 24] = [
             b"NOT_STORED\r\nEND\r\nSTORED\r\n",
         ),
     ],
-    // The same.
+    // Counts, touches and deletes of what expired are as of what never was, too.
     &[
         (0, b"set k 5 1 1\r\n1\r\n", b"STORED\r\n"),
         (
@@ -351,7 +351,7 @@ pub static OTHER: [&[Turn]; 9] = [
             b"VALUE k 0 8176\r\n********************************xxxxxxxxxxxxxxxxxxxxxxxxxxxxxxxxxxxxxxxxxxxxxxxxxxxxxxxxxxxxxxxxxxxxxxxxxxxxxxxxxxxxxxxxxxxxxxxxxxxxxxxxxxxxxxxxxxxxxxxxxxxxxxxxxxxxxxxxxxxxxxxxxxxxxxxxxxxxxxxxxxxxxxxxxxxxxxxx\r\nEND\r\n",
         ),
     ],
-    // The same from the front.
+    // A join to the front that is a byte too long.
     &[(
         0,
         b"set k 0 0 8000\r\n********************************\r\nprepend k 0 0 177\r\nxxxxxxxxxxxxxxxxxxxxxxxxxxxxxxxxxxxxxxxxxxxxxxxxxxxxxxxxxxxxxxxxxxxxxxxxxxxxxxxxxxxxxxxxxxxxxxxxxxxxxxxxxxxxxxxxxxxxxxxxxxxxxxxxxxxxxxxxxxxxxxxxxxxxxxxxxxxxxxxxxxxxxxxxxxxxxxxxx\r\nget k\r\n",

@@ -72,7 +72,7 @@ module _ {plan : Plan} {front view : LockedView} {key : List ℕ} {at : ℕ} {pa
       few = few;
     }
 
-    -- the same, as contracts see the front and its partitions
+    -- what holds of the front at the place holds of what contracts see of it at the key's partition
     in_view : (Q : LockedView → ℕ → Type 0) → Q front at → Q view (partition_of key view.options.partitions)
     in_view Q holds =
         subst (λ (y : LockedView × ℕ). Q y.0 y.1)

@@ -104,7 +104,7 @@ abbrev pub IsFaultOf : List (Result ⊤ ServeFault) → Result ⊤ ServeFault �
 IsFaultOf streams (Ok none) = (k : ℕ) (fault : ServeFault) → slice_get streams k ≢ Some (Err fault)
 IsFaultOf streams (Err fault) = (k : ℕ) × (slice_get streams k ≡ Some (Err fault))
 
--- Want of memory of any front is that of all; else a fault of any; else the totals are those of the fronts of datagrams.
+-- Out of memory of any front is that of all; else a fault of any; else the totals are those of the fronts of datagrams.
 abbrev pub SumsUpBeside : List (Result ⊤ ServeFault) → List (Result Totals ServeFault) → Result Totals ServeFault → Type 0
 SumsUpBeside streams fronts (Ok totals) = ((k : ℕ) (fault : ServeFault) → slice_get streams k ≢ Some (Err fault)) × SumsUp fronts (Ok totals)
 SumsUpBeside streams fronts (Err Net) =

@@ -8,7 +8,7 @@ ghost use Rattle.locked_serve.specs.Running.{IsFaultOf, SumsUpBeside};
 use mica_fronts::{ServeFault, Totals};
 use mica_serve::sum_up;
 
-// The fault of a front of connections, where there is one: want of memory of any is that of all.
+// The fault of a front of connections, where there is one: out of memory of any is that of all.
 fn fault_of(streams: &[Result<(), ServeFault>]) -> Result<(), ServeFault>
     ensures { IsFaultOf streams.now result }
 {
@@ -23,7 +23,7 @@ fn fault_of(streams: &[Result<(), ServeFault>]) -> Result<(), ServeFault>
     if failed { Err(ServeFault::Net) } else { Ok(()) }
 }
 
-/// The sum of the totals, or the fault of a front of either kind: want of memory of any is that of all.
+/// The sum of the totals, or the fault of a front of either kind: out of memory of any is that of all.
 pub(crate) fn sum_up_beside(
     streams: &[Result<(), ServeFault>],
     fronts: &[Result<Totals, ServeFault>],

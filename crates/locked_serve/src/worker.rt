@@ -108,7 +108,7 @@ fn run_fronts<
     );
 }
 
-// The same of fronts that are given by value.
+// Serves the ports of fronts of connections, which are given by value.
 fn serve_streams<
     W: Threads + Wait + Sync,
     J: ServerPlan + Send + Sync,

@@ -37,7 +37,7 @@ fit_is_kept : (item : Item) → IsFitItem item → IsKept item
 unfolding item_text
 fit_is_kept item is = record { fit = is; fits = omega (arith, is.value); reads = one_item item is.numbers }
 
--- the same item with another end
+-- an item with another end
 later_fit : (item : Item) (end : ℕ) → end < 2 ^ 32 → IsFitItem item → IsKept (record item { expires = end })
 later_fit item end low is = fit_is_kept (record item { expires = end })
     (record { numbers = record { flags = is.numbers.flags; expires = low; unique = is.numbers.unique }; value = is.value })
@@ -57,7 +57,7 @@ joined_len : (side : Side) (more value : List ℕ) → length (joined side more 
 joined_len Front more value = omega (arith, length-append more value)
 joined_len Back more value = omega (arith, length-append value more)
 
--- the same item with another value
+-- an item with another value
 valued_fit : (at : Moment) (item : Item) (value : List ℕ) → at.unique < 2 ^ 64 → length value ≤ MAX_TEXT_LEN → IsFitItem item
     → IsKept (record item { unique = at.unique; value = value })
 valued_fit at item value low short is = fit_is_kept (record item { unique = at.unique; value = value })

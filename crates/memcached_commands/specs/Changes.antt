@@ -26,7 +26,7 @@ ends_with_flush at goes = goes
 abbrev pub becoming_of : Moment → Ask → Option (List ℕ) → Becoming
 becoming_of at ask stored = without_dead stored (found_in at stored) (ends_with_flush at (decide at ask (found_in at stored)).becoming)
 
--- the same in memory, where a buffer has the text of the item that is to be
+-- what a call answers for it, and leaves in a buffer: the text of the item that is to be
 abbrev pub IsChange : Becoming → Change → List ℕ → Type 0
 IsChange stays Stay next = ⊤
 IsChange (becomes item) Become next = next ≡ item_text item

@@ -38,7 +38,7 @@ abbrev pub kept_until : Option ℕ → Item → Becoming
 kept_until None item = goes
 kept_until (Some end) item = becomes (record item { expires = end })
 
--- the same item with another value, which has a number of its own
+-- an item with another value, which has a number of its own
 abbrev pub with_value : Moment → List ℕ → Item → Becoming
 with_value at value item = becomes (record item { unique = at.unique; value = value })
 

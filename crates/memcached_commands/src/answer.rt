@@ -7,7 +7,7 @@ use crate::Says;
 use memcached_text::{Reply, fault_line, put_number, put_value, reply_line};
 use mica_io::NoMemory;
 
-/// Appends the item that a get of this key shows, if it shows one. After want of memory nothing is appended.
+/// Appends the item that a get of this key shows, if it shows one. When out of memory, nothing is appended.
 pub fn put_part(out: &mut Vec<u8>, unique: bool, key: &[u8], says: &Says) -> Result<(), NoMemory>
     ensures ok { OnOk result (out.new.items ≡ out.old.items ++ flat_map part_text (parts_of unique key.now says.now)) }
     ensures err { OnErr result (out.new.items ≡ out.old.items) }
@@ -27,7 +27,7 @@ fn put_line(out: &mut Vec<u8>, line: &[u8]) -> Result<(), NoMemory>
     Ok(out.extend_from_slice(line)?)
 }
 
-/// Appends the last line of what is replied, which for a get is its end. After want of memory nothing is appended.
+/// Appends the last line of what is replied, which for a get is its end. When out of memory, nothing is appended.
 pub fn put_last(out: &mut Vec<u8>, says: &Says) -> Result<(), NoMemory>
     ensures ok { OnOk result (out.new.items ≡ out.old.items ++ last_text (last_of says.now)) }
     ensures err { OnErr result (out.new.items ≡ out.old.items) }
@@ -40,7 +40,7 @@ pub fn put_last(out: &mut Vec<u8>, says: &Says) -> Result<(), NoMemory>
     }
 }
 
-/// Appends what is replied to a command of one key, unless it is quiet. After want of memory nothing is appended.
+/// Appends what is replied to a command of one key, unless it is quiet. When out of memory, nothing is appended.
 pub fn put_answer(
     out: &mut Vec<u8>,
     quiet: bool,

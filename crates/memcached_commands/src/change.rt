@@ -39,7 +39,7 @@ fn store(at: &Moment, flags: u32, lifetime: Lifetime, value: &[u8], next: &mut I
     keep_until(at, end_of(at.second, lifetime), &item, next)
 }
 
-// The same item for another lifetime, if there is one.
+// The item that was found, for another lifetime, if there is one.
 #[tactic(auto, unfolding(crate::specs::Decide::decide))]
 fn keep(at: &Moment, lifetime: Lifetime, found: Option<&Item>, next: &mut ItemBuf) -> Change
     requires { IfSome (option_copied found) (λ item. length item.value ≤ MAX_TEXT_LEN) }

@@ -121,6 +121,6 @@ IsOpenAt next done = (done ≡ 0) ⊎ (done < length (asks.asks_in next))
 abbrev pub due_before : Options → ℕ → Exchange → List ℕ
 due_before options base e = if is_answered options e then [] else due_to options base e
 
--- the same with these answers more, where this was told
+-- an exchange with these answers more, where this was told
 abbrev pub longer : Exchange → List Answered → Told → Exchange
 longer e more told = record e { answers = e.answers ++ more; told = told }

@@ -62,7 +62,7 @@ fn is_stats(next: &Next) -> bool
     }
 }
 
-// Tells what the server counts. After want of memory nothing is appended.
+// Tells what the server counts. When out of memory, nothing is appended.
 fn answer_stats<C: Clock>(
     clock: &C,
     partitions: u32,
@@ -164,7 +164,7 @@ fn skip(asks: &mut Asks, count: usize)
     }
 }
 
-// Answers asks in order, as far as the limits allow, and appends the text that is due to them. After want of memory some of it may be appended.
+// Answers asks in order, as far as the limits allow, and appends the text that is due to them. When out of memory, some of it may be appended.
 fn answer_asks<'a, R: Threads + Wait + Sync, F: Changes, C: Clock>(
     rt: &R,
     front: &mut F,
@@ -205,7 +205,7 @@ fn answer_asks<'a, R: Threads + Wait + Sync, F: Changes, C: Clock>(
     Ok(count)
 }
 
-/// Answers what a client said, of which so many answers were given, and appends the text that is due. After want of memory nothing is appended, though
+/// Answers what a client said, of which so many answers were given, and appends the text that is due. When out of memory, nothing is appended, though
 /// some of it may be done: then the connection is to end.
 pub fn answer_next<'a, R: Threads + Wait + Sync, F: Changes, C: Clock>(
     rt: &R,

@@ -18,7 +18,7 @@ use partition_model::{Answer, ItemBuf};
 use std::sync::Wait;
 use std::thread::Threads;
 
-// Appends the text that is due to one ask. After want of memory nothing is appended.
+// Appends the text that is due to one ask. When out of memory, nothing is appended.
 fn put_said(
     out: &mut Vec<u8>,
     style: Style,
@@ -62,7 +62,7 @@ fn note_write(tally: &mut Tally, partitions: u32, key: &[u8], changed: &Changed)
 }
 
 /// Has what is asked of a key decided and done under one hold of its partition, at the second that the clock tells, and appends the text that is due
-/// to it. After want of memory nothing is appended, and it is done all the same.
+/// to it. When out of memory, nothing is appended, and it is done all the same.
 pub fn answer_ask<R: Threads + Wait + Sync, F: Changes, C: Clock>(
     rt: &R,
     front: &mut F,

@@ -63,7 +63,7 @@ pub fn plain_line(next: &Next) -> &'static [u8]
     }
 }
 
-/// Appends a line, where a reply is wanted. After want of memory nothing is appended.
+/// Appends a line, where a reply is wanted. When out of memory, nothing is appended.
 pub fn put_line(out: &mut Vec<u8>, quiet: bool, line: &[u8]) -> Result<(), NoMemory>
     ensures ok { OnOk result (out.new.items ≡ out.old.items ++ unless_quiet quiet line.now) }
     ensures err { OnErr result (out.new.items ≡ out.old.items) }

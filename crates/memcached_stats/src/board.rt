@@ -155,7 +155,7 @@ impl Board {
         wears
     }
 
-    /// Appends what the server tells of itself at this second. After want of memory nothing is appended.
+    /// Appends what the server tells of itself at this second. When out of memory, nothing is appended.
     pub fn put_stats(&self, second: u64, partitions: u32, out: &mut Vec<u8>) -> Result<(), NoMemory>
         ensures ok { OnOk result ((told : Told) × (out.new.items ≡ out.old.items ++ stats_text partitions told)) }
         ensures err { OnErr result (out.new.items ≡ out.old.items) }

@@ -31,7 +31,7 @@ pub enum Counter {
     Closed,
     /// Those that were closed at once, since there was no memory for them.
     Rejected,
-    /// Those that were closed later for want of memory.
+    /// Those that were closed later since the server was out of memory.
     Lacked,
     /// Bytes.
     Received,

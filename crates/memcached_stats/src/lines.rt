@@ -25,7 +25,7 @@ fn told(name: &'static [u8], number: u64) -> Line
     Line { name, number }
 }
 
-// Appends parts. After want of memory some of them may be appended.
+// Appends parts. When out of memory, some of them may be appended.
 fn put_parts(out: &mut Vec<u8>, parts: &[&[u8]]) -> Result<(), NoMemory>
     ensures ok { OnOk result (out.new.items ≡ out.old.items ++ flat_map (λ part. part.now) parts.now) }
     ensures more { (text : List ℕ) × (out.new.items ≡ out.old.items ++ text) }
@@ -161,7 +161,7 @@ fn put_wears(out: &mut Vec<u8>, partitions: u32, wears: &[Wear]) -> Result<(), N
     Ok(())
 }
 
-// Appends all lines. After want of memory some of them may be appended.
+// Appends all lines. When out of memory, some of them may be appended.
 #[tactic(auto, unfolding(crate::specs::Stats::stats_text))]
 fn put_all(
     out: &mut Vec<u8>,
@@ -181,7 +181,7 @@ fn put_all(
     Ok(out.extend_from_slice(reply_line(Reply::End))?)
 }
 
-/// Appends what a server tells of itself. After want of memory nothing is appended.
+/// Appends what a server tells of itself. When out of memory, nothing is appended.
 pub fn put_stats(
     out: &mut Vec<u8>,
     partitions: u32,

@@ -13,7 +13,7 @@ pub record SplitsAtSpaces : Type 0 where
   pub word : (word rest : List ℕ) → 0 < length word → Lacks 32 word → words_of (word ++ 32 ∷ rest) ≡ word ∷ words_of rest
   pub last : (word : List ℕ) → 0 < length word → Lacks 32 word → words_of word ≡ word ∷ []
 
--- the same, with so many bytes more
+-- what was found, with so many bytes more
 abbrev pub longer : ℕ → Next → Next
 longer more (Command command len) = Command command (len + more)
 longer more (Refused fault stale quiet len) = Refused fault stale quiet (len + more)

@@ -29,7 +29,7 @@ item_of verb key flags expiry =
     else (number_of 4294967295 flags >>= λ flags. lifetime_of expiry >>= λ lifetime.
     Some (record { verb = verb; key = key; flags = flags; lifetime = lifetime }))
 
--- the same, to be stored in place of the item with a unique number
+-- the item of these words, to be stored in place of the item with a unique number
 unfoldable pub numbered_item_of : List ℕ → List ℕ → List ℕ → List ℕ → Option ItemLine
 numbered_item_of unique key flags expiry =
     number_of 18446744073709551615 unique >>= λ unique. item_of (Store (Numbered unique)) key flags expiry
@@ -48,7 +48,7 @@ set_line verb (key ∷ flags ∷ expiry ∷ len ∷ tail) =
     option_map (stored (item_of verb key flags expiry) (block_len len)) (quiet_tail len tail)
 set_line verb _ = None
 
--- the same, with a unique number behind the length
+-- the words of an item with a unique number behind the length
 unfoldable pub cas_line : List (List ℕ) → Option Line
 cas_line (key ∷ flags ∷ expiry ∷ len ∷ unique ∷ tail) =
     option_map (stored (numbered_item_of unique key flags expiry) (block_len len)) (quiet_tail unique tail)

@@ -21,7 +21,7 @@ pub fn number_of(most: u64, word: &[u8]) -> Option<u64>
     if number <= most { Some(number) } else { None }
 }
 
-// The same, of no more than 32 bits.
+// The number of a word, of no more than 32 bits.
 pub fn short_number_of(most: u32, word: &[u8]) -> Option<u32>
     ensures { result ≡ number_of most word.now }
 {

@@ -110,7 +110,7 @@ fn leading_number(text: &[u8]) -> Option<(u32, &[u8])>
     Some((number as u32, rest))
 }
 
-// The same, where a space is behind it, and what stands behind that.
+// The number that leads a text, where a space is behind it, and what stands behind that.
 #[inline]
 fn number_word(text: &[u8]) -> Option<(u32, &[u8])>
     ensures { IfSome result (λ found. (found.0 ≤ 4294967295) × (text.now ≡ decimal found.0 ++ 32 ∷ found.1.now)) }

@@ -85,7 +85,7 @@ fn item_of<'a>(verb: Verb, key: &'a [u8], flags: &[u8], expiry: &[u8]) -> Option
     })
 }
 
-// The same, to be stored in place of the item with a unique number.
+// The item of these words, to be stored in place of the item with a unique number.
 #[tactic(auto, unfolding(crate::specs::StorageLine::numbered_item_of))]
 fn numbered_item_of<'a>(
     unique: &[u8],

@@ -100,7 +100,7 @@ impl<'a> Words<'a> {
         }
     }
 
-    /// The same words, to be taken once more.
+    /// The words that are left, to be taken once more.
     pub fn again(&self) -> Words<'a>
         ensures { result ≡ self.now }
     {

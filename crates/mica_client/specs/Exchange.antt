@@ -175,7 +175,7 @@ pub record Asks (ask : Ask) (old new : KnownLines) (between : List Passed) (left
   pub runs : (later : List Ask) (asked : Option Batch) → waits_for asked old ≡ false
       → Runs (standing_at (ask ∷ later) asked old) between (standing_at later (Some ask.batch) new)
 
--- the same up to a fault
+-- from before the batch was sent until a fault came, whatever was asked before
 pub record StopsAsking (fault : AskFault) (ask : Ask) (old : KnownLines) (between : List Passed) (left : List Datagram) : Type 0 where
   pub cause : (later : List Ask) (asked : Option Batch) → waits_for asked old ≡ false
       → IsCauseOf fault (standing_at (ask ∷ later) asked old) between left

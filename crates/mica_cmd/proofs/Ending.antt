@@ -17,7 +17,7 @@ use Rattle.mica_fronts.specs.declared.totals.Totals.{Totals}
 use Rattle.mica_fronts.specs.declared.totals.ServeFault.{ServeFault}
 use Rattle.mica_fronts.specs.declared.totals.ServeFault.TheVariants.{Net}
 use Rattle.mica_serve.specs.Others.{alone}
-use Rattle.mica_serve.specs.Served.{nothing_begun}
+use Rattle.mica_serve.specs.Served.{empty_origin}
 use Rattle.mica_serve.specs.NetRun.{NetFacts, HasServedOnTables, IsCauseOf, KeepsNet}
 use Rattle.mica_serve.proofs.Tabled.{has_served}
 use Rattle.mica_trace.specs.ReportGrammar.{report_text}
@@ -122,19 +122,19 @@ bench_done options generator source old new net was kept link text result is wri
 -- ---- serve
 
 -- a server that served, and whose totals were printed
-pub serve_done : (options : Options) (ports : PortOptions) (totals : Totals) (old new : Outside) (result : Status) → HasServedOnTables alone options nothing_begun ports totals new.tables old.net new.net
+pub serve_done : (options : Options) (ports : PortOptions) (totals : Totals) (old new : Outside) (result : Status) → HasServedOnTables alone options empty_origin ports totals new.tables old.net new.net
     → KeepsNet ports old.net new.net → new.source ≡ old.source → new.link ≡ old.link → IsTold Done (totals_text totals) old.sink new.sink result → KeepsPromise (serve_promise options ports) old new result
 serve_done options ports totals old new result served net same link printed =
     keeps_promise (serve_promise options ports) (settles_serve options ports) old new result
-    (told_due ((serve_promise options ports).is_due old new) old.sink new.sink Done (totals_text totals) result (totals, has_served alone options nothing_begun ports totals new.tables old.net new.net served, refl) printed) same net
+    (told_due ((serve_promise options ports).is_due old new) old.sink new.sink Done (totals_text totals) result (totals, has_served alone options empty_origin ports totals new.tables old.net new.net served, refl) printed) same net
     (keeps_seats (IsSeatedService options ports) old new (totals_text totals) result (totals, served, refl) printed) link
 
 -- a server that a fault of the net stopped
-pub serve_stopped : (options : Options) (ports : PortOptions) (fault : ServeFault) (old new : Outside) (result : Status) → fault ≡ Net → IsCauseOf alone (Err fault) options nothing_begun ports new.tables old.net new.net
+pub serve_stopped : (options : Options) (ports : PortOptions) (fault : ServeFault) (old new : Outside) (result : Status) → fault ≡ Net → IsCauseOf alone (Err fault) options empty_origin ports new.tables old.net new.net
     → KeepsNet ports old.net new.net → new.source ≡ old.source → old.tables ≡ [] → new.link ≡ old.link → IsWritten NetFault (with_line_feed (codes "net fault")) old.sink new.sink result
     → KeepsPromise (serve_promise options ports) old new result
 serve_stopped options ports fault old new result is cause net same none link written =
-    let stopped = subst (λ e. IsCauseOf alone (Err e) options nothing_begun ports new.tables old.net new.net) is cause in
+    let stopped = subst (λ e. IsCauseOf alone (Err e) options empty_origin ports new.tables old.net new.net) is cause in
     keeps_promise (serve_promise options ports) (settles_serve options ports) old new result (inr (NetFault, with_line_feed (codes "net fault"), (stopped.1, refl), written)) same net
     (keeps_tables (IsSeatedService options ports) old new result
     (λ done. elim written as (λ _. ⊥) [

@@ -26,7 +26,7 @@ use Rattle.mica_replay.specs.Replayed.{IsReplayed}
 use Rattle.mica_fronts.specs.declared.ports.PortOptions.{PortOptions}
 use Rattle.mica_fronts.specs.declared.totals.Totals.{Totals}
 use Rattle.mica_serve.specs.Others.{alone}
-use Rattle.mica_serve.specs.Served.{nothing_begun}
+use Rattle.mica_serve.specs.Served.{empty_origin}
 use Rattle.mica_serve.specs.NetRun.{NetFacts, HasServed, HasServedOnTables, HasStopped, KeepsNet}
 use Rattle.mica_commands.specs.declared.command.Command.{Command}
 use Rattle.mica_commands.specs.declared.command.Command.TheVariants.{Replay, Serve, Gen, Bench, Check, Exclusive, Ask, Image, Unpack}
@@ -128,14 +128,14 @@ totals_text totals =
 
 -- the totals of what was served, or the line of a fault of the net that stopped it
 abbrev pub IsDueOfServe : Options → PortOptions → Outside → Outside → Status → List ℕ → Type 0
-IsDueOfServe options ports old new Done text = (totals : Totals) × HasServed alone options nothing_begun ports totals old.net new.net × (text ≡ totals_text totals)
-IsDueOfServe options ports old new NetFault text = HasStopped alone options nothing_begun ports old.net new.net × (text ≡ with_line_feed (codes "net fault"))
+IsDueOfServe options ports old new Done text = (totals : Totals) × HasServed alone options empty_origin ports totals old.net new.net × (text ≡ totals_text totals)
+IsDueOfServe options ports old new NetFault text = HasStopped alone options empty_origin ports old.net new.net × (text ≡ with_line_feed (codes "net fault"))
 IsDueOfServe options ports old new _ text = ⊥
 
 -- the totals are those of a server whose owners' seats the tables keep
 abbrev pub IsSeatedService : Options → PortOptions → Outside → Outside → List ℕ → Type 0
 IsSeatedService options ports old new text =
-    (totals : Totals) × HasServedOnTables alone options nothing_begun ports totals new.tables old.net new.net × (text ≡ totals_text totals)
+    (totals : Totals) × HasServedOnTables alone options empty_origin ports totals new.tables old.net new.net × (text ≡ totals_text totals)
 
 -- A server binds at most one port for each front, from the first port on, and each end is back, whatever the status.
 abbrev pub serve_promise : Options → PortOptions → Promise

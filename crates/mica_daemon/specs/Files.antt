@@ -35,12 +35,12 @@ is_next_failing script = not script.is_there || is_listed script.fails (next_num
 abbrev pub after_read : ReadScript → ReadScript
 after_read script = record script { calls = next_number script.calls }
 
--- whether a read failed. More bytes than the limit, and want of memory, are no such fault
+-- whether a read failed. More bytes than the limit, and out of memory, are no such fault
 abbrev pub has_failed : {A : Type 0} → Result A ReadFault → Bool
 has_failed (Err Failed) = true
 has_failed _ = false
 
--- a read fails exactly where it is to fail, but for want of memory
+-- a read fails exactly where it is to fail, unless out of memory
 abbrev pub Foretells : {A : Type 0} → Bool → Result A ReadFault → Type 0
 Foretells fails (Err NoMemory) = ⊤
 Foretells fails answer = has_failed answer ≡ fails

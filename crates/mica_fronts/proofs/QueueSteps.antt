@@ -149,7 +149,7 @@ module _ {front view : QueueView} {key : List ℕ} {at : ℕ} {part : FrontPart}
       (ap (list_any is_end) sent ∙ is_part.unended) (All-same (λ m. ticket_of m < front.next) new.jobs.sent part.jobs.sent sent is_part.tickets)
       (let long = ap length sent in omega arith)
 
-  -- the same, as contracts see the front and its partitions
+  -- what holds of the front at the place holds of what contracts see of it at the key's partition
   in_view : (Q : QueueView → ℕ → Type 0) → Q front at → Q view (partition_of key view.options.partitions)
   in_view Q holds =
       subst (λ (y : QueueView × ℕ). Q y.0 y.1)

@@ -21,7 +21,7 @@ begins_with_feed [] = false
 begins_with_feed (b ∷ bs) = b == 10
 
 -- An accepted delete of a key that begins with a line feed flushes its partition: what was written before it is not there any more. The machine
--- accepts it in both modes, it needs no room, and a log that turns over does not lose it.
+-- accepts it in both modes, it needs no room, and a log that has gone round does not lose it.
 abbrev pub is_flush : Write → Bool
 is_flush write = is_delete write.op && begins_with_feed write.key
 
@@ -47,7 +47,7 @@ flushes_then n flush flushes = record { before = flushed_at flush.asked flushes;
 abbrev pub no_flushes : Flushes
 no_flushes = record { before = 0; due = 0; after = 0 }
 
--- the same, where n writes stand before these, and these flushes among them
+-- the flushes of a history, where n writes stand before it, and these flushes among them
 abbrev pub flushes_from : ℕ → Flushes → History → Flushes
 flushes_from n flushes [] = flushes
 flushes_from n flushes (write ∷ later) =

@@ -67,7 +67,7 @@ binds_more first ends end script before between after so_far one scripted =
     below : (i n : ℕ) → i ≤ n → ¬ (i ≡ n) → i < n
     below i n le other = elim (cases_lt i n) as (λ _. i < n) [ inl lt ↦ lt | inr ge ↦ absurd (other (omega arith)) ]
 
--- the same, where the net may tell its ports or not
+-- one end more is bound, where the net may tell its ports or not
 pub bound_more : (first : ℕ) (ends : List EndFacts) (end : EndFacts) (script : Option EndScript) (a b c : Option PortStates) → OnPorts (BindsEnds first ends) a b
     → IfSome b (λ y. BindsEnd y (first + length ends) end.traffic script c) → end.has_script ≡ is_some script
     → IfNone b (c ≡ None) → OnPorts (BindsEnds first (ends ++ end ∷ [])) a c

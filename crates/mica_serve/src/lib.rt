@@ -8,8 +8,8 @@
 mod answers;
 mod meeting;
 mod opening;
-mod serve;
 mod server;
+mod service;
 mod tables;
 mod worker;
 
@@ -17,4 +17,4 @@ pub use answers::sum_up;
 pub use mica_fronts::{
     Front, MAX_BATCHES, PortOptions, QueueFront, ServeFault, SoloFront, Totals, serve_batch,
 };
-pub use serve::{bind_all, release_all, serve};
+pub use service::{bind_all, release_all, serve};

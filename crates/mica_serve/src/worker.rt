@@ -55,7 +55,7 @@ impl<P: LendPartition<Reader = ReaderSeat, Note = Note>> OwnerTask<P> {
 }
 
 impl<D: Datagrams> FrontTask<D> {
-    // Serves the front's end. Whatever happened, the front's end is sent to every owner.
+    // Serves the end of its port. Whatever happened, then each owner is sent that the front has ended.
     fn run<W: Threads + Wait + Sync, G: Gate>(
         &mut self,
         rt: &W,

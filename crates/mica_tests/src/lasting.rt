@@ -95,7 +95,7 @@ pub fn run_gated<W: Threads + Wait + Sync, F: Files, N: Net, G: Gate>(
     run_whole(rt, alloc, files, net, &mut listeners, gate, line, room)
 }
 
-/// The same with no gate.
+/// Runs the daemon with no gate.
 pub fn run_lasting<W: Threads + Wait + Sync, F: Files, N: Net>(
     rt: &W,
     alloc: Global,
@@ -109,7 +109,7 @@ pub fn run_lasting<W: Threads + Wait + Sync, F: Files, N: Net>(
     run_gated(rt, alloc, files, net, &FreeGate, line, room)
 }
 
-// The same with no files.
+// Runs the daemon with no gate and no files.
 fn run_unfilled<W: Threads + Wait + Sync>(
     rt: &W,
     alloc: Global,

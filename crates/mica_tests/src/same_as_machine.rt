@@ -32,7 +32,7 @@ static OUTCOMES: [&[u8]; 8] = [
 // What begins the line of each operation, in their order.
 static OPS: [&[u8]; 4] = [b"put ", b"add ", b"touch ", b"del "];
 
-// The same of the answers, with what stands around it.
+// The words of the answers, with what stands around them.
 static ANSWERS: [&[u8]; 2] = [b" hit ", b" miss"];
 
 // Each value is a part of this.

@@ -1,4 +1,4 @@
-//! The same program, run on words that are no command: what it writes then, and the number that it ends with.
+//! The program `mica`, run on words that are no command: what it writes then, and the number that it ends with.
 #![tactic(auto)]
 
 use mica_cmd::run_on_host;

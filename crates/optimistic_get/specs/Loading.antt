@@ -29,7 +29,7 @@ loads_in r = loads_of r.current
 abbrev pub Keeps : Loads → Loads → Type 0
 Keeps old new = (place x : ℕ) → HasLoad old place x → HasLoad new place x
 
--- the same try, with at least the loads that it had
+-- a try goes on: it has at least the loads that it had
 abbrev pub TryGoesOn : Option Try → Option Try → Type 0
 TryGoesOn (Some t) (Some u) = (u ≡ record t { loads = u.loads }) × Keeps t.loads u.loads
 TryGoesOn _ _ = ⊥

@@ -45,7 +45,7 @@ pub struct Note {
 impl ReaderSeat {
     ghost use Rattle.partition_table.specs.Seats.{reader_state, reader_home, note_state, note_home};
 
-    /// A note that has seen the same.
+    /// A note of the writes that this seat has seen.
     pub fn note(&mut self) -> Note
         ensures note { note_state result ≡ note_of (reader_state self.old) }
         ensures note_home { note_home result ≡ reader_home self.old }

@@ -306,7 +306,7 @@ module _ {T S : Type 0} (sender_of : T → ℕ) (follows : S → List T → T �
         subst (λ (y : S × List T). MayBeSent follows y.0 y.1) (λ i. (sym mine.terms_are i, same i)) (h.lawful v.heard),
       )
 
-  -- The same steps, from what a caller knows of the pass and of the message when the call began.
+  -- The steps above, from what a caller knows of the pass and of the message when the call began.
 
   pub send_rule : (n pass : ℕ) (u v : Knows T S) (k m : T) → u ≡ v → k ≡ m → v ≡ sender v.number v.terms v.sent → sender_of m ≡ v.number → follows v.terms v.sent m
       → Pushes Rule n pass u k (HasSent u k) × Learns Rule pass u (λ items. ⊤)

@@ -255,7 +255,7 @@ module _ (h : Held) (key : List ℕ) (b : ℕ) where
   pub answer_none : b ≡ bucket_in h.o key → HasNoSpot h.o b key → answer_of (options_in h.o) h.o.history key ≡ None
   answer_none here none = answer ∙ ap (option_map (λ cell. cell.value)) (has_none h key b here none)
 
--- Which outcomes the machine allows a put or an add: stored in the room that the key has or in a block, or refused for want of a spare bucket or a block
+-- Which outcomes the machine allows a put or an add: stored in the room that the key has or in a block, or refused since no spare bucket or no block is free
 
 module _ (h : Held) (op : Op) (gives : GivesValue op) (key value : List ℕ) (b : ℕ) (here : b ≡ bucket_in h.o key) where
   abbrev w : Write

@@ -16,7 +16,7 @@ use Rattle.stream_fronts.proofs.Going.{these_then}
 use Rattle.stream_fronts.proofs.Reaching.{on_then, on_as, spoke_then, stands_more, nothing_next}
 
 module _ (options : Options) (is_alone : Bool) (base : ℕ) where
-  -- the same sessions, by the same answers
+  -- sessions went on by their answers under equal options
   these_cast : {o : Options} {old new : Sessions} {left left_after told tells : ℕ} {answers : List Answered} → o ≡ options → GoesByThese o is_alone old left told answers new left_after tells
       → GoesByThese options is_alone old left told answers new left_after tells
   these_cast {o} {old} {new} {left} {left_after} {told} {tells} {answers} same these = subst (λ (x : Options). GoesByThese x is_alone old left told answers new left_after tells) same these

@@ -64,7 +64,7 @@ module _ (options : Options) (base : ℕ) where
       subst (λ g. Holds options base MOST_UNSENT d new g client) (sym same)
       (held_sent options base MOST_UNSENT d {old = old} {new = new} {given = given} client client refl refl (omega arith) stays.came (ap (λ s. s ++ client.unsent) stays.went) stays.over holds)
 
-  -- the same of it, at a later moment
+  -- a client's place holds for it at a later moment
   pub under_stays : {old new : Log} {all now : List Given} {n : ℕ} {client : Client} (k : HoldsUnder options base old all n client) → held n (connections_of new) ≡ Some k.place
       → StaysAs k.place old new → given_to k.place now ≡ given_to k.place all → HoldsUnder options base new now n client
   under_stays {all = all} {now = now} {client = client} k under stays same =

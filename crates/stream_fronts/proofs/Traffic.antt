@@ -207,7 +207,7 @@ module _ (number : ℕ) where
 abbrev pub SendsFirst : List ℕ → ℕ → ℕ → Log → Log → Type 0
 SendsFirst text n c old new = Sends c (take n text) old new
 
--- The same behind what was sent before.
+-- What a call wrote, behind what was sent before.
 abbrev pub WritesMore : List ℕ → ℕ → Result ℕ Broken → ℕ → Log → Log → Type 0
 WritesMore text so_far (Ok n) c old new = SendsFirst text (so_far + n) c old new × (n ≡ 0 → so_far < length text → IsShutIn c new)
 WritesMore text so_far (Err broken) c old new = SendsSome text c old new × IsIn IsBroken c new

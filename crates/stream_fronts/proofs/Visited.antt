@@ -69,7 +69,7 @@ rests_shut : (client : Client) (c : ℕ) (log : Log) → client.unsent ≢ [] �
 rests_shut client c log some is = inr (λ moving. if_some (slice_get (connections_of log) c) (λ x e. shut some e) (is moving))
 
 module _ (options : Options) (base : ℕ) where
-  -- The same, of what is equal
+  -- What is said of some bytes and answers is said of equal ones
 
   reaches_as : {place p : Place} {received r : List ℕ} {given : List Answered} {due d : List ℕ} → p ≡ place → r ≡ received → d ≡ due → Reaches options base place received given due
       → Reaches options base p r given d

@@ -63,7 +63,7 @@ pub record IsShut (connection : Connection) : Type 0 where
   pub shut : connection.window ≡ 0
   pub whole : connection.is_broken ≡ false
 
--- the same of the c-th connection of a log, where calls can move bytes at all
+-- the peer of the c-th connection of a log takes no more now, where calls can move bytes at all
 abbrev pub IsShutIn : ℕ → Log → Type 0
 IsShutIn c log = 0 < log.script.piece → IsIn IsShut c log
 

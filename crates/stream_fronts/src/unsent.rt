@@ -51,7 +51,7 @@ impl Unsent {
         }
     }
 
-    /// Keeps these instead. After want of memory it is as it was.
+    /// Keeps these instead. When out of memory, it is as it was.
     pub fn keep(&mut self, text: &[u8]) -> Result<(), NoMemory>
         ensures ok { OnOk result (self.new ≡ text.now) }
         ensures err { OnErr result (self.new ≡ self.old) }

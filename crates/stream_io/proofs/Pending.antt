@@ -51,7 +51,7 @@ goes_on schedule entries room k entry old new goes moves less =
     let before : need old ≤ room = subst (λ s. need s ≤ room) goes.stands goes.fits in
     record { stands = stands; fits = subst (λ s. need s ≤ room - k) (sym stands) (omega (arith, less, before)) }
 
--- the same where the next step is known
+-- a log goes on by one entry where the next step is known
 pub goes_by : (schedule : List Step) (entries : List Entry) (room k : ℕ) (entry : Entry) (all : List Connection) (later rest : List Step) (step : Step) (new : State)
     → Goes schedule entries room (record { connections = all; later = later }) → later ≡ step ∷ rest
     → after entry (record { connections = all; later = step ∷ rest }) ≡ new

@@ -30,6 +30,6 @@ pub enum Step {
     Opens(u32, Bytes),
     /// Something happens at the connection that was made as this one, from 0, and it is reported.
     Reports(u32, Change),
-    /// The same, but maybe in the midst of other calls: then it is reported later.
+    /// Something happens at that connection, maybe in the midst of other calls: then it is reported later.
     Happens(u32, Change),
 }

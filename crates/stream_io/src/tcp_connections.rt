@@ -47,7 +47,7 @@ struct Slot {
 enum Accepting {
     Idle,
     Ready,
-    /// The system refused one, for want of descriptors or memory.
+    /// The system refused one: it was out of descriptors or memory.
     Refused,
 }
 

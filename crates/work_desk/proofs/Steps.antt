@@ -215,7 +215,7 @@ module _ {T S : Type 0} (unset : S) (ready : S → T → Type 0) (done : S → T
   await_goes terms t word home None (inr st) =
       (giver terms None, takes 0 (Some st.1.0), ap some st.1.1, runs terms word none None None (st.0, refl), (λ _. (st.1.0, st.1.2, refl), λ n. absurd (n st.0)))
 
-  -- the same steps, from what a caller knows of its seat
+  -- The steps above, from what a caller knows of its seat
 
   pub hand_rule : (slots id : ℕ) (me : Seated T S) (terms : S) (t : T) → me ≡ (giver terms None, (0, Some t) ∷ []) → ready terms t → Allows Law slots id me 0 (λ _. 1) (λ _. hands (step slots 0 1 0 none) me 1)
   hand_rule slots id me terms t e may = subst (λ (y : Seated T S). Allows Law slots id y 0 (λ _. 1) (λ _. hands (step slots 0 1 0 none) y 1)) (sym e)

@@ -1,6 +1,6 @@
 use Rattle.std.proofs.Common.{◌∙◌, inl, Err, refl, sym, subst}
 use Rattle.mica_serve.specs.Others.{alone}
-use Rattle.mica_serve.specs.Served.{nothing_begun}
+use Rattle.mica_serve.specs.Served.{empty_origin}
 use Rattle.mica_serve.specs.NetRun.{NetFacts, IsCauseOf, net_facts}
 use Rattle.mica_cmd.specs.Promises.{serve_promise}
 use Rattle.mica_cmd.proofs.Keeping.{unwritten_promise}
@@ -21,5 +21,5 @@ returns-in-Err-Net g c = λ source link.
 
 pub returns-in-Err-NoMemory : goal.returns-in-Err-NoMemory
 returns-in-Err-NoMemory g c =
-    let none = subst (λ e. IsCauseOf alone (Err e) c.args.options.now nothing_begun c.args.ports.now c.serve.new.tables (net_at g c.args.net.now) (net_at g c.serve.new.net)) c.in-Err-NoMemory.field-0-is c.in-Err-NoMemory.ensures.cause in
+    let none = subst (λ e. IsCauseOf alone (Err e) c.args.options.now empty_origin c.args.ports.now c.serve.new.tables (net_at g c.args.net.now) (net_at g c.serve.new.net)) c.in-Err-NoMemory.field-0-is c.in-Err-NoMemory.ensures.cause in
     λ source link. unwritten_promise (serve_promise c.args.options.now c.args.ports.now) (settles_serve c.args.options.now c.args.ports.now) _ _ refl refl c.in-Err-NoMemory.ensures.kept (inl (none ∙ sym c.requires.tables)) refl

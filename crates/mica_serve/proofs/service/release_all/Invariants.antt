@@ -4,7 +4,7 @@ use Rattle.mica_io.specs.Faults.{Rose, LAST_COUNT}
 use Rattle.mica_serve.specs.NetRun.{OnPorts}
 use Rattle.mica_serve.specs.Ends.{end_facts}
 use Rattle.mica_serve.proofs.Binding.{Releasing}
-use Rattle.mica_serve.proofs.serve.release_all.Given as goal
+use Rattle.mica_serve.proofs.service.release_all.Given as goal
 
 abbrev pub invariant-loop-end : goal.invariant-loop-end
 invariant-loop-end g l =

@@ -2,7 +2,7 @@ use Rattle.std.proofs.Common.{◌≡◌, ◌≤◌, ◌<◌, true, map, vec_len,
 use Rattle.std.specs.Prelude.{is_some}
 use Rattle.mica_serve.specs.Ends.{AreNewEnds, BindsEnds, end_facts}
 use Rattle.mica_serve.specs.NetRun.{OnPorts}
-use Rattle.mica_serve.proofs.serve.bind_all.Given as goal
+use Rattle.mica_serve.proofs.service.bind_all.Given as goal
 
 abbrev pub invariant-loop-f : goal.invariant-loop-f
 invariant-loop-f g l =

@@ -11,9 +11,9 @@ use Rattle.mica_io.specs.PortStates.{out}
 use Rattle.mica_serve.specs.Ends.{EndFacts, end_facts}
 use Rattle.mica_serve.specs.NetRun.{OnPorts}
 use Rattle.mica_serve.proofs.Binding.{Releasing, releasing_none, still_out, tells_at, released_more, all_told, counts_none, counts_more, when_some, rose_on, rose_before}
-use Rattle.mica_serve.proofs.serve.release_all.Given as given
-use Rattle.mica_serve.proofs.serve.release_all.Goals as goal
-use Rattle.mica_serve.proofs.serve.release_all.Goals.{In-Some}
+use Rattle.mica_serve.proofs.service.release_all.Given as given
+use Rattle.mica_serve.proofs.service.release_all.Goals as goal
+use Rattle.mica_serve.proofs.service.release_all.Goals.{In-Some}
 
 abbrev facts : (g : given.Over) → g.row.N-End.Denot → EndFacts
 facts g = end_facts g.N.End.Datagrams

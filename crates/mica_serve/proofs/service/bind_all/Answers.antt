@@ -5,7 +5,7 @@ use Rattle.mica_io.specs.PortStates.{BindsEnd}
 use Rattle.mica_serve.specs.Ends.{EndFacts, AreNewEnds, BindsEnds, end_facts}
 use Rattle.mica_serve.specs.NetRun.{OnPorts}
 use Rattle.mica_serve.proofs.Binding.{new_more, bound_more, when_some, first_kept}
-use Rattle.mica_serve.proofs.serve.bind_all.Goals as goal
+use Rattle.mica_serve.proofs.service.bind_all.Goals as goal
 
 pub loop-f-preserved : goal.loop-f-preserved
 loop-f-preserved g c =

@@ -8,8 +8,8 @@ use Rattle.mica_serve.specs.Ends.{EndFacts, end_facts}
 use Rattle.mica_serve.specs.NetRun.{NetFacts, net_facts}
 use Rattle.mica_serve.proofs.ValidPorts.{possible_ports}
 use Rattle.mica_serve.proofs.Whole.{run_failed, run_served}
-use Rattle.mica_serve.proofs.serve.bind_and_serve.Given as given
-use Rattle.mica_serve.proofs.serve.bind_and_serve.Goals as goal
+use Rattle.mica_serve.proofs.service.bind_and_serve.Given as given
+use Rattle.mica_serve.proofs.service.bind_and_serve.Goals as goal
 
 abbrev facts : (g : given.Over) → g.row.N-End.Denot → EndFacts
 facts g = end_facts g.N.End.Datagrams

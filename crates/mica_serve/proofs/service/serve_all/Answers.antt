@@ -15,8 +15,8 @@ use Rattle.mica_fronts.specs.Totals.{IsUpTo}
 use Rattle.mica_serve.specs.FrontRuns.{SumsUp}
 use Rattle.mica_serve.proofs.Gathered.{all_ran, few_answers, small_answers}
 use Rattle.mica_serve.proofs.SumsUp.{sums_beside}
-use Rattle.mica_serve.proofs.serve.serve_all.Given as given
-use Rattle.mica_serve.proofs.serve.serve_all.Goals as goal
+use Rattle.mica_serve.proofs.service.serve_all.Given as given
+use Rattle.mica_serve.proofs.service.serve_all.Goals as goal
 
 abbrev facts : (g : given.Over) → g.row.D.Denot → EndFacts
 facts g = end_facts g.D.Datagrams

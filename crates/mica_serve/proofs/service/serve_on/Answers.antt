@@ -8,8 +8,8 @@ use Rattle.mica_serve.specs.Ends.{EndFacts, end_facts}
 use Rattle.mica_serve.specs.NetRun.{NetFacts, net_facts}
 use Rattle.mica_serve.proofs.PortRuns.{kept_at}
 use Rattle.mica_serve.proofs.Whole.{out_until, tell_until, keeps, cause, net_kept}
-use Rattle.mica_serve.proofs.serve.serve_on.Given as given
-use Rattle.mica_serve.proofs.serve.serve_on.Goals as goal
+use Rattle.mica_serve.proofs.service.serve_on.Given as given
+use Rattle.mica_serve.proofs.service.serve_on.Goals as goal
 
 abbrev facts : (g : given.Over) → g.row.N-End.Denot → EndFacts
 facts g = end_facts g.N.End.Datagrams
