@@ -8,6 +8,7 @@ ghost use Rattle.locked_fronts.specs.Parts.{turns_left, most_turns};
 ghost use Rattle.locked_serve.specs.Opening.{ArePlanned, AreNewParts, filled_view};
 ghost use Rattle.core_tests.specs.Decisions.{count_in as count_of, two_bytes as bytes_of};
 
+use crate::change_rows::{DISPLACED, ROWS, Row};
 use cache_partition::CachePartition;
 use epoch_core::LendPartition;
 use locked_fronts::{LockedFront, LockedPart, OwnedPartition, ServerPlan};
@@ -107,121 +108,8 @@ fn two_bytes(count: u32) -> [u8; 2]
     [(count % 256) as u8, (count / 256 % 256) as u8]
 }
 
-/// What the key has before, at which other keys a long value is put then, what is decided of the key's value, what comes of the write, if there is
-/// one, and what the key has then.
-#[derive(Drop)]
-struct Row<'a> {
-    before: Option<&'a [u8]>,
-    later: &'a [&'a [u8]],
-    change: Change,
-    value: &'a [u8],
-    outcome: Option<Outcome>,
-    after: Option<&'a [u8]>,
-}
-
-// Absent, present, shorter, as long and longer values.
-static ROWS: [Row<'static>; 8] = [
-    Row {
-        before: None,
-        later: &[],
-        change: Change::Stay,
-        value: b"",
-        outcome: None,
-        after: None,
-    },
-    Row {
-        before: None,
-        later: &[],
-        change: Change::Become,
-        value: b"one",
-        outcome: Some(Outcome::Stored),
-        after: Some(b"one"),
-    },
-    // What is not there does not go.
-    Row {
-        before: None,
-        later: &[],
-        change: Change::Go,
-        value: b"",
-        outcome: None,
-        after: None,
-    },
-    Row {
-        before: Some(b"one"),
-        later: &[],
-        change: Change::Stay,
-        value: b"",
-        outcome: None,
-        after: Some(b"one"),
-    },
-    Row {
-        before: Some(b"one"),
-        later: &[],
-        change: Change::Become,
-        value: b"2",
-        outcome: Some(Outcome::Stored),
-        after: Some(b"2"),
-    },
-    Row {
-        before: Some(b"one"),
-        later: &[],
-        change: Change::Become,
-        value: b"two and more",
-        outcome: Some(Outcome::Stored),
-        after: Some(b"two and more"),
-    },
-    Row {
-        before: Some(b"one"),
-        later: &[],
-        change: Change::Become,
-        value: b"",
-        outcome: Some(Outcome::Stored),
-        after: Some(b""),
-    },
-    Row {
-        before: Some(b"one"),
-        later: &[],
-        change: Change::Go,
-        value: b"",
-        outcome: Some(Outcome::Deleted),
-        after: None,
-    },
-];
-
 /// A value that takes a fourth of the log with its key, and a little more.
 static LONG: [u8; 8_192] = [b'x'; 8_192];
-
-/// Keys whose values take more than the log.
-const MANY: &[&[u8]] = &[b"0", b"1", b"2", b"3"];
-
-// In cache mode nothing is found of a value whose item later writes displaced.
-static DISPLACED: [Row<'static>; 3] = [
-    Row {
-        before: Some(b"one"),
-        later: MANY,
-        change: Change::Stay,
-        value: b"",
-        outcome: None,
-        after: None,
-    },
-    // It does not go.
-    Row {
-        before: Some(b"one"),
-        later: MANY,
-        change: Change::Go,
-        value: b"",
-        outcome: None,
-        after: None,
-    },
-    Row {
-        before: Some(b"one"),
-        later: MANY,
-        change: Change::Become,
-        value: b"two",
-        outcome: Some(Outcome::Stored),
-        after: Some(b"two"),
-    },
-];
 
 // What the key has.
 fn expect_value<R: Abort + Threads + Wait + Sync, F: Front>(

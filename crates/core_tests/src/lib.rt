@@ -8,6 +8,8 @@ mod adapters;
 #[cfg(test)]
 mod cache_put;
 #[cfg(test)]
+mod change_rows;
+#[cfg(test)]
 mod changes;
 #[cfg(test)]
 mod heap;
@@ -22,11 +24,15 @@ mod machine_steps;
 #[cfg(test)]
 mod memcached;
 #[cfg(test)]
+mod memcached_differences;
+#[cfg(test)]
 mod memcached_items;
 #[cfg(test)]
 mod memcached_rows;
 #[cfg(test)]
 mod one_spare;
+#[cfg(test)]
+mod packet_faults;
 #[cfg(test)]
 mod packets;
 #[cfg(test)]

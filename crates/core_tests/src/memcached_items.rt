@@ -4,7 +4,8 @@ ghost use Rattle.memcached_text.specs.Fit.{IsFitNext};
 ghost use Rattle.memcached_commands.specs.Fit.{IsFitAsk, IsFitStored};
 
 use crate::memcached::sent;
-use crate::memcached_rows::{BARE, OTHER, SAME, Turn};
+use crate::memcached_differences::{BARE, OTHER};
+use crate::memcached_rows::{SAME, Turn};
 use memcached_commands::{
     Ask, Asked, Asks, Moment, change_stored, found_in, put_answer, says_of, wants_numbers,
 };

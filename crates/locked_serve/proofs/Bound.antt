@@ -37,6 +37,7 @@ module _ (says : Others → Option (Result Totals ServeFault) → Type 0) (leave
     are = none_heard options base streams before.ports clocks;
     left = left;
     all = tt;
+    finished = tt;
     came = Some (Err Net);
     came_is = inl refl;
     unserved = tt;
@@ -53,6 +54,7 @@ module _ (says : Others → Option (Result Totals ServeFault) → Type 0) (leave
       are = as_heard options base streams before.ports clocks heard new within;
       left = left;
       all = tt;
+      finished = tt;
       came = None;
       came_is = inr (refl, rose);
       unserved = (refl, silent streams heard heard);
@@ -68,6 +70,7 @@ module _ (says : Others → Option (Result Totals ServeFault) → Type 0) (leave
       are = as_heard options base streams before.ports clocks heard new within;
       left = left;
       all = tt;
+      finished = tt;
       came = None;
       came_is = refl;
       unserved = (refl, silent streams heard heard);
@@ -89,9 +92,9 @@ module _ (says : Others → Option (Result Totals ServeFault) → Type 0) (leave
       pub came_ok : (totals : Totals) (b : ServesBeside options origin batches base clocks (Ok totals) kept ends_before ends_after heard news)
           → leaves news → says (others_of b.answers heard news) (Some (Ok totals)) → ComesBeside says leaves (Ok totals) options base streams clocks before after
       came_ok totals b left said =
-          record { answers = b.answers; olds = heard; news = news; are = are b; left = left; all = full; came = Some (Ok totals); came_is = refl; unserved = tt; said = said }
+          record { answers = b.answers; olds = heard; news = news; are = are b; left = left; all = full; finished = b.finished; came = Some (Ok totals); came_is = refl; unserved = tt; said = said }
 
       pub came_err : (fault : ServeFault) (b : ServesBeside options origin batches base clocks (Err fault) kept ends_before ends_after heard news)
           → leaves news → says (others_of b.answers heard news) (Some (Err fault)) → ComesBeside says leaves (Err (Fault fault)) options base streams clocks before after
       came_err fault b left said =
-          record { answers = b.answers; olds = heard; news = news; are = are b; left = left; all = tt; came = Some (Err fault); came_is = came_to_fault before.faults after.faults fault; unserved = tt; said = said }
+          record { answers = b.answers; olds = heard; news = news; are = are b; left = left; all = tt; finished = tt; came = Some (Err fault); came_is = came_to_fault before.faults after.faults fault; unserved = tt; said = said }

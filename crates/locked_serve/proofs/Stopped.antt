@@ -59,6 +59,7 @@ says_then {answer = answer} {before = before} same gone then it = record {
   are = it.are;
   left = gone it.news it.left;
   all = it.all;
+  finished = it.finished;
   came = it.came;
   came_is = subst (λ (n : ℕ). CameTo answer before.faults n it.came) (sym same) it.came_is;
   unserved = it.unserved;
@@ -75,6 +76,7 @@ no_memory options origin base ports streams clocks kept all none = record {
   are = none_heard options base streams all.listens.ports clocks;
   left = none_released all.listens.released;
   all = tt;
+  finished = tt;
   came = Some (Err NoMemory);
   came_is = refl;
   unserved = tt;

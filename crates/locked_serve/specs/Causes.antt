@@ -20,7 +20,7 @@ use Rattle.locked_serve.specs.declared.filling.OpenFault.TheVariants as open_fau
 use Rattle.locked_serve.specs.declared.stop.Stop.{Stop}
 use Rattle.locked_serve.specs.declared.stop.Stop.TheVariants.{Refused, Unannounced, Fault}
 use Rattle.locked_serve.specs.Filled.{origin_of, RefusesFilling}
-use Rattle.locked_serve.specs.Streams.{StreamFacts, ListenFacts, KeepsListeners, AreStreams, LeavesStreams, listen_facts, others_of, with_ports}
+use Rattle.locked_serve.specs.Streams.{StreamFacts, ListenFacts, HaveFinished, KeepsListeners, AreStreams, LeavesStreams, listen_facts, others_of, with_ports}
 
 -- what contracts see of all ports at one moment: those of datagrams, and what listens at those of connections
 pub record PortFacts : Type 0 where
@@ -40,7 +40,7 @@ CameTo (Err Unannounced) before after came = came ≡ None
 CameTo (Err Refused) before after came = ⊥
 
 -- The fronts of connections answered this and left this of their ports, and those of datagrams came to what is said of them, beside each other. Where they came to
--- totals, each of them all had its port.
+-- totals, each of them all had its port, and has finished.
 pub record ComesBeside (says : Others → Option (Result Totals ServeFault) → Type 0) (leaves : List StreamFacts → Type 0) (answer : Result Totals Stop) (service : Service)
     (clocks : List ℕ) (before after : ListenFacts) : Type 0 where
   pub answers : List (List Answered)
@@ -49,6 +49,7 @@ pub record ComesBeside (says : Others → Option (Result Totals ServeFault) → 
   pub are : AreStreams service.options service.base service.streams before.ports clocks answers olds news
   pub left : leaves news
   pub all : OnOk answer (length olds ≡ service.streams.fronts)
+  pub finished : OnOk answer (HaveFinished service.options answers news)
   pub came : Option (Result Totals ServeFault)
   pub came_is : CameTo answer before.faults after.faults came
   pub unserved : LeavesStreams came answers olds news

@@ -57,7 +57,6 @@ impl<C: Connections, K: Clock> StreamTask<C, K> {
             numbering,
             shared.board,
             number,
-            u64::MAX,
             &mut self.port,
             &mut self.lacked,
         );

@@ -3,6 +3,7 @@ ghost use Rattle.std.specs.Prelude.{◌≡◌, ◌<◌, ◌≤◌, ◌+◌, ◌+
 ghost use Rattle.memcached_commands.specs.Fit.{IsFitAsked};
 ghost use Rattle.mica_fronts.specs.Answered.{Answered, count_of_writes};
 ghost use Rattle.memcached_fronts.specs.AskAnswers.{said_of};
+ghost use Rattle.memcached_fronts.specs.Counting.{noted_if, tally_after};
 ghost use Rattle.memcached_fronts.specs.Going.{AnswersAt, ask_text, value_found};
 
 use crate::buffers::Buffers;
@@ -52,7 +53,9 @@ fn value_found(found: Option<Answer>, buffer: &ItemBuf) -> Option<&[u8]>
 }
 
 // Notes what a write left of its partition, where one was made.
-fn note_write(tally: &mut Tally, partitions: u32, key: &[u8], changed: &Changed) {
+fn note_write(tally: &mut Tally, partitions: u32, key: &[u8], changed: &Changed)
+    ensures { tally.new ≡ noted_if partitions key.now changed.now.when changed.now.outcome changed.now.stamp tally.old }
+{
     if let Some(outcome) = changed.outcome {
         let accepted = u64::from(outcome.is_accepted());
         let writes = changed.when.written.saturating_add(accepted);
@@ -62,7 +65,7 @@ fn note_write(tally: &mut Tally, partitions: u32, key: &[u8], changed: &Changed)
 }
 
 /// Has what is asked of a key decided and done under one hold of its partition, at the second that the clock tells, and appends the text that is due
-/// to it. When out of memory, nothing is appended, and it is done all the same.
+/// to it. What came of it is counted. When out of memory, nothing is appended, and it is done all the same.
 pub fn answer_ask<R: Threads + Wait + Sync, F: Changes, C: Clock>(
     rt: &R,
     front: &mut F,
@@ -80,7 +83,8 @@ pub fn answer_ask<R: Threads + Wait + Sync, F: Changes, C: Clock>(
     ensures answered { (answered : Answered)
         × AnswersAt (F.options front.old) F.is_alone base (C.last clock.new) (F.sessions front.old) asked.now (F.sessions front.new) answered
         × OnOk result (out.new.items ≡ out.old.items ++ ask_text style.quiet style.unique is_last asked.now.key (said_of base asked.now answered))
-        × (F.left front.old ≤ F.left front.new + count_of_writes (answered ∷ [])) }
+        × (F.left front.old ≤ F.left front.new + count_of_writes (answered ∷ []))
+        × (buffers.new.tally ≡ tally_after base partitions asked.now answered buffers.old.tally) }
     ensures err { OnErr result (out.new.items ≡ out.old.items) }
     ensures never_falls { C.last clock.old ≤ C.last clock.new }
     ensures left { F.left front.old ≤ F.left front.new + 1 }

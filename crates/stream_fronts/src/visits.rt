@@ -13,7 +13,7 @@ use crate::desk::Desk;
 use crate::visit::{After, visit_once};
 use memcached_fronts::Numbering;
 use mica_clock::Clock;
-use mica_fronts::Changes;
+use mica_fronts::Counts;
 use mica_io::NoMemory;
 use std::alloc::Global;
 use std::sync::Wait;
@@ -21,13 +21,12 @@ use std::thread::Threads;
 use stream_io::Connections;
 
 /// Visits until there is no more to do at once, or it may be asked for again.
-pub fn visit_on<R: Threads + Wait + Sync, F: Changes, K: Clock, C: Connections>(
+pub fn visit_on<R: Threads + Wait + Sync, F: Counts, K: Clock, C: Connections>(
     rt: &R,
     alloc: Global,
     front: &mut F,
     clock: &mut K,
     numbering: Numbering,
-    left: &mut u64,
     connections: &mut C,
     number: u32,
     client: &mut Client,
@@ -37,7 +36,6 @@ pub fn visit_on<R: Threads + Wait + Sync, F: Changes, K: Clock, C: Connections>(
     requires client { IsClient client.old }
     requires open { IfSome (C.log connections.old) (IsOpen number client.old.asks) }
     requires partitions { numbering.partitions ≡ (F.options front.old).partitions }
-    requires left { left.old ≤ F.left front.old }
     ensures again { IfOk result (λ after. after ≡ After.Again → 0 < client.new.asks) }
     ensures room { vec_len desk.new.room ≡ MAX_WAITING_LEN }
     ensures client { IfOk result (λ _. IsClient client.new) }
@@ -49,7 +47,6 @@ pub fn visit_on<R: Threads + Wait + Sync, F: Changes, K: Clock, C: Connections>(
     ensures keeps { OnLogs Keeps (C.log connections.old) (C.log connections.new) }
     ensures port { LeavesPort C.log C.has_ended C.faults C.port connections.old connections.new }
     ensures front { MovesFront F.options F.number F.stands F.is_alone F.sessions F.left K.last front.old clock.old front.new clock.new }
-    ensures left { left.new ≤ F.left front.new }
 {
     for _ in rt.forever() {
         let after = visit_once(
@@ -58,7 +55,6 @@ pub fn visit_on<R: Threads + Wait + Sync, F: Changes, K: Clock, C: Connections>(
             front,
             clock,
             numbering,
-            left,
             connections,
             number,
             client,
