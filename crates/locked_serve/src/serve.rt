@@ -1,5 +1,5 @@
 //! The server over partitions under locks: filled, bound, served and taken back.
-ghost use Rattle.std.specs.Prelude.{◌≡◌, ◌≢◌, ◌+◌, ◌<◌, ◌≤◌, ℕ, [], All, Err, length, map, vec_capacity};
+ghost use Rattle.std.specs.Prelude.{◌≡◌, ◌<◌, ◌≤◌, ℕ, [], All, length, map, vec_capacity};
 ghost use Rattle.partition_model.specs.History.{IsHistory};
 ghost use Rattle.partition_model.specs.Write.{IsWrite};
 ghost use Rattle.partition_table.specs.Seats.{note_state, note_home};
@@ -76,13 +76,13 @@ fn bind_and_serve<
         (net_facts N.Net net.old) (net_facts N.Net net.new) (map (end_facts N.End.Datagrams) ends.new.items))
         (λ news. news ≡ map (stream_facts L.Port.Connections) connections.new.items) result shared.now.service (map K.last clocks.items)
         (listen_facts L.Listeners listeners.old) (listen_facts L.Listeners listeners.new) }
-    ensures unrefused { result ≢ Err Stop.Refused }
     ensures unreleased { L.released listeners.new ≡ L.released listeners.old }
     ensures heard { KeepsListeners shared.now.service.streams (listen_facts L.Listeners listeners.old) (listen_facts L.Listeners listeners.new) }
     ensures announced { HasAnnounced (A.says shared.now.service.ports shared.now.service.streams) (A.fails shared.now.service.ports shared.now.service.streams) result
         (ports_at N.Net L.Listeners net.old listeners.old) (ports_at N.Net L.Listeners net.new listeners.new) announce.old announce.new }
 {
-    let (ports, streams) = (&shared.service.ports, &shared.service.streams);
+    let ports = &shared.service.ports;
+    let streams = &shared.service.streams;
     bind_all(net, ports, ends)?;
     listen_all(listeners, streams, connections)?;
     announce.ready(ports, streams, ends.as_slice(), connections.as_slice())?;
@@ -117,7 +117,6 @@ fn serve_named<
     requires clocks { length clocks.items ≡ shared.now.service.streams.fronts }
     requires unbound { N.binds net.old ≡ 0 }
     requires tables { tables.old ≡ [] }
-    ensures unrefused { result ≢ Err Stop.Refused }
     ensures cause { HasCause result shared.now.service J.plan.origin (map K.last clocks.items) tables.new
         (ports_at N.Net L.Listeners net.old listeners.old) (ports_at N.Net L.Listeners net.new listeners.new) }
     ensures leaves { Leaves A.says A.fails result shared.now.service

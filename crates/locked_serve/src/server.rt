@@ -130,7 +130,8 @@ impl<
             server.stream_hands.items server.hands.items server.room) }
     {
         let mut parts = parts;
-        let (streams, fronts) = (service.streams.fronts, service.ports.fronts);
+        let streams = service.streams.fronts;
+        let fronts = service.ports.fronts;
         let room = Room::new(alloc, streams as usize, fronts as usize, parts.len())?;
         let stream_hands = lend_hands::<J, P>(alloc, &mut parts, 0, streams)?;
         let hands = lend_hands::<J, P>(alloc, &mut parts, streams, fronts)?;
