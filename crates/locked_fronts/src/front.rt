@@ -183,19 +183,21 @@ impl<'a, J: ServerPlan, P: LendPartition<Reader = ReaderSeat, Note = Note> + Dro
         self.left -= 1;
         written
     }
+
+    fn touch<R: Threads + Wait + Sync>(&mut self, rt: &R, key: &[u8]) -> (Outcome, u64) {
+        let number = partition_of(key_hash(key), self.options.partitions);
+        let at = number as usize;
+        let lock = &self.locks[at];
+        let written = self.parts[at].write(rt, lock, number, Op::Touch, key, &[]);
+        self.left -= 1;
+        written
+    }
 }
 
 impl<'a, J: ServerPlan, P: LendPartition<Reader = ReaderSeat, Note = Note> + Drop> Counts
     for LockedFront<'a, J, P> {
     fn writes_left(&self) -> u64 {
         self.left
-    }
-
-    fn touch<R: Threads + Wait + Sync>(&mut self, rt: &R, key: &[u8]) -> (Outcome, u64) {
-        let number = partition_of(key_hash(key), self.options.partitions);
-        let at = number as usize;
-        let lock = &self.locks[at];
-        self.parts[at].write(rt, lock, number, Op::Touch, key, &[])
     }
 }
 

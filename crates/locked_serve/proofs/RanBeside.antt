@@ -31,7 +31,8 @@ use Rattle.locked_serve.specs.Opening.{AreNewParts, AreNewHands}
 use Rattle.locked_serve.specs.Streams.{StreamFacts, HasFinished, ServesStream, AreServed, AreUnserved, StopsStream, others_of}
 use Rattle.locked_serve.specs.Running.{run_of, front_facts, IsReadyTask, AreReadyTasks, TaskRan, TasksRan, IsReadyStream, AreReadyStreams, StreamRan, StreamsRan, RunsStream, RanBeside}
 use Rattle.locked_serve.proofs.Joined.{at_left, at_right, at_either, same_sums}
-use Rattle.locked_serve.proofs.Ran.{AreHands, HaveRan, HandAt, hand_at, taken_hand, placed, kept, runs_all, shapes, histories, closes}
+use Rattle.locked_serve.specs.Taking.{AreHands}
+use Rattle.locked_serve.proofs.Ran.{HaveRan, HandAt, hand_at, taken_hand, placed, kept, runs_all, shapes, histories, closes}
 use Rattle.locked_serve.proofs.Streamed.{finished_at}
 use Rattle.locked_serve.proofs.Taken.{closed_by, closed_at}
 

@@ -2,6 +2,8 @@
 use Rattle.std.specs.Prelude.{◌≡◌, ◌≢◌, ◌⊎◌, ◌+◌, ◌-◌, ◌<◌, ◌≤◌, ⊤, ℕ, Bool, false, List, [], ◌∷◌, length, slice_get, Option, None, Some, IfSome, option_map, Result, OnOk}
 use Rattle.mica_io.specs.Faults.{Rose}
 use Rattle.stream_io.specs.Log.{Log}
+use Rattle.stream_io.specs.declared.connections.Connections.{Ghosts as StreamTells}
+use Rattle.stream_io.specs.declared.listeners.Listeners.{Ghosts as ListenersTell}
 use Rattle.stream_io.specs.PortLogs.{Place, PortLogs, with_port}
 use Rattle.partition_model.specs.declared.options.Options.{Options}
 use Rattle.partition_model.specs.History.{History}
@@ -26,8 +28,8 @@ pub record StreamFacts : Type 0 where
   pub log : Option Log
 
 -- by what it tells
-abbrev pub stream_facts : {C : Type 0} → (C → ℕ) → (C → ℕ) → (C → Bool) → (C → Option Log) → C → StreamFacts
-stream_facts port faults has_ended log = λ c. record { port = port c; faults = faults c; has_ended = has_ended c; log = log c }
+abbrev pub stream_facts : {C : Type 0} → StreamTells C → C → StreamFacts
+stream_facts stream = λ c. record { port = stream.port c; faults = stream.faults c; has_ended = stream.has_ended c; log = stream.log c }
 
 -- what they see of what listens
 pub record ListenFacts : Type 0 where
@@ -37,8 +39,8 @@ pub record ListenFacts : Type 0 where
   pub place : Place
 
 -- by what listeners tell
-abbrev pub listen_facts : {L : Type 0} → (L → ℕ) → (L → Option PortLogs) → (L → Option PortLogs) → (L → Place) → L → ListenFacts
-listen_facts faults ports released place = λ l. record { faults = faults l; ports = ports l; released = released l; place = place l }
+abbrev pub listen_facts : {L C : Type 0} → ListenersTell L C → L → ListenFacts
+listen_facts listeners = λ l. record { faults = listeners.faults l; ports = listeners.ports l; released = listeners.released l; place = listeners.place l }
 
 -- Before any connection came
 
