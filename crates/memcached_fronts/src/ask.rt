@@ -10,7 +10,7 @@ use crate::buffers::Buffers;
 use crate::noted::Noted;
 use crate::plain::Style;
 use memcached_changes::CommandOrder;
-use memcached_commands::{Asked, Says, put_last, put_part};
+use memcached_commands::{Asked, Says, put_part, put_whole};
 use memcached_stats::{Tally, counter_of};
 use mica_clock::Clock;
 use mica_fronts::{Changed, Changes};
@@ -34,13 +34,11 @@ fn put_said(
     if style.quiet {
         return Ok(());
     }
-    let start = out.len();
-    put_part(out, style.unique, key, says)?;
-    if is_last && put_last(out, says).is_err() {
-        out.truncate(start);
-        return Err(NoMemory);
+    if is_last {
+        put_whole(out, style.unique, key, says)
+    } else {
+        put_part(out, style.unique, key, says)
     }
-    Ok(())
 }
 
 // The value in the buffer, where one was found.

@@ -1,5 +1,5 @@
 //! Texts of replies.
-ghost use Rattle.std.specs.Prelude.{◌≡◌, ◌+◌, ◌≤◌, ◌++◌, ◌∷◌, length, drop, codes, decimal, OnOk, OnErr};
+ghost use Rattle.std.specs.Prelude.{◌≡◌, ℕ, List, ◌+◌, ◌≤◌, ◌++◌, ◌∷◌, length, drop, codes, decimal, OnOk, OnErr};
 ghost use Rattle.memcached_text.specs.Replies.{reply_text, fault_text, value_text, unique_text, number_text, stat_text};
 
 use crate::Fault;
@@ -112,9 +112,27 @@ fn put_numbers(
     put_before(line, u64::from(flags), lens)
 }
 
+// Appends the value that a get found, and what is to stand behind it. Where memory runs out, nothing is appended.
+#[inline]
+#[tactic(auto, unfolding(crate::specs::Replies::value_text))]
+fn put_value_and(
+    out: &mut Vec<u8>,
+    key: &[u8],
+    flags: u32,
+    value: &[u8],
+    unique: Option<u64>,
+    end: &'static [u8],
+) -> Result<(), NoMemory>
+    ensures ok { OnOk result ((behind : List ℕ) → end.now ≡ codes "\r\n" ++ behind → out.new.items ≡ out.old.items ++ (value_text key.now flags value.now unique ++ behind)) }
+    ensures err { OnErr result (out.new.items ≡ out.old.items) }
+{
+    let mut line = [0; NUMBERS_LEN];
+    let start = put_numbers(&mut line, flags, value.len(), unique);
+    append_parts(out, &[b"VALUE ", key, &line[start..], value, end])
+}
+
 /// Appends the value that a get found, with its unique number where there is one. Where memory runs out, nothing is
 /// appended.
-#[tactic(auto, unfolding(crate::specs::Replies::value_text))]
 pub fn put_value(
     out: &mut Vec<u8>,
     key: &[u8],
@@ -125,9 +143,21 @@ pub fn put_value(
     ensures ok { OnOk result (out.new.items ≡ out.old.items ++ value_text key.now flags value.now unique) }
     ensures err { OnErr result (out.new.items ≡ out.old.items) }
 {
-    let mut line = [0; NUMBERS_LEN];
-    let start = put_numbers(&mut line, flags, value.len(), unique);
-    append_parts(out, &[b"VALUE ", key, &line[start..], value, b"\r\n"])
+    put_value_and(out, key, flags, value, unique, b"\r\n")
+}
+
+/// Appends the last value that a get found, and the end of its reply. Where memory runs out, nothing is appended.
+pub fn put_last_value(
+    out: &mut Vec<u8>,
+    key: &[u8],
+    flags: u32,
+    value: &[u8],
+    unique: Option<u64>,
+) -> Result<(), NoMemory>
+    ensures ok { OnOk result (out.new.items ≡ out.old.items ++ (value_text key.now flags value.now unique ++ reply_text Reply.End)) }
+    ensures err { OnErr result (out.new.items ≡ out.old.items) }
+{
+    put_value_and(out, key, flags, value, unique, b"\r\nEND\r\n")
 }
 
 /// Appends the number that a count gave. Where memory runs out, nothing is appended.
