@@ -1,5 +1,5 @@
-use Rattle.std.proofs.Common.{rules, ◌≡◌, [], refl, sym, ◌∙◌, subst, arith}
-use Rattle.std.specs.Prelude.{is_none, IfSome, IfNone}
+use Rattle.std.proofs.Common.{rules, ◌≡◌, true≢false, [], refl, inl, inr, ap, sym, ◌∙◌, subst, arith}
+use Rattle.std.specs.Prelude.{is_some, is_none, IfSome, IfNone}
 use Rattle.partition_model.specs.declared.options.Options.{Options}
 use Rattle.stream_io.specs.Calls.{ReportsNext, IsOver}
 use Rattle.stream_fronts.specs.declared.desk.TheConstants.{MOST_UNSENT}
@@ -7,14 +7,14 @@ use Rattle.memcached_fronts.specs.Sweeps.{SweepsBy}
 use Rattle.stream_fronts.specs.Clients.{AreOpen}
 use Rattle.stream_fronts.specs.Going.{GoesBy}
 use Rattle.stream_fronts.specs.Open.{OnLogs}
-use Rattle.stream_fronts.specs.Serving.{ServesFromNone}
+use Rattle.stream_fronts.specs.Serving.{IsFinished, ServesFromNone}
 use Rattle.stream_fronts.proofs.Going.{by_none, by_both}
 use Rattle.stream_fronts.proofs.Opening.{tells_keeps, tells_opened}
 use Rattle.stream_fronts.proofs.Holding.{all_kept, none_held}
 use Rattle.stream_fronts.proofs.Since.{since_none, since_then, since_swept, since_serves, since_called, since_over}
 use Rattle.stream_fronts.proofs.Sweeping.{by_sweeps}
 use Rattle.stream_fronts.proofs.serve.serve_connections.Goals as goal
-use Rattle.stream_fronts.proofs.serve.serve_connections.Goals.{in-None, in-Some+then-left-least, in-Some+else-left-least+in_ok-event+in_default}
+use Rattle.stream_fronts.proofs.serve.serve_connections.Goals.{in-None, in-Some+then-writes_left-least, in-Some+else-writes_left-least+in_ok-event+in_default}
 
 pub serve_event-count-requires-clause-clients : goal.serve_event-count-requires-clause-clients
 serve_event-count-requires-clause-clients g c κs within =
@@ -137,15 +137,30 @@ returns-clause-serves g c =
       | in-None w ↦ subst (λ x. OnLogs (ServesFromNone options g.F.Front.is_alone base MOST_UNSENT (record { sessions = sessions; left = g.F.Front.left c.args.front.now; second = told; lacked = c.args.lacked.now; has_ended = opened })
           (record { sessions = g.F.Front.sessions c.loop.front; left = g.F.Front.left c.loop.front; second = g.K.Clock.last c.loop.clock; lacked = c.loop.lacked; has_ended = ended x })) (log c.args.connections.now) (log x))
           (sym w.connections-is) here
-      | in-Some+then-left-least w ↦ subst (λ x. OnLogs (ServesFromNone options g.F.Front.is_alone base MOST_UNSENT
+      | in-Some+then-writes_left-least w ↦ subst (λ x. OnLogs (ServesFromNone options g.F.Front.is_alone base MOST_UNSENT
           (record { sessions = sessions; left = g.F.Front.left c.args.front.now; second = told; lacked = c.args.lacked.now; has_ended = opened })
           (record { sessions = g.F.Front.sessions c.loop.front; left = g.F.Front.left c.loop.front; second = g.K.Clock.last c.loop.clock; lacked = c.loop.lacked; has_ended = ended x })) (log c.args.connections.now) (log x))
           (sym w.connections-is) here
-      | in-Some+else-left-least+in_ok-event+in_default w ↦ subst (λ x. OnLogs (ServesFromNone options g.F.Front.is_alone base MOST_UNSENT
+      | in-Some+else-writes_left-least+in_ok-event+in_default w ↦ subst (λ x. OnLogs (ServesFromNone options g.F.Front.is_alone base MOST_UNSENT
           (record { sessions = sessions; left = g.F.Front.left c.args.front.now; second = told; lacked = c.args.lacked.now; has_ended = opened })
           (record { sessions = g.F.Front.sessions c.loop.front; left = g.F.Front.left c.loop.front; second = g.K.Clock.last c.loop.clock; lacked = c.loop.lacked; has_ended = ended x })) (log c.args.connections.now) (log x))
           (sym w.connections-is)
           (since_over options g.F.Front.is_alone base sessions (g.F.Front.left c.args.front.now) told c.args.lacked.now opened (ended w.next-in-loop.new.self) (g.F.Front.sessions c.loop.front)
           (g.F.Front.left c.loop.front) (g.K.Clock.last c.loop.clock) c.loop.lacked c.loop.clients.held.items (log c.args.connections.now) (log c.loop.connections) (log w.next-in-loop.new.self) inv.10 inv.1
           (subst (λ got. IfNone got (IfSome (log c.loop.connections) (λ l. IsOver l (log w.next-in-loop.new.self)))) w.in_default.is w.in_ok-event.ensures.end))
+    ]
+
+pub returns-clause-ends : goal.returns-clause-ends
+returns-clause-ends g c =
+    let options = g.F.Front.options c.loop.front in
+    let left = g.F.Front.left c.loop.front in
+    let ended = g.C.Connections.has_ended in
+    elim c.match-next.branch [
+      | in-None w ↦ absurd (true≢false (sym c.next.ensures.steps ∙ ap is_some w.in-None.is))
+      | in-Some+then-writes_left-least w ↦
+          let same = ap (λ (o : Options). o.partitions) c.loop.invariant.6 in
+          let few = w.if-writes_left-least.true in
+          subst (λ x. IsFinished options (ended x) left) (sym w.connections-is)
+          (inr (omega (arith, few, w.writes_left.ensures, c.from.ensures, c.requires.partitions, same)))
+      | in-Some+else-writes_left-least+in_ok-event+in_default w ↦ subst (λ x. IsFinished options (ended x) left) (sym w.connections-is) (inl (w.in_ok-event.ensures.ended ∙ ap is_none w.in_default.is))
     ]
