@@ -44,7 +44,10 @@ fn take_block(heap: &mut Heap, sizes: &mut Sizes, need: u32) -> bool
     let Some(place) = heap.take(need) else {
         return heap.largest() < need;
     };
-    matches!(sizes.insert(place, need), Ok(None))
+    match sizes.insert(place, need) {
+        Ok(before) => before.is_none(),
+        Err(_) => false,
+    }
 }
 
 // Gives the next used block back.
