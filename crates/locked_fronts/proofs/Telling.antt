@@ -16,11 +16,12 @@ use Rattle.partition_model.proofs.Rises.{prefix_rises, stamp_rises, proper_prefi
 use Rattle.epoch_core.specs.declared.reader.ReaderState.{ReaderState}
 use Rattle.epoch_core.specs.Shape.{options_of}
 use Rattle.epoch_core.specs.ReaderState.{stamped}
-use Rattle.epoch_core.specs.Joins.{told}
+use Rattle.epoch_core.specs.Joins.{note_of, told}
 use Rattle.epoch_core.proofs.Prefixes.{prefix_same, prefix_then, longer_as}
 use Rattle.partition_table.specs.Seats.{reader_state, reader_home, note_state, note_home}
 use Rattle.optimistic_get.specs.declared.getting.Got.{Got}
 use Rattle.optimistic_get.specs.declared.getting.Got.TheVariants.{Hit as GotHit, Miss as GotMiss}
+use Rattle.optimistic_get.specs.Gets.{IsAnsweredAt}
 use Rattle.optimistic_get.specs.Asked.{IsReadAt, IsRead}
 use Rattle.optimistic_get.proofs.Repeated.{same_answer}
 use Rattle.owner_queue.specs.Acked.{IsReplyAt}
@@ -316,7 +317,24 @@ module _ (plan : Plan) (number : ℕ) (old new : LockedPart) (key : List ℕ) (s
       let it = subst (λ (g : Got). IsRead (reader_state old.seat) key g buffer (reader_state new.seat)) is read in
       part_reads Miss None (refl, it.1) it.0
 
--- A try that is told nowhere: `mid` is the part after it
+-- A try that is told nowhere
+
+pub as_counted : (old : LockedPart) (before after : ReaderState) (key : List ℕ) (answer : Answer) (value : Option (List ℕ)) (buffer : List ℕ) (stamp : ℕ) → before ≡ note_of (reader_state old.seat)
+    → IsAnswer answer buffer value → IsPrefix before.seen after.seen → after.shape ≡ before.shape → IsAnsweredAt after key value stamp → stamp ≡ old.counts.stamp → AnswersAsCounted old key answer buffer
+as_counted old before after key answer value buffer stamp anew is grows shape answered counted =
+    let same : after.shape ≡ (reader_state old.seat).shape = shape ∙ ap (λ (r : ReaderState). r.shape) anew in
+    record {
+      value = value;
+      is = is;
+      history = after.seen;
+      newest = subst (λ (r : ReaderState). IsPrefix r.seen after.seen) anew grows;
+      at = (
+        sym counted ∙ answered.stamped ∙ ap (λ s. stamp_of (options_of s) after.seen) same,
+        sym answered.answered ∙ ap (λ s. answer_of (options_of s) after.seen key) same,
+      );
+    }
+
+-- `mid` is the part after it
 
 module _ (plan : Plan) (number : ℕ) (old mid : LockedPart) (part : IsPartOf plan number old.taker.number old) (rests : PartRests old mid) where
   abbrev counted : History
@@ -324,6 +342,9 @@ module _ (plan : Plan) (number : ℕ) (old mid : LockedPart) (part : IsPartOf pl
 
   same_stamp : mid.counts.stamp ≡ old.counts.stamp
   same_stamp = ap (λ (c : HistoryCounts). c.stamp) rests.counts
+
+  same_fails : length (reader_state mid.seat).fails ≡ length (reader_state old.seat).fails + 0
+  same_fails = let same = ap (λ (r : ReaderState). length r.fails) rests.seat in omega (arith, same)
 
   stamp_counted : old.counts.stamp ≡ stamp_of plan.options counted
   stamp_counted = ap (λ (c : HistoryCounts). c.stamp) part.counts.counted
@@ -401,7 +422,7 @@ module _ (plan : Plan) (number : ℕ) (old mid : LockedPart) (part : IsPartOf pl
           ap Some (λ i. record {
             steps = map run_step (rests.taker i).mine;
             tried = (rests.seat i).tried;
-            failed = (ap (λ (r : ReaderState). length r.fails) rests.seat ∙ omega arith) i;
+            failed = same_fails i;
             closed = (rests.seat i).closed;
           }),
         );
@@ -411,7 +432,7 @@ module _ (plan : Plan) (number : ℕ) (old mid : LockedPart) (part : IsPartOf pl
           → PartChanges plan number second key needs becoming old (record { when = when; found = Some answer; outcome = None; stamp = mid.counts.stamp }) buffer (record mid { last = mid.counts.stamp })
       looks_on needs becoming none = record {
         still = rests_with mid.counts.stamp (let up = prefix_rises plan.options counted (reader_state old.seat).seen part.counts.seen in omega (arith, up, part.newest, same_stamp, stamp_counted));
-        taken = ap (λ (t : TakerView Step). length t.mine) rests.taker ∙ omega arith;
+        taken = let same = ap (λ (t : TakerView Step). length t.mine) rests.taker in omega (arith, same);
         comes = record {
           value = answers.value;
           found = answers.is;

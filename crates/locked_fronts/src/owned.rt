@@ -121,7 +121,7 @@ pub(crate) fn decide_of<D: Decide>(
     found: &ItemBuf,
     next: &mut ItemBuf,
 ) -> Change
-    ensures { (key : List ℕ) (value : Option (List ℕ)) → IsAnswer answer found.entry value
+    ensures { (key : List ℕ) (value : Option (List ℕ)) → IsAnswer answer found.entry.now value
         → written_by key next.new result ≡ write_by (D.becoming decide.entry.now) key (record { when = when; value = value }) }
 {
     match answer {

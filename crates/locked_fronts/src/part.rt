@@ -1,5 +1,5 @@
 //! What a front has of one partition.
-ghost use Rattle.std.specs.Prelude.{◌≡◌, ◌<◌, ◌×◌, Option, Some, None, List, ℕ, IfSome, IfNone};
+ghost use Rattle.std.specs.Prelude.{◌≡◌, ◌<◌, IfSome, IfNone};
 ghost use Rattle.mica_words.specs.Hash.{fnv1a};
 ghost use Rattle.mica_words.specs.Item.{KeyFits};
 ghost use Rattle.partition_model.specs.History.{History};
@@ -157,16 +157,18 @@ impl LockedPart {
         }
         let answer = self.peek(key, hash, found)?;
         let when = self.counts.when_at(second);
-        if decide_of(decide, when, answer, found, next) != Change::Stay {
-            return None;
+        match decide_of(decide, when, answer, found, next) {
+            Change::Stay => {
+                self.last = self.counts.stamp;
+                Some(Changed {
+                    when,
+                    found: Some(answer),
+                    outcome: None,
+                    stamp: self.last,
+                })
+            }
+            Change::Become | Change::Go => None,
         }
-        self.last = self.counts.stamp;
-        Some(Changed {
-            when,
-            found: Some(answer),
-            outcome: None,
-            stamp: self.last,
-        })
     }
 
     /// Owns the partition of the number for one write, and tells the seat its note.
