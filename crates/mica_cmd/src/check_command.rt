@@ -103,8 +103,7 @@ fn find(alloc: Global, options: &Options, bytes: &[u8]) -> Result<Finding, NoMem
 }
 
 fn tell<K: Sink>(alloc: Global, sink: &mut K, finding: Finding) -> Status
-    ensures { IsTold (status_of finding) (with_line_feed (finding_text finding))
-        (sink_facts K.Sink sink.old) (sink_facts K.Sink sink.new) result }
+    ensures { IsTold (status_of finding) (with_line_feed (finding_text finding)) (sink_facts K.Sink sink.old) (sink_facts K.Sink sink.new) result }
 {
     let status = finding.status();
     match format!(in alloc; "{finding}\n") {

@@ -33,8 +33,7 @@ pub fn unpack_command<S: Source, K: Sink>(alloc: Global, source: &mut S, sink: &
 }
 
 fn print_pairs<K: Sink>(alloc: Global, image: &Image, sink: &mut K) -> Status
-    ensures { IsTold Status.Done (trace_text (put_lines image.now))
-        (sink_facts K.Sink sink.old) (sink_facts K.Sink sink.new) result }
+    ensures { IsTold Status.Done (trace_text (put_lines image.now)) (sink_facts K.Sink sink.old) (sink_facts K.Sink sink.new) result }
 {
     let mut text = Vec::new(alloc);
     match put_image(image, &mut text) {
@@ -45,8 +44,7 @@ fn print_pairs<K: Sink>(alloc: Global, image: &Image, sink: &mut K) -> Status
 
 /// Writes the line that names why an image is refused.
 pub fn refuse_image<K: Sink>(alloc: Global, sink: &mut K, fault: ImageFault) -> Status
-    ensures { IsRefusedImage fault
-        (sink_facts K.Sink sink.old) (sink_facts K.Sink sink.new) result }
+    ensures { IsRefusedImage fault (sink_facts K.Sink sink.old) (sink_facts K.Sink sink.new) result }
 {
     if fault == ImageFault::NoMemory {
         return Status::NoMemory;

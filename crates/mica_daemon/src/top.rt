@@ -65,8 +65,7 @@ fn serve_aloud<
     requires tables { tables.old ≡ [] }
     ensures { ServesAloud shared.now.service (map C.last clocks.items) filling.items
         (daemon_outside (sink_facts K.Sink speaker.old.sink) (ports_at N.Net L.Listeners net.old listeners.old) tables.old)
-        (daemon_outside (sink_facts K.Sink speaker.new.sink) (ports_at N.Net L.Listeners net.new listeners.new) tables.new)
-        result }
+        (daemon_outside (sink_facts K.Sink speaker.new.sink) (ports_at N.Net L.Listeners net.new listeners.new) tables.new) result }
 {
     match serve_locked(shared, filling, net, listeners, clocks, tables, speaker) {
         Ok(totals) => print_totals(shared.alloc, totals, &mut speaker.sink),
@@ -108,8 +107,7 @@ fn stay_up<
     requires tables { tables.old ≡ [] }
     ensures { ServesOrNot options.now ports.now streams.now (map C.last clocks.items) base filling.items
         (daemon_outside (sink_facts K.Sink speaker.old.sink) (ports_at N.Net L.Listeners net.old listeners.old) tables.old)
-        (daemon_outside (sink_facts K.Sink speaker.new.sink) (ports_at N.Net L.Listeners net.new listeners.new) tables.new)
-        result }
+        (daemon_outside (sink_facts K.Sink speaker.new.sink) (ports_at N.Net L.Listeners net.new listeners.new) tables.new) result }
 {
     let Ok(board) = board_of(
         alloc,
@@ -187,8 +185,7 @@ pub fn daemon<
     requires tables { tables.old ≡ [] }
     ensures { KeepsUp (daemon_of (map string_bytes words.now)) (map C.last clocks.items) base (files_facts F.file F.free F.faults files.old) (files_facts F.file F.free F.faults files.new)
         (daemon_outside (sink_facts K.Sink speaker.old.sink) (ports_at N.Net L.Listeners net.old listeners.old) tables.old)
-        (daemon_outside (sink_facts K.Sink speaker.new.sink) (ports_at N.Net L.Listeners net.new listeners.new) tables.new)
-        result }
+        (daemon_outside (sink_facts K.Sink speaker.new.sink) (ports_at N.Net L.Listeners net.new listeners.new) tables.new) result }
 {
     let DaemonOptions {
         options,

@@ -29,7 +29,11 @@ use std::thread::Threads;
 use store_partition::StorePartition;
 
 /// Binds a port for each front, in order, up to the first bind that fails.
-pub fn bind_all<N: Net>(net: &mut N, ports: &PortOptions, ends: &mut Vec<N::End>) -> Result<(), Failed>
+pub fn bind_all<N: Net>(
+    net: &mut N,
+    ports: &PortOptions,
+    ends: &mut Vec<N::End>,
+) -> Result<(), Failed>
     requires ports { IsPossiblePorts ports.now }
     requires unbound { N.binds net.old ≡ 0 }
     requires none { ends.old.items ≡ [] }
@@ -59,9 +63,7 @@ pub fn release_all<N: Net>(net: &mut N, ends: Vec<N::End>, first: u16)
     requires ports { AreAtPorts first (map (end_facts N.End.Datagrams) ends.items) }
     requires out { IfSome (N.ports net.old) (λ all. (i : ℕ) → i < vec_len ends → all (first + i) ≡ out) }
     requires tell { IfSome (N.ports net.old) (λ all. TellAll (map (end_facts N.End.Datagrams) ends.items)) }
-    ensures { ReleasesNet first (map (end_facts N.End.Datagrams) ends.items)
-        (net_facts N.Net net.old)
-        (net_facts N.Net net.new) }
+    ensures { ReleasesNet first (map (end_facts N.End.Datagrams) ends.items) (net_facts N.Net net.old) (net_facts N.Net net.new) }
 {
     let mut ends = ends;
     while let Some(end) = ends.pop() {
@@ -129,9 +131,7 @@ fn bind_and_serve<
     requires unbound { N.binds net.old ≡ 0 }
     requires none { ends.old.items ≡ [] }
     requires room { ports.now.fronts ≤ vec_capacity ends.old }
-    ensures { BindsAndServes alone options.now empty_origin ports.now (Some result) tables.new
-        (net_facts N.Net net.old)
-        (net_facts N.Net net.new)
+    ensures { BindsAndServes alone options.now empty_origin ports.now (Some result) tables.new (net_facts N.Net net.old) (net_facts N.Net net.new)
         (map (end_facts N.End.Datagrams) ends.new.items) }
 {
     bind_all(net, ports, ends)?;
@@ -160,12 +160,8 @@ fn serve_on<
     requires ports { IsValidPorts ports.now }
     requires unbound { N.binds net.old ≡ 0 }
     requires tables { tables.old ≡ [] }
-    ensures cause { IsCauseOf alone result options.now empty_origin ports.now tables.new
-        (net_facts N.Net net.old)
-        (net_facts N.Net net.new) }
-    ensures kept { KeepsNet ports.now
-        (net_facts N.Net net.old)
-        (net_facts N.Net net.new) }
+    ensures cause { IsCauseOf alone result options.now empty_origin ports.now tables.new (net_facts N.Net net.old) (net_facts N.Net net.new) }
+    ensures kept { KeepsNet ports.now (net_facts N.Net net.old) (net_facts N.Net net.new) }
 {
     let server = Server::<P, N::End>::open(rt, alloc, options, ports)?;
     let mut ends = Vec::with_capacity(alloc, ports.fronts as usize)?;
@@ -192,12 +188,8 @@ pub fn serve<W: Threads + Wait + Sync, N: Net, G: Gate>(
     requires unbound { N.binds net.old ≡ 0 }
     requires tables { tables.old ≡ [] }
 
-    ensures cause { IsCauseOf alone result options.now empty_origin ports.now tables.new
-        (net_facts N.Net net.old)
-        (net_facts N.Net net.new) }
-    ensures kept { KeepsNet ports.now
-        (net_facts N.Net net.old)
-        (net_facts N.Net net.new) }
+    ensures cause { IsCauseOf alone result options.now empty_origin ports.now tables.new (net_facts N.Net net.old) (net_facts N.Net net.new) }
+    ensures kept { KeepsNet ports.now (net_facts N.Net net.old) (net_facts N.Net net.new) }
 {
     match options.mode {
         Mode::Cache => serve_on::<W, CachePartition<OwnerSeat>, N, G>(
