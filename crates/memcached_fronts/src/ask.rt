@@ -10,7 +10,7 @@ use crate::buffers::Buffers;
 use crate::noted::Noted;
 use crate::plain::Style;
 use memcached_changes::CommandOrder;
-use memcached_commands::{Asked, Says, put_part, put_whole};
+use memcached_commands::{Ask, Asked, Says, put_part, put_whole};
 use memcached_stats::{Tally, counter_of};
 use mica_clock::Clock;
 use mica_fronts::{Changed, Changes};
@@ -63,20 +63,21 @@ fn note_write(
     tally: &mut Tally,
     noted: &mut Noted,
     partitions: u32,
-    asked: &Asked,
+    ask: &Ask,
+    key: &[u8],
     changed: &Changed,
 )
-    ensures { tally.new ≡ noted_if partitions asked.now.key changed.now.when changed.now.outcome changed.now.stamp tally.old }
+    ensures { tally.new ≡ noted_if partitions key.now changed.now.when changed.now.outcome changed.now.stamp tally.old }
 {
     if let Some(outcome) = changed.outcome {
         let writes = changed
             .when
             .written
             .saturating_add(count_of_accepted(outcome));
-        let hash = key_hash(asked.key.bytes());
+        let hash = key_hash(key);
         let partition = partition_of(hash, partitions.max(1));
         tally.note(partition, writes, changed.stamp);
-        noted.note(&asked.ask, hash, partition, outcome);
+        noted.note(ask, hash, partition, outcome);
     }
 }
 
@@ -122,6 +123,6 @@ pub fn answer_ask<R: Threads + Wait + Sync, F: Changes, C: Clock>(
     let stored = value_found(changed.found, found);
     let says = order.says(changed.when, stored, changed.outcome);
     tally.count(counter_of(&asked.ask, &says));
-    note_write(tally, noted, partitions, asked, &changed);
+    note_write(tally, noted, partitions, &asked.ask, key, &changed);
     put_said(out, style, is_last, key, &says)
 }
