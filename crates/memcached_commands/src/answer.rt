@@ -1,11 +1,18 @@
 //! What is replied to a command, as text.
-ghost use Rattle.std.specs.Prelude.{◌≡◌, ◌++◌, ◌∷◌, [], flat_map, OnOk, OnErr};
+ghost use Rattle.std.specs.Prelude.{◌≡◌, ◌++◌, ◌∷◌, [], Some, None, if◌then◌else◌, flat_map, OnOk, OnErr};
 ghost use Rattle.memcached_text.specs.Answer.{part_text, last_text, answer_text};
 ghost use Rattle.memcached_commands.specs.Answers.{parts_of, last_of, answer_of, unless_quiet};
 
 use crate::Says;
-use memcached_text::{Reply, fault_line, put_last_value, put_number, put_value, reply_line};
+use memcached_text::{Item, Reply, fault_line, put_last_value, put_number, put_value, reply_line};
 use mica_io::NoMemory;
+
+// The unique number of an item, where it is asked for.
+fn number_of(unique: bool, item: &Item) -> Option<u64>
+    ensures { result ≡ (if unique then Some item.now.unique else None) }
+{
+    if unique { Some(item.unique) } else { None }
+}
 
 /// Appends the item that a get of this key shows, if it shows one. When out of memory, nothing is appended.
 pub fn put_part(out: &mut Vec<u8>, unique: bool, key: &[u8], says: &Says) -> Result<(), NoMemory>
@@ -15,8 +22,13 @@ pub fn put_part(out: &mut Vec<u8>, unique: bool, key: &[u8], says: &Says) -> Res
     let Says::Shows(item) = says else {
         return Ok(());
     };
-    let number = if unique { Some(item.unique) } else { None };
-    put_value(out, key, item.flags, item.value.bytes(), number)
+    put_value(
+        out,
+        key,
+        item.flags,
+        item.value.bytes(),
+        number_of(unique, item),
+    )
 }
 
 // Appends a line.
@@ -49,8 +61,13 @@ pub fn put_whole(out: &mut Vec<u8>, unique: bool, key: &[u8], says: &Says) -> Re
     let Says::Shows(item) = says else {
         return put_last(out, says);
     };
-    let number = if unique { Some(item.unique) } else { None };
-    put_last_value(out, key, item.flags, item.value.bytes(), number)
+    put_last_value(
+        out,
+        key,
+        item.flags,
+        item.value.bytes(),
+        number_of(unique, item),
+    )
 }
 
 /// Appends what is replied to a command of one key, unless it is quiet. When out of memory, nothing is appended.
