@@ -300,7 +300,8 @@ fn open_and_change<P: OnTable + LendPartition<Reader = ReaderSeat, Note = Note> 
     Ok(())
 }
 
-const SMALL: Options = Options {
+/// One small partition in store mode.
+pub const SMALL: Options = Options {
     mode: Mode::Store,
     partitions: 1,
     buckets: 1,
