@@ -304,12 +304,8 @@ fn open_and_change<P: OnTable + LendPartition<Reader = ReaderSeat, Note = Note> 
     Ok(())
 }
 
-<<<<<<< HEAD
-pub(crate) const SMALL: Options = Options {
-=======
 /// One small partition in store mode.
-pub const SMALL: Options = Options {
->>>>>>> 9bc279755afb5120f4e12c7c7f53adec511cd5eb
+pub(crate) const SMALL: Options = Options {
     mode: Mode::Store,
     partitions: 1,
     buckets: 1,

@@ -5,12 +5,8 @@ ghost use Rattle.partition_table.specs.Seats.{note_state, note_home};
 ghost use Rattle.locked_fronts.specs.Owned.{NotesAre};
 ghost use Rattle.locked_serve.specs.Opening.{ArePlanned, filled_view};
 
-<<<<<<< HEAD
-use crate::changes::front_of;
-use cache_partition::CachePartition;
-=======
 use crate::changes::{SMALL, front_of};
->>>>>>> 9bc279755afb5120f4e12c7c7f53adec511cd5eb
+use cache_partition::CachePartition;
 use epoch_core::LendPartition;
 use locked_fronts::ServerPlan;
 use locked_serve::{FilledPart, lend_hand, lock_parts, open_parts};
@@ -19,13 +15,8 @@ use memcached_fronts::{Noted, Numbering, Sweeper, sweep};
 use memcached_text::Lifetime;
 use mica_clock::MemClock;
 use mica_fronts::{Front, Glances};
-<<<<<<< HEAD
 use mica_words::{key_fits, key_hash, tail_of, value_fits};
 use partition_model::{Answer, ItemBuf, Mode, Op, Options, Outcome};
-=======
-use mica_words::{key_fits, value_fits};
-use partition_model::{Answer, ItemBuf, Op, Options, Outcome};
->>>>>>> 9bc279755afb5120f4e12c7c7f53adec511cd5eb
 use partition_table::{Note, OwnerSeat, ReaderSeat};
 use seated_partition::OnTable;
 use std::marker::Brand;
@@ -215,13 +206,9 @@ fn what_is_over_gives_its_room_back(rt: HostRuntime) -> Result<(), Fail> {
 
 const CACHE: Options = Options {
     mode: Mode::Cache,
-    partitions: 1,
     buckets: 64,
     spares: 0,
-    words: 1_024,
-    readers: 2,
-    tries: 100,
-    wear: 1_000_000,
+    ..SMALL
 };
 
 #[test]
