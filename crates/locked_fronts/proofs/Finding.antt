@@ -39,6 +39,10 @@ finds_part plan front view key hash at part lawful view_is hash_is at_is read =
       here = slice_get_read front.parts (length front.parts) at part refl (omega (arith, number, low, lawful.many)) read;
     }
 
+pub count_few : (outcome : Option Outcome) → count_of outcome ≤ 1
+count_few None = omega arith
+count_few (Some outcome) = omega arith
+
 module _ {plan : Plan} {front view : LockedView} {key : List ℕ} {at : ℕ} {part : LockedPart} (finds : FindsPart plan front view key at part) where
   found_part : IsPartOf plan at front.number part
   found_part = finds.lawful.each at part finds.here
@@ -104,10 +108,6 @@ module _ {plan : Plan} {front view : LockedView} {key : List ℕ} {at : ℕ} {pa
     pub writes_at : Writes view.options false (sessions_of view.parts (partition_of key view.options.partitions)) (record { write = write; outcome = outcome; stamp = stamp })
         (sessions_of (slice_set front.parts at new) (partition_of key view.options.partitions))
     writes_at = session_at_key new did.still (λ o s t. Writes o false s (record { write = write; outcome = outcome; stamp = stamp }) t) did.written
-
-  count_few : (outcome : Option Outcome) → count_of outcome ≤ 1
-  count_few None = omega arith
-  count_few (Some outcome) = omega arith
 
   module _ {second : ℕ} {needs : Bool} {becoming : When → Option (List ℕ) → Becoming} {changed : Changed} {buffer : List ℕ} (new : LockedPart)
       (did : PartChanges plan at second key needs becoming part changed buffer new) (some : 0 < turns_left view.parts) where

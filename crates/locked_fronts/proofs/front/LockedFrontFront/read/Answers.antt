@@ -17,7 +17,7 @@ pub read-requires-clause-own : goal.read-requires-clause-own
 read-requires-clause-own g c = is_part (finds g (goal.at.read-requires-clause-own g c).After-index_mut)
 
 pub invariant_of-self : goal.invariant_of-self
-invariant_of-self g c = (law_by_read (finds g (goal.at.invariant_of-self g c).After-index_mut) c.read.new.self c.read.ensures, c.self.invariant.1.0, left_kept (finds g (goal.at.invariant_of-self g c).After-index_mut) c.read.new.self c.read.ensures c.self.inside.left c.self.invariant.1.1)
+invariant_of-self g c = (law_by_read (finds g (goal.at.invariant_of-self g c).After-index_mut) c.read.new.self c.read.ensures, c.self.invariant.1, left_kept (finds g (goal.at.invariant_of-self g c).After-index_mut) c.read.new.self c.read.ensures c.self.inside.left c.self.invariant.2)
 
 pub returns-clause-left : goal.returns-clause-left
 returns-clause-left g c = left_by_read (finds g (goal.at.returns-clause-left g c).After-index_mut) c.read.new.self c.read.ensures
