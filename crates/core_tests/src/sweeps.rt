@@ -5,7 +5,7 @@ ghost use Rattle.partition_table.specs.Seats.{note_state, note_home};
 ghost use Rattle.locked_fronts.specs.Owned.{NotesAre};
 ghost use Rattle.locked_serve.specs.Opening.{ArePlanned, filled_view};
 
-use crate::changes::front_of;
+use crate::changes::{SMALL, front_of};
 use cache_partition::CachePartition;
 use epoch_core::LendPartition;
 use locked_fronts::ServerPlan;
@@ -199,17 +199,6 @@ fn open_and_sweep<P: OnTable + LendPartition<Reader = ReaderSeat, Note = Note> +
     Ok(())
 }
 
-const SMALL: Options = Options {
-    mode: Mode::Store,
-    partitions: 1,
-    buckets: 1,
-    spares: 1,
-    words: 1_024,
-    readers: 2,
-    tries: 100,
-    wear: 1_000_000,
-};
-
 #[test]
 fn what_is_over_gives_its_room_back(rt: HostRuntime) -> Result<(), Fail> {
     open_and_sweep::<StorePartition<OwnerSeat>>(&rt, &SMALL)
@@ -217,13 +206,9 @@ fn what_is_over_gives_its_room_back(rt: HostRuntime) -> Result<(), Fail> {
 
 const CACHE: Options = Options {
     mode: Mode::Cache,
-    partitions: 1,
     buckets: 64,
     spares: 0,
-    words: 1_024,
-    readers: 2,
-    tries: 100,
-    wear: 1_000_000,
+    ..SMALL
 };
 
 #[test]

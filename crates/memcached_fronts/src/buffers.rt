@@ -19,6 +19,7 @@ pub struct Buffers<'a> {
 }
 
 impl<'a> Buffers<'a> {
+    /// Empty buffers, with the place on the board at which their front counts.
     pub fn new(alloc: Global, board: &'a Board, place: u32) -> Result<Buffers<'a>, NoMemory> {
         Ok(Buffers {
             found: ItemBuf::new(alloc)?,

@@ -37,7 +37,7 @@ pub struct Sweeper {
 }
 
 impl Sweeper {
-    /// One that begins with the first place of each of so many partitions.
+    /// A sweeper that begins with the first place of each of so many partitions.
     pub fn new(alloc: Global, partitions: u32) -> Result<Sweeper, NoMemory> {
         Ok(Sweeper {
             partition: 0,
