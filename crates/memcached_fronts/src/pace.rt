@@ -1,5 +1,7 @@
 //! How far a sweep looks.
 
+use mica_clock::Clock;
+
 /// The fewest places that one sweep looks at: so many where the last one found nothing to take away.
 const LEAST_STRETCH: u32 = 4;
 
@@ -49,17 +51,17 @@ impl Pace {
         self.hurried
     }
 
-    /// How many places the next sweep looks at, in this second.
-    pub fn places(&mut self, second: u64) -> u32 {
+    /// How many places the next sweep looks at.
+    pub fn places<C: Clock>(&mut self, clock: &C) -> u32 {
+        if !self.hurried {
+            return self.stretch;
+        }
+        let second = clock.present();
         if second != self.second {
             self.second = second;
             self.looks = MOST_LOOKS;
         }
-        if self.hurried {
-            LONG_STRETCH.min(self.looks).max(self.stretch)
-        } else {
-            self.stretch
-        }
+        LONG_STRETCH.min(self.looks).max(self.stretch)
     }
 
     /// Whether a sweep that took so many items away may stop.

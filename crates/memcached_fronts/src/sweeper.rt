@@ -301,7 +301,7 @@ pub fn sweep<R: Threads + Wait + Sync, F: Glances, C: Clock>(
 {
     let touched = touch_used(rt, front, most, noted, &mut sweeper.key);
     sweeper.want_room(noted.take_full());
-    let places = sweeper.pace.places(clock.present());
+    let places = sweeper.pace.places(clock);
     let left = u32::try_from(most - touched).unwrap_or(u32::MAX);
     let looked = sweep_places(rt, front, clock, numbering, places.min(left), sweeper);
     touched + u64::from(looked)
