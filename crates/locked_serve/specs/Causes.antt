@@ -25,6 +25,7 @@ pub record PortFacts : Type 0 where
   pub net : NetFacts
   pub listens : ListenFacts
 
+-- the facts of ports of both kinds
 abbrev pub port_facts : NetFacts → ListenFacts → PortFacts
 port_facts net listens = record { net = net; listens = listens }
 

@@ -35,6 +35,7 @@ pub record ListenFacts : Type 0 where
   pub released : Option PortLogs
   pub place : Place
 
+-- by what listeners tell
 abbrev pub listen_facts : {L : Type 0} → (L → ℕ) → (L → Option PortLogs) → (L → Option PortLogs) → (L → Place) → L → ListenFacts
 listen_facts faults ports released place = λ l. record { faults = faults l; ports = ports l; released = released l; place = place l }
 

@@ -38,6 +38,7 @@ pub struct Sweeper {
 }
 
 impl Sweeper {
+    /// A sweeper that begins at the first place of the first partition.
     pub fn new(alloc: Global) -> Result<Sweeper, NoMemory> {
         Ok(Sweeper {
             partition: 0,
