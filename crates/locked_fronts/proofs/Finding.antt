@@ -59,6 +59,11 @@ module _ {plan : Plan} {front view : LockedView} {key : List ℕ} {at : ℕ} {pa
         let same = ap (λ (v : LockedView). turns_taken v.parts) finds.view_is in
         omega arith
 
+    -- what is left then
+    pub left_after : (left more : ℕ) → left ≡ turns_left front.parts → length new.taker.mine ≡ length part.taker.mine + more → left - more ≡ turns_left parts_after
+    left_after left more is one =
+        let all = taken_after more one in let same = ap (λ (v : LockedView). turns_taken v.parts) finds.view_is in omega (arith, is, all, same)
+
     pub keeps_law : turns_taken parts_after ≤ most_turns → IsLockedFront plan (locked_view front.options front.number parts_after)
     keeps_law few = record {
       options_are = finds.lawful.options_are;
@@ -125,6 +130,9 @@ module _ {plan : Plan} {front view : LockedView} {key : List ℕ} {at : ℕ} {pa
 
     pub left_by_read : turns_left (slice_set front.parts at new) ≡ turns_left view.parts
     left_by_read = ap (λ n. most_turns - n) none_taken
+
+    pub left_kept : (left : ℕ) → left ≡ turns_left front.parts → left ≡ turns_left (slice_set front.parts at new)
+    left_kept left is = is ∙ ap (λ (v : LockedView). turns_left v.parts) finds.view_is ∙ sym left_by_read
 
     pub reads_at : (value : Option (List ℕ)) × IsAnswer answer buffer value
         × Reads view.options false (sessions_of view.parts (partition_of key view.options.partitions)) key stamp value

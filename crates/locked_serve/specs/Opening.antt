@@ -12,6 +12,7 @@ use Rattle.turn_book.specs.Entries.{BookView, book_view, taker_view}
 use Rattle.locked_fronts.specs.declared.owned.Step.{Step}
 use Rattle.locked_fronts.specs.declared.part.LockedPart.{LockedPart}
 use Rattle.locked_fronts.specs.Plan.{Plan}
+use Rattle.locked_fronts.specs.Counts.{counts_after}
 use Rattle.locked_fronts.specs.Parts.{IsPartOf}
 use Rattle.mica_fronts.specs.declared.flushes.Flushes.{Flushes}
 use Rattle.mica_fronts.specs.Flushes.{flushes_in}
@@ -91,6 +92,7 @@ pub record LendsOne (old new : FilledView) (part : LockedPart) : Type 0 where
   pub home : reader_home part.seat ≡ old.home
   pub unanswered : part.last ≡ 0
   pub newest : part.newest ≡ stamp_of (options_in old.owner) old.owner.history
+  pub counts : part.counts ≡ counts_after (options_in old.owner) old.owner.history
 
 -- what front f begins with in a partition
 pub record IsNewPart (plan : Plan) (f p : ℕ) (part : LockedPart) : Type 0 where

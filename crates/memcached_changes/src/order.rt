@@ -95,6 +95,11 @@ impl<'a> Decide for CommandOrder<'a> {
         looks(self.ask)
     }
 
+    #[tactic(auto, using(crate::proofs::Becomings::get_gives_nothing))]
+    fn only_reads(&self) -> bool {
+        matches!(self.ask, Ask::Get)
+    }
+
     #[tactic(auto, using(crate::proofs::Becomings::same_change))]
     fn decide(&self, when: When, found: Option<&[u8]>, next: &mut ItemBuf) -> Change {
         let at = moment_at(self.base, when);

@@ -7,8 +7,8 @@ use Rattle.partition_model.specs.Write.{is_accepted}
 use Rattle.partition_model.specs.Run.{RunStep}
 use Rattle.mica_fronts.specs.Looks.{Look}
 
--- A write, with its outcome and its stamp; or the value of a key, or none, at a stamp. Under a hold: a write that was made of a look, or a look at a
--- key, at a stamp, where nothing was written.
+-- A write, with its outcome and its stamp; or the value of a key, or none, at a stamp, by a try that the seat tells. Or a write that was made of a look;
+-- or a look at a key, at a stamp, where nothing was written: no seat tells a try for it.
 pub data Answered : Type 0 where
   wrote : RunStep → Answered
   got : List ℕ → ℕ → Option (List ℕ) → Answered
@@ -36,7 +36,7 @@ step_in (got key stamp value) = None
 step_in (changed step look) = Some step
 step_in (kept key stamp look) = None
 
--- whether it was answered by a seat, without a hold
+-- whether it was answered by a try that the seat tells
 abbrev pub is_get : Answered → Bool
 is_get (wrote step) = false
 is_get (got key stamp value) = true
