@@ -17,6 +17,7 @@ pub struct Noted {
 }
 
 impl Noted {
+    /// Nothing noted.
     pub fn new() -> Noted {
         Noted {
             full: None,
@@ -51,6 +52,7 @@ impl Noted {
         &self.used[..self.count.min(MOST_USED)]
     }
 
+    /// Forgets these hashes.
     pub fn forget_used(&mut self) {
         self.count = 0;
     }

@@ -28,6 +28,7 @@ pub struct Pace {
 }
 
 impl Pace {
+    /// The pace at which nobody waits for room.
     pub fn new() -> Pace {
         Pace {
             stretch: LEAST_STRETCH,
@@ -47,6 +48,7 @@ impl Pace {
         self.hurried = false;
     }
 
+    /// Whether a write waits for room.
     pub fn is_hurried(&self) -> bool {
         self.hurried
     }

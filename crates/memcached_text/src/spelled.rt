@@ -246,6 +246,7 @@ pub fn spelled_count(from: &[u8]) -> Option<SpelledCount>
 }
 
 impl<'a> SpelledCount<'a> {
+    // The command that counts.
     #[inline]
     pub fn command(self) -> Command<'a>
         ensures { result ≡ Command.Count self.entry.direction self.entry.key.now self.entry.delta self.entry.quiet }
