@@ -11,13 +11,15 @@ use std::test::Fail;
 use std::thread::Threads;
 
 // Words that are taken where no memory is free.
-static TAKEN: [&str; 14] = [
+static TAKEN: [&str; 16] = [
+    "--partitions 1 --buckets 1 --spares 0 --words 256 --wear 1 --tries 1 --fronts 1",
     "--partitions 64",
     "--buckets 16777216",
     "--spares 16777216",
     "--words 1073741824",
     "--words 256",
     "--wear 4611686018427387904",
+    "--tries 1000 --fronts 64",
     "--memory 64M",
     "--memory 65536K",
     "--memory 67108864",
@@ -28,9 +30,10 @@ static TAKEN: [&str; 14] = [
     "--memory 4G --tries 1 --wear 1 --fronts 16",
 ];
 
-static REFUSED: [&str; 24] = [
+static REFUSED: [&str; 27] = [
     "--partitions 65",
     "--partitions 0",
+    "--buckets 0",
     "--buckets 33554432",
     "--buckets 16777215",
     "--spares 16777217",
@@ -38,6 +41,8 @@ static REFUSED: [&str; 24] = [
     "--words 255",
     "--wear 4611686018427387905",
     "--wear 0",
+    "--tries 0",
+    "--tries 1001",
     "--fronts 65",
     "--memory 63M",
     "--memory 65535K",
