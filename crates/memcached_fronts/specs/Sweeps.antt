@@ -9,7 +9,7 @@ use Rattle.mica_fronts.specs.Answered.{Answered, changed, kept, count_of_writes}
 use Rattle.mica_fronts.specs.Session.{Sessions, AnswersInOrder}
 use Rattle.memcached_fronts.specs.Seconds.{seconds_of, ToldFrom}
 
--- A key was looked at under a hold, and deleted where what was stored is over; or it was left.
+-- A key was looked at, and deleted where what was stored is over; or it was left.
 abbrev pub IsSweep : ℕ → Answered → Type 0
 IsSweep base (changed step look) = (step.write ≡ write_of Del step.write.key []) × ((stored : List ℕ) × (look.value ≡ Some stored) × (is_over base look.when stored ≡ true))
 IsSweep base (kept key stamp look) = ⊤

@@ -61,7 +61,7 @@ fn note_write(tally: &mut Tally, partitions: u32, key: &[u8], changed: &Changed)
     }
 }
 
-/// Has what is asked of a key decided and done under one hold of its partition, at the second that the clock tells, and appends the text that is due
+/// Has what is asked of a key decided of one look and done with nothing between, at the second that the clock tells, and appends the text that is due
 /// to it. When out of memory, nothing is appended, and it is done all the same.
 pub fn answer_ask<R: Threads + Wait + Sync, F: Changes, C: Clock>(
     rt: &R,
