@@ -1,9 +1,9 @@
 -- The bytes of the words that were loaded are the value of the item.
 use Rattle.std.proofs.Common.{rules}
 use Rattle.std.proofs.lemmas.Grind.{common_steps, flat_map-append}
-use Rattle.std.proofs.Common.{◌≡◌, ℕ, zero, suc, ◌+◌, ◌*◌, ◌<◌, ◌≤◌, List, [], ◌∷◌, ◌++◌, length, take, flat_map, get_or, add-zero, append_assoc, refl, sym, ap, ◌∙◌, arith, length-append}
+use Rattle.std.proofs.Common.{◌≡◌, ℕ, zero, suc, ◌+◌, ◌*◌, ◌<◌, List, [], ◌∷◌, ◌++◌, length, take, flat_map, get_or, add-zero, append_assoc, refl, sym, ap, ◌∙◌, arith, length-append}
 use Rattle.std.proofs.lemmas.Bool.{cases_lt}
-use Rattle.std.proofs.lemmas.List.{get_or_append_left, take-append-le}
+use Rattle.std.proofs.lemmas.List.{get_or_append_left}
 use Rattle.std.proofs.Math.ListN.{set}
 use Rattle.std.proofs.Math.Numerals.{add-one}
 use Rattle.std.proofs.Math.Seq.{get_or-append_seam, take-suc-set}
@@ -36,6 +36,10 @@ pub block_more : (o : OwnerState) (p i x : ℕ) (block : List ℕ) → i < lengt
     → take (i + 1) (set block i x) ≡ words_from o p (i + 1)
 block_more o p i x block inside so_far is = rw (add-one i) (take-suc-set block i x inside ∙ ap (λ (z : List ℕ). z ++ x ∷ []) so_far ∙ ap (λ (z : ℕ). words_from o p i ++ z ∷ []) is)
 
+-- one word more
+pub bytes_more : (o : OwnerState) (p i next : ℕ) → next ≡ suc i → (bytes : List ℕ) → bytes ≡ bytes_from o p i → bytes ++ to_le_bytes w64 (item_in o (p + i)) ≡ bytes_from o p next
+bytes_more o p i next more bytes so_far = grind (arith, common_steps)
+
 words_then : (o : OwnerState) (p n k : ℕ) → words_from o p (n + k) ≡ words_from o p n ++ words_from o (p + n) k
 words_then o p n zero = grind (arith, common_steps)
 words_then o p n (suc k) =
@@ -55,12 +59,6 @@ bytes_then o p n k bytes so_far =
 
 pub length-bytes_from : (o : OwnerState) (p n : ℕ) → length (bytes_from o p n) ≡ 8 * n
 length-bytes_from o p n = length-words (words_from o p n) ∙ ap (λ (z : ℕ). 8 * z) (length-words_from o p n)
-
--- the bytes of more words begin with those of fewer
-pub bytes_begin : (o : OwnerState) (p n k len : ℕ) → len ≤ 8 * n → take len (bytes_from o p (n + k)) ≡ take len (bytes_from o p n)
-bytes_begin o p n k len within =
-    ap (take len) (sym (bytes_then o p n k (bytes_from o p n) refl))
-    ∙ take-append-le len (bytes_from o p n) (bytes_from o (p + n) k) (omega (arith, length-bytes_from o p n))
 
 module _ (o : OwnerState) (p : ℕ) (key : List ℕ) (cell : Cell) (item : IsItem o p key cell) where
   header_is : item_in o p ≡ header_of cell.room (length key) (length cell.value)

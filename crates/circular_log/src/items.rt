@@ -71,7 +71,7 @@ fn eight_words<W: OwnerWords>(words: &mut W, offset: u64) -> [u64; 8]
     block
 }
 
-/// Copies the value of the item that stands at the offset. The buffer takes eight words at a time; what is loaded behind the value is cut off.
+/// Copies the value of the item that stands at the offset. The buffer's length is stored once for eight words.
 pub fn item_at<W: OwnerWords>(words: &mut W, offset: u64, out: &mut ItemBuf)
     requires offset { offset < 2 ^ 48 }
     requires item { HasItem (W.owner words.old) offset }
@@ -83,10 +83,14 @@ pub fn item_at<W: OwnerWords>(words: &mut W, offset: u64, out: &mut ItemBuf)
     let header = words.read(WordAt::Item(offset));
     let len = header_value_len(header) as usize;
     let value_at = offset + 2 + u64::from(header_key_len(header).div_ceil(8));
+    let count = len.div_ceil(8);
     out.clear();
-    for i in 0..len.div_ceil(64) {
-        let block = eight_words(words, value_at + 8 * i as u64);
+    for at in 0..count / 8 {
+        let block = eight_words(words, value_at + 8 * at as u64);
         out.push_words(&block);
+    }
+    for i in count / 8 * 8..count {
+        out.push_word(words.read(WordAt::Item(value_at + i as u64)));
     }
     out.truncate(len);
 }

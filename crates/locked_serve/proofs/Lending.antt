@@ -49,7 +49,7 @@ lent_part plan k p old new part was lends = record {
       history = old.owner.history;
       counted = lends.counts ∙ plan_counts plan.options old.owner.shape old.owner.history (ap (λ (o : OwnerState). o.shape) was.owner.state);
       seen = subst (λ (r : ReaderState). IsPrefix old.owner.history r.seen) (sym lends.seat) (prefix_same old.owner.history);
-      done = subst (λ (r : ReaderState). IsPrefix old.owner.history r.done) (sym lends.seat) 
+      done = subst (λ (r : ReaderState). IsPrefix old.owner.history r.done) (sym lends.seat)
           (subst (λ (p : Phase). IsPrefix old.owner.history (ended_in p old.owner.history)) (sym (ap (λ (o : OwnerState). o.phase) was.owner.state)) (prefix_same old.owner.history));
     };
   };

@@ -9,7 +9,7 @@ use Rattle.mica_fronts.specs.Flushes.{is_flush, flush_in}
 abbrev pub second_asked : Flush → Option ℕ
 second_asked flush = if nat_lt 0 flush.asked then Some flush.asked else None
 
--- that of a flush, and of a look under a hold
+-- that of a flush, and of a look
 abbrev pub second_in : Answered → Option ℕ
 second_in (wrote step) = if is_flush step.write then second_asked (flush_in step.write.key) else None
 second_in (got key stamp value) = None

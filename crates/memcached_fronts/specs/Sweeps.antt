@@ -10,7 +10,7 @@ use Rattle.mica_fronts.specs.Answered.{Answered, wrote, changed, kept, count_of_
 use Rattle.mica_fronts.specs.Session.{Sessions, AnswersInOrder}
 use Rattle.memcached_fronts.specs.Seconds.{seconds_of, ToldFrom}
 
--- A key was looked at under a hold, and deleted where what was stored is over; or it was left. In cache mode a key may also be touched: its item is written anew
+-- A key was looked at, and deleted where what was stored is over; or it was left. In cache mode a key may also be touched: its item is written anew
 -- at the tail of the log, with the value that it has.
 abbrev pub IsSweep : Options → ℕ → Answered → Type 0
 IsSweep options base (wrote step) = (options.mode ≡ Cache) × (step.write ≡ write_of Touch step.write.key [])
