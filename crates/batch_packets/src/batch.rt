@@ -53,12 +53,14 @@ impl Model for RequestList {
 }
 
 impl RequestList {
+    /// The requests in order.
     pub fn as_slice(&self) -> &[Request]
         ensures { result.now ≡ self.now }
     {
         self.requests.as_slice()
     }
 
+    /// The requests, which the batch gives up.
     pub fn into_vec(self) -> Vec<Request>
         ensures { result.items ≡ self }
     {
@@ -205,6 +207,7 @@ impl Batch {
 }
 
 impl<'a> BatchRef<'a> {
+    /// A batch of lent requests, to be written.
     pub fn new(version: u8, number: u32, requests: Vec<RequestRef<'a>>) -> BatchRef<'a>
         ensures { result ≡ record { version = version; number = number; requests = requests.entry.items } }
     {
@@ -215,12 +218,14 @@ impl<'a> BatchRef<'a> {
         }
     }
 
+    /// The number that the replies repeat.
     pub fn number(&self) -> u32
         ensures { result ≡ self.now.number }
     {
         self.number
     }
 
+    /// The requests in order.
     pub fn requests(&self) -> &[RequestRef<'a>]
         ensures { result.now ≡ self.now.requests }
     {

@@ -35,6 +35,7 @@ impl<'a> Model for RequestRef<'a> {
 }
 
 impl<'a> RequestRef<'a> {
+    /// A request that lends its key and its value.
     pub fn new(want: Want, ticket: u32, key: &'a [u8], value: &'a [u8]) -> RequestRef<'a>
         ensures { result ≡ record { want = want; ticket = ticket; key = key.now; value = value.now } }
     {
@@ -46,24 +47,28 @@ impl<'a> RequestRef<'a> {
         }
     }
 
+    /// What is asked for.
     pub fn want(&self) -> Want
         ensures { result ≡ self.now.want }
     {
         self.want
     }
 
+    /// The ticket that the reply repeats.
     pub fn ticket(&self) -> u32
         ensures { result ≡ self.now.ticket }
     {
         self.ticket
     }
 
+    /// The key, which the batch's bytes lend.
     pub fn key(&self) -> &'a [u8]
         ensures { result.now ≡ self.now.key }
     {
         self.key
     }
 
+    /// The value, which is empty where none is sent.
     pub fn value(&self) -> &'a [u8]
         ensures { result.now ≡ self.now.value }
     {

@@ -12,7 +12,7 @@ use Rattle.block_heap.specs.declared.block.TheConstants.{MOST_WORDS}
 use Rattle.block_heap.specs.declared.block.Block.{Block}
 use Rattle.block_heap.specs.Blocks.{free_block, IsFree, IsLargest, free_sizes, NoneFits, MayLack, words_of}
 use Rattle.block_heap.specs.Links.{node_of}
-use Rattle.block_heap.specs.Lists.{Lists, list_of, place_in, AreListed, IsListed, left_from}
+use Rattle.block_heap.specs.Lists.{Lists, list_of, place_in, AreListed, left_from}
 use Rattle.block_heap.specs.Tags.{slot_of, HasBlock}
 use Rattle.block_heap.specs.Inside.{IsHeap, HasFreeAt, AreShort, IsMost}
 use Rattle.block_heap.proofs.Places.{in_middle, free_is, free_within}

@@ -1,19 +1,18 @@
 -- The lists of slots against the free blocks.
-use Rattle.std.proofs.Common.{◌≡◌, ◌≢◌, ℕ, zero, suc, ◌+◌, ◌*◌, ◌<◌, ◌≤◌, ◌⊎◌, inl, inr, Bool, true, false, cond, eqb, List, [], ◌∷◌, ◌++◌, length, get_or, refl, sym, ap, ◌∙◌, subst, arith, length-append}
+use Rattle.std.proofs.Common.{◌≡◌, ◌≢◌, ℕ, zero, suc, ◌+◌, ◌<◌, ◌≤◌, ◌⊎◌, inl, inr, Bool, true, false, cond, eqb, List, [], ◌∷◌, ◌++◌, length, refl, sym, ap, ◌∙◌, subst, arith}
 use Rattle.std.specs.List.{Contains, sum_by}
 use Rattle.std.proofs.lemmas.List.Sums.{sum_by-cons, sum_by-append, sum_by_push}
 use Rattle.std.proofs.lemmas.List.Elements.{Contains-append_cases, Contains-append_left, Contains-append_right}
 use Rattle.std.proofs.lemmas.Bool.{cases_eq, eq-eqb, ne_eqb}
-use Rattle.std.proofs.lemmas.Grind.{common_steps}
 use Rattle.size_classes.specs.Classes.{class_of}
 use Rattle.size_classes.proofs.Rising.{below_sixty_four}
 use Rattle.block_heap.specs.declared.block.Block.{Block}
-use Rattle.block_heap.specs.Blocks.{free_block, Fills, IsFree, free_sizes, words_of}
+use Rattle.block_heap.specs.Blocks.{Fills, IsFree, free_sizes, words_of}
 use Rattle.block_heap.specs.Lists.{Lists, list_of, place_in, count_of, count_in, AreListed, IsListed, IsWithout}
 use Rattle.block_heap.specs.Tags.{slot_of}
 use Rattle.block_heap.proofs.Counting.{frees-append, free_more, free_same}
 use Rattle.block_heap.proofs.Order.{words_of-cons, words_of-fills}
-use Rattle.block_heap.proofs.Places.{parted, in_middle}
+use Rattle.block_heap.proofs.Places.{parted}
 
 -- what a block counts in a list
 pub used_counts : (class : ℕ) (weight : ℕ → ℕ) (tags : List ℕ) (block : Block) → block.used ≡ true → count_in class weight tags block ≡ 0

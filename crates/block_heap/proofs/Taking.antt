@@ -6,10 +6,6 @@ use Rattle.block_heap.specs.Blocks.{free_block, used_block, Fills, IsCoalesced, 
 use Rattle.block_heap.specs.Changes.{rest_of, IsTaken}
 use Rattle.block_heap.proofs.Order.{words_of-fills, back_fills, fills_instead, back_merged, merged_instead}
 
-rest_fills : (from end place size : ℕ) (after : List Block) → place ≡ from → Fills (from + size) after end → Fills from (rest_of place size ++ after) end
-rest_fills from end place zero after here h = let e : from + 0 ≡ from = omega arith in subst (λ n. Fills n after end) e h
-rest_fills from end place (suc size) after here h = (here, (omega arith), h)
-
 taken_fills : (from end place size need : ℕ) (after : List Block) → 0 < need → need ≤ size → Fills from (free_block place size ∷ after) end → Fills from (used_block place need ∷ (rest_of (place + need) (size - need) ++ after)) end
 taken_fills from end place size need after some enough h = grind (arith, common_steps)
 

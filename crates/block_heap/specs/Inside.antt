@@ -3,7 +3,7 @@ use Rattle.std.specs.Prelude.{◌≡◌, ℕ, ◌+◌, ◌≤◌, Option, Some, 
 use Rattle.size_classes.specs.Classes.{class_of}
 use Rattle.block_heap.specs.declared.block.TheConstants.{MOST_WORDS}
 use Rattle.block_heap.specs.declared.block.Block.{Block}
-use Rattle.block_heap.specs.Blocks.{free_block, IsFree, IsBlockList, free_sizes, words_of}
+use Rattle.block_heap.specs.Blocks.{IsFree, IsBlockList, free_sizes, words_of}
 use Rattle.block_heap.specs.Bounds.{AreBounded}
 use Rattle.block_heap.specs.Lists.{Lists, AreListed, list_of, place_in, count_of}
 use Rattle.block_heap.specs.Tags.{slot_of}

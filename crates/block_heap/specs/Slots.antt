@@ -1,5 +1,5 @@
 -- Slots of free blocks: each has a node, and those that are in no list are spare.
-use Rattle.std.specs.Prelude.{◌≡◌, ◌≢◌, ◌⊎◌, ℕ, ◌+◌, ◌-◌, ◌/◌, ◌<◌, ◌≤◌, List, [], ◌∷◌, ◌++◌, length, Contains}
+use Rattle.std.specs.Prelude.{◌≡◌, ◌≢◌, ◌⊎◌, ℕ, ◌+◌, ◌/◌, ◌<◌, List, [], ◌∷◌, ◌++◌, length, Contains}
 use Rattle.block_heap.specs.declared.links.Link.{Link}
 use Rattle.block_heap.specs.Links.{node_of, link_of, next_of, prev_of, place_of}
 

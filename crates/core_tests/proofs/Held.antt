@@ -1,9 +1,13 @@
 -- Blocks that stay used while others are taken and given back.
-use Rattle.std.proofs.Common.{◌≡◌, ℕ, zero, suc, ◌<◌, ◌⊎◌, inl, inr, ⊎_elim, List, ◌∷◌, length, get_or, set, replicate, refl, sym, ap, ◌∙◌, subst, arith}
+use Rattle.std.proofs.Common.{◌≡◌, ℕ, zero, suc, ◌<◌, ◌⊎◌, inl, inr, ⊎_elim, List, ◌∷◌, length, false, None, Some, refl, sym, ap, ◌∙◌, subst, arith}
 use Rattle.std.specs.List.{Contains, slice_index_or}
+use Rattle.std.specs.BTreeMap.{BTreeMap, get, is_at, Updates}
+use Rattle.std.specs.Map.{lookup}
+use Rattle.std.specs.Ordering.{nat_cmp}
+use Rattle.std.specs.Cmp.{unsigned_tied}
 use Rattle.std.proofs.lemmas.List.Elements.{Contains-append_left, Contains-append_right, Contains-append_cases}
-use Rattle.std.proofs.lemmas.Bool.{cases_eq}
-use Rattle.std.proofs.lemmas.List.{get_or-set_same, get_or-set_other}
+use Rattle.std.proofs.lemmas.Bool.{cases_eq, ne_eqb}
+use Rattle.std.proofs.lemmas.Option.{none-some}
 use Rattle.block_heap.specs.declared.block.Block.{Block}
 use Rattle.block_heap.specs.Blocks.{used_block, HasUsed, used_blocks}
 use Rattle.block_heap.specs.Changes.{IsTaken, IsGiven}
@@ -31,6 +35,13 @@ fewer old new block other differs adds among =
     (λ c. Contains-append_left adds.before adds.after other c)
     (λ c. Contains-append_right adds.before adds.after other (past_first block other adds.after differs c.0 c.1 c.2))
     (Contains-append_cases adds.before (block ∷ adds.after) other (subst (λ bs. Contains bs other) adds.now among)))
+
+-- each place that has a size has a used block
+abbrev pub AreHeld : List Block → BTreeMap ℕ ℕ → Type 0
+AreHeld blocks sizes = (place size : ℕ) → get nat_cmp sizes place ≡ Some size → HasUsed blocks place
+
+is_other : (place other : ℕ) → (other ≡ place → ⊥) → is_at (nat_cmp place) other ≡ false
+is_other place other differs = unsigned_tied place other ∙ ne_eqb place other (λ e. differs (sym e))
 
 -- a taken block is used
 pub used_by_take : (old new : List Block) (place need : ℕ) → IsTaken old new place need → HasUsed new place
@@ -62,28 +73,22 @@ used_after_give old new place other given differs used =
     }
 
 -- a place that gets a size when it is taken, among those that have one
-pub held_taken : (old new : List Block) (sizes : List ℕ) (place need : ℕ) → ((other : ℕ) → 0 < get_or sizes other 0 → HasUsed old other) → IsTaken old new place need
-    → (other : ℕ) → 0 < get_or (set sizes place need) other 0 → HasUsed new other
-held_taken old new sizes place need held taken other is = by (cases_eq other place)
+pub held_taken : (old new : List Block) (sizes now : BTreeMap ℕ ℕ) (place need : ℕ) → AreHeld old sizes → IsTaken old new place need → Updates nat_cmp sizes now place (Some need) → AreHeld new now
+held_taken old new sizes now place need held taken updates other size is = by (cases_eq other place)
   where
     by : (other ≡ place) ⊎ (other ≡ place → ⊥) → HasUsed new other
     by (inl e) = subst (HasUsed new) (sym e) (used_by_take old new place need taken)
-    by (inr ne) = used_after_take old new place need other taken (held other (subst (λ z. 0 < z) (get_or-set_other sizes place other need 0 ne) is))
+    by (inr ne) = used_after_take old new place need other taken (held other size (sym (updates.2 other (is_other place other ne)) ∙ is))
+
+-- a block is taken for no place, and none gets a size
+pub held_on : (old new : List Block) (sizes now : BTreeMap ℕ ℕ) (place need : ℕ) → AreHeld old sizes → IsTaken old new place need → now.entries ≡ sizes.entries → AreHeld new now
+held_on old new sizes now place need held taken same other size is =
+    used_after_take old new place need other taken (held other size (ap (lookup (is_at (nat_cmp other))) (sym same) ∙ is))
 
 -- a place whose size goes when it is given back
-pub held_given : (old new : List Block) (sizes : List ℕ) (place : ℕ) → place < length sizes → ((other : ℕ) → 0 < get_or sizes other 0 → HasUsed old other) → IsGiven old new place
-    → (other : ℕ) → 0 < get_or (set sizes place 0) other 0 → HasUsed new other
-held_given old new sizes place within held given other is = by (cases_eq other place)
+pub held_given : (old new : List Block) (sizes now : BTreeMap ℕ ℕ) (place : ℕ) → AreHeld old sizes → IsGiven old new place → Updates nat_cmp sizes now place None → AreHeld new now
+held_given old new sizes now place held given updates other size is = by (cases_eq other place)
   where
     by : (other ≡ place) ⊎ (other ≡ place → ⊥) → HasUsed new other
-    by (inl e) = absurd (let none = ap (λ k. get_or (set sizes place 0) k 0) e ∙ get_or-set_same sizes place 0 0 within in omega arith)
-    by (inr ne) = used_after_give old new place other given (λ e. ne (sym e)) (held other (subst (λ z. 0 < z) (get_or-set_other sizes place other 0 0 ne) is))
-
--- where no place has a size, each that has one has a used block
-pub none_held : (n : ℕ) (sizes : List ℕ) (blocks : List Block) → sizes ≡ replicate n 0 → (place : ℕ) → 0 < get_or sizes place 0 → HasUsed blocks place
-none_held n sizes blocks none place is = absurd (let empty = ap (λ xs. get_or xs place 0) none ∙ off n place in omega arith)
-  where
-    off : (n k : ℕ) → ◌≡◌ {A = ℕ} (get_or (replicate n 0) k 0) 0
-    off zero k = refl
-    off (suc n) zero = refl
-    off (suc n) (suc k) = off n k
+    by (inl e) = absurd (none-some size (sym updates.1 ∙ ap (get nat_cmp now) (sym e) ∙ is))
+    by (inr ne) = used_after_give old new place other given (λ e. ne (sym e)) (held other size (sym (updates.2 other (is_other place other ne)) ∙ is))

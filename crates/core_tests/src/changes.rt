@@ -304,6 +304,7 @@ fn open_and_change<P: OnTable + LendPartition<Reader = ReaderSeat, Note = Note> 
     Ok(())
 }
 
+/// One small partition in store mode.
 pub(crate) const SMALL: Options = Options {
     mode: Mode::Store,
     partitions: 1,

@@ -5,6 +5,7 @@ use mica_words::{
     header_value_len, item_size, key_fits, key_hash, pack, partition_of, tag_of, tail_of, unpack,
     value_fits,
 };
+use partition_model::has_room;
 use size_classes::class_of;
 
 /// A key, its hash, and what that chooses among 16 partitions and 16 buckets.
@@ -240,16 +241,41 @@ fn what_fits(rt: HostRuntime) {
     }
 }
 
+/// Sizes and their classes: the first ones and the last ones that the sizes have.
+static CLASSES: [(u32, u32); 12] = [
+    (1, 0),
+    (31, 30),
+    (32, 31),
+    (47, 31),
+    (48, 32),
+    (64, 33),
+    (1_048_576, 61),
+    (1_572_863, 61),
+    (1_572_864, 62),
+    (2_097_151, 62),
+    (2_097_152, 63),
+    (1_073_741_824, 63),
+];
+
 #[test]
 fn classes_of_sizes(rt: HostRuntime) {
-    assert!(rt;
-        [
-            class_of(1),
-            class_of(31),
-            class_of(32),
-            class_of(48),
-            class_of(64),
-            class_of(1_048_576),
-        ] == [0, 30, 31, 32, 33, 61]
-    );
+    for (words, class) in &CLASSES {
+        assert!(rt; *words >= 1 && class_of(*words) == *class);
+    }
+}
+
+/// Tails of logs, and whether the largest item, of 1,058 words, ends before the last of 2^48 offsets.
+static TAILS: [(u64, bool); 4] = [
+    (0, true),
+    (281_474_976_709_597, true),
+    (281_474_976_709_598, false),
+    (281_474_976_710_655, false),
+];
+
+#[test]
+fn room_at_the_end_of_a_log(rt: HostRuntime) {
+    for (tail, room) in &TAILS {
+        let stamp = tail.wrapping_mul(65_536);
+        assert!(rt; has_room(stamp) == *room && has_room(stamp | 65_535) == *room);
+    }
 }

@@ -34,6 +34,7 @@ step_of write outcome stamp = record { write = write; outcome = outcome; stamp =
 abbrev pub no_step : Step
 no_step = step_of (write_of Del [] []) Absent 0
 
+-- the step without the front that took it
 abbrev pub run_step : Step → RunStep
 run_step step = record { write = step.write; outcome = step.outcome; stamp = step.stamp }
 
@@ -43,12 +44,14 @@ run_in entries = map (λ e. run_step e.what) entries
 
 -- Under the lock
 
+-- a partition behind a lock: its number, its table, its owner's state, and the steps of all fronts' turns
 pub record Owned : Type 0 where
   pub number : ℕ
   pub home : TableId
   pub owner : OwnerState
   pub book : BookView Step
 
+-- a partition of these parts
 abbrev pub owned_as : ℕ → TableId → OwnerState → BookView Step → Owned
 owned_as number home owner book = record { number = number; home = home; owner = owner; book = book }
 

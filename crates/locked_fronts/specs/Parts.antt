@@ -51,6 +51,7 @@ abbrev pub session_or_none : Option LockedPart → Session
 session_or_none None = record { seen = []; done = []; last = 0; told = None }
 session_or_none (Some part) = session_of part
 
+-- the session of each part, by the number of its partition
 abbrev pub sessions_of : List LockedPart → Sessions
 sessions_of parts = λ p. session_or_none (slice_get parts p)
 
@@ -117,6 +118,7 @@ pub record LockedView : Type 0 where
   pub number : ℕ
   pub parts : List LockedPart
 
+-- what contracts see of a front, of its parts
 abbrev pub locked_view : Options → ℕ → List LockedPart → LockedView
 locked_view options number parts = record { options = options; number = number; parts = parts }
 
@@ -124,9 +126,11 @@ locked_view options number parts = record { options = options; number = number; 
 abbrev pub most_turns : ℕ
 most_turns = 18446744073709551615
 
+-- how many turns a front's parts took together
 abbrev pub turns_taken : List LockedPart → ℕ
 turns_taken parts = sum_by (λ part. length part.taker.mine) parts
 
+-- how many it may still take
 abbrev pub turns_left : List LockedPart → ℕ
 turns_left parts = most_turns - turns_taken parts
 

@@ -26,6 +26,7 @@ pub record FilledView : Type 0 where
   pub book : BookView Step
   pub flushes : Flushes
 
+-- what contracts see of a partition that was filled
 abbrev pub filled_view : {P : Type 0} → (P → OwnerState) → (P → TableId) → FilledPart P → FilledView
 filled_view owner home filled = record { home = home filled.part; owner = owner filled.part; book = filled.book; flushes = filled.flushes }
 
@@ -76,6 +77,7 @@ pub record IsPlanned (plan : Plan) (takers p : ℕ) (filled : FilledView) : Type
   pub book : filled.book ≡ book_view (plan.books p) takers []
   pub flushes : filled.flushes ≡ flushes_in filled.owner.history
 
+-- there is one filled partition for each number, and each is as the plan says
 pub record ArePlanned (plan : Plan) (takers : ℕ) (all : List FilledView) : Type 0 where
   pub many : length all ≡ plan.options.partitions
   pub each : (p : ℕ) (filled : FilledView) → slice_get all p ≡ Some filled → IsPlanned plan takers p filled

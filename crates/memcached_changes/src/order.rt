@@ -61,6 +61,7 @@ fn value_in(stored: Option<&[u8]>) -> Option<&[u8]>
 }
 
 impl<'a> CommandOrder<'a> {
+    /// What a client asks of a key, with the base of unique numbers.
     pub fn new(ask: &'a Ask<'a>, base: u64) -> CommandOrder<'a>
         requires { IsFitAsk ask.now }
         ensures { result ≡ record { ask = ask.now; base = base } }

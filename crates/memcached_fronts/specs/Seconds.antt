@@ -16,6 +16,7 @@ second_in (got key stamp value) = None
 second_in (changed step look) = Some look.when.second
 second_in (kept key stamp look) = Some look.when.second
 
+-- the seconds of all answers that have one, in order
 abbrev pub seconds_of : List Answered → List ℕ
 seconds_of answers = filter_map second_in answers
 

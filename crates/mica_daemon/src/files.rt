@@ -3,7 +3,7 @@ ghost use Rattle.std.specs.Prelude.{◌≡◌, ◌<◌, ◌≤◌, ℕ, List, Op
 ghost use Rattle.mica_io.specs.Faults.{Rose, faults_after};
 ghost use Rattle.mica_daemon.specs.Files.{ReadScript, is_next_failing, after_read, has_failed, Foretells};
 
-use crate::free_memory::{bound_in, free_in};
+use crate::free_memory::{SystemFiles, free_by};
 use mica_io::{ReadFault, StdSource, read_up_to};
 use std::alloc::Global;
 use std::fs;
@@ -49,13 +49,16 @@ pub struct HostFiles<'a, R> {
 }
 
 impl<'a, R: FileSystem> HostFiles<'a, R> {
+    /// The files of this machine.
     pub fn new(rt: &'a R) -> HostFiles<'a, R>
         ensures { ⟦<HostFiles<'a, R> as Files>⟧.faults result ≡ 0 }
     {
         HostFiles { rt, faults: 0 }
     }
+}
 
-    // The bytes of a file that has no more than 64 KiB, where it can be read.
+impl<'a, R: FileSystem> SystemFiles for HostFiles<'a, R> {
+    // Those that have no more than 64 KiB.
     fn short_file(&self, alloc: Global, name: &str) -> Option<Vec<u8>> {
         let file = fs::open(self.rt, name).ok()?;
         read_up_to(alloc, &mut StdSource::new(file), 65_536).ok()
@@ -73,14 +76,8 @@ impl<'a, R: FileSystem> Files for HostFiles<'a, R> {
 
     ghost free = { λ _. None };
 
-    // What the machine has, and no more than the control group may take.
     fn free_memory(&self, alloc: Global) -> Option<u64> {
-        let free = free_in(self.short_file(alloc, "/proc/meminfo")?.as_slice())?;
-        let bound = match self.short_file(alloc, "/sys/fs/cgroup/memory.max") {
-            Some(bytes) => bound_in(bytes.as_slice()).unwrap_or(free),
-            None => free,
-        };
-        Some(free.min(bound))
+        free_by(alloc, self)
     }
 
     fn read(&mut self, alloc: Global, name: &str, limit: usize) -> Result<Vec<u8>, ReadFault> {

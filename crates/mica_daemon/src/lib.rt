@@ -17,7 +17,7 @@ mod speaker;
 mod top;
 
 pub use files::{Files, HostFiles};
-pub use free_memory::{bound_in, free_in};
+pub use free_memory::{SystemFiles, free_by};
 pub use host::run_on_host;
 pub use listening::PlacedListeners;
 pub use memory_files::MemFiles;

@@ -3,7 +3,7 @@ ghost use Rattle.std.specs.Prelude.{◌≡◌, ◌<◌, ◌≤◌, List, ℕ, tr
 ghost use Rattle.mica_io.specs.Script.{is_listed};
 ghost use Rattle.mica_daemon.specs.Files.{ReadScript, Foretells, named_in, file_in, script_of, fails_at};
 
-use crate::Files;
+use crate::{Files, SystemFiles};
 use mica_io::{NoMemory, ReadFault};
 use std::alloc::Global;
 
@@ -24,6 +24,7 @@ pub struct MemFiles {
 }
 
 impl MemFiles {
+    /// No files, of which reads may be told to fail.
     pub fn new(alloc: Global) -> Self
         ensures files { (name : List ℕ) → ⟦<MemFiles as Files>⟧.file result name ≡ None }
         ensures script { (name : List ℕ) → ⟦<MemFiles as Files>⟧.script result name ≡ Some (record { is_there = false; fails = []; calls = 0 }) }
@@ -133,5 +134,13 @@ impl Files for MemFiles {
             self.faults = self.faults.saturating_add(1);
         }
         read
+    }
+}
+
+impl SystemFiles for MemFiles {
+    // Those that were added. This is no read that counts or fails.
+    fn short_file(&self, alloc: Global, name: &str) -> Option<Vec<u8>> {
+        let file = find(self.files.as_slice(), name)?;
+        Vec::from_slice(alloc, file.bytes.as_slice()).ok()
     }
 }

@@ -15,12 +15,14 @@ pub data Answered : Type 0 where
   changed : RunStep → Look → Answered
   kept : List ℕ → ℕ → Look → Answered
 
+-- the key that was asked of
 abbrev pub key_of : Answered → List ℕ
 key_of (wrote step) = step.write.key
 key_of (got key stamp value) = key
 key_of (changed step look) = step.write.key
 key_of (kept key stamp look) = key
 
+-- the stamp that was told with the answer
 abbrev pub stamp_given : Answered → ℕ
 stamp_given (wrote step) = step.stamp
 stamp_given (got key stamp value) = stamp
@@ -48,6 +50,7 @@ accepts (got key stamp value) = false
 accepts (changed step look) = is_accepted step.outcome
 accepts (kept key stamp look) = false
 
+-- the partition of the key
 abbrev pub partition_in : Options → Answered → ℕ
 partition_in options answered = partition_of (key_of answered) options.partitions
 
@@ -67,5 +70,6 @@ writes_of options partition answers = steps_of (answers_of options partition ans
 abbrev pub gets_of : Options → ℕ → List Answered → List Answered
 gets_of options partition answers = filter is_get (answers_of options partition answers)
 
+-- how many of the answers are of writes
 abbrev pub count_of_writes : List Answered → ℕ
 count_of_writes answers = length (steps_of answers)

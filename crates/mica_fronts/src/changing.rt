@@ -2,7 +2,7 @@
 ghost use Rattle.std.specs.Prelude.{◌≡◌, ◌+◌, ◌<◌, ◌≤◌, ℕ, Bool, true, false, List, [], Option, option_copied};
 ghost use Rattle.mica_words.specs.Hash.{partition_of};
 ghost use Rattle.mica_words.specs.Item.{KeyFits};
-ghost use Rattle.partition_model.specs.declared.write.Op.TheVariants.{Del};
+ghost use Rattle.partition_model.specs.declared.write.Op.TheVariants.{Del, Touch};
 ghost use Rattle.partition_model.specs.Write.{write_of};
 ghost use Rattle.mica_fronts.specs.Session.{ChangesOnly, Writes};
 ghost use Rattle.mica_fronts.specs.Changing.{Becoming, GivesNothing, IsChange, ComesTo, count_of};
@@ -91,6 +91,19 @@ pub trait Changes: Front {
         ensures written { let p = partition_of key.entry.now (Self.options self.old).partitions in
             Writes (Self.options self.old) Self.is_alone (Self.sessions self.old p)
             (record { write = write_of Del key.entry.now []; outcome = result.0; stamp = result.1 }) (Self.sessions self.new p) }
+        ensures others { ChangesOnly (partition_of key.entry.now (Self.options self.old).partitions) (Self.sessions self.old) (Self.sessions self.new) }
+        ensures left { Self.left self.old ≤ Self.left self.new + 1 }
+        ensures options { Self.options self.new ≡ Self.options self.old }
+        ensures number { Self.number self.new ≡ Self.number self.old }
+        ensures stands { Self.stands self.new ≡ Self.stands self.old };
+
+    /// The outcome of a touch, and the stamp after it. It takes no memory.
+    fn touch<R: Threads + Wait + Sync>(&mut self, rt: &R, key: &[u8]) -> (Outcome, u64)
+        requires key { KeyFits key.now }
+        requires left { 0 < Self.left self.old }
+        ensures written { let p = partition_of key.entry.now (Self.options self.old).partitions in
+            Writes (Self.options self.old) Self.is_alone (Self.sessions self.old p)
+            (record { write = write_of Touch key.entry.now []; outcome = result.0; stamp = result.1 }) (Self.sessions self.new p) }
         ensures others { ChangesOnly (partition_of key.entry.now (Self.options self.old).partitions) (Self.sessions self.old) (Self.sessions self.new) }
         ensures left { Self.left self.old ≤ Self.left self.new + 1 }
         ensures options { Self.options self.new ≡ Self.options self.old }

@@ -2,21 +2,24 @@
 
 use crate::lasting::run_lasting;
 use mica_cmd::Status;
-use mica_daemon::{MemFiles, bound_in, free_in};
-use mica_io::MemNet;
+use mica_daemon::{MemFiles, free_by};
+use mica_io::{MemNet, NoMemory};
+use std::alloc::Global;
 use std::process::Abort;
 use std::sync::Wait;
 use std::test::Fail;
 use std::thread::Threads;
 
 // Words that are taken where no memory is free.
-static TAKEN: [&str; 14] = [
+static TAKEN: [&str; 16] = [
+    "--partitions 1 --buckets 1 --spares 0 --words 256 --wear 1 --tries 1 --fronts 1",
     "--partitions 64",
     "--buckets 16777216",
     "--spares 16777216",
     "--words 1073741824",
     "--words 256",
     "--wear 4611686018427387904",
+    "--tries 1000 --fronts 64",
     "--memory 64M",
     "--memory 65536K",
     "--memory 67108864",
@@ -27,9 +30,10 @@ static TAKEN: [&str; 14] = [
     "--memory 4G --tries 1 --wear 1 --fronts 16",
 ];
 
-static REFUSED: [&str; 24] = [
+static REFUSED: [&str; 27] = [
     "--partitions 65",
     "--partitions 0",
+    "--buckets 0",
     "--buckets 33554432",
     "--buckets 16777215",
     "--spares 16777217",
@@ -37,6 +41,8 @@ static REFUSED: [&str; 24] = [
     "--words 255",
     "--wear 4611686018427387905",
     "--wear 0",
+    "--tries 0",
+    "--tries 1001",
     "--fronts 65",
     "--memory 63M",
     "--memory 65535K",
@@ -96,17 +102,90 @@ fn ends_where_too_little_is_free(rt: HostRuntime) -> Result<(), Fail> {
     expect_end(&rt, words, 6_688, Status::NetFault, b"net fault\n")
 }
 
+/// What the system says: of the machine, and of a control group of version 2 and of one of version 1 what it bounds its processes to,
+/// how much they take, and what that is. A file without text is not there.
+static FILES: [&str; 7] = [
+    "/proc/meminfo",
+    "/sys/fs/cgroup/memory.max",
+    "/sys/fs/cgroup/memory.current",
+    "/sys/fs/cgroup/memory.stat",
+    "/sys/fs/cgroup/memory/memory.limit_in_bytes",
+    "/sys/fs/cgroup/memory/memory.usage_in_bytes",
+    "/sys/fs/cgroup/memory/memory.stat",
+];
+
+/// 2,097,152 bytes are free.
+const MACHINE: &str = "MemTotal:  9 kB\nMemFree: 4 kB\nMemAvailable:    2048 kB\nBuffers: 1 kB\n";
+
+const PARTS: &str = "anon 7\nfile 9\ninactive_anon 3\ninactive_file 100000\nactive_file 5\n";
+
+const OLD_PARTS: &str = "cache 9\nrss 8\ninactive_file 50000\ntotal_inactive_file 60000\n";
+
+/// Texts of these files, and how many bytes are free by them.
+type FreeRow = ([&'static str; 7], Option<u64>);
+
+static FREE: [FreeRow; 16] = [
+    (["", "", "", "", "", "", ""], None),
+    (["MemTotal:  9 kB\n", "", "", "", "", "", ""], None),
+    (["MemAvailable: 2048", "", "", "", "", "", ""], None),
+    (["MemAvailable: many kB\n", "", "", "", "", "", ""], None),
+    (["MemAvailable: 0 kB\n", "", "", "", "", "", ""], Some(0)),
+    ([MACHINE, "", "", "", "", "", ""], Some(2_097_152)),
+    (["", "1048576\n", "0\n", "", "", "", ""], None),
+    ([MACHINE, "max\n", "5\n", "", "", "", ""], Some(2_097_152)),
+    ([MACHINE, "1048576\n", "", "", "", "", ""], Some(1_048_576)),
+    (
+        [MACHINE, "1048576\n", "48576\n", "", "", "", ""],
+        Some(1_000_000),
+    ),
+    (
+        [MACHINE, "1048576\n", "248576\n", PARTS, "", "", ""],
+        Some(900_000),
+    ),
+    (
+        [MACHINE, "1048576\n", "48576\n", PARTS, "", "", ""],
+        Some(1_048_576),
+    ),
+    (
+        [MACHINE, "1048576\n", "9999999\n", PARTS, "", "", ""],
+        Some(0),
+    ),
+    (
+        [MACHINE, "", "", "", "1048576\n", "248576\n", OLD_PARTS],
+        Some(850_000),
+    ),
+    (
+        [
+            MACHINE,
+            "",
+            "",
+            "",
+            "9223372036854771712\n",
+            "9999999\n",
+            "",
+        ],
+        Some(2_097_152),
+    ),
+    (
+        [MACHINE, "1048576\n", "0\n", "", "1000000\n", "1000\n", ""],
+        Some(999_000),
+    ),
+];
+
+fn free_of(alloc: Global, row: &FreeRow) -> Result<Option<u64>, NoMemory> {
+    let mut files = MemFiles::new(alloc);
+    for (name, text) in FILES.iter().zip(row.0.iter()) {
+        if !text.is_empty() {
+            files.add(alloc, name, text.as_bytes(), &[])?;
+        }
+    }
+    Ok(free_by(alloc, &files))
+}
+
 #[test]
-fn what_the_system_says_is_free(rt: HostRuntime) {
-    assert!(rt;
-        free_in(b"MemTotal:  9 kB\nMemFree: 4 kB\nMemAvailable:    2048 kB\nBuffers: 1 kB\n")
-            == Some(2_097_152)
-    );
-    assert!(rt; free_in(b"MemAvailable: 0 kB\n") == Some(0));
-    assert!(rt; free_in(b"MemTotal:  9 kB\n").is_none());
-    assert!(rt; free_in(b"MemAvailable: 2048").is_none());
-    assert!(rt; free_in(b"MemAvailable: many kB\n").is_none());
-    assert!(rt; free_in(b"").is_none());
-    assert!(rt; bound_in(b"1048576\n") == Some(1_048_576));
-    assert!(rt; bound_in(b"max\n").is_none());
+fn what_the_system_says_is_free(rt: HostRuntime) -> Result<(), Fail> {
+    for row in &FREE {
+        assert!(rt; free_of(rt.alloc(), row)? == row.1);
+    }
+    Ok(())
 }

@@ -1,6 +1,5 @@
 use Rattle.std.proofs.Common.{refl, ap, ◌∙◌, subst, sym, arith}
 use Rattle.std.specs.List.{Contains}
-use Rattle.block_heap.specs.declared.block.Block.{Block}
 use Rattle.block_heap.specs.Lists.{list_of, place_in}
 use Rattle.block_heap.specs.Inside.{HasFreeAt}
 use Rattle.block_heap.proofs.Finding.{has_free, block_at, found_at}

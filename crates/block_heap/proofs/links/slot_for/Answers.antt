@@ -1,5 +1,4 @@
-use Rattle.std.proofs.Common.{◌≡◌, ◌∷◌, ◌++◌, [], inl, arith}
-use Rattle.block_heap.proofs.Places.{in_middle}
+use Rattle.std.proofs.Common.{arith}
 use Rattle.block_heap.proofs.SlotLaws.{reused, last_among}
 use Rattle.block_heap.proofs.links.slot_for.Goals as goal
 

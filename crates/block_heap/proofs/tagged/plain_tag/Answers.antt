@@ -1,4 +1,4 @@
-use Rattle.std.proofs.Common.{inl, inr, refl, ap, ◌∙◌, sym}
+use Rattle.std.proofs.Common.{inl, inr, refl, ap}
 use Rattle.block_heap.proofs.TagLaws.{tag_tells}
 use Rattle.block_heap.proofs.tagged.plain_tag.Goals as goal
 

@@ -1,8 +1,8 @@
-use Rattle.core_tests.proofs.Held.{used_after_take, held_taken}
+use Rattle.core_tests.proofs.Held.{held_taken, held_on}
 use Rattle.core_tests.proofs.heap.take_block.Goals as goal
 
-pub returns-then-place-sizes : goal.returns-then-place-sizes
-returns-then-place-sizes c = λ other is. used_after_take c.args.heap.now c.take.new.self c.in-Some.place c.args.need other c.in-Some.ensures.taken (c.requires other is)
+pub returns-in-Ok : goal.returns-in-Ok
+returns-in-Ok c = held_taken c.args.heap.now c.take.new.self c.args.sizes.now c.insert.new.self c.in-Some.place c.args.need c.requires c.in-Some.ensures.taken c.in-Ok.ensures.updates
 
-pub returns : goal.returns
-returns c = held_taken c.args.heap.now c.take.new.self c.args.sizes.now c.in-Some.place c.args.need c.requires c.in-Some.ensures.taken
+pub returns-in-Err : goal.returns-in-Err
+returns-in-Err c = held_on c.args.heap.now c.take.new.self c.args.sizes.now c.insert.new.self c.in-Some.place c.args.need c.requires c.in-Some.ensures.taken c.in-Err.ensures.err

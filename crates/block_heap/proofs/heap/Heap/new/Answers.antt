@@ -1,9 +1,5 @@
-use Rattle.std.proofs.Common.{ℕ, List, ◌≡◌, ◌∷◌, [], ◌<◌, ◌∙◌, refl, ap, sym, subst, arith, length}
-use Rattle.std.specs.List.{Contains}
-use Rattle.block_heap.specs.declared.block.Block.{Block}
-use Rattle.block_heap.specs.Blocks.{free_block, IsFree}
+use Rattle.std.proofs.Common.{ℕ, ◌≡◌, ◌<◌, ◌∙◌, subst}
 use Rattle.block_heap.specs.Bounds.{bound_of}
-use Rattle.block_heap.specs.Lists.{list_of}
 use Rattle.block_heap.specs.Tags.{slot_of}
 use Rattle.block_heap.proofs.Bounding.{bounded_new}
 use Rattle.block_heap.proofs.Keeping.{heap_new}

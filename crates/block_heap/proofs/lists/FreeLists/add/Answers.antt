@@ -1,10 +1,8 @@
-use Rattle.std.proofs.Common.{◌≡◌, ◌+◌, ◌-◌, ◌<◌, ◌≤◌, ◌∷◌, ◌++◌, ℕ, [], length, sym, ap, ◌∙◌, subst, arith}
+use Rattle.std.proofs.Common.{◌≡◌, ◌+◌, ◌<◌, ◌≤◌, ◌∷◌, ◌++◌, [], length, sym, ap, ◌∙◌, subst, arith}
 use Rattle.std.specs.List.{Contains}
-use Rattle.std.specs.Prelude.{vec_capacity}
 use Rattle.block_heap.specs.declared.links.Link.{Link}
-use Rattle.block_heap.specs.Links.{node_of, place_of}
 use Rattle.block_heap.specs.Slots.{most_slots}
-use Rattle.block_heap.specs.Lists.{list_of, count_of, place_in, IsListed, IsUnlisted, KeepsSlots}
+use Rattle.block_heap.specs.Lists.{list_of, count_of, place_in, IsListed, IsUnlisted}
 use Rattle.block_heap.proofs.ListLaws.{Changed, last_node, adds_last, added, head_link}
 use Rattle.block_heap.proofs.SlotLaws.{got_unlisted, got_longer, got_within, got_count, got_kept}
 use Rattle.block_heap.proofs.lists.FreeLists.add.Goals as goal

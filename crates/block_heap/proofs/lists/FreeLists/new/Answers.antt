@@ -1,4 +1,4 @@
-use Rattle.std.proofs.Common.{◌-◌, ◌≡◌, ap, subst, sym, length, arith}
+use Rattle.std.proofs.Common.{ap, subst, sym, length, arith}
 use Rattle.block_heap.specs.Slots.{AreApart}
 use Rattle.block_heap.proofs.ListLaws.{keeps_none, no_slots}
 use Rattle.block_heap.proofs.lists.FreeLists.new.Goals as goal

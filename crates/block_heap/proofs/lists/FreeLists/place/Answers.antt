@@ -1,4 +1,4 @@
-use Rattle.std.proofs.Common.{◌≡◌, ◌∙◌, sym, ap, subst, arith}
+use Rattle.std.proofs.Common.{◌∙◌, sym, ap, subst, arith}
 use Rattle.std.specs.List.{Contains}
 use Rattle.block_heap.specs.declared.links.Link.{Link}
 use Rattle.block_heap.specs.Links.{node_of}

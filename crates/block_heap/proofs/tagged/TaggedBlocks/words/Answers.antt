@@ -1,4 +1,4 @@
-use Rattle.std.proofs.Common.{arith, ap, sym, ◌∙◌}
+use Rattle.std.proofs.Common.{ap, sym, ◌∙◌}
 use Rattle.block_heap.specs.Blocks.{words_of}
 use Rattle.block_heap.proofs.TagLaws.{words_told}
 use Rattle.block_heap.proofs.tagged.TaggedBlocks.words.Goals as goal
