@@ -1,5 +1,5 @@
 //! Batches of requests, read from bytes and written.
-ghost use Rattle.std.specs.Prelude.{◌≡◌, ◌≤◌, ◌↔◌, ◌+◌, ◌++◌, ℕ, false, length, All, IsTrue, IfOk, OnOk, IfSome, IfNone, IsOkUnless};
+ghost use Rattle.std.specs.Prelude.{◌≡◌, ◌<◌, ◌≤◌, ◌↔◌, ◌+◌, ◌^◌, ◌++◌, ℕ, false, length, All, IsTrue, IfOk, OnOk, IfSome, IfNone, IsOkUnless};
 ghost use Rattle.std.specs.List.{flat_map};
 ghost use Rattle.batch_packets.specs.Faults.{AgreesWith};
 ghost use Rattle.batch_packets.specs.declared.header.TheConstants.{HEADER_LEN};
@@ -53,12 +53,14 @@ impl Model for RequestList {
 }
 
 impl RequestList {
+    /// The requests in order.
     pub fn as_slice(&self) -> &[Request]
         ensures { result.now ≡ self.now }
     {
         self.requests.as_slice()
     }
 
+    /// The requests, which the batch gives up.
     pub fn into_vec(self) -> Vec<Request>
         ensures { result.items ≡ self }
     {
@@ -176,7 +178,36 @@ impl<'a> Model for BatchRef<'a> {
     ghost view = { λ b. record { version = b.version; number = b.number; requests = b.requests.items } };
 }
 
+impl Request {
+    /// The request, whose texts lie here.
+    fn lend(&self) -> RequestRef<'_>
+        ensures { result ≡ self.now }
+    {
+        RequestRef::new(
+            self.want,
+            self.ticket,
+            self.key.bytes(),
+            self.value.bytes(),
+        )
+    }
+}
+
+impl Batch {
+    /// The batch, whose texts lie here.
+    pub fn lend(&self, alloc: Global) -> Result<BatchRef<'_>, NoMemory>
+        ensures { IfOk result (λ lent. lent ≡ self.now) }
+    {
+        let requests = self.requests.as_slice();
+        let mut lent = Vec::with_capacity(alloc, requests.len())?;
+        for request in requests {
+            lent.push_reserved(request.lend());
+        }
+        Ok(BatchRef::new(self.version, self.number, lent))
+    }
+}
+
 impl<'a> BatchRef<'a> {
+    /// A batch of lent requests, to be written.
     pub fn new(version: u8, number: u32, requests: Vec<RequestRef<'a>>) -> BatchRef<'a>
         ensures { result ≡ record { version = version; number = number; requests = requests.entry.items } }
     {
@@ -187,12 +218,14 @@ impl<'a> BatchRef<'a> {
         }
     }
 
+    /// The number that the replies repeat.
     pub fn number(&self) -> u32
         ensures { result ≡ self.now.number }
     {
         self.number
     }
 
+    /// The requests in order.
     pub fn requests(&self) -> &[RequestRef<'a>]
         ensures { result.now ≡ self.now.requests }
     {
@@ -210,7 +243,17 @@ impl<'a> BatchRef<'a> {
             && !requests.is_empty()
             && requests.len() <= MAX_ITEMS
             && requests.iter().all(|request| request.is_of(version))
-            && fits(version, requests)
+            && HEADER_LEN + len_of(requests) <= max_datagram_len(version)
+    }
+
+    /// How many bytes its text has.
+    #[tactic(auto, unfolding(crate::specs::BatchGrammar::batch_text))]
+    pub fn text_len(&self) -> usize
+        requires lawful { All (IsRequest self.now.version) self.now.requests }
+        requires few { length self.now.requests ≤ MAX_ITEMS }
+        ensures { result ≡ length (batch_text self.now) }
+    {
+        HEADER_LEN + len_of(self.requests.as_slice())
     }
 
     /// Puts its text in place of what `out` has.
@@ -223,26 +266,27 @@ impl<'a> BatchRef<'a> {
             count: self.requests.len() as u8,
             number: self.number,
         };
-        write_batch(header, self.requests.as_slice(), out)
+        put_batch(header, self.requests.as_slice(), out)
     }
 }
 
-/// Whether the text of a batch of these requests is no longer than a datagram.
-fn fits(version: u8, requests: &[RequestRef]) -> bool
-    requires lawful { All (IsRequest version) requests.now }
+/// How many bytes the texts of these requests have.
+fn len_of(requests: &[RequestRef]) -> usize
+    requires lawful { (version : ℕ) × All (IsRequest version) requests.now }
     requires few { length requests.now ≤ MAX_ITEMS }
-    ensures { IsTrue result ↔ (HEADER_LEN + length (flat_map request_text requests.now) ≤ max_datagram_len version) }
+    ensures len { result ≡ length (flat_map request_text requests.now) }
+    ensures small { result < 2 ^ 32 }
 {
-    let mut len = HEADER_LEN;
+    let mut len = 0;
     for request in requests {
         len += request.text_len();
     }
-    len <= max_datagram_len(version)
+    len
 }
 
 /// Puts the text of the batch under this header in place of what `out` has.
 #[tactic(auto, unfolding(crate::specs::BatchGrammar::batch_text))]
-fn write_batch(header: Header, requests: &[RequestRef], out: &mut Vec<u8>) -> Result<(), NoMemory>
+fn put_batch(header: Header, requests: &[RequestRef], out: &mut Vec<u8>) -> Result<(), NoMemory>
     requires count { header.count ≡ length requests.now }
     requires batch { IsBatch (record { version = header.version; number = header.number; requests = requests.now }) }
     ensures { OnOk result (out.new.items ≡ batch_text (record { version = header.version; number = header.number; requests = requests.now })) }
@@ -253,4 +297,15 @@ fn write_batch(header: Header, requests: &[RequestRef], out: &mut Vec<u8>) -> Re
         request.put(out)?;
     }
     Ok(())
+}
+
+/// The text of a batch.
+pub fn write_batch(alloc: Global, batch: &Batch) -> Result<Datagram, NoMemory>
+    requires { IsBatch batch.now }
+    ensures { IfOk result (λ text. text ≡ batch_text batch.now) }
+{
+    let lent = batch.lend(alloc)?;
+    let mut text = Vec::with_capacity(alloc, lent.text_len())?;
+    lent.write(&mut text)?;
+    Ok(Datagram::from(text))
 }

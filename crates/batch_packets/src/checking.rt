@@ -4,7 +4,7 @@ ghost use Rattle.batch_packets.specs.declared.header.TheConstants.{HEADER_LEN, M
 ghost use Rattle.batch_packets.specs.declared.batch.Request.{Request};
 ghost use Rattle.batch_packets.specs.declared.batch.Batch.{Batch};
 ghost use Rattle.batch_packets.specs.Faults.{AnswersExactly};
-ghost use Rattle.batch_packets.specs.Datagram.{first_fault};
+ghost use Rattle.batch_packets.specs.Datagram.{is_version, max_datagram_len, first_fault};
 ghost use Rattle.batch_packets.specs.BatchGrammar.{IsRequest, SpellsBatch, batch_kind, request_text};
 ghost use Rattle.batch_packets.specs.Remaining.{HasLeft};
 
@@ -35,6 +35,7 @@ impl<'a> Model for RequestRef<'a> {
 }
 
 impl<'a> RequestRef<'a> {
+    /// A request that lends its key and its value.
     pub fn new(want: Want, ticket: u32, key: &'a [u8], value: &'a [u8]) -> RequestRef<'a>
         ensures { result ≡ record { want = want; ticket = ticket; key = key.now; value = value.now } }
     {
@@ -46,24 +47,28 @@ impl<'a> RequestRef<'a> {
         }
     }
 
+    /// What is asked for.
     pub fn want(&self) -> Want
         ensures { result ≡ self.now.want }
     {
         self.want
     }
 
+    /// The ticket that the reply repeats.
     pub fn ticket(&self) -> u32
         ensures { result ≡ self.now.ticket }
     {
         self.ticket
     }
 
+    /// The key, which the batch's bytes lend.
     pub fn key(&self) -> &'a [u8]
         ensures { result.now ≡ self.now.key }
     {
         self.key
     }
 
+    /// The value, which is empty where none is sent.
     pub fn value(&self) -> &'a [u8]
         ensures { result.now ≡ self.now.value }
     {
@@ -95,8 +100,10 @@ impl<'a> RequestRef<'a> {
     #[tactic(auto, unfolding(crate::specs::BatchGrammar::request_text))]
     pub fn text_len(&self) -> usize
         requires { (version : ℕ) × IsRequest version self.now }
-        ensures len { result ≡ length (request_text self.now) }
-        ensures fits { HEADER_LEN + result ≤ MAX_DATAGRAM_LEN_V2 }
+        ensures size { result ≡ length (request_text self.now) }
+        ensures fits { (version : ℕ) → IsTrue (is_version version) → IsRequest version self.now
+            → HEADER_LEN + result ≤ max_datagram_len version }
+        ensures short { HEADER_LEN + result ≤ MAX_DATAGRAM_LEN_V2 }
     {
         8 + self.key.len() + self.value.len()
     }

@@ -15,7 +15,7 @@ mod replies;
 mod reply_text;
 mod status;
 
-pub use batch::{Batch, BatchRef, Request, RequestList, Want, read_batch};
+pub use batch::{Batch, BatchRef, Request, RequestList, Want, read_batch, write_batch};
 pub use checking::{RequestRef, Requests, check_batch};
 pub use fault::BatchFault;
 pub use header::{

@@ -35,12 +35,14 @@ impl Model for ReplyList {
 }
 
 impl ReplyList {
+    /// The replies in order.
     pub fn as_slice(&self) -> &[Reply]
         ensures { result.now ≡ self.now }
     {
         self.replies.as_slice()
     }
 
+    /// The replies, which the list gives up.
     pub fn into_vec(self) -> Vec<Reply>
         ensures { result.items ≡ self }
     {

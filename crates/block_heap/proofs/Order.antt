@@ -1,5 +1,6 @@
 -- Block lists that fill a heap.
 use Rattle.std.proofs.Common.{◌≡◌, ℕ, ◌+◌, ◌≤◌, List, [], ◌∷◌, ◌++◌, subst, arith}
+use Rattle.std.proofs.Props.{props}
 use Rattle.std.proofs.lemmas.List.Sums.{sum_by-cons, sum_by-append}
 use Rattle.std.proofs.lemmas.Grind.{common_steps}
 use Rattle.block_heap.specs.declared.block.Block.{Block}
@@ -43,3 +44,12 @@ pub merged_instead : (xs ys zs : List Block) → IsCoalesced (xs ++ ys) → (Beg
 merged_instead [] ys zs h begins is = is
 merged_instead (x ∷ []) ys zs h begins is = (λ both. h.0 (both.0, begins both.1), is)
 merged_instead (x ∷ y ∷ xs) ys zs h begins is = (h.0, merged_instead (y ∷ xs) ys zs h.1 begins is)
+
+-- blocks fill words in one way, and one way only tells that no two free ones touch
+pub fills_once : (from end : ℕ) (blocks : List Block) → IsProp (Fills from blocks end)
+fills_once from end [] = hlevel props
+fills_once from end (block ∷ blocks) = hlevel (props, fills_once (from + block.size) end blocks)
+
+pub coalesced_once : (blocks : List Block) → IsProp (IsCoalesced blocks)
+coalesced_once [] = hlevel props
+coalesced_once (block ∷ blocks) = hlevel (props, coalesced_once blocks)

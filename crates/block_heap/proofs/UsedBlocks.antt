@@ -1,7 +1,8 @@
 -- The used blocks: they lie apart in the heap, taking adds one to them, and giving back removes one.
 use Rattle.std.proofs.Common.{◌≡◌, ℕ, ◌+◌, ◌≤◌, ◌⊎◌, inl, inr, List, [], ◌∷◌, ◌++◌, refl, sym, ap, ◌∙◌, subst, arith, Bool, true, false}
-use Rattle.std.specs.List.{All, AllPairs}
-use Rattle.std.proofs.lemmas.List.Elements.{All-nil, All-cons, All-weaker, All-filter, All-append, filter-append}
+use Rattle.std.specs.List.{All, AllPairs, Contains}
+use Rattle.std.proofs.lemmas.List.{get_or_default}
+use Rattle.std.proofs.lemmas.List.Elements.{All-nil, All-cons, All-contains, All-weaker, All-filter, All-append, filter-append}
 use Rattle.std.proofs.lemmas.List.Kept.{AllPairs-cons}
 use Rattle.std.proofs.lemmas.Grind.{common_steps}
 use Rattle.block_heap.specs.declared.block.Block.{Block}
@@ -95,3 +96,15 @@ taken_apart words old new place need list taken =
     subst (λ (bs : List Block). All Apart bs) (sym ((used_blocks-taken old new place need taken).was))
     (All-append Apart (used_blocks taken.before) (used_blocks taken.after)
     (All-filter (λ (b : Block). b.used) Apart taken.before lower) (All-filter (λ (b : Block). b.used) Apart taken.after upper))
+
+-- a used block lies in the heap
+pub block_within : (words : ℕ) (blocks : List Block) → IsBlockList words blocks → (place size : ℕ) → Contains (used_blocks blocks) (used_block place size) → place + size ≤ words
+block_within words blocks list place size has = grind (arith, common_steps, All-contains, used_within words blocks list)
+
+-- two used blocks are one, or lie apart
+pub same_or_apart : (words : ℕ) (blocks : List Block) → IsBlockList words blocks → (one other : Block) → Contains (used_blocks blocks) one
+    → Contains (used_blocks blocks) other → (one ≡ other) ⊎ ((one.place + one.size ≤ other.place) ⊎ (other.place + other.size ≤ one.place))
+same_or_apart words blocks list one other has has' =
+    let apart = used_apart words blocks list in
+    let is = get_or_default (used_blocks blocks) has.0 other one has.1 in
+    grind (arith, is, has.1, has.2, has'.1, has'.2, apart has.0 has'.0 other, apart has'.0 has.0 other)

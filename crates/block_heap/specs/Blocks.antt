@@ -2,9 +2,11 @@
 use Rattle.std.specs.Prelude.{◌≡◌, ℕ, ◌+◌, ◌-◌, ◌*◌, ◌<◌, ◌≤◌, not, true, false, List, [], ◌∷◌, length, map, filter, sum_by, All, Contains}
 use Rattle.block_heap.specs.declared.block.Block.{Block}
 
+-- a block that is free
 abbrev pub free_block : ℕ → ℕ → Block
 free_block place size = record { place = place; size = size; used = false }
 
+-- a block that is in use
 abbrev pub used_block : ℕ → ℕ → Block
 used_block place size = record { place = place; size = size; used = true }
 
@@ -35,6 +37,7 @@ pub record IsBlockList (words : ℕ) (blocks : List Block) : Type 0 where
 abbrev pub words_of : List Block → ℕ
 words_of blocks = sum_by (λ block. block.size) blocks
 
+-- those that are in use, in order
 abbrev pub used_blocks : List Block → List Block
 used_blocks blocks = filter (λ block. block.used) blocks
 

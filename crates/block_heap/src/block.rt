@@ -14,6 +14,7 @@ pub struct Block {
 }
 
 impl Block {
+    /// A free block.
     pub fn free(place: u32, size: u32) -> Self
         ensures { result ≡ free_block place size }
     {
@@ -24,6 +25,7 @@ impl Block {
         }
     }
 
+    /// A block in use.
     pub fn used(place: u32, size: u32) -> Self
         ensures { result ≡ used_block place size }
     {

@@ -30,6 +30,7 @@ impl Bounds {
         Ok(Bounds { bounds })
     }
 
+    /// The bound of a class.
     pub fn of(&self, class: u32) -> u32
         requires { class < 64 }
         ensures { result ≡ bound_of self.now class }

@@ -5,6 +5,7 @@ ghost use Rattle.block_heap.specs.Slots.{IsPlaced, IsSlotFor};
 
 use size_classes::CLASSES;
 
+// A node of a ring: its neighbours, and the place of its slot's block.
 #[derive(Clone, Copy)]
 pub struct Link {
     pub next: u32,

@@ -47,6 +47,7 @@ fn with_bit(bits: u64, at: u32, on: bool) -> u64
 }
 
 impl FreeLists {
+    // One empty list for each class.
     pub fn new(alloc: Global, words: u32) -> Result<Self, NoMemory>
         requires { words ≤ MOST_WORDS }
         ensures words { IfOk result (λ lists. lists.0 ≡ words) }

@@ -7,6 +7,7 @@ use mica_io::NoMemory;
 use std::alloc::Global;
 use std::marker::Model;
 
+// The tags of so many words, one for each word.
 #[derive(Drop)]
 pub struct TagRow {
     words: u32,
@@ -47,6 +48,7 @@ impl TagRow {
         Ok(TagRow { words, tags })
     }
 
+    // How many words have tags.
     pub fn words(&self) -> u32
         ensures words { result ≡ self.now.0 }
         ensures limit { result ≤ MOST_WORDS }
@@ -66,6 +68,7 @@ impl TagRow {
         }
     }
 
+    // Changes one tag.
     pub fn set(&mut self, place: u32, tag: u32)
         requires { place < self.old.0 }
         ensures words { self.new.0 ≡ self.old.0 }

@@ -12,6 +12,7 @@ use mica_io::NoMemory;
 use std::alloc::Global;
 use std::marker::Model;
 
+// A row of blocks that is read from its tags alone.
 #[derive(Drop)]
 pub struct TaggedBlocks {
     row: TagRow,

@@ -1,4 +1,4 @@
-//! The partition and its calls.
+//! The partition in cache mode, and its calls.
 ghost use Rattle.std.specs.Prelude.{◌≡◌, ◌≢◌, [], length, nat_le};
 ghost use Rattle.mica_words.specs.Item.{KeyFits, ValueFits, item_size as item_size_of};
 ghost use Rattle.partition_model.specs.Answer.{IsAnswer};

@@ -1,4 +1,4 @@
-//! The answer to a get.
+//! The answer to a get in cache mode.
 ghost use Rattle.std.specs.Prelude.{◌≡◌};
 ghost use Rattle.mica_words.specs.Item.{KeyFits};
 ghost use Rattle.partition_model.specs.declared.options.Mode.TheVariants.{Cache};

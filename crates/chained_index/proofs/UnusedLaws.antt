@@ -1,5 +1,5 @@
 -- The spares that were never used, by their places in the list.
-use Rattle.chained_index.proofs.Words.{◌≡◌, ◌≢◌, ℕ, zero, suc, ◌+◌, ◌-◌, ◌<◌, ◌≤◌, List, length-append, [], ◌∷◌, ◌++◌, length, get_or, refl, sym, ap, ◌∙◌, subst, arith, append_assoc, append-nil}
+use Rattle.chained_index.proofs.Words.{◌≡◌, ◌≢◌, ℕ, zero, suc, ◌+◌, ◌-◌, ◌<◌, List, [], ◌∷◌, ◌++◌, length, get_or, refl, sym, ap, ◌∙◌, subst, arith, append-nil}
 use Rattle.chained_index.specs.Unused.{unused_from}
 
 pub unused_size : (first more : ℕ) → length (unused_from first more) ≡ more
@@ -16,10 +16,6 @@ unused_last : (first more : ℕ) → unused_from first (suc more) ≡ unused_fro
 unused_last first zero = ap (λ n. n ∷ []) (let same : first + 0 ≡ first = omega arith in same)
 unused_last first (suc more) = (λ i. (let same : first + suc more ≡ first + 1 + more = omega arith in same) i ∷ unused_last first more i)
 
--- a spare that came back is taken
-pub returned_taken : (first more : ℕ) (old new : List ℕ) (spare : ℕ) → old ≡ new ++ spare ∷ [] → unused_from first more ++ old ≡ (unused_from first more ++ new) ++ spare ∷ []
-returned_taken first more old new spare is = ap (λ (xs : List ℕ). unused_from first more ++ xs) is ∙ sym (append_assoc (unused_from first more) new (spare ∷ []))
-
 -- or one that was never used, where none came back
 pub unused_taken : (first more : ℕ) (returned : List ℕ) → returned ≡ [] → unused_from first (suc more) ++ returned ≡ (unused_from (first + 1) more ++ returned) ++ first ∷ []
 unused_taken first more returned none =
@@ -27,16 +23,6 @@ unused_taken first more returned none =
     (append-nil (unused_from first (suc more)) ∙ unused_last first more ∙ ap (λ (xs : List ℕ). xs ++ first ∷ []) (sym (append-nil (unused_from (first + 1) more))))
 
 -- no spare is free where none was left and none came back
-
-pub some_unused : (first left : ℕ) (returned : List ℕ) → 0 < left → unused_from first left ++ returned ≡ [] → ⊥
-some_unused first zero returned some none = absurd (omega arith)
-some_unused first (suc more) returned some none = absurd (let size = ap length none in omega arith)
-
-pub none_unused : (first left : ℕ) (returned : List ℕ) → left ≡ 0 → unused_from first left ++ returned ≡ returned
-none_unused first left returned none = ap (λ (n : ℕ). unused_from first n ++ returned) none
-
-pub returned_fewer : (first left : ℕ) (returned : List ℕ) → length returned ≤ length (unused_from first left ++ returned)
-returned_fewer first left returned = omega (arith, length-append (unused_from first left) returned)
 
 -- the first that was never used is taken
 pub unused_first : (first left : ℕ) (old new : List ℕ) → left ≢ 0 → old ≡ [] → new ≡ [] → unused_from first left ++ old ≡ (unused_from (first + 1) (left - 1) ++ new) ++ first ∷ []

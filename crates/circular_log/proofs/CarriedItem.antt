@@ -89,9 +89,6 @@ module _ (o : OwnerState) (s : Kept o) (from to : ℕ) (held : Record) (c : Carr
   length-rest : length rest + 1 ≡ size
   length-rest = omega (arith, ap length (words_of size), length-item_words size held.key held.value)
 
-  small : size ≤ o.shape.words
-  small = omega (arith, carried_item.size, carried_item.behind, carried_item.near)
-
   can : CanPlay (puts_from to (header ∷ rest)) o
   can = subst (λ (xs : List ℕ). CanPlay (puts_from to xs) o) (words_of size) (can_store o s to size held.key held.value carried_item.leaves size)
 

@@ -1,10 +1,12 @@
 -- The bytes of the words that were loaded are the value of the item.
 use Rattle.std.proofs.Common.{rules}
-use Rattle.std.proofs.lemmas.Grind.{common_steps}
-use Rattle.std.proofs.Common.{◌≡◌, ℕ, zero, suc, ◌+◌, ◌*◌, ◌<◌, List, [], ◌∷◌, ◌++◌, length, take, flat_map, get_or, add-zero, refl, sym, ap, ◌∙◌, arith, length-append}
+use Rattle.std.proofs.lemmas.Grind.{common_steps, flat_map-append}
+use Rattle.std.proofs.Common.{◌≡◌, ℕ, zero, suc, ◌+◌, ◌*◌, ◌<◌, List, [], ◌∷◌, ◌++◌, length, take, flat_map, get_or, add-zero, append_assoc, refl, sym, ap, ◌∙◌, arith, length-append}
 use Rattle.std.proofs.lemmas.Bool.{cases_lt}
 use Rattle.std.proofs.lemmas.List.{get_or_append_left}
-use Rattle.std.proofs.Math.Seq.{get_or-append_seam}
+use Rattle.std.proofs.Math.ListN.{set}
+use Rattle.std.proofs.Math.Numerals.{add-one}
+use Rattle.std.proofs.Math.Seq.{get_or-append_seam, take-suc-set}
 use Rattle.std.specs.Int.{w64, to_le_bytes}
 use Rattle.mica_words.specs.Header.{header_of, header_key_len, header_value_len}
 use Rattle.mica_words.specs.Item.{words_for}
@@ -29,9 +31,31 @@ word_from o p zero k below = absurd (omega arith)
 word_from o p (suc n) k below =
     grind (arith, length-words_from o p n, cases_lt k n, get_or_append_left (words_from o p n) (item_in o (p + n) ∷ []) 0 k, word_from o p n k, get_or-append_seam (words_from o p n) (item_in o (p + n)) [] 0, item_in o, (length-words_from o p n))
 
+-- a word more is stored in a block
+pub block_more : (o : OwnerState) (p i x : ℕ) (block : List ℕ) → i < length block → take i block ≡ words_from o p i → x ≡ item_in o (p + i)
+    → take (i + 1) (set block i x) ≡ words_from o p (i + 1)
+block_more o p i x block inside so_far is = rw (add-one i) (take-suc-set block i x inside ∙ ap (λ (z : List ℕ). z ++ x ∷ []) so_far ∙ ap (λ (z : ℕ). words_from o p i ++ z ∷ []) is)
+
 -- one word more
 pub bytes_more : (o : OwnerState) (p i next : ℕ) → next ≡ suc i → (bytes : List ℕ) → bytes ≡ bytes_from o p i → bytes ++ to_le_bytes w64 (item_in o (p + i)) ≡ bytes_from o p next
 bytes_more o p i next more bytes so_far = grind (arith, common_steps)
+
+words_then : (o : OwnerState) (p n k : ℕ) → words_from o p (n + k) ≡ words_from o p n ++ words_from o (p + n) k
+words_then o p n zero = grind (arith, common_steps)
+words_then o p n (suc k) =
+    let next : n + suc k ≡ suc (n + k) = omega arith in
+    let place : p + (n + k) ≡ p + n + k = omega arith in
+    ap (words_from o p) next
+    ∙ (ap (λ (z : List ℕ). z ++ item_in o (p + (n + k)) ∷ []) (words_then o p n k)
+    ∙ (append_assoc (words_from o p n) (words_from o (p + n) k) (item_in o (p + (n + k)) ∷ [])
+    ∙ ap (λ (z : ℕ). words_from o p n ++ (words_from o (p + n) k ++ item_in o z ∷ [])) place))
+
+-- the bytes of more words
+pub bytes_then : (o : OwnerState) (p n k : ℕ) (bytes : List ℕ) → bytes ≡ bytes_from o p n → bytes ++ bytes_from o (p + n) k ≡ bytes_from o p (n + k)
+bytes_then o p n k bytes so_far =
+    ap (λ (z : List ℕ). z ++ bytes_from o (p + n) k) so_far
+    ∙ (sym (flat_map-append (to_le_bytes w64) (words_from o p n) (words_from o (p + n) k))
+    ∙ ap (flat_map (to_le_bytes w64)) (sym (words_then o p n k)))
 
 pub length-bytes_from : (o : OwnerState) (p n : ℕ) → length (bytes_from o p n) ≡ 8 * n
 length-bytes_from o p n = length-words (words_from o p n) ∙ ap (λ (z : ℕ). 8 * z) (length-words_from o p n)

@@ -25,6 +25,7 @@ pub record Carries (o : OwnerState) (from to : ℕ) (held : Record) : Type 0 whe
   pub touched : WhenMarked o.phase (λ b write before. IsTouchOf (state_of (options_in o) before) write from to held)
   pub there : SpellsItem o from held.key (record { value = held.value; room = held.room })
 
+-- some item stands at the first offset that may be copied to the second
 abbrev pub MayCarry : OwnerState → ℕ → ℕ → Type 0
 MayCarry o from to = (held : Record) × Carries o from to held
 

@@ -3,7 +3,7 @@ ghost use Rattle.std.specs.Prelude.{◌≡◌, ◌+◌, ◌<◌, ◌^◌};
 ghost use Rattle.mica_words.specs.Hash.{fnv1a};
 ghost use Rattle.mica_words.specs.Item.{KeyFits, ValueFits, item_size as item_size_of};
 ghost use Rattle.epoch_core.specs.Kept.{Kept};
-ghost use Rattle.circular_log.specs.LogItem.{HasItem, IsValueAt, room_at};
+ghost use Rattle.circular_log.specs.LogItem.{HasItem, IsValueAt, room_at, words_from};
 ghost use Rattle.circular_log.specs.LogWrite.{MayAppend, MayRewrite, with_item};
 
 use epoch_core::{OwnerWords, WordAt, rewrite_item, write_item_hashed};
@@ -55,7 +55,23 @@ pub fn rewrite<W: OwnerWords>(words: &mut W, offset: u64, key: &[u8], value: &[u
     rewrite_item(words, offset, room, key, value);
 }
 
-/// Copies the value of the item that stands at the offset.
+// The eight words from the offset on.
+fn eight_words<W: OwnerWords>(words: &mut W, offset: u64) -> [u64; 8]
+    requires offset { offset + 8 < 2 ^ 64 }
+    requires kept { Kept (W.owner words.old) }
+    ensures words { result ≡ words_from (W.owner words.old) offset 8 }
+    ensures same { W.owner words.new ≡ W.owner words.old }
+    ensures home { W.home words.new ≡ W.home words.old }
+    ensures kept { Kept (W.owner words.new) }
+{
+    let mut block = [0; 8];
+    for i in 0..8 {
+        block[i] = words.read(WordAt::Item(offset + i as u64));
+    }
+    block
+}
+
+/// Copies the value of the item that stands at the offset. The buffer's length is stored once for eight words.
 pub fn item_at<W: OwnerWords>(words: &mut W, offset: u64, out: &mut ItemBuf)
     requires offset { offset < 2 ^ 48 }
     requires item { HasItem (W.owner words.old) offset }
@@ -67,8 +83,13 @@ pub fn item_at<W: OwnerWords>(words: &mut W, offset: u64, out: &mut ItemBuf)
     let header = words.read(WordAt::Item(offset));
     let len = header_value_len(header) as usize;
     let value_at = offset + 2 + u64::from(header_key_len(header).div_ceil(8));
+    let count = len.div_ceil(8);
     out.clear();
-    for i in 0..len.div_ceil(8) {
+    for at in 0..count / 8 {
+        let block = eight_words(words, value_at + 8 * at as u64);
+        out.push_words(&block);
+    }
+    for i in count / 8 * 8..count {
         out.push_word(words.read(WordAt::Item(value_at + i as u64)));
     }
     out.truncate(len);

@@ -80,7 +80,7 @@ held_taken old new sizes now place need held taken updates other size is = by (c
     by (inl e) = subst (HasUsed new) (sym e) (used_by_take old new place need taken)
     by (inr ne) = used_after_take old new place need other taken (held other size (sym (updates.2 other (is_other place other ne)) ∙ is))
 
--- the same where no place gets one
+-- a block is taken for no place, and none gets a size
 pub held_on : (old new : List Block) (sizes now : BTreeMap ℕ ℕ) (place need : ℕ) → AreHeld old sizes → IsTaken old new place need → now.entries ≡ sizes.entries → AreHeld new now
 held_on old new sizes now place need held taken same other size is =
     used_after_take old new place need other taken (held other size (ap (lookup (is_at (nat_cmp other))) (sym same) ∙ is))

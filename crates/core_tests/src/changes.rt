@@ -26,10 +26,10 @@ use std::test::Fail;
 use std::thread::{Threads, join};
 use store_partition::StorePartition;
 
-const KEY: &[u8] = b"k";
+pub(crate) const KEY: &[u8] = b"k";
 
 /// How often each of two threads counts.
-const TIMES: u32 = 10_000;
+pub(crate) const TIMES: u32 = 10_000;
 
 /// What becomes of any value.
 #[derive(Drop)]
@@ -86,7 +86,7 @@ impl Decide for CountUp {
 }
 
 // The count in a value.
-fn count_in(value: Option<&[u8]>) -> u32
+pub(crate) fn count_in(value: Option<&[u8]>) -> u32
     ensures count { result ≡ count_of (option_copied value.entry) }
     ensures small { result ≤ 65535 }
 {
@@ -194,13 +194,13 @@ fn expect_rows<R: Abort + AllocGlobal + Threads + Wait + Sync, F: Changes>(
 
 /// The room of a thread that counts.
 #[derive(Drop)]
-struct Room {
-    found: ItemBuf,
-    next: ItemBuf,
+pub(crate) struct Room {
+    pub found: ItemBuf,
+    pub next: ItemBuf,
 }
 
 impl Room {
-    fn new(alloc: Global) -> Result<Room, Fail> {
+    pub fn new(alloc: Global) -> Result<Room, Fail> {
         Ok(Room {
             found: ItemBuf::new(alloc)?,
             next: ItemBuf::new(alloc)?,
@@ -209,7 +209,11 @@ impl Room {
 }
 
 /// Counts the key up, and gives the front back.
-fn count_up<R: Threads + Wait + Sync, F: Changes + Drop>(rt: &R, front: F, room: Room) -> F
+pub(crate) fn count_up<R: Threads + Wait + Sync, F: Changes + Drop>(
+    rt: &R,
+    front: F,
+    room: Room,
+) -> F
     requires { TIMES ≤ F.left front }
 {
     let mut front = front;
@@ -300,7 +304,8 @@ fn open_and_change<P: OnTable + LendPartition<Reader = ReaderSeat, Note = Note> 
     Ok(())
 }
 
-const SMALL: Options = Options {
+/// One small partition in store mode.
+pub(crate) const SMALL: Options = Options {
     mode: Mode::Store,
     partitions: 1,
     buckets: 1,

@@ -18,6 +18,8 @@ mod jobs;
 #[cfg(test)]
 mod lent;
 #[cfg(test)]
+mod looks;
+#[cfg(test)]
 mod machine;
 #[cfg(test)]
 mod machine_steps;

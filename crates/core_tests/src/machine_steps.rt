@@ -98,26 +98,28 @@ const STORE: Options = Options {
 fn expect_steps(
     rt: &(impl Abort + AllocGlobal),
     options: &Options,
-    steps: &[Step],
+    parts: &[&[Step]],
 ) -> Result<(), Fail> {
     assert!(rt; options.is_valid());
     let mut machine = Machine::new(rt.alloc(), options)?;
     let mut out = ItemBuf::new(rt.alloc())?;
     let mut number = 0u32;
-    for step in steps {
-        let holds = step.holds(rt.alloc(), &mut machine, &mut out)?;
-        assert!(rt; holds && machine.is_counted(), "step {number}");
-        number = number.saturating_add(1);
+    for steps in parts {
+        for step in *steps {
+            let holds = step.holds(rt.alloc(), &mut machine, &mut out)?;
+            assert!(rt; holds && machine.is_counted(), "step {number}");
+            number = number.saturating_add(1);
+        }
     }
     Ok(())
 }
 
 fn expect_tables(
     rt: &(impl Abort + AllocGlobal),
-    tables: &[(Options, &[Step])],
+    tables: &[(Options, &[&[Step]])],
 ) -> Result<(), Fail> {
-    for (options, steps) in tables {
-        expect_steps(rt, options, steps)?;
+    for (options, parts) in tables {
+        expect_steps(rt, options, parts)?;
     }
     Ok(())
 }
@@ -143,8 +145,8 @@ const TOUCHED: &[Step] = &[
     Step::Fate(b"a", Fate::Held),
 ];
 
-// The touched key is the bucket's newest. A key that was displaced has no value, so an add of it is stored.
-const SPARED: &[Step] = &[
+// A bucket has 15 places.
+const FILLED: &[Step] = &[
     Step::Put(b"k01", b"1", Outcome::Stored, 262_144),
     Step::Put(b"k02", b"1", Outcome::Stored, 524_288),
     Step::Put(b"k03", b"1", Outcome::Stored, 786_432),
@@ -160,6 +162,10 @@ const SPARED: &[Step] = &[
     Step::Put(b"k13", b"1", Outcome::Stored, 3_407_872),
     Step::Put(b"k14", b"1", Outcome::Stored, 3_670_016),
     Step::Put(b"k15", b"1", Outcome::Stored, 3_932_160),
+];
+
+// In a bucket that is filled, the touched key is the newest. A key that was displaced has no value, so an add of it is stored.
+const SPARED: &[Step] = &[
     Step::Touch(b"k01", Outcome::Touched, 4_194_304),
     Step::Put(b"k16", b"1", Outcome::Stored, 4_456_448),
     Step::Fate(b"k01", Fate::Held),
@@ -232,23 +238,8 @@ const PASSED: &[Step] = &[
     Step::Fate(b"d", Fate::Never),
 ];
 
-// A bucket has 15 places.
+// One key more displaces the first.
 const DISPLACED: &[Step] = &[
-    Step::Put(b"k01", b"1", Outcome::Stored, 262_144),
-    Step::Put(b"k02", b"1", Outcome::Stored, 524_288),
-    Step::Put(b"k03", b"1", Outcome::Stored, 786_432),
-    Step::Put(b"k04", b"1", Outcome::Stored, 1_048_576),
-    Step::Put(b"k05", b"1", Outcome::Stored, 1_310_720),
-    Step::Put(b"k06", b"1", Outcome::Stored, 1_572_864),
-    Step::Put(b"k07", b"1", Outcome::Stored, 1_835_008),
-    Step::Put(b"k08", b"1", Outcome::Stored, 2_097_152),
-    Step::Put(b"k09", b"1", Outcome::Stored, 2_359_296),
-    Step::Put(b"k10", b"1", Outcome::Stored, 2_621_440),
-    Step::Put(b"k11", b"1", Outcome::Stored, 2_883_584),
-    Step::Put(b"k12", b"1", Outcome::Stored, 3_145_728),
-    Step::Put(b"k13", b"1", Outcome::Stored, 3_407_872),
-    Step::Put(b"k14", b"1", Outcome::Stored, 3_670_016),
-    Step::Put(b"k15", b"1", Outcome::Stored, 3_932_160),
     Step::Put(b"k16", b"1", Outcome::Stored, 4_194_304),
     Step::Fate(b"k01", Fate::Displaced(16)),
     Step::Hit(b"k02", b"1"),
@@ -332,18 +323,18 @@ const SMALL_CACHE: Options = Options {
     ..CACHE
 };
 
-static CACHE_STEPS: [(Options, &[Step]); 11] = [
-    (CACHE, ADDED),
-    (CACHE, TOUCHED),
-    (CACHE, SPARED),
-    (SMALL_CACHE, OVER_ITSELF),
-    (SMALL_CACHE, LONGER_THAN_THE_LOG),
-    (Options { wear: 2, ..CACHE }, WORN_BY_TOUCHES),
-    (CACHE, IN_PLACE),
-    (SMALL_CACHE, PASSED),
-    (CACHE, DISPLACED),
-    (SMALL_CACHE, PASSED_FIRST),
-    (CACHE, EMPTY),
+static CACHE_STEPS: [(Options, &[&[Step]]); 11] = [
+    (CACHE, &[ADDED]),
+    (CACHE, &[TOUCHED]),
+    (CACHE, &[FILLED, SPARED]),
+    (SMALL_CACHE, &[OVER_ITSELF]),
+    (SMALL_CACHE, &[LONGER_THAN_THE_LOG]),
+    (Options { wear: 2, ..CACHE }, &[WORN_BY_TOUCHES]),
+    (CACHE, &[IN_PLACE]),
+    (SMALL_CACHE, &[PASSED]),
+    (CACHE, &[FILLED, DISPLACED]),
+    (SMALL_CACHE, &[PASSED_FIRST]),
+    (CACHE, &[EMPTY]),
 ];
 
 #[test]
@@ -356,12 +347,12 @@ const SMALL_STORE: Options = Options {
     ..STORE
 };
 
-static STORE_STEPS: [(Options, &[Step]); 5] = [
-    (SMALL_STORE, ADDED_IN_STORE),
-    (SMALL_STORE, REFUSED),
-    (SMALL_STORE, GROWN),
-    (STORE, ABSENT),
-    (Options { wear: 2, ..STORE }, WORN),
+static STORE_STEPS: [(Options, &[&[Step]]); 5] = [
+    (SMALL_STORE, &[ADDED_IN_STORE]),
+    (SMALL_STORE, &[REFUSED]),
+    (SMALL_STORE, &[GROWN]),
+    (STORE, &[ABSENT]),
+    (Options { wear: 2, ..STORE }, &[WORN]),
 ];
 
 #[test]

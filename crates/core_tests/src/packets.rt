@@ -2,11 +2,12 @@
 
 ghost use Rattle.std.specs.Prelude.{IsTrue};
 ghost use Rattle.batch_packets.specs.Datagram.{is_version};
+ghost use Rattle.batch_packets.specs.BatchGrammar.{IsBatch};
 ghost use Rattle.batch_packets.specs.ReplyGrammar.{IsReplies};
 
 use batch_packets::{
-    BatchFault, BatchRef, Replies, Reply, Request, RequestRef, Status, Want, is_reply, read_batch,
-    read_replies, write_replies,
+    Batch, BatchFault, BatchRef, Replies, Reply, Request, RequestRef, Status, Want, is_reply,
+    read_batch, read_replies, write_batch, write_replies,
 };
 use mica_io::{Bytes, NoMemory};
 use std::alloc::Global;
@@ -84,6 +85,19 @@ fn written(
     Ok(text)
 }
 
+/// Whether a batch that owns its requests is lent as one that may be written, and written as this text.
+fn is_written(alloc: Global, batch: &Batch, text: &[u8]) -> bool
+    requires { IsBatch batch.now }
+{
+    let Ok(lent) = batch.lend(alloc) else {
+        return false;
+    };
+    let Ok(written) = write_batch(alloc, batch) else {
+        return false;
+    };
+    lent.is_batch() && lent.text_len() == text.len() && is_text(&written, text)
+}
+
 /// Whether a batch of this number and these requests is read, and written as the same bytes.
 fn is_batch_of(alloc: Global, text: &[u8], number: u32, first: u32, asked: &[Asked]) -> bool {
     let Ok(batch) = read_batch(alloc, text) else {
@@ -93,7 +107,7 @@ fn is_batch_of(alloc: Global, text: &[u8], number: u32, first: u32, asked: &[Ask
         return false;
     }
     match written(alloc, batch.version, number, first, asked) {
-        Ok(written) => written.as_slice() == text,
+        Ok(written) => written.as_slice() == text && is_written(alloc, &batch, text),
         Err(_) => false,
     }
 }

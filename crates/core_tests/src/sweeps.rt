@@ -1,18 +1,21 @@
-//! Items that are not there any more give their room back.
+//! Items that are not there any more give their room back, and in a cache items that are used stay.
 ghost use Rattle.std.specs.Prelude.{◌≡◌, ◌+◌, ◌≤◌, length, map};
 ghost use Rattle.partition_model.specs.Options.{IsPossible};
 ghost use Rattle.partition_table.specs.Seats.{note_state, note_home};
 ghost use Rattle.locked_fronts.specs.Owned.{NotesAre};
 ghost use Rattle.locked_serve.specs.Opening.{ArePlanned, filled_view};
 
-use crate::changes::front_of;
+use crate::changes::{SMALL, front_of};
+use cache_partition::CachePartition;
 use epoch_core::LendPartition;
 use locked_fronts::ServerPlan;
 use locked_serve::{FilledPart, lend_hand, lock_parts, open_parts};
-use memcached_fronts::{Numbering, Sweeper, sweep};
+use memcached_commands::Ask;
+use memcached_fronts::{Noted, Numbering, Sweeper, sweep};
+use memcached_text::Lifetime;
 use mica_clock::MemClock;
 use mica_fronts::{Front, Glances};
-use mica_words::{key_fits, value_fits};
+use mica_words::{key_fits, key_hash, tail_of, value_fits};
 use partition_model::{Answer, ItemBuf, Mode, Op, Options, Outcome};
 use partition_table::{Note, OwnerSeat, ReaderSeat};
 use seated_partition::OnTable;
@@ -29,20 +32,19 @@ const FOREVER: [u8; 16] = [0; 16];
 /// What is stored of an item with 4,000 bytes that is kept for ever.
 static LONG: [u8; 4_016] = [0; 4_016];
 
-// Puts a value, and says what came of it.
+// Puts a value, and says what came of it, and the stamp after it.
 fn put<R: Abort + AllocGlobal + Threads + Wait + Sync, F: Front>(
     rt: &R,
     front: &mut F,
     key: &[u8],
     value: &[u8],
-) -> Result<Outcome, Fail>
+) -> Result<(Outcome, u64), Fail>
     requires left { 1 ≤ F.left front.old }
     ensures left { F.left front.old ≤ F.left front.new + 1 }
     ensures options { F.options front.new ≡ F.options front.old }
 {
     assert!(rt; key_fits(key) && value_fits(value));
-    let (outcome, _) = front.write(rt, rt.alloc(), Op::Put, key, value)?;
-    Ok(outcome)
+    Ok(front.write(rt, rt.alloc(), Op::Put, key, value)?)
 }
 
 // Sweeps all places several times, at a second.
@@ -58,13 +60,22 @@ fn sweep_all<R: Abort + AllocGlobal + Threads + Wait + Sync, F: Glances>(
 {
     let script = [Some(second)];
     let mut clock = MemClock::new(&script);
-    let mut sweeper = Sweeper::new(rt.alloc())?;
+    let mut sweeper = Sweeper::new(rt.alloc(), 1)?;
+    let mut noted = Noted::new();
     let numbering = Numbering {
         partitions: 1,
         base: 0,
     };
     for _ in 0..100u32 {
-        sweep(rt, front, &mut clock, numbering, 64, &mut sweeper);
+        sweep(
+            rt,
+            front,
+            &mut clock,
+            numbering,
+            64,
+            &mut noted,
+            &mut sweeper,
+        );
     }
     Ok(())
 }
@@ -80,18 +91,68 @@ fn what_is_over_goes<R: Abort + AllocGlobal + Threads + Wait + Sync, F: Glances>
     let mut ending = [0u8; 416];
     ending[4] = 5;
     for i in 0..10u8 {
-        assert!(rt; put(rt, front, &[b'0' + i], &ending)? == Outcome::Stored);
+        assert!(rt; put(rt, front, &[b'0' + i], &ending)?.0 == Outcome::Stored);
     }
-    assert!(rt; put(rt, front, b"kept", &FOREVER)? == Outcome::Stored);
+    assert!(rt; put(rt, front, b"kept", &FOREVER)?.0 == Outcome::Stored);
     sweep_all(rt, front, 4)?;
-    assert!(rt; put(rt, front, b"long", &LONG)? == Outcome::FullBlock);
+    assert!(rt; put(rt, front, b"long", &LONG)?.0 == Outcome::FullBlock);
     sweep_all(rt, front, 5)?;
-    assert!(rt; put(rt, front, b"long", &LONG)? == Outcome::Stored);
+    assert!(rt; put(rt, front, b"long", &LONG)?.0 == Outcome::Stored);
     let mut out = ItemBuf::new(rt.alloc())?;
     assert!(rt; key_fits(b"kept") && key_fits(b"9"));
     let (kept, _) = front.read(rt, b"kept", &mut out);
     let (over, _) = front.read(rt, b"9", &mut out);
     assert!(rt; kept == Answer::Hit && over == Answer::Miss);
+    Ok(())
+}
+
+// A log of 1,024 words has 18 items of 55 words. The one that is touched behind each put of another is old, more than 512 words behind the tail, behind the 8th of these,
+// and again behind each 9th. So six times it was written anew: 68 items in all.
+fn what_is_used_stays<R: Abort + AllocGlobal + Threads + Wait + Sync, F: Glances>(
+    rt: &R,
+    front: &mut F,
+) -> Result<(), Fail>
+    requires left { 20000 ≤ F.left front.old }
+    requires partitions { (F.options front.old).partitions ≡ 1 }
+{
+    let value = [0u8; 416];
+    let mut clock = MemClock::new(&[]);
+    let mut sweeper = Sweeper::new(rt.alloc(), 1)?;
+    let mut noted = Noted::new();
+    let numbering = Numbering {
+        partitions: 1,
+        base: 0,
+    };
+    assert!(rt; put(rt, front, b"u", &value)?.0 == Outcome::Stored);
+    assert!(rt; put(rt, front, b"l", &value)?.0 == Outcome::Stored);
+    let mut tail = 0;
+    for i in 0..60u8 {
+        let (outcome, stamp) = put(rt, front, &[128 + i], &value)?;
+        assert!(rt; outcome == Outcome::Stored);
+        tail = tail_of(stamp);
+        noted.note(
+            &Ask::Touch(Lifetime::Forever),
+            key_hash(b"u"),
+            0,
+            Outcome::Stored,
+        );
+        sweep(
+            rt,
+            front,
+            &mut clock,
+            numbering,
+            64,
+            &mut noted,
+            &mut sweeper,
+        );
+    }
+    assert!(rt; tail == 68 * 55);
+    let mut out = ItemBuf::new(rt.alloc())?;
+    assert!(rt; key_fits(b"u") && key_fits(b"l"));
+    let (used, _) = front.read(rt, b"u", &mut out);
+    assert!(rt; used == Answer::Hit && out.value() == value.as_slice());
+    let (left, _) = front.read(rt, b"l", &mut out);
+    assert!(rt; left == Answer::Miss);
     Ok(())
 }
 
@@ -113,7 +174,10 @@ fn sweep_by_one<
     let hand = lend_hand::<J, P>(alloc, &mut parts, 0)?;
     let locks = lock_parts::<J, P>(alloc, parts)?;
     let mut front = front_of(options, locks.as_slice(), 0, hand);
-    what_is_over_goes(rt, &mut front)
+    match options.mode {
+        Mode::Cache => what_is_used_stays(rt, &mut front),
+        Mode::Store => what_is_over_goes(rt, &mut front),
+    }
 }
 
 // Opens one empty partition of the options.
@@ -135,18 +199,19 @@ fn open_and_sweep<P: OnTable + LendPartition<Reader = ReaderSeat, Note = Note> +
     Ok(())
 }
 
-const SMALL: Options = Options {
-    mode: Mode::Store,
-    partitions: 1,
-    buckets: 1,
-    spares: 1,
-    words: 1_024,
-    readers: 2,
-    tries: 100,
-    wear: 1_000_000,
-};
-
 #[test]
 fn what_is_over_gives_its_room_back(rt: HostRuntime) -> Result<(), Fail> {
     open_and_sweep::<StorePartition<OwnerSeat>>(&rt, &SMALL)
+}
+
+const CACHE: Options = Options {
+    mode: Mode::Cache,
+    buckets: 64,
+    spares: 0,
+    ..SMALL
+};
+
+#[test]
+fn what_is_used_is_kept(rt: HostRuntime) -> Result<(), Fail> {
+    open_and_sweep::<CachePartition<OwnerSeat>>(&rt, &CACHE)
 }

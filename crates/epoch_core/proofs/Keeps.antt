@@ -1,11 +1,11 @@
 -- Each event of an owner keeps the owner's fact.
 use Rattle.std.proofs.lemmas.Grind.{common_steps}
-use Rattle.epoch_core.proofs.Vocabulary.{Begins, Bool, Ends, Event, History, IsAllowed, IsLawfulHistory, IsMain, IsPrefix, IsInReach, IsWrite, Kept}
-use Rattle.epoch_core.proofs.Vocabulary.{List, Marked, Marks, OwnerState, Phase, PhaseFits, StandsFor, Write, [], after, ap, arith, begun_in}
-use Rattle.epoch_core.proofs.Vocabulary.{by_entry, by_item, by_link, cond, count_by, dite, epoch_at, epoch_in, get_or-set_same}
-use Rattle.epoch_core.proofs.Vocabulary.{history_after, history_snoc, if◌then◌else◌, length-append, length-set, marked_in, options_in}
-use Rattle.epoch_core.proofs.Vocabulary.{phase_after, place_of, refl, stamp_at, stamp_in, stamp_of, sum_by_push, sym, writes_in, ℕ, ℕ_discrete}
-use Rattle.epoch_core.proofs.Vocabulary.{◌%◌, ◌*◌, ◌++◌, ◌+◌, ◌∙◌, ◌∷◌, ◌≡◌, ◌≢◌, ◌≤◌}
+use Rattle.epoch_core.proofs.Vocabulary.{Begins, Ends, Event, History, IsAllowed, IsLawfulHistory, IsMain, IsPrefix, IsInReach, IsWrite, Kept}
+use Rattle.epoch_core.proofs.Vocabulary.{Marked, Marks, OwnerState, Phase, PhaseFits, StandsFor, Write, [], after, ap, arith, begun_in}
+use Rattle.epoch_core.proofs.Vocabulary.{by_entry, by_item, by_link, dite, epoch_at, epoch_in, get_or-set_same}
+use Rattle.epoch_core.proofs.Vocabulary.{history_after, history_snoc, length-append, length-set, marked_in, options_in}
+use Rattle.epoch_core.proofs.Vocabulary.{phase_after, place_of, refl, stamp_at, stamp_in, stamp_of, sym, writes_in, ℕ, ℕ_discrete}
+use Rattle.epoch_core.proofs.Vocabulary.{◌%◌, ◌*◌, ◌+◌, ◌∙◌, ◌∷◌, ◌≡◌, ◌≢◌, ◌≤◌}
 use Rattle.epoch_core.proofs.Prefixes.{prefix_same, prefix_then}
 use Rattle.epoch_core.proofs.Marked.{bit, bit_same, bit_else, bit_is, calm, ends_main}
 use Rattle.epoch_core.proofs.Failing.{fails_rise}
@@ -15,9 +15,6 @@ use Rattle.epoch_core.proofs.Machine.{HasStill, all_more, none_more, marked_stil
 use Rattle.epoch_core.proofs.EventWords.{other}
 use Rattle.epoch_core.proofs.Carried.{Carries, stands_on}
 use Rattle.epoch_core.proofs.Chains.{chains_after}
-
-pub count_more : {X : Type 0} (p : X → Bool) (xs : List X) (x : X) → count_by p (xs ++ x ∷ []) ≡ count_by p xs + (if p x then 1 else 0)
-count_more p xs x = sum_by_push (λ y. cond (p y) 1 0) xs x
 
 marked_is : (phase : Phase) (b : ℕ) → marked_in phase b ≡ 1 → (write : Write) × (before : History) × (phase ≡ Marked b write before)
 marked_is (Marked c write before) b one = (write, before, ap (λ (z : ℕ). Marked z write before) (bit_is c b one))

@@ -1,6 +1,6 @@
 -- The owner's fact holds before any event.
-use Rattle.epoch_core.proofs.Vocabulary.{Cache, Has, HasChain, HasLiveEntry, InChain, IsPossibleShape, Kept, List, Mode, OwnerState, Shape, StandsFor}
-use Rattle.epoch_core.proofs.Vocabulary.{Store, [], arith, as_made, entry_at, epoch_at, get-empty, get_or, inl, inr, length-replicate, link_at, refl}
+use Rattle.epoch_core.proofs.Vocabulary.{Cache, Has, HasChain, HasLiveEntry, IsPossibleShape, Kept, List, Mode, OwnerState, Shape, StandsFor}
+use Rattle.epoch_core.proofs.Vocabulary.{Store, [], arith, as_made, entry_at, epoch_at, get-empty, get_or, length-replicate, refl}
 use Rattle.epoch_core.proofs.Vocabulary.{replicate, start, suc, sym, word_count, zero, ℕ, ◌∙◌, ◌≡◌}
 use Rattle.std.specs.Ordering.{nat_cmp}
 use Rattle.std.specs.Cmp.Lexicographic.{slice_cmp}
@@ -29,15 +29,8 @@ module _ (shape : Shape) (valid : IsPossibleShape shape) where
   abbrev o : OwnerState
   o = as_made shape
 
-  no_link : (b : ℕ) → get_or o.words (link_at shape b) 0 ≡ 0
-  no_link b = zeros (word_count shape) (link_at shape b)
-
   no_entry : (b c slot entry : ℕ) → ¬ (HasLiveEntry o b c slot entry)
   no_entry b c slot entry h = h.live.0 (sym h.found ∙ zeros (word_count shape) (entry_at shape c slot))
-
-  alone : (b c : ℕ) → InChain o b c → b ≡ c
-  alone b c (inl e) = e
-  alone b c (inr h) = absurd (h.0 (no_link b))
 
   has_chain : (mode : Mode) (b : ℕ) → HasChain mode o b
   has_chain Cache b = tt

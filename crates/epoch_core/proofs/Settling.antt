@@ -37,8 +37,5 @@ module _ (s : Scripted) (settled : HasPlayedOut (book_of s)) where
     pub same_owner : (book_of t).owner ≡ (book_of s).owner
     same_owner = t.finds ∙ ap (λ (z : Plan). owner_at z (book_of t).reader.loads) plan ∙ at_rest.still (book_of t).reader.loads later
 
-    same_number : length (book_of s).played ≡ length (book_of t).played
-    same_number = grind (arith, common_steps)
-
     pub settled_still : HasPlayedOut (book_of t)
     settled_still = grind (arith, common_steps)

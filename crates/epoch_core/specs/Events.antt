@@ -61,6 +61,7 @@ pub record MayPutWord (o : OwnerState) (p : ℕ) : Type 0 where
 abbrev pub IsItsBucket : OwnerState → ℕ → Type 0
 IsItsBucket o c = WhenMarked o.phase (λ b write before. InChain o b c ⊎ IsFreeSpare o c)
 
+-- an entry may be put into a slot of such a bucket
 pub record MayPutEntry (o : OwnerState) (c slot : ℕ) : Type 0 where
   pub its_bucket : IsItsBucket o c
   pub in_bucket : slot < SLOTS
@@ -75,6 +76,7 @@ pub record MayEnd (o : OwnerState) (b : ℕ) : Type 0 where
   pub marked : marked_in o.phase b ≡ 1
   pub stands_for : StandsFor o b
 
+-- what an event needs of the owner's state
 abbrev pub IsAllowed : Event → OwnerState → Type 0
 IsAllowed (Begins b) o = MayBegin o b
 IsAllowed (Marks write n) o = MayMark o write n
@@ -103,6 +105,7 @@ word_after (PutsEntry c slot entry) n = entry
 word_after (PutsLink c next) n = next
 word_after (Ends b) n = n + 1
 
+-- the words with the one that the event stores
 abbrev pub words_after : Event → OwnerState → List ℕ
 words_after e o =
     let place : ℕ = place_of o.shape e in
@@ -119,6 +122,7 @@ phase_after (Marks write n) o = Marked (bucket_in o write.key) write o.history
 phase_after (Ends b) o = Idle
 phase_after _ o = o.phase
 
+-- the owner's state after an event
 abbrev pub after : Event → OwnerState → OwnerState
 after e o = record o {
   words = words_after e o;
@@ -133,6 +137,7 @@ abbrev pub CanPlay : List Event → OwnerState → Type 0
 CanPlay [] o = Unit {0}
 CanPlay (e ∷ es) o = IsAllowed e o × CanPlay es (after e o)
 
+-- the owner's state after events, one after another
 abbrev pub plays : List Event → OwnerState → OwnerState
 plays [] o = o
 plays (e ∷ es) o = plays es (after e o)

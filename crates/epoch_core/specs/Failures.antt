@@ -5,6 +5,7 @@ use Rattle.epoch_core.specs.declared.state.Failure.{Failure}
 use Rattle.epoch_core.specs.Shape.{IsMain}
 use Rattle.epoch_core.specs.OwnerState.{epoch_in}
 
+-- a try of a bucket that began with the first epoch and found the last one
 abbrev pub failure : ℕ → ℕ → ℕ → Failure
 failure b first last = record { bucket = b; first = first; last = last }
 

@@ -29,6 +29,7 @@ met_by o r = record o { met = record { seen = r.seen; fails = r.fails }; closed 
 abbrev pub longer : History → History → History
 longer one other = if nat_lt (length one) (length other) then other else one
 
+-- what others may learn of a reader: what it has seen and what it closed
 abbrev pub known : ReaderState → Known
 known r = record { seen = r.seen; done = r.done }
 

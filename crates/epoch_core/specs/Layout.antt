@@ -18,6 +18,7 @@ bucket_words = SLOTS + 1
 abbrev pub main_words : ℕ
 main_words = bucket_words + 1
 
+-- the place of a main bucket's epoch
 abbrev pub epoch_at : ℕ → ℕ
 epoch_at b = 1 + main_words * b
 
@@ -26,9 +27,11 @@ epoch_at b = 1 + main_words * b
 abbrev pub entries_at : Shape → ℕ → ℕ
 entries_at shape b = 1 + bucket_words * b + min (b + 1) shape.buckets
 
+-- the place of a slot's entry
 abbrev pub entry_at : Shape → ℕ → ℕ → ℕ
 entry_at shape b slot = entries_at shape b + slot
 
+-- the place of a bucket's link
 abbrev pub link_at : Shape → ℕ → ℕ
 link_at shape b = entries_at shape b + SLOTS
 
@@ -36,9 +39,11 @@ link_at shape b = entries_at shape b + SLOTS
 abbrev pub item_at : Shape → ℕ → ℕ
 item_at shape p = 1 + main_words * shape.buckets + bucket_words * shape.spares + p % shape.words
 
+-- how many words a table of the shape has
 abbrev pub word_count : Shape → ℕ
 word_count shape = 1 + main_words * shape.buckets + bucket_words * shape.spares + shape.words
 
+-- the place of each kind of word
 abbrev pub place_at : Shape → WordAt → ℕ
 place_at shape Stamp = stamp_at
 place_at shape (Epoch b) = epoch_at b

@@ -16,9 +16,11 @@ use Rattle.epoch_core.specs.Layout.{stamp_at, epoch_at, entry_at, link_at, item_
 abbrev pub word_at : OwnerState → WordAt → ℕ
 word_at o at = slice_index o.words (place_at o.shape at)
 
+-- the stamp that the words have
 abbrev pub stamp_in : OwnerState → ℕ
 stamp_in o = slice_index o.words stamp_at
 
+-- a bucket's epoch in the words
 abbrev pub epoch_in : OwnerState → ℕ → ℕ
 epoch_in o b = slice_index o.words (epoch_at b)
 
@@ -30,14 +32,17 @@ entry_in o b slot = slice_index o.words (entry_at o.shape b slot)
 abbrev pub link_in : OwnerState → ℕ → ℕ
 link_in o b = slice_index o.words (link_at o.shape b)
 
+-- the item word of an offset
 abbrev pub item_in : OwnerState → ℕ → ℕ
 item_in o p = slice_index o.words (item_at o.shape p)
 
 -- The machine
 
+-- the options of the owner's shape
 abbrev pub options_in : OwnerState → Options
 options_in o = options_of o.shape
 
+-- what the machine has behind the owner's history
 abbrev pub state_in : OwnerState → State
 state_in o = state_of (options_in o) o.history
 

@@ -59,5 +59,6 @@ pub record TellsTry (shape : Shape) (n : ℕ) (t : Try) : Type 0 where
   pub least : t.first ≤ n
   pub spelt : n ≡ t.first → IfSome t.at (IsSpelt shape t.bucket)
 
+-- the last epoch load of the reader's open try, if it has one, found n
 abbrev pub Tells : ℕ → ReaderState → Type 0
 Tells n r = IfSome r.current (TellsTry r.shape n)

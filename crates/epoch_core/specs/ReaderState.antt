@@ -23,6 +23,7 @@ newcomer shape seen done =
       current = None;
     }
 
+-- a try of a bucket that has loaded its first epoch alone
 abbrev pub new_try : ℕ → ℕ → Try
 new_try b first = record { bucket = b; first = first; loads = []; at = None }
 
@@ -36,6 +37,7 @@ opened b n r = record r {
   current = if n % 2 == 0 then Some (new_try b n) else None;
 }
 
+-- a try with one load more
 abbrev pub with_load : ℕ → ℕ → Option Try → Option Try
 with_load place x None = None
 with_load place x (Some t) = Some (record t { loads = t.loads ++ (place, x) ∷ [] })
@@ -49,6 +51,7 @@ abbrev pub loaded_items : ℕ → List ℕ → ReaderState → ReaderState
 loaded_items p [] r = r
 loaded_items p (x ∷ xs) r = loaded_items (p + 1) xs (loaded (item_at r.shape p) x r)
 
+-- a try that has loaded the stamp, at this history
 abbrev pub with_cut : History → Option Try → Option Try
 with_cut history None = None
 with_cut history (Some t) = Some (record t { at = Some (record { history = history; loads = t.loads }) })
@@ -58,11 +61,13 @@ abbrev pub stamped : History → ReaderState → ReaderState
 stamped history r =
     record r { seen = history; loads = r.loads + 1; current = with_cut history r.current }
 
+-- the failures once a try has loaded its last epoch: one more where that is not its first one
 abbrev pub fails_after : ℕ → Option Try → List Failure → List Failure
 fails_after n None fails = fails
 fails_after n (Some t) fails =
     if n == t.first then fails else (fails ++ failure t.bucket t.first n ∷ [])
 
+-- 1 where a try closes with this last epoch and has loaded the stamp, else 0
 abbrev pub closes : ℕ → Option Try → ℕ
 closes n None = 0
 closes n (Some t) = if n == t.first then (if is_some t.at then 1 else 0) else 0

@@ -96,6 +96,7 @@ pub record FindsEpoch (r : ReaderState) (b n : ℕ) (plan : Plan) : Type 0 where
 abbrev pub FindsLastEpoch : ReaderState → ℕ → Plan → Type 0
 FindsLastEpoch r n plan = IfSome r.current (λ t. n ≡ epoch_in (owner_found plan r) t.bucket)
 
+-- the history that the reader finds at its next load
 abbrev pub FindsHistory : ReaderState → History → Plan → Type 0
 FindsHistory r history plan = history ≡ (owner_found plan r).history
 

@@ -6,9 +6,11 @@ use Rattle.epoch_core.specs.declared.scripted.Plan.{Plan}
 use Rattle.epoch_core.specs.declared.scripted.Book.{Book}
 use Rattle.epoch_core.specs.declared.scripted.Scripted.{Scripted}
 
+-- what plain words keep of their owner
 abbrev pub diary_of : PlainWords → Diary
 diary_of words = words.seat.me.0
 
+-- what a script keeps of its owner and its reader
 abbrev pub book_of : Scripted → Book
 book_of seat = seat.stage.seat.me.0
 

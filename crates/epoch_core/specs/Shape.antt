@@ -13,6 +13,7 @@ abbrev pub spares_in : Mode → ℕ → ℕ
 spares_in Cache spares = 0
 spares_in Store spares = spares
 
+-- the shape of a partition's table
 abbrev pub shape_of : Options → Shape
 shape_of options = record {
   mode = options.mode;
@@ -52,6 +53,7 @@ is_in_range shape =
 abbrev pub IsMain : Shape → ℕ → Type 0
 IsMain shape b = b < shape.buckets
 
+-- the number of a spare bucket
 abbrev pub IsSpare : Shape → ℕ → Type 0
 IsSpare shape b = (shape.buckets ≤ b) × (b < shape.buckets + shape.spares)
 

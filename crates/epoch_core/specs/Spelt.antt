@@ -17,6 +17,7 @@ use Rattle.epoch_core.specs.StandsFor.{IsOffset}
 abbrev pub Loads : Type 0
 Loads = List (ℕ × ℕ)
 
+-- this word was loaded from the place
 abbrev pub HasLoad : Loads → ℕ → ℕ → Type 0
 HasLoad loads place x = Contains loads (place, x)
 

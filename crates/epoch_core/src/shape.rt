@@ -120,6 +120,7 @@ impl Shape {
         }) as usize
     }
 
+    /// How many words a table of this shape has.
     pub fn word_count(&self) -> usize
         ensures { result ≡ word_count self.now }
     {

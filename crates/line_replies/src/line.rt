@@ -1,4 +1,4 @@
-//! One line.
+//! One line of a trace, answered by its partition.
 ghost use Rattle.std.specs.Prelude.{◌≡◌, IfOk, OnErr};
 ghost use Rattle.mica_words.specs.Item.{KeyFits};
 ghost use Rattle.partition_model.specs.Write.{HasValueOf, write_of};

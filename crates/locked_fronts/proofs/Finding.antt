@@ -39,6 +39,10 @@ finds_part plan front view key hash at part lawful view_is hash_is at_is read =
       here = slice_get_read front.parts (length front.parts) at part refl (omega (arith, number, low, lawful.many)) read;
     }
 
+pub count_few : (outcome : Option Outcome) → count_of outcome ≤ 1
+count_few None = omega arith
+count_few (Some outcome) = omega arith
+
 module _ {plan : Plan} {front view : LockedView} {key : List ℕ} {at : ℕ} {part : LockedPart} (finds : FindsPart plan front view key at part) where
   found_part : IsPartOf plan at front.number part
   found_part = finds.lawful.each at part finds.here
@@ -58,6 +62,11 @@ module _ {plan : Plan} {front view : LockedView} {key : List ℕ} {at : ℕ} {pa
         let had = ap (λ (p : LockedPart). length p.taker.mine) (get_or_from_slice_get front.parts at part part finds.here) in
         let same = ap (λ (v : LockedView). turns_taken v.parts) finds.view_is in
         omega arith
+
+    -- what is left then
+    pub left_after : (left more : ℕ) → left ≡ turns_left front.parts → length new.taker.mine ≡ length part.taker.mine + more → left - more ≡ turns_left parts_after
+    left_after left more is one =
+        let all = taken_after more one in let same = ap (λ (v : LockedView). turns_taken v.parts) finds.view_is in omega (arith, is, all, same)
 
     pub keeps_law : turns_taken parts_after ≤ most_turns → IsLockedFront plan (locked_view front.options front.number parts_after)
     keeps_law few = record {
@@ -100,10 +109,6 @@ module _ {plan : Plan} {front view : LockedView} {key : List ℕ} {at : ℕ} {pa
         (sessions_of (slice_set front.parts at new) (partition_of key view.options.partitions))
     writes_at = session_at_key new did.still (λ o s t. Writes o false s (record { write = write; outcome = outcome; stamp = stamp }) t) did.written
 
-  count_few : (outcome : Option Outcome) → count_of outcome ≤ 1
-  count_few None = omega arith
-  count_few (Some outcome) = omega arith
-
   module _ {second : ℕ} {needs : Bool} {becoming : When → Option (List ℕ) → Becoming} {changed : Changed} {buffer : List ℕ} (new : LockedPart)
       (did : PartChanges plan at second key needs becoming part changed buffer new) (some : 0 < turns_left view.parts) where
     pub law_by_change : IsLockedFront plan (locked_view front.options front.number (slice_set front.parts at new))
@@ -125,6 +130,9 @@ module _ {plan : Plan} {front view : LockedView} {key : List ℕ} {at : ℕ} {pa
 
     pub left_by_read : turns_left (slice_set front.parts at new) ≡ turns_left view.parts
     left_by_read = ap (λ n. most_turns - n) none_taken
+
+    pub left_kept : (left : ℕ) → left ≡ turns_left front.parts → left ≡ turns_left (slice_set front.parts at new)
+    left_kept left is = is ∙ ap (λ (v : LockedView). turns_left v.parts) finds.view_is ∙ sym left_by_read
 
     pub reads_at : (value : Option (List ℕ)) × IsAnswer answer buffer value
         × Reads view.options false (sessions_of view.parts (partition_of key view.options.partitions)) key stamp value

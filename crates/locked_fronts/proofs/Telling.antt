@@ -1,4 +1,4 @@
--- What a front knows once its seat has seen the note of a hold, and once its seat has answered a get.
+-- What a front knows once it has learned under a hold, and once its seat has answered a get.
 use Rattle.std.proofs.Common.{◌≡◌, ℕ, ◌+◌, ◌<◌, ◌≤◌, Bool, true, false, List, [], ◌∷◌, ◌++◌, length, map, Option, Some, None, cond, refl, sym, ap, ◌∙◌, subst, append-nil, length-append, arith}
 use Rattle.std.specs.List.{cons_option}
 use Rattle.std.proofs.lemmas.Bool.{true≢false}
@@ -18,7 +18,6 @@ use Rattle.epoch_core.specs.Shape.{options_of}
 use Rattle.epoch_core.specs.ReaderState.{stamped}
 use Rattle.epoch_core.specs.Joins.{told}
 use Rattle.epoch_core.proofs.Prefixes.{prefix_same, prefix_then, longer_as}
-use Rattle.partition_table.specs.declared.reader.Note.{Note}
 use Rattle.partition_table.specs.Seats.{reader_state, reader_home, note_state, note_home}
 use Rattle.optimistic_get.specs.declared.getting.Got.{Got}
 use Rattle.optimistic_get.specs.declared.getting.Got.TheVariants.{Hit as GotHit, Miss as GotMiss}
@@ -33,9 +32,11 @@ use Rattle.mica_fronts.specs.Session.{Writes, Changes, Keeps}
 use Rattle.mica_fronts.specs.Changing.{Becoming, stays, becomes, goes, DoesWrite, write_for, write_by, count_of}
 use Rattle.turn_book.specs.Entries.{TakerView}
 use Rattle.locked_fronts.specs.declared.owned.Step.{Step}
+use Rattle.locked_fronts.specs.declared.counts.HistoryCounts.{HistoryCounts}
+use Rattle.locked_fronts.specs.declared.counts.Learned.{Learned}
 use Rattle.locked_fronts.specs.declared.part.LockedPart.{LockedPart}
 use Rattle.locked_fronts.specs.Plan.{Plan}
-use Rattle.locked_fronts.specs.Owned.{step_of, run_step, HasSeen, TookTurn, LeftAll, TookOrLeft, TookLook}
+use Rattle.locked_fronts.specs.Owned.{step_by, run_step, HasSeen, TookTurn, LeftAll, TookOrLeft, TookLook}
 use Rattle.locked_fronts.specs.Parts.{IsPartOf, HasLearned, PartWrites, PartChanges, PartReads, session_of}
 use Rattle.locked_fronts.proofs.Turning.{plan_stamp}
 
@@ -62,23 +63,25 @@ raised : (options : Options) (before : History) (write : Write) (b : Bool) → b
 raised options before write true is = stamp_rises options before write
 raised options before write false is = absurd (true≢false (sym is))
 
--- A note that was told
+-- What was learned
 
-pub learned : (old new : LockedPart) (mid : ReaderState) (note : Note) (answered : ℕ) → new.taker ≡ old.taker → new.last ≡ answered → reader_home new.seat ≡ reader_home old.seat
-    → mid ≡ stamped mid.seen (told (reader_state old.seat) (note_state note)) → reader_state new.seat ≡ stamped (reader_state new.seat).seen mid
-    → IsPrefix (reader_state old.seat).seen mid.seen × IsPrefix (note_state note).seen mid.seen → IsPrefix mid.seen (reader_state new.seat).seen
-    → IsPrefix (reader_state old.seat).done mid.done × IsPrefix (note_state note).done mid.done
-    → new.newest ≡ stamp_of (options_of mid.shape) (reader_state new.seat).seen → HasLearned old note answered new
-learned old new mid note answered taker last home one two seen further done newest =
+pub has_learned : (old new : LockedPart) (mid : ReaderState) (learned : Learned) → new.taker ≡ old.taker → new.last ≡ learned.counts.stamp → new.counts ≡ learned.counts
+    → reader_home new.seat ≡ reader_home old.seat
+    → mid ≡ stamped mid.seen (told (reader_state old.seat) (note_state learned.note)) → reader_state new.seat ≡ stamped (reader_state new.seat).seen mid
+    → IsPrefix (reader_state old.seat).seen mid.seen × IsPrefix (note_state learned.note).seen mid.seen → IsPrefix mid.seen (reader_state new.seat).seen
+    → IsPrefix (reader_state old.seat).done mid.done × IsPrefix (note_state learned.note).done mid.done
+    → new.newest ≡ stamp_of (options_of mid.shape) (reader_state new.seat).seen → HasLearned old learned new
+has_learned old new mid learned taker last counts home one two seen further done newest =
     let same_done : mid.done ≡ (reader_state new.seat).done = sym (ap (λ (r : ReaderState). r.done) two) in
     record {
       taker = taker;
       last = last;
+      counts = counts;
       home = home;
       shape = ap (λ (r : ReaderState). r.shape) two ∙ ap (λ (r : ReaderState). r.shape) one;
       newest = newest ∙ ap (λ (r : ReaderState). stamp_of (options_of r.shape) (reader_state new.seat).seen) one;
       seen = (prefix_then _ _ _ seen.0 further, prefix_then _ _ _ seen.1 further);
-      done = subst (λ h. IsPrefix (reader_state old.seat).done h × IsPrefix (note_state note).done h) same_done done;
+      done = subst (λ h. IsPrefix (reader_state old.seat).done h × IsPrefix (note_state learned.note).done h) same_done done;
       tried = ap (λ (r : ReaderState). r.tried) two ∙ ap (λ (r : ReaderState). r.tried) one;
       closed = ap (λ (r : ReaderState). r.closed) two ∙ ap (λ (r : ReaderState). r.closed) one;
       fails = ap (λ (r : ReaderState). r.fails) two ∙ ap (λ (r : ReaderState). r.fails) one;
@@ -87,26 +90,32 @@ learned old new mid note answered taker last home one two seen further done newe
 -- A hold: `held` is the part as it was, but with the token that took the turn
 
 -- what was known under the lock, and where it was let go
-record Hold (plan : Plan) (number : ℕ) (old held : LockedPart) (note : Note) (answered : ℕ) : Type 0 where
+record Hold (plan : Plan) (number : ℕ) (old held : LockedPart) (learned : Learned) : Type 0 where
   before : History
   history : History
   grew : IsPrefix before history
   least : old.newest ≤ stamp_of plan.options before
-  seen : HasSeen plan number history answered note
+  seen : HasSeen plan number history learned
   table : held.taker.table ≡ old.taker.table
   own : held.taker.number ≡ old.taker.number
 
-module _ (plan : Plan) (number : ℕ) (old held new : LockedPart) (note : Note) (answered : ℕ) (part : IsPartOf plan number old.taker.number old)
-    (same : held ≡ record old { taker = held.taker }) (learns : HasLearned held note answered new) where
-  knows : HasLearned (record old { taker = held.taker }) note answered new
-  knows = subst (λ (p : LockedPart). HasLearned p note answered new) same learns
+module _ (plan : Plan) (number : ℕ) (old held new : LockedPart) (learned : Learned) (part : IsPartOf plan number old.taker.number old)
+    (same : held ≡ record old { taker = held.taker }) (learns : HasLearned held learned new) where
+  knows : HasLearned (record old { taker = held.taker }) learned new
+  knows = subst (λ (p : LockedPart). HasLearned p learned new) same learns
 
   newest_is : new.newest ≡ stamp_of plan.options (reader_state new.seat).seen
   newest_is = knows.newest ∙ plan_stamp plan.options (reader_state old.seat).shape (reader_state new.seat).seen part.shape
 
-  module _ (hold : Hold plan number old held note answered) where
+  module _ (hold : Hold plan number old held learned) where
+    stamped_at : learned.counts.stamp ≡ stamp_of plan.options hold.history
+    stamped_at = ap (λ (c : HistoryCounts). c.stamp) hold.seen.counted
+
     saw : IsPrefix hold.history (reader_state new.seat).seen
     saw = subst (λ h. IsPrefix h (reader_state new.seat).seen) hold.seen.seen knows.seen.1
+
+    ended : IsPrefix hold.history (reader_state new.seat).done
+    ended = subst (λ h. IsPrefix h (reader_state new.seat).done) hold.seen.done knows.done.1
 
     still : IsPartOf plan number old.taker.number new
     still = record {
@@ -115,29 +124,26 @@ module _ (plan : Plan) (number : ℕ) (old held new : LockedPart) (note : Note) 
       book = ap (λ (t : TakerView Step). t.table) knows.taker ∙ hold.table ∙ part.book;
       taker = ap (λ (t : TakerView Step). t.number) knows.taker ∙ hold.own;
       newest = newest_is;
-      last = let up = prefix_rises plan.options hold.history (reader_state new.seat).seen saw in omega (arith, up, knows.last, hold.seen.stamped, newest_is);
+      last = let up = prefix_rises plan.options hold.history (reader_state new.seat).seen saw in omega (arith, up, knows.last, stamped_at, newest_is);
+      counts = record { history = hold.history; counted = knows.counts ∙ hold.seen.counted; seen = saw; done = ended };
     }
 
-    cut_at : IsCut plan.options (reader_state new.seat).seen answered hold.history
-    cut_at = record { begins = saw; stamped = sym hold.seen.stamped }
+    cut_at : IsCut plan.options (reader_state new.seat).seen learned.counts.stamp hold.history
+    cut_at = record { begins = saw; stamped = sym stamped_at }
 
-    ended : IsPrefix hold.history (reader_state new.seat).done
-    ended = subst (λ h. IsPrefix h (reader_state new.seat).done) hold.seen.done knows.done.1
-
-    order : old.last ≤ answered
-    order = let up = prefix_rises plan.options hold.before hold.history hold.grew in omega (arith, part.last, hold.least, up, hold.seen.stamped)
+    order : old.last ≤ learned.counts.stamp
+    order = let up = prefix_rises plan.options hold.before hold.history hold.grew in omega (arith, part.last, hold.least, up, stamped_at)
 
     -- what was looked at begins with all that the front had seen
     had_seen : IsPrefix (reader_state old.seat).seen hold.before
     had_seen = older_begins plan.options (reader_state new.seat).seen (reader_state old.seat).seen hold.before knows.seen.0 (prefix_then _ _ _ hold.grew saw) (omega (arith, part.newest, hold.least))
 
   -- a step was taken
-  module _ (before : History) (write : Write) (outcome : Outcome)
-      (took : TookTurn plan number old.newest before old.taker held.taker (record { write = write; outcome = outcome; stamp = answered }) note) where
+  module _ (before : History) (write : Write) (outcome : Outcome) (took : TookTurn plan number old.newest before old.taker held.taker write outcome learned) where
     abbrev step : RunStep
-    step = record { write = write; outcome = outcome; stamp = answered }
+    step = run_step (step_by write outcome learned)
 
-    abbrev by_step : Hold plan number old held note answered
+    abbrev by_step : Hold plan number old held learned
     by_step = record {
       before = before;
       history = before ++ history_of (step ∷ []);
@@ -149,10 +155,10 @@ module _ (plan : Plan) (number : ℕ) (old held new : LockedPart) (note : Note) 
     }
 
     one_taken : length new.taker.mine ≡ length old.taker.mine + 1
-    one_taken = ap (λ (t : TakerView Step). length t.mine) (knows.taker ∙ took.entered) ∙ length_push old.taker.mine (step_of write outcome answered)
+    one_taken = ap (λ (t : TakerView Step). length t.mine) (knows.taker ∙ took.entered) ∙ length_push old.taker.mine (step_by write outcome learned)
 
     steps_are : map run_step new.taker.mine ≡ map run_step old.taker.mine ++ step ∷ []
-    steps_are = ap (λ (t : TakerView Step). map run_step t.mine) (knows.taker ∙ took.entered) ∙ map-append run_step old.taker.mine (step_of write outcome answered ∷ [])
+    steps_are = ap (λ (t : TakerView Step). map run_step t.mine) (knows.taker ∙ took.entered) ∙ map-append run_step old.taker.mine (step_by write outcome learned ∷ [])
 
     writes : Writes plan.options false (session_of old) step (session_of new)
     writes = record {
@@ -163,13 +169,13 @@ module _ (plan : Plan) (number : ℕ) (old held new : LockedPart) (note : Note) 
       done = knows.done.0;
       ended = ended by_step;
       order = order by_step;
-      rises = λ yes. let up = raised plan.options before write (is_accepted outcome) yes in omega (arith, up, part.last, took.come, took.seen.stamped);
+      rises = λ yes. let up = raised plan.options before write (is_accepted outcome) yes in omega (arith, up, part.last, took.come, stamped_at by_step);
       last = knows.last;
       alone = λ off. absurd (true≢false (sym off));
       told = (_, refl, record { more = []; steps = steps_are ∙ ap (λ l. l ++ step ∷ []) (sym (append-nil (map run_step old.taker.mine))); tried = knows.tried; closed = knows.closed });
     }
 
-    pub part_writes : PartWrites plan number old write outcome answered new
+    pub part_writes : PartWrites plan number old write outcome learned.counts.stamp new
     part_writes = record { still = still by_step; taken = one_taken; written = writes }
 
     changes : (look : Look) → IsLookAt plan.options before write.key look → Changes plan.options false (session_of old) step look (session_of new)
@@ -177,8 +183,8 @@ module _ (plan : Plan) (number : ℕ) (old held new : LockedPart) (note : Note) 
     changes look looked = record { written = writes; before = before; newest = had_seen by_step; looked = looked; next = refl }
 
   -- nothing was written
-  module _ (before : History) (left : LeftAll plan number old.newest before old.taker held.taker answered note) where
-    abbrev by_none : Hold plan number old held note answered
+  module _ (before : History) (left : LeftAll plan number old.newest before old.taker held.taker learned) where
+    abbrev by_none : Hold plan number old held learned
     by_none = record {
       before = before;
       history = before;
@@ -192,7 +198,7 @@ module _ (plan : Plan) (number : ℕ) (old held new : LockedPart) (note : Note) 
     none_taken : length new.taker.mine ≡ length old.taker.mine + 0
     none_taken = ap (λ (t : TakerView Step). length t.mine) (knows.taker ∙ left.entered) ∙ omega arith
 
-    keeps : (key : List ℕ) (look : Look) → IsLookAt plan.options before key look → Keeps plan.options (session_of old) key answered look (session_of new)
+    keeps : (key : List ℕ) (look : Look) → IsLookAt plan.options before key look → Keeps plan.options (session_of old) key learned.counts.stamp look (session_of new)
     keeps key look looked = record {
       grows = knows.seen.0;
       cut = before;
@@ -204,11 +210,11 @@ module _ (plan : Plan) (number : ℕ) (old held new : LockedPart) (note : Note) 
       order = order by_none;
       last = knows.last;
       told = (
-        length (note_state note).fails,
+        length (note_state learned.note).fails,
         ap Some (λ i. record {
           steps = map run_step ((knows.taker ∙ left.entered) i).mine;
           tried = knows.tried i;
-          failed = (ap length knows.fails ∙ length-append (reader_state old.seat).fails (note_state note).fails) i;
+          failed = (ap length knows.fails ∙ length-append (reader_state old.seat).fails (note_state learned.note).fails) i;
           closed = knows.closed i;
         }),
       );
@@ -217,9 +223,9 @@ module _ (plan : Plan) (number : ℕ) (old held new : LockedPart) (note : Note) 
   -- what was decided was done
   module _ (before : History) (key : List ℕ) (look : Look) (looked : IsLookAt plan.options before key look) where
     changes_or_keeps : (write : Option Write) (outcome : Option Outcome) → ((w : Write) → write ≡ Some w → w.key ≡ key)
-        → TookOrLeft plan number old.newest before old.taker held.taker write outcome answered note
+        → TookOrLeft plan number old.newest before old.taker held.taker write outcome learned
         → IsPartOf plan number old.taker.number new × (length new.taker.mine ≡ length old.taker.mine + count_of outcome)
-        × DoesWrite plan.options false (session_of old) key write outcome answered look (session_of new)
+        × DoesWrite plan.options false (session_of old) key write outcome learned.counts.stamp look (session_of new)
     changes_or_keeps None None keyed left = (still (by_none before left), none_taken before left, keeps before left key look looked)
     changes_or_keeps (Some write) (Some outcome) keyed took = (
       still (by_step before write outcome took),
@@ -236,24 +242,29 @@ of_key key value (becomes next) w is = sym (ap (λ (x : Write). x.key) (same_Som
 of_key key None goes w is = absurd (cc is)
 of_key key (Some v) goes w is = sym (ap (λ (x : Write). x.key) (same_Some _ _ is))
 
-pub part_changes : (plan : Plan) (number second : ℕ) (key : List ℕ) (needs : Bool) (becoming : When → Option (List ℕ) → Becoming) (old held new : LockedPart) (changed : Changed) (buffer : List ℕ) (note : Note)
-    → IsPartOf plan number old.taker.number old → held ≡ record old { taker = held.taker } → HasLearned held note changed.stamp new
-    → (before : History) → TookLook plan number old.newest second before key needs becoming old.taker held.taker changed buffer note
+pub part_changes : (plan : Plan) (number second : ℕ) (key : List ℕ) (needs : Bool) (becoming : When → Option (List ℕ) → Becoming) (old held new : LockedPart) (changed : Changed) (buffer : List ℕ) (learned : Learned)
+    → IsPartOf plan number old.taker.number old → held ≡ record old { taker = held.taker } → HasLearned held learned new
+    → (before : History) → TookLook plan number old.newest second before key needs becoming old.taker held.taker changed buffer learned
     → PartChanges plan number second key needs becoming old changed buffer new
-part_changes plan number second key needs becoming old held new changed buffer note part same learns before took =
+part_changes plan number second key needs becoming old held new changed buffer learned part same learns before took =
     let look : Look = record { when = changed.when; value = took.value } in
-    let did = changes_or_keeps plan number old held new note changed.stamp part same learns before key look took.looked (write_by becoming key look) changed.outcome
+    let did = changes_or_keeps plan number old held new learned part same learns before key look took.looked (write_by becoming key look) changed.outcome
     (of_key key took.value (becoming changed.when took.value)) took.does in
     record {
       still = did.0;
       taken = did.1;
-      comes = record { value = took.value; found = took.found; at = took.at; does = did.2 };
+      comes = record {
+        value = took.value;
+        found = took.found;
+        at = took.at;
+        does = subst (λ (stamp : ℕ). DoesWrite plan.options false (session_of old) key (write_by becoming key look) changed.outcome stamp look (session_of new)) (sym took.stamped) did.2;
+      };
     }
 
 -- A get
 
 module _ (plan : Plan) (number : ℕ) (old new : LockedPart) (key : List ℕ) (stamp : ℕ) (buffer : List ℕ) (part : IsPartOf plan number old.taker.number old)
-    (taker : new.taker ≡ old.taker) (last : new.last ≡ stamp) (newest : new.newest ≡ stamp) (home : reader_home new.seat ≡ reader_home old.seat) where
+    (taker : new.taker ≡ old.taker) (last : new.last ≡ stamp) (newest : new.newest ≡ stamp) (counts : new.counts ≡ old.counts) (home : reader_home new.seat ≡ reader_home old.seat) where
   part_reads : (answer : Answer) (value : Option (List ℕ)) → IsAnswer answer buffer value → IsReadAt (reader_state old.seat) key stamp value (reader_state new.seat)
       → PartReads plan number old key answer stamp buffer new
   part_reads answer value is read =
@@ -267,6 +278,12 @@ module _ (plan : Plan) (number : ℕ) (old new : LockedPart) (key : List ℕ) (s
           taker = ap (λ (t : TakerView Step). t.number) taker;
           newest = newest ∙ at.0;
           last = omega (arith, last, newest);
+          counts = record {
+            history = part.counts.history;
+            counted = counts ∙ part.counts.counted;
+            seen = prefix_then _ _ _ part.counts.seen seat.seen;
+            done = subst (λ h. IsPrefix part.counts.history h) (sym seat.done) part.counts.done;
+          };
         };
         taken = taker;
         value = value;
@@ -298,12 +315,12 @@ module _ (plan : Plan) (number : ℕ) (old new : LockedPart) (key : List ℕ) (s
       part_reads Miss None (refl, it.1) it.0
 
 -- the note of a look is of the plan's partition
-pub look_home : {plan : Plan} {number least second : ℕ} {before : History} {key : List ℕ} {needs : Bool} {becoming : When → Option (List ℕ) → Becoming} {old new : TakerView Step} {changed : Changed} {buffer : List ℕ} {note : Note}
-    → TookLook plan number least second before key needs becoming old new changed buffer note → note_home note ≡ plan.homes number
-look_home {plan = plan} {number = number} {least = least} {before = before} {key = key} {becoming = becoming} {old = old} {new = new} {changed = changed} {note = note} took =
+pub look_home : {plan : Plan} {number least second : ℕ} {before : History} {key : List ℕ} {needs : Bool} {becoming : When → Option (List ℕ) → Becoming} {old new : TakerView Step} {changed : Changed} {buffer : List ℕ} {learned : Learned}
+    → TookLook plan number least second before key needs becoming old new changed buffer learned → note_home learned.note ≡ plan.homes number
+look_home {plan = plan} {number = number} {least = least} {before = before} {key = key} {becoming = becoming} {old = old} {new = new} {changed = changed} {learned = learned} took =
     at_home (write_by becoming key (record { when = changed.when; value = took.value })) changed.outcome took.does
   where
-    at_home : (write : Option Write) (outcome : Option Outcome) → TookOrLeft plan number least before old new write outcome changed.stamp note → note_home note ≡ plan.homes number
+    at_home : (write : Option Write) (outcome : Option Outcome) → TookOrLeft plan number least before old new write outcome learned → note_home learned.note ≡ plan.homes number
     at_home None None left = left.seen.home
     at_home (Some write) (Some outcome) turn = turn.seen.home
     at_home None (Some outcome) never = absurd never

@@ -19,7 +19,6 @@ use Rattle.epoch_core.specs.OwnerState.{options_in}
 use Rattle.epoch_core.specs.OwnerStep.{IsOwnerStep}
 use Rattle.epoch_core.specs.Joins.{lent, ended_in}
 use Rattle.epoch_core.proofs.SameMachine.{same_state, same_may_give}
-use Rattle.partition_table.specs.declared.reader.Note.{Note}
 use Rattle.partition_table.specs.Seats.{note_state, note_home}
 use Rattle.owner_queue.proofs.Gains.{step_gains}
 use Rattle.mica_fronts.specs.declared.changing.Changed.{Changed}
@@ -32,14 +31,21 @@ use Rattle.mica_fronts.proofs.FlushLaws.{flushes_push}
 use Rattle.turn_book.specs.declared.rule.Entry.{Entry}
 use Rattle.turn_book.specs.Entries.{BookView, TakerView, entry, book_view, taker_view}
 use Rattle.locked_fronts.specs.declared.owned.Step.{Step}
+use Rattle.locked_fronts.specs.declared.counts.HistoryCounts.{HistoryCounts}
+use Rattle.locked_fronts.specs.declared.counts.Learned.{Learned}
 use Rattle.locked_fronts.specs.Plan.{Plan}
-use Rattle.locked_fronts.specs.Owned.{Owned, owned_as, step_of, run_step, run_in, IsOwned, IsHere, IsElsewhere, HasSeen, TookTurn, LeftAll, TookOrLeft, TookLook}
+use Rattle.locked_fronts.specs.Counts.{counts_after}
+use Rattle.locked_fronts.specs.Owned.{Owned, owned_as, step_of, step_by, run_step, run_in, IsOwned, IsHere, IsElsewhere, HasSeen, TookTurn, LeftAll, TookOrLeft, TookLook}
 
 -- the stamp by the options of a shape is that by the options
 pub plan_stamp : (options : Options) (shape : Shape) (history : History) → shape ≡ shape_of options → stamp_of (options_of shape) history ≡ stamp_of options history
 plan_stamp options shape history is = ap (λ s. stamp_of (options_of s) history) is ∙ ap stamp_in (same_state options history)
 
--- the value of a key likewise
+-- what is counted, and the value of a key likewise
+
+pub plan_counts : (options : Options) (shape : Shape) (history : History) → shape ≡ shape_of options → counts_after (options_of shape) history ≡ counts_after options history
+plan_counts options shape history is = ap (λ (stamp : ℕ). record { stamp = stamp; written = length history; flushes = flushes_in history }) (plan_stamp options shape history is)
+
 plan_answer : (options : Options) (shape : Shape) (history : History) (key : List ℕ) → shape ≡ shape_of options → answer_of (options_of shape) history key ≡ answer_of options history key
 plan_answer options shape history key is = ap (λ s. answer_of (options_of s) history key) is ∙ ap (λ s. value_in s key) (same_state options history)
 
@@ -61,43 +67,45 @@ abbrev least_of : Plan → Owned → ℕ
 least_of plan owned = stamp_of plan.options owned.owner.history
 
 module _ {plan : Plan} {number least : ℕ} {owned : Owned} (here : IsHere plan number least owned) where
-  pub turn_here : {old new : TakerView Step} {step : RunStep} {note : Note} → TookTurn plan owned.number (least_of plan owned) owned.owner.history old new step note → TookTurn plan number least owned.owner.history old new step note
-  turn_here {step = step} {note = note} took = record {
+  pub turn_here : {old new : TakerView Step} {write : Write} {outcome : Outcome} {learned : Learned} → TookTurn plan owned.number (least_of plan owned) owned.owner.history old new write outcome learned
+      → TookTurn plan number least owned.owner.history old new write outcome learned
+  turn_here {write = write} {outcome = outcome} {learned = learned} took = record {
     come = here.come;
     allowed = took.allowed;
-    seen = subst (λ n. HasSeen plan n (owned.owner.history ++ history_of (step ∷ [])) step.stamp note) here.number_is took.seen;
+    seen = subst (λ n. HasSeen plan n (owned.owner.history ++ history_of (run_step (step_by write outcome learned) ∷ [])) learned) here.number_is took.seen;
     entered = took.entered;
   }
 
-  either_here : (old new : TakerView Step) (write : Option Write) (outcome : Option Outcome) (stamp : ℕ) (note : Note) → TookOrLeft plan owned.number (least_of plan owned) owned.owner.history old new write outcome stamp note
-      → TookOrLeft plan number least owned.owner.history old new write outcome stamp note
-  either_here old new None None stamp note left = record {
+  either_here : (old new : TakerView Step) (write : Option Write) (outcome : Option Outcome) (learned : Learned) → TookOrLeft plan owned.number (least_of plan owned) owned.owner.history old new write outcome learned
+      → TookOrLeft plan number least owned.owner.history old new write outcome learned
+  either_here old new None None learned left = record {
     come = here.come;
-    seen = subst (λ n. HasSeen plan n owned.owner.history stamp note) here.number_is left.seen;
+    seen = subst (λ n. HasSeen plan n owned.owner.history learned) here.number_is left.seen;
     entered = left.entered;
   }
-  either_here old new (Some write) (Some outcome) stamp note took = turn_here took
-  either_here old new None (Some outcome) stamp note never = absurd never
-  either_here old new (Some write) None stamp note never = absurd never
+  either_here old new (Some write) (Some outcome) learned took = turn_here took
+  either_here old new None (Some outcome) learned never = absurd never
+  either_here old new (Some write) None learned never = absurd never
 
-  pub look_here : {old new : TakerView Step} {second : ℕ} {key : List ℕ} {needs : Bool} {becoming : When → Option (List ℕ) → Becoming} {changed : Changed} {buffer : List ℕ} {note : Note}
-      → TookLook plan owned.number (least_of plan owned) second owned.owner.history key needs becoming old new changed buffer note → TookLook plan number least second owned.owner.history key needs becoming old new changed buffer note
-  look_here {old = old} {new = new} {changed = changed} {note = note} took = record {
+  pub look_here : {old new : TakerView Step} {second : ℕ} {key : List ℕ} {needs : Bool} {becoming : When → Option (List ℕ) → Becoming} {changed : Changed} {buffer : List ℕ} {learned : Learned}
+      → TookLook plan owned.number (least_of plan owned) second owned.owner.history key needs becoming old new changed buffer learned → TookLook plan number least second owned.owner.history key needs becoming old new changed buffer learned
+  look_here {old = old} {new = new} {changed = changed} {learned = learned} took = record {
     value = took.value;
     found = took.found;
     at = took.at;
     looked = took.looked;
-    does = either_here old new _ changed.outcome changed.stamp note took.does;
+    does = either_here old new _ changed.outcome learned took.does;
+    stamped = took.stamped;
   }
 
 -- what a look came to, where `owner` is the same as before
 pub looks : (plan : Plan) (was : Owned) (owner : OwnerState) (second : ℕ) (key : List ℕ) (needs : Bool) (becoming : When → Option (List ℕ) → Becoming) (old new : TakerView Step) (changed : Changed) (buffer : List ℕ)
-    (note : Note) (write : Option Write) → IsOwned plan was → owner ≡ was.owner → changed.when ≡ when_after second was.owner.history
+    (learned : Learned) (write : Option Write) → IsOwned plan was → owner ≡ was.owner → changed.when ≡ when_after second was.owner.history → changed.stamp ≡ learned.counts.stamp
     → IsFound needs changed.found buffer (answer_of (options_in was.owner) was.owner.history key)
     → write ≡ write_by becoming key (record { when = changed.when; value = answer_of (options_in was.owner) was.owner.history key })
-    → TookOrLeft plan was.number (stamp_of plan.options owner.history) owner.history old new write changed.outcome changed.stamp note
-    → TookLook plan was.number (stamp_of plan.options was.owner.history) second was.owner.history key needs becoming old new changed buffer note
-looks plan was owner second key needs becoming old new changed buffer note write law same when found is did = record {
+    → TookOrLeft plan was.number (stamp_of plan.options owner.history) owner.history old new write changed.outcome learned
+    → TookLook plan was.number (stamp_of plan.options was.owner.history) second was.owner.history key needs becoming old new changed buffer learned
+looks plan was owner second key needs becoming old new changed buffer learned write law same when stamped found is did = record {
   value = answer_of (options_in was.owner) was.owner.history key;
   found = found;
   at = ap (λ (w : When). w.second) when;
@@ -105,8 +113,9 @@ looks plan was owner second key needs becoming old new changed buffer note write
     when = when ∙ ap (λ s. when_after s was.owner.history) (sym (ap (λ (w : When). w.second) when));
     value = plan_answer plan.options was.owner.shape was.owner.history key law.shape;
   };
-  does = subst (λ (y : Option Write × History). TookOrLeft plan was.number (stamp_of plan.options y.1) y.1 old new y.0 changed.outcome changed.stamp note)
+  does = subst (λ (y : Option Write × History). TookOrLeft plan was.number (stamp_of plan.options y.1) y.1 old new y.0 changed.outcome learned)
       (λ i. (is i, ap (λ (o : OwnerState). o.history) same i)) did;
+  stamped = stamped;
 }
 
 -- The flushes
@@ -132,28 +141,28 @@ module _ (old new : OwnerState) (write : Write) (outcome : Outcome) (step : IsOw
   flushes_not true accepted is = flushes_after false is accepted
   flushes_not false refused is = no_flush refused
 
--- what a note has seen that an owner split off between its writes
-pub seen_by : (plan : Plan) (number : ℕ) (owner : OwnerState) (home : TableId) (stamp : ℕ) (note : Note) → owner.shape ≡ shape_of plan.options → owner.phase ≡ Idle → home ≡ plan.homes number
-    → stamp ≡ stamp_of (options_in owner) owner.history → note_state note ≡ lent owner → note_home note ≡ home → HasSeen plan number owner.history stamp note
-seen_by plan number owner home stamp note shape idle at stamped noted at_home = record {
+-- what was learned of an owner between its writes
+pub seen_by : (plan : Plan) (number : ℕ) (owner : OwnerState) (home : TableId) (learned : Learned) → owner.shape ≡ shape_of plan.options → owner.phase ≡ Idle → home ≡ plan.homes number
+    → learned.counts ≡ counts_after (options_in owner) owner.history → note_state learned.note ≡ lent owner → note_home learned.note ≡ home → HasSeen plan number owner.history learned
+seen_by plan number owner home learned shape idle at counted noted at_home = record {
   home = at_home ∙ at;
   shape = ap (λ (r : ReaderState). r.shape) noted ∙ shape;
   seen = ap (λ (r : ReaderState). r.seen) noted;
   done = ap (λ (r : ReaderState). r.done) noted ∙ ap (λ (p : Phase). ended_in p owner.history) idle;
-  stamped = stamped ∙ plan_stamp plan.options owner.shape owner.history shape;
+  counted = counted ∙ plan_counts plan.options owner.shape owner.history shape;
 }
 
-module _ (plan : Plan) (old : Owned) (owner : OwnerState) (home : TableId) (book : BookView Step) (taker : TakerView Step) (write : Write) (outcome : Outcome) (stamp : ℕ)
-    (law : IsOwned plan old) (step : IsOwnerStep old.owner owner write outcome) (stamped : stamp ≡ stamp_of (options_in owner) owner.history) (home_is : home ≡ old.home)
-    (book_is : book ≡ book_view old.book.table old.book.takers (old.book.entries ++ entry taker.number (step_of write outcome stamp) ∷ [])) where
+module _ (plan : Plan) (old : Owned) (owner : OwnerState) (home : TableId) (book : BookView Step) (taker : TakerView Step) (write : Write) (outcome : Outcome) (learned : Learned)
+    (law : IsOwned plan old) (step : IsOwnerStep old.owner owner write outcome) (counted : learned.counts ≡ counts_after (options_in owner) owner.history) (home_is : home ≡ old.home)
+    (book_is : book ≡ book_view old.book.table old.book.takers (old.book.entries ++ entry taker.number (step_by write outcome learned) ∷ [])) where
   abbrev steps : List RunStep
   steps = run_in old.book.entries
 
   abbrev one : RunStep
-  one = record { write = write; outcome = outcome; stamp = stamp }
+  one = run_step (step_by write outcome learned)
 
   gains : owner ≡ record old.owner { words = owner.words; history = old.owner.history ++ history_of (one ∷ []) }
-  gains = step_gains old.owner owner write outcome stamp step
+  gains = step_gains old.owner owner write outcome learned.counts.stamp step
 
   longer : owner.history ≡ old.owner.history ++ history_of (one ∷ [])
   longer = ap (λ (o : OwnerState). o.history) gains
@@ -164,11 +173,11 @@ module _ (plan : Plan) (old : Owned) (owner : OwnerState) (home : TableId) (book
   may : MayGive plan.options old.owner.history write outcome
   may = same_may_give plan.options old.owner.history write outcome (subst (λ (s : Shape). MayGive (options_of s) old.owner.history write outcome) law.shape step.allowed)
 
-  stamp_is : stamp ≡ stamp_of plan.options (old.owner.history ++ history_of (one ∷ []))
-  stamp_is = stamped ∙ plan_stamp plan.options owner.shape owner.history shape ∙ ap (stamp_of plan.options) longer
+  stamp_is : learned.counts.stamp ≡ stamp_of plan.options (old.owner.history ++ history_of (one ∷ []))
+  stamp_is = ap (λ (c : HistoryCounts). c.stamp) counted ∙ plan_stamp plan.options owner.shape owner.history shape ∙ ap (stamp_of plan.options) longer
 
   run_is : run_in book.entries ≡ steps ++ one ∷ []
-  run_is = ap (λ (b : BookView Step). run_in b.entries) book_is ∙ map-append (λ (e : Entry Step). run_step e.what) old.book.entries (entry taker.number (step_of write outcome stamp) ∷ [])
+  run_is = ap (λ (b : BookView Step). run_in b.entries) book_is ∙ map-append (λ (e : Entry Step). run_step e.what) old.book.entries (entry taker.number (step_by write outcome learned) ∷ [])
 
   run_longer : IsRunFrom plan.options (plan.origin old.number) (steps ++ one ∷ [])
   run_longer = run-append plan.options (plan.origin old.number) steps (one ∷ []) law.run (
@@ -190,20 +199,20 @@ module _ (plan : Plan) (old : Owned) (owner : OwnerState) (home : TableId) (book
         ∙ ap (λ h. plan.origin old.number ++ h) (sym (history-append steps (one ∷ [])) ∙ ap history_of (sym run_is));
   }
 
-  pub takes : (after : TakerView Step) (note : Note) → after ≡ taker_view taker.table taker.number (taker.mine ++ step_of write outcome stamp ∷ [])
-      → note_state note ≡ lent owner → note_home note ≡ home → TookTurn plan old.number (stamp_of plan.options old.owner.history) old.owner.history taker after one note
-  takes after note entered noted at_home = record {
+  pub takes : (after : TakerView Step) → after ≡ taker_view taker.table taker.number (taker.mine ++ step_by write outcome learned ∷ [])
+      → note_state learned.note ≡ lent owner → note_home learned.note ≡ home → TookTurn plan old.number (stamp_of plan.options old.owner.history) old.owner.history taker after write outcome learned
+  takes after entered noted at_home = record {
     come = omega arith;
     allowed = may;
-    seen = subst (λ h. HasSeen plan old.number h stamp note) longer (seen_by plan old.number owner home stamp note shape step.idle (home_is ∙ law.home) stamped noted at_home);
+    seen = subst (λ h. HasSeen plan old.number h learned) longer (seen_by plan old.number owner home learned shape step.idle (home_is ∙ law.home) counted noted at_home);
     entered = entered;
   }
 
 -- a partition that nothing was written in
-pub leaves : (plan : Plan) (was : Owned) (stamp : ℕ) (taker : TakerView Step) (note : Note) → IsOwned plan was → stamp ≡ stamp_of (options_in was.owner) was.owner.history
-    → note_state note ≡ lent was.owner → note_home note ≡ was.home → LeftAll plan was.number (stamp_of plan.options was.owner.history) was.owner.history taker taker stamp note
-leaves plan was stamp taker note law stamped noted at_home = record {
+pub leaves : (plan : Plan) (was : Owned) (taker : TakerView Step) (learned : Learned) → IsOwned plan was → learned.counts ≡ counts_after (options_in was.owner) was.owner.history
+    → note_state learned.note ≡ lent was.owner → note_home learned.note ≡ was.home → LeftAll plan was.number (stamp_of plan.options was.owner.history) was.owner.history taker taker learned
+leaves plan was taker learned law counted noted at_home = record {
   come = omega arith;
-  seen = seen_by plan was.number was.owner was.home stamp note law.shape law.idle law.home stamped noted at_home;
+  seen = seen_by plan was.number was.owner was.home learned law.shape law.idle law.home counted noted at_home;
   entered = refl;
 }

@@ -1,4 +1,5 @@
 pub mod Plan
+pub mod Counts
 pub mod Owned
 pub mod Parts
 pub mod Returned

@@ -12,7 +12,6 @@ use Rattle.epoch_core.specs.declared.state.OwnerState.{OwnerState}
 use Rattle.epoch_core.specs.declared.state.Phase.TheVariants.{Idle}
 use Rattle.epoch_core.specs.declared.reader.ReaderState.{ReaderState}
 use Rattle.epoch_core.specs.Shape.{shape_of}
-use Rattle.partition_table.specs.declared.reader.Note.{Note}
 use Rattle.partition_table.specs.Seats.{note_state, note_home}
 use Rattle.turn_book.specs.declared.rule.Entry.{Entry}
 use Rattle.turn_book.specs.Entries.{BookView, TakerView, taker_view}
@@ -23,7 +22,9 @@ use Rattle.mica_fronts.specs.declared.changing.When.{When}
 use Rattle.mica_fronts.specs.Looks.{IsLookAt}
 use Rattle.mica_fronts.specs.Changing.{Becoming, IsFound, write_by}
 use Rattle.locked_fronts.specs.declared.owned.Step.{Step}
+use Rattle.locked_fronts.specs.declared.counts.Learned.{Learned}
 use Rattle.locked_fronts.specs.Plan.{Plan}
+use Rattle.locked_fronts.specs.Counts.{counts_after}
 
 -- The step as a book has it
 
@@ -33,6 +34,7 @@ step_of write outcome stamp = record { write = write; outcome = outcome; stamp =
 abbrev pub no_step : Step
 no_step = step_of (write_of Del [] []) Absent 0
 
+-- the step without the front that took it
 abbrev pub run_step : Step → RunStep
 run_step step = record { write = step.write; outcome = step.outcome; stamp = step.stamp }
 
@@ -42,12 +44,14 @@ run_in entries = map (λ e. run_step e.what) entries
 
 -- Under the lock
 
+-- a partition behind a lock: its number, its table, its owner's state, and the steps of all fronts' turns
 pub record Owned : Type 0 where
   pub number : ℕ
   pub home : TableId
   pub owner : OwnerState
   pub book : BookView Step
 
+-- a partition of these parts
 abbrev pub owned_as : ℕ → TableId → OwnerState → BookView Step → Owned
 owned_as number home owner book = record { number = number; home = home; owner = owner; book = book }
 
@@ -69,25 +73,30 @@ NotesAre {N} noted home_of state home = (n : N) → (noted n ≡ state n) × (ho
 
 -- What a hold gives
 
--- the note is of the plan's partition, and has seen the history of this stamp, all of which had ended
-pub record HasSeen (plan : Plan) (number : ℕ) (history : History) (stamp : ℕ) (note : Note) : Type 0 where
-  pub home : note_home note ≡ plan.homes number
-  pub shape : (note_state note).shape ≡ shape_of plan.options
-  pub seen : (note_state note).seen ≡ history
-  pub done : (note_state note).done ≡ history
-  pub stamped : stamp ≡ stamp_of plan.options history
+-- What was learned is of the plan's partition at this history: the note has seen it, all of it had ended, and it is what was counted.
+pub record HasSeen (plan : Plan) (number : ℕ) (history : History) (learned : Learned) : Type 0 where
+  pub home : note_home learned.note ≡ plan.homes number
+  pub shape : (note_state learned.note).shape ≡ shape_of plan.options
+  pub seen : (note_state learned.note).seen ≡ history
+  pub done : (note_state learned.note).done ≡ history
+  pub counted : learned.counts ≡ counts_after plan.options history
+
+-- the step of a write, as what was learned after it tells its stamp
+abbrev pub step_by : Write → Outcome → Learned → Step
+step_by write outcome learned = step_of write outcome learned.counts.stamp
 
 -- The partition had come as far as the least stamp. The machine took one step there, which is the one entry that the taker gained.
-pub record TookTurn (plan : Plan) (number least : ℕ) (before : History) (old new : TakerView Step) (step : RunStep) (note : Note) : Type 0 where
+pub record TookTurn (plan : Plan) (number least : ℕ) (before : History) (old new : TakerView Step) (write : Write) (outcome : Outcome) (learned : Learned)
+    : Type 0 where
   pub come : least ≤ stamp_of plan.options before
-  pub allowed : MayGive plan.options before step.write step.outcome
-  pub seen : HasSeen plan number (before ++ history_of (step ∷ [])) step.stamp note
-  pub entered : new ≡ taker_view old.table old.number (old.mine ++ step_of step.write step.outcome step.stamp ∷ [])
+  pub allowed : MayGive plan.options before write outcome
+  pub seen : HasSeen plan number (before ++ history_of (run_step (step_by write outcome learned) ∷ [])) learned
+  pub entered : new ≡ taker_view old.table old.number (old.mine ++ step_by write outcome learned ∷ [])
 
 -- Nothing was written.
-pub record LeftAll (plan : Plan) (number least : ℕ) (before : History) (old new : TakerView Step) (stamp : ℕ) (note : Note) : Type 0 where
+pub record LeftAll (plan : Plan) (number least : ℕ) (before : History) (old new : TakerView Step) (learned : Learned) : Type 0 where
   pub come : least ≤ stamp_of plan.options before
-  pub seen : HasSeen plan number before stamp note
+  pub seen : HasSeen plan number before learned
   pub entered : new ≡ old
 
 -- what is not there does not go
@@ -97,21 +106,20 @@ where_none Become = Become
 where_none Go = Stay
 
 -- a write was done, with this outcome; or there was none to do
-abbrev pub TookOrLeft : Plan → ℕ → ℕ → History → TakerView Step → TakerView Step → Option Write → Option Outcome → ℕ → Note → Type 0
-TookOrLeft plan number least before old new None None stamp note = LeftAll plan number least before old new stamp note
-TookOrLeft plan number least before old new (Some write) (Some outcome) stamp note =
-    TookTurn plan number least before old new (record { write = write; outcome = outcome; stamp = stamp }) note
-TookOrLeft _ _ _ _ _ _ _ _ _ _ = ⊥
+abbrev pub TookOrLeft : Plan → ℕ → ℕ → History → TakerView Step → TakerView Step → Option Write → Option Outcome → Learned → Type 0
+TookOrLeft plan number least before old new None None learned = LeftAll plan number least before old new learned
+TookOrLeft plan number least before old new (Some write) (Some outcome) learned = TookTurn plan number least before old new write outcome learned
+TookOrLeft _ _ _ _ _ _ _ _ _ = ⊥
 
 -- a value was looked at, and what was decided of it was done
 pub record TookLook (plan : Plan) (number least second : ℕ) (before : History) (key : List ℕ) (needs : Bool) (becoming : When → Option (List ℕ) → Becoming)
-    (old new : TakerView Step) (changed : Changed) (buffer : List ℕ) (note : Note) : Type 0 where
+    (old new : TakerView Step) (changed : Changed) (buffer : List ℕ) (learned : Learned) : Type 0 where
   pub value : Option (List ℕ)
   pub found : IsFound needs changed.found buffer value
   pub at : changed.when.second ≡ second
   pub looked : IsLookAt plan.options before key (record { when = changed.when; value = value })
-  pub does : TookOrLeft plan number least before old new (write_by becoming key (record { when = changed.when; value = value })) changed.outcome
-      changed.stamp note
+  pub does : TookOrLeft plan number least before old new (write_by becoming key (record { when = changed.when; value = value })) changed.outcome learned
+  pub stamped : changed.stamp ≡ learned.counts.stamp
 
 -- It is the partition of the number, and has come as far as the stamp.
 pub record IsHere (plan : Plan) (number least : ℕ) (owned : Owned) : Type 0 where

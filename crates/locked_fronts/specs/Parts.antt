@@ -6,18 +6,30 @@ use Rattle.partition_model.specs.declared.write.Outcome.{Outcome}
 use Rattle.partition_model.specs.declared.write.Write.{Write}
 use Rattle.partition_model.specs.Answer.{IsAnswer}
 use Rattle.partition_model.specs.Options.{IsPossible}
-use Rattle.partition_model.specs.History.{IsPrefix, stamp_of}
+use Rattle.partition_model.specs.History.{History, IsPrefix, stamp_of}
+use Rattle.partition_model.specs.Run.{IsAnswerAt}
+use Rattle.epoch_core.specs.declared.reader.ReaderState.{ReaderState}
 use Rattle.epoch_core.specs.Shape.{shape_of, options_of}
-use Rattle.partition_table.specs.declared.reader.Note.{Note}
 use Rattle.partition_table.specs.Seats.{reader_state, reader_home, note_state}
 use Rattle.mica_fronts.specs.declared.changing.Changed.{Changed}
 use Rattle.mica_fronts.specs.declared.changing.When.{When}
 use Rattle.mica_fronts.specs.Session.{Session, Sessions, Writes, Reads}
 use Rattle.mica_fronts.specs.Changing.{Becoming, ComesTo, count_of}
 use Rattle.mica_fronts.specs.SeatSession.{session_at}
+use Rattle.locked_fronts.specs.declared.counts.HistoryCounts.{HistoryCounts}
+use Rattle.locked_fronts.specs.declared.counts.Learned.{Learned}
 use Rattle.locked_fronts.specs.declared.part.LockedPart.{LockedPart}
 use Rattle.locked_fronts.specs.Plan.{Plan}
+use Rattle.locked_fronts.specs.Counts.{counts_after}
 use Rattle.locked_fronts.specs.Owned.{run_step}
+
+-- The counts are those of a history that had ended, with which begins all that the seat has seen. So at one stamp there is one history: each accepted
+-- write raises the stamp, and no other changes anything.
+pub record HasCounted (options : Options) (seat : ReaderState) (counts : HistoryCounts) : Type 0 where
+  pub history : History
+  pub counted : counts ≡ counts_after options history
+  pub seen : IsPrefix history seat.seen
+  pub done : IsPrefix history seat.done
 
 -- The seat is of the table of the plan's partition, and the token of its book, with the front's number. The stamp of what the seat has seen is
 -- none below the one that was answered last.
@@ -28,6 +40,7 @@ pub record IsPartOf (plan : Plan) (number front : ℕ) (part : LockedPart) : Typ
   pub taker : part.taker.number ≡ front
   pub newest : part.newest ≡ stamp_of plan.options (reader_state part.seat).seen
   pub last : part.last ≤ part.newest
+  pub counts : HasCounted plan.options (reader_state part.seat) part.counts
 
 -- the front's session with the partition
 abbrev pub session_of : LockedPart → Session
@@ -38,23 +51,25 @@ abbrev pub session_or_none : Option LockedPart → Session
 session_or_none None = record { seen = []; done = []; last = 0; told = None }
 session_or_none (Some part) = session_of part
 
+-- the session of each part, by the number of its partition
 abbrev pub sessions_of : List LockedPart → Sessions
 sessions_of parts = λ p. session_or_none (slice_get parts p)
 
 -- What calls make of a part: it stays that of its partition and front.
 
--- The seat has seen what a note has, and maybe more.
-pub record HasLearned (old : LockedPart) (note : Note) (answered : ℕ) (new : LockedPart) : Type 0 where
+-- The seat has seen what a note has, and maybe more. The stamp that was counted is answered.
+pub record HasLearned (old : LockedPart) (learned : Learned) (new : LockedPart) : Type 0 where
   pub taker : new.taker ≡ old.taker
-  pub last : new.last ≡ answered
+  pub last : new.last ≡ learned.counts.stamp
+  pub counts : new.counts ≡ learned.counts
   pub home : reader_home new.seat ≡ reader_home old.seat
   pub shape : (reader_state new.seat).shape ≡ (reader_state old.seat).shape
   pub newest : new.newest ≡ stamp_of (options_of (reader_state old.seat).shape) (reader_state new.seat).seen
-  pub seen : IsPrefix (reader_state old.seat).seen (reader_state new.seat).seen × IsPrefix (note_state note).seen (reader_state new.seat).seen
-  pub done : IsPrefix (reader_state old.seat).done (reader_state new.seat).done × IsPrefix (note_state note).done (reader_state new.seat).done
+  pub seen : IsPrefix (reader_state old.seat).seen (reader_state new.seat).seen × IsPrefix (note_state learned.note).seen (reader_state new.seat).seen
+  pub done : IsPrefix (reader_state old.seat).done (reader_state new.seat).done × IsPrefix (note_state learned.note).done (reader_state new.seat).done
   pub tried : (reader_state new.seat).tried ≡ (reader_state old.seat).tried
   pub closed : (reader_state new.seat).closed ≡ (reader_state old.seat).closed
-  pub fails : (reader_state new.seat).fails ≡ (reader_state old.seat).fails ++ (note_state note).fails
+  pub fails : (reader_state new.seat).fails ≡ (reader_state old.seat).fails ++ (note_state learned.note).fails
 
 -- A turn was taken, and answered.
 pub record PartWrites (plan : Plan) (number : ℕ) (old : LockedPart) (write : Write) (outcome : Outcome) (stamp : ℕ) (new : LockedPart) : Type 0 where
@@ -68,6 +83,23 @@ pub record PartChanges (plan : Plan) (number second : ℕ) (key : List ℕ) (nee
   pub still : IsPartOf plan number old.taker.number new
   pub taken : length new.taker.mine ≡ length old.taker.mine + count_of changed.outcome
   pub comes : ComesTo plan.options false second key needs becoming (session_of old) changed buffer (session_of new)
+
+-- Nothing was learned, taken or answered.
+pub record PartRests (old new : LockedPart) : Type 0 where
+  pub home : reader_home new.seat ≡ reader_home old.seat
+  pub seat : reader_state new.seat ≡ reader_state old.seat
+  pub taker : new.taker ≡ old.taker
+  pub last : new.last ≡ old.last
+  pub newest : new.newest ≡ old.newest
+  pub counts : new.counts ≡ old.counts
+
+-- It is the machine's answer to the key behind a history that begins with all that the seat has seen, at the stamp that was counted last.
+pub record AnswersAsCounted (part : LockedPart) (key : List ℕ) (answer : Answer) (buffer : List ℕ) : Type 0 where
+  pub value : Option (List ℕ)
+  pub is : IsAnswer answer buffer value
+  pub history : History
+  pub newest : IsPrefix (reader_state part.seat).seen history
+  pub at : IsAnswerAt (options_of (reader_state part.seat).shape) history key part.counts.stamp value
 
 -- A get was answered.
 pub record PartReads (plan : Plan) (number : ℕ) (old : LockedPart) (key : List ℕ) (answer : Answer) (stamp : ℕ) (buffer : List ℕ) (new : LockedPart)
@@ -86,6 +118,7 @@ pub record LockedView : Type 0 where
   pub number : ℕ
   pub parts : List LockedPart
 
+-- what contracts see of a front, of its parts
 abbrev pub locked_view : Options → ℕ → List LockedPart → LockedView
 locked_view options number parts = record { options = options; number = number; parts = parts }
 
@@ -93,9 +126,11 @@ locked_view options number parts = record { options = options; number = number; 
 abbrev pub most_turns : ℕ
 most_turns = 18446744073709551615
 
+-- how many turns a front's parts took together
 abbrev pub turns_taken : List LockedPart → ℕ
 turns_taken parts = sum_by (λ part. length part.taker.mine) parts
 
+-- how many it may still take
 abbrev pub turns_left : List LockedPart → ℕ
 turns_left parts = most_turns - turns_taken parts
 

@@ -1,21 +1,32 @@
 //! A front that owns each partition in turn.
 ghost use Rattle.std.specs.Prelude.{◌≡◌, ◌<◌, ℕ, Some, length, slice_get, vec_len};
 ghost use Rattle.partition_model.specs.Options.{IsPossible};
+ghost use Rattle.mica_fronts.specs.Changing.{count_of};
 ghost use Rattle.locked_fronts.specs.declared.part.LockedPart.{LockedPart};
 ghost use Rattle.locked_fronts.specs.Parts.{IsPartOf, IsLockedFront, locked_view, turns_taken};
 
 use crate::owned::{OwnedPartition, ServerPlan};
 use crate::part::LockedPart;
 use epoch_core::LendPartition;
-use mica_fronts::{Changed, Changes, Decide, Front, Glances, Glimpse, seat_loads};
+use mica_fronts::{Changed, Changes, Counts, Decide, Front, Glances, Glimpse, seat_loads};
 use mica_io::NoMemory;
 use mica_words::{key_hash, partition_of};
-use partition_model::{Answer, ItemBuf, Op, Options, Outcome};
+use partition_model::{Answer, ItemBuf, Mode, Op, Options, Outcome};
 use partition_table::{Note, ReaderSeat};
 use std::alloc::Global;
 use std::marker::Model;
 use std::sync::{Mutex, Wait};
 use std::thread::Threads;
+
+// How many writes were made.
+fn count_of(outcome: Option<Outcome>) -> u64
+    ensures { result ≡ count_of outcome }
+{
+    match outcome {
+        Some(_) => 1,
+        None => 0,
+    }
+}
 
 /// A front that takes the lock of a partition for each write, and gets by loads of its own.
 #[derive(Drop)]
@@ -28,18 +39,21 @@ pub struct LockedFront<
     locks: &'a [Mutex<OwnedPartition<J, P>>],
     number: u32,
     parts: Vec<LockedPart>,
+    // How many writes it may still be given.
+    left: u64,
 }
 
 impl<'a, J: ServerPlan, P: LendPartition<Reader = ReaderSeat, Note = Note> + Drop> Model
     for LockedFront<'a, J, P> {
     ghost use Rattle.std.specs.Prelude.{◌≡◌, length};
-    ghost use Rattle.locked_fronts.specs.Parts.{LockedView, IsLockedFront, locked_view};
+    ghost use Rattle.locked_fronts.specs.Parts.{LockedView, IsLockedFront, locked_view, turns_left};
 
     ghost Value = { LockedView };
 
     ghost view = { λ f. locked_view f.options f.number f.parts.items };
 
-    ghost invariant = { λ f. IsLockedFront J.plan (locked_view f.options f.number f.parts.items) × (length f.locks.now ≡ f.options.partitions) };
+    ghost invariant = { λ f. IsLockedFront J.plan (locked_view f.options f.number f.parts.items) × (length f.locks.now ≡ f.options.partitions)
+        × (f.left ≡ turns_left f.parts.items) };
 }
 
 impl<'a, J: ServerPlan, P: LendPartition<Reader = ReaderSeat, Note = Note> + Drop> LockedFront<
@@ -68,6 +82,7 @@ impl<'a, J: ServerPlan, P: LendPartition<Reader = ReaderSeat, Note = Note> + Dro
             locks,
             number,
             parts,
+            left: u64::MAX,
         }
     }
 
@@ -122,7 +137,9 @@ impl<'a, J: ServerPlan, P: LendPartition<Reader = ReaderSeat, Note = Note> + Dro
         let number = partition_of(key_hash(key), self.options.partitions);
         let at = number as usize;
         let lock = &self.locks[at];
-        Ok(self.parts[at].write(rt, lock, number, op, key, value))
+        let written = self.parts[at].write(rt, lock, number, op, key, value);
+        self.left -= 1;
+        Ok(written)
     }
 
     fn read<R: Threads + Wait + Sync>(
@@ -149,17 +166,38 @@ impl<'a, J: ServerPlan, P: LendPartition<Reader = ReaderSeat, Note = Note> + Dro
         found: &mut ItemBuf,
         next: &mut ItemBuf,
     ) -> Changed {
-        let number = partition_of(key_hash(key), self.options.partitions);
+        let hash = key_hash(key);
+        let number = partition_of(hash, self.options.partitions);
         let at = number as usize;
         let lock = &self.locks[at];
-        self.parts[at].change(rt, lock, number, second, key, decide, found, next)
+        let changed = self.parts[at].change(rt, lock, number, second, key, hash, decide, found, next);
+        self.left -= count_of(changed.outcome);
+        changed
     }
 
     fn delete<R: Threads + Wait + Sync>(&mut self, rt: &R, key: &[u8]) -> (Outcome, u64) {
         let number = partition_of(key_hash(key), self.options.partitions);
         let at = number as usize;
         let lock = &self.locks[at];
-        self.parts[at].write(rt, lock, number, Op::Del, key, &[])
+        let written = self.parts[at].write(rt, lock, number, Op::Del, key, &[]);
+        self.left -= 1;
+        written
+    }
+
+    fn touch<R: Threads + Wait + Sync>(&mut self, rt: &R, key: &[u8]) -> (Outcome, u64) {
+        let number = partition_of(key_hash(key), self.options.partitions);
+        let at = number as usize;
+        let lock = &self.locks[at];
+        let written = self.parts[at].write(rt, lock, number, Op::Touch, key, &[]);
+        self.left -= 1;
+        written
+    }
+}
+
+impl<'a, J: ServerPlan, P: LendPartition<Reader = ReaderSeat, Note = Note> + Drop> Counts
+    for LockedFront<'a, J, P> {
+    fn writes_left(&self) -> u64 {
+        self.left
     }
 }
 
@@ -167,5 +205,13 @@ impl<'a, J: ServerPlan, P: LendPartition<Reader = ReaderSeat, Note = Note> + Dro
     for LockedFront<'a, J, P> {
     fn glance(&self, partition: u32, place: u64, key: &mut ItemBuf, head: &mut ItemBuf) -> Glimpse {
         seat_loads::glance(&self.parts[partition as usize].seat, place, key, head)
+    }
+
+    fn glance_old(&self, hash: u64, key: &mut ItemBuf) -> bool {
+        let part = &self.parts[partition_of(hash, self.options.partitions) as usize];
+        match self.options.mode {
+            Mode::Cache => seat_loads::glance_old(&part.seat, part.newest, hash, key),
+            Mode::Store => false,
+        }
     }
 }

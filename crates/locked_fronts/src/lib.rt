@@ -5,12 +5,14 @@
 //! run of a partition just those steps are its own that it answered, in its order.
 #![tactic(auto)]
 
+mod counts;
 mod flushes;
 mod front;
 mod owned;
 mod part;
 mod returned;
 
+pub use counts::{HistoryCounts, Learned};
 pub use flushes::write_counted;
 pub use front::LockedFront;
 pub use owned::{OwnedPartition, ServerPlan, Step, Written};

@@ -1,6 +1,7 @@
 //! A partition under its lock.
-ghost use Rattle.std.specs.Prelude.{◌≡◌, ◌≤◌, ◌++◌, ◌∷◌, [], ℕ, true, false, List, IfSome, IfNone};
+ghost use Rattle.std.specs.Prelude.{◌≡◌, ◌≤◌, ◌++◌, ◌∷◌, [], ℕ, true, false, List, Option, IfSome, IfNone};
 ghost use Rattle.mica_words.specs.Item.{KeyFits};
+ghost use Rattle.partition_model.specs.Answer.{IsAnswer};
 ghost use Rattle.partition_model.specs.Write.{HasValueOf, write_of};
 ghost use Rattle.epoch_core.specs.OwnerState.{options_in};
 ghost use Rattle.partition_model.specs.History.{answer_of, stamp_of};
@@ -11,6 +12,7 @@ ghost use Rattle.partition_table.specs.Seats.{note_state, note_home};
 ghost use Rattle.locked_fronts.specs.Owned.{where_none as none_where, owned_as, step_of, NotesAre, TookTurn, TookLook, TookOrLeft, IsHere, IsElsewhere, IsOwned};
 ghost use Rattle.locked_fronts.specs.Returned.{IsNew};
 
+use crate::counts::{HistoryCounts, Learned, learn_of};
 use crate::flushes::write_counted;
 use crate::returned::Returned;
 use epoch_core::{LendPartition, Partition};
@@ -46,12 +48,11 @@ impl Entered<Step> for Brand {
     ghost what = { no_step };
 }
 
-/// What a write made: its outcome, the stamp after it, and a note that has seen it.
+/// What a write made: its outcome, and what was learned after it.
 #[derive(Drop)]
 pub struct Written {
     pub outcome: Outcome,
-    pub stamp: u64,
-    pub note: Note,
+    pub learned: Learned,
 }
 
 /// A partition with its number, and the book of the turns that were taken there.
@@ -112,6 +113,23 @@ fn where_none(change: Change) -> Change
     }
 }
 
+/// What is decided of the answer to a get.
+pub(crate) fn decide_of<D: Decide>(
+    decide: &D,
+    when: When,
+    answer: Answer,
+    found: &ItemBuf,
+    next: &mut ItemBuf,
+) -> Change
+    ensures { (key : List ℕ) (value : Option (List ℕ)) → IsAnswer answer found.entry.now value
+        → written_by key next.new result ≡ write_by (D.becoming decide.entry.now) key (record { when = when; value = value }) }
+{
+    match answer {
+        Answer::Hit => decide.decide(when, Some(found.value()), next),
+        Answer::Miss => where_none(decide.decide(when, None, next)),
+    }
+}
+
 /// What becomes of the key's value: the answer to a get of it, where one was made, and the change.
 fn look<P: Partition, D: Decide>(
     part: &mut P,
@@ -135,16 +153,8 @@ fn look<P: Partition, D: Decide>(
         }
     }
     let answer = part.get(key, found);
-    match answer {
-        Answer::Hit => {
-            let change = decide.decide(when, Some(found.value()), next);
-            (Some(answer), change)
-        }
-        Answer::Miss => {
-            let change = decide.decide(when, None, next);
-            (Some(answer), where_none(change))
-        }
-    }
+    let change = decide_of(decide, when, answer, found, next);
+    (Some(answer), change)
 }
 
 impl<J: ServerPlan, P: LendPartition<Reader = ReaderSeat, Note = Note> + Drop> OwnedPartition<
@@ -193,45 +203,40 @@ impl<J: ServerPlan, P: LendPartition<Reader = ReaderSeat, Note = Note> + Drop> O
         requires value { HasValueOf op value.now }
         requires own { taker.old.table ≡ self.old.book.table }
         ensures { TookTurn J.plan self.old.number (stamp_of J.plan.options self.old.owner.history) self.old.owner.history taker.old taker.new
-            (record { write = write_of op key.entry.now value.entry.now; outcome = result.outcome; stamp = result.stamp }) result.note }
+            (write_of op key.entry.now value.entry.now) result.outcome result.learned }
     {
         let outcome = write_counted(&mut self.part, &mut self.flushes, op, key, value);
-        let stamp = self.part.stamp();
+        let learned = learn_of(&mut self.part, self.flushes);
+        let stamp = learned.counts.stamp;
         enter::<Brand>(&mut self.book, taker, op, key, value, outcome, stamp);
-        let note = self.part.note();
-        Written {
-            outcome,
-            stamp,
-            note,
-        }
+        Written { outcome, learned }
     }
 
-    // Does a change, in the taker's turn where it is a write: the outcome, the stamp after it, and a note that has seen it.
+    // Does a change, in the taker's turn where it is a write: the outcome, and what was learned after it.
     fn do_change(
         &mut self,
         taker: &mut Taker<Step>,
         key: &[u8],
         change: Change,
         next: &ItemBuf,
-    ) -> (Option<Outcome>, u64, Note)
+    ) -> (Option<Outcome>, Learned)
         requires key { KeyFits key.now }
         requires own { taker.old.table ≡ self.old.book.table }
         ensures { TookOrLeft J.plan self.old.number (stamp_of J.plan.options self.old.owner.history) self.old.owner.history taker.old taker.new
-            (written_by key.entry.now next.entry.now change) result.0 result.1 result.2 }
+            (written_by key.entry.now next.entry.now change) result.0 result.1 }
     {
         match change {
             Change::Stay => {
-                let stamp = self.part.stamp();
-                let note = self.part.note();
-                (None, stamp, note)
+                let learned = learn_of(&mut self.part, self.flushes);
+                (None, learned)
             }
             Change::Become => {
                 let written = self.step(taker, Op::Put, key, next.value());
-                (Some(written.outcome), written.stamp, written.note)
+                (Some(written.outcome), written.learned)
             }
             Change::Go => {
                 let written = self.step(taker, Op::Del, key, &[]);
-                (Some(written.outcome), written.stamp, written.note)
+                (Some(written.outcome), written.learned)
             }
         }
     }
@@ -245,27 +250,22 @@ impl<J: ServerPlan, P: LendPartition<Reader = ReaderSeat, Note = Note> + Drop> O
         decide: &D,
         found: &mut ItemBuf,
         next: &mut ItemBuf,
-    ) -> (Changed, Note)
+    ) -> (Changed, Learned)
         requires key { KeyFits key.now }
         requires own { taker.old.table ≡ self.old.book.table }
         ensures { TookLook J.plan self.old.number (stamp_of J.plan.options self.old.owner.history) second self.old.owner.history key.entry.now
             (D.needs decide.entry.now) (D.becoming decide.entry.now) taker.old taker.new result.0 found.new result.1 }
     {
-        let when = When {
-            second,
-            written: self.part.accepted(),
-            flushed: self.flushes.flushed_at(second),
-            until: self.flushes.waits_at(second),
-        };
+        let when = HistoryCounts::of(&self.part, self.flushes).when_at(second);
         let (answer, change) = look(&mut self.part, key, decide, when, found, next);
-        let (outcome, stamp, note) = self.do_change(taker, key, change, next);
+        let (outcome, learned) = self.do_change(taker, key, change, next);
         let changed = Changed {
             when,
             found: answer,
             outcome,
-            stamp,
+            stamp: learned.counts.stamp,
         };
-        (changed, note)
+        (changed, learned)
     }
 
     /// Does a write in the taker's turn. Nothing where it is another partition, or one that stands before the stamp.
@@ -282,7 +282,7 @@ impl<J: ServerPlan, P: LendPartition<Reader = ReaderSeat, Note = Note> + Drop> O
         requires value { HasValueOf op value.now }
         requires own { taker.old.table ≡ J.plan.books number }
         ensures written { IfSome result (λ w. TookTurn J.plan number least self.old.owner.history taker.old taker.new
-            (record { write = write_of op key.entry.now value.entry.now; outcome = w.outcome; stamp = w.stamp }) w.note) }
+            (write_of op key.entry.now value.entry.now) w.outcome w.learned) }
         ensures none { IfNone result (IsElsewhere J.plan number least self.old × (self.new ≡ self.old) × (taker.new ≡ taker.old)) }
     {
         if self.is_at(number, least) {
@@ -303,7 +303,7 @@ impl<J: ServerPlan, P: LendPartition<Reader = ReaderSeat, Note = Note> + Drop> O
         decide: &D,
         found: &mut ItemBuf,
         next: &mut ItemBuf,
-    ) -> Option<(Changed, Note)>
+    ) -> Option<(Changed, Learned)>
         requires key { KeyFits key.now }
         requires own { taker.old.table ≡ J.plan.books number }
         ensures looked { IfSome result (λ r. TookLook J.plan number least second self.old.owner.history key.entry.now

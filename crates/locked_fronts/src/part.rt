@@ -1,18 +1,19 @@
 //! What a front has of one partition.
-ghost use Rattle.std.specs.Prelude.{◌≡◌, ◌<◌};
+ghost use Rattle.std.specs.Prelude.{◌≡◌, ◌<◌, IfSome, IfNone};
 ghost use Rattle.mica_words.specs.Hash.{fnv1a};
 ghost use Rattle.mica_words.specs.Item.{KeyFits};
 ghost use Rattle.partition_model.specs.History.{History};
 ghost use Rattle.partition_model.specs.Write.{HasValueOf, write_of};
 ghost use Rattle.partition_table.specs.Seats.{reader_home, note_home};
 ghost use Rattle.locked_fronts.specs.Owned.{TookTurn, TookLook};
-ghost use Rattle.locked_fronts.specs.Parts.{IsPartOf, HasLearned, PartWrites, PartReads, PartChanges};
+ghost use Rattle.locked_fronts.specs.Parts.{IsPartOf, HasLearned, PartWrites, PartReads, PartChanges, PartRests, AnswersAsCounted};
 
-use crate::owned::{OwnedPartition, ServerPlan, Step, Written};
-use epoch_core::{LendPartition, ReaderWords};
+use crate::counts::{HistoryCounts, Learned};
+use crate::owned::{OwnedPartition, ServerPlan, Step, Written, decide_of};
+use epoch_core::{LendPartition, ReaderWords, WordAt};
 use mica_fronts::{Changed, Decide};
-use optimistic_get::{Got, ask_hashed};
-use partition_model::{Answer, ItemBuf, Op, Outcome};
+use optimistic_get::{Got, ask_hashed, get_hashed};
+use partition_model::{Answer, Change, ItemBuf, Op, Outcome};
 use partition_table::{Note, ReaderSeat};
 use std::sync::{Mutex, Wait};
 use std::thread;
@@ -27,6 +28,8 @@ pub struct LockedPart {
     pub last: u64,
     /// The stamp of what the seat has seen.
     pub newest: u64,
+    /// What was counted under the last hold.
+    pub counts: HistoryCounts,
 }
 
 // Owns the partition for one write. Whatever the lock is of, the write is done in the partition of the number, and not before that has come as
@@ -49,7 +52,7 @@ fn write_under_lock<
     requires value { HasValueOf op value.now }
     requires own { taker.old.table ≡ J.plan.books number }
     ensures { (before : History) × TookTurn J.plan number least before taker.old taker.new
-        (record { write = write_of op key.entry.now value.entry.now; outcome = result.outcome; stamp = result.stamp }) result.note }
+        (write_of op key.entry.now value.entry.now) result.outcome result.learned }
 {
     for _ in rt.forever() {
         let written = lock.lock(rt).write(taker, number, least, op, key, value);
@@ -78,7 +81,7 @@ fn change_under_lock<
     decide: &D,
     found: &mut ItemBuf,
     next: &mut ItemBuf,
-) -> (Changed, Note)
+) -> (Changed, Learned)
     requires key { KeyFits key.now }
     requires own { taker.old.table ≡ J.plan.books number }
     ensures { (before : History) × TookLook J.plan number least second before key.entry.now
@@ -98,14 +101,74 @@ fn change_under_lock<
 
 impl LockedPart {
     // Tells the seat a note, and takes the stamp of what it has seen then.
-    fn learn(&mut self, note: Note, answered: u64)
-        requires { note_home note ≡ reader_home self.old.seat }
-        ensures { HasLearned self.old note answered self.new }
+    fn learn(&mut self, learned: Learned)
+        requires { note_home learned.note ≡ reader_home self.old.seat }
+        ensures { HasLearned self.old learned self.new }
     {
+        let Learned { counts, note } = learned;
         self.seat.tell(note);
         let newest = self.seat.stamp();
         self.newest = newest;
-        self.last = answered;
+        self.last = counts.stamp;
+        self.counts = counts;
+    }
+
+    // The answer to one try that is told nowhere, where it is as of the history that was counted last. The stamp is looked at first, since at
+    // another one the try would be for nothing.
+    fn peek(&mut self, key: &[u8], hash: u64, found: &mut ItemBuf) -> Option<Answer>
+        requires key { KeyFits key.now }
+        requires hashed { hash ≡ fnv1a key.now }
+        ensures rests { PartRests self.old self.new }
+        ensures answered { IfSome result (λ answer. AnswersAsCounted self.old key.entry.now answer found.new) }
+    {
+        if self.seat.peek(WordAt::Stamp) != self.counts.stamp {
+            return None;
+        }
+        let aside = self.seat.set_aside();
+        let got = get_hashed(&mut self.seat, key, hash, 1, found);
+        self.seat.take_up(aside);
+        match got {
+            Got::Hit { stamp } if stamp == self.counts.stamp => Some(Answer::Hit),
+            Got::Miss { stamp } if stamp == self.counts.stamp => Some(Answer::Miss),
+            _ => None,
+        }
+    }
+
+    // A look without a hold, at the history that was counted last, where the decision only reads and nothing is to be written.
+    fn look_on<J: ServerPlan, D: Decide>(
+        &mut self,
+        _number: u32,
+        second: u64,
+        key: &[u8],
+        hash: u64,
+        decide: &D,
+        found: &mut ItemBuf,
+        next: &mut ItemBuf,
+    ) -> Option<Changed>
+        requires key { KeyFits key.now }
+        requires hashed { hash ≡ fnv1a key.now }
+        requires own { IsPartOf J.plan _number self.old.taker.number self.old }
+        ensures looked { IfSome result (λ changed.
+            PartChanges J.plan _number second key.entry.now (D.needs decide.entry.now) (D.becoming decide.entry.now) self.old changed found.new self.new) }
+        ensures none { IfNone result (PartRests self.old self.new) }
+    {
+        if !decide.only_reads() {
+            return None;
+        }
+        let answer = self.peek(key, hash, found)?;
+        let when = self.counts.when_at(second);
+        match decide_of(decide, when, answer, found, next) {
+            Change::Stay => {
+                self.last = self.counts.stamp;
+                Some(Changed {
+                    when,
+                    found: Some(answer),
+                    outcome: None,
+                    stamp: self.last,
+                })
+            }
+            Change::Become | Change::Go => None,
+        }
     }
 
     /// Owns the partition of the number for one write, and tells the seat its note.
@@ -127,11 +190,7 @@ impl LockedPart {
         requires own { IsPartOf J.plan number self.old.taker.number self.old }
         ensures { PartWrites J.plan number self.old (write_of op key.entry.now value.entry.now) result.0 result.1 self.new }
     {
-        let Written {
-            outcome,
-            stamp,
-            note,
-        } = write_under_lock(
+        let Written { outcome, learned } = write_under_lock(
             rt,
             lock,
             &mut self.taker,
@@ -141,12 +200,13 @@ impl LockedPart {
             key,
             value,
         );
-        self.learn(note, stamp);
+        let stamp = learned.counts.stamp;
+        self.learn(learned);
         (outcome, stamp)
     }
 
-    /// Owns the partition of the number for one look and what is decided of it, and tells the seat its note.
-    pub(crate) fn change<
+    // Owns the partition of the number for one look and what is decided of it, and tells the seat its note.
+    fn change_held<
         R: Wait,
         J: ServerPlan,
         P: LendPartition<Reader = ReaderSeat, Note = Note> + Drop,
@@ -166,7 +226,7 @@ impl LockedPart {
         requires own { IsPartOf J.plan number self.old.taker.number self.old }
         ensures { PartChanges J.plan number second key.entry.now (D.needs decide.entry.now) (D.becoming decide.entry.now) self.old result found.new self.new }
     {
-        let (changed, note) = change_under_lock(
+        let (changed, learned) = change_under_lock(
             rt,
             lock,
             &mut self.taker,
@@ -178,8 +238,37 @@ impl LockedPart {
             found,
             next,
         );
-        self.learn(note, changed.stamp);
+        self.learn(learned);
         changed
+    }
+
+    /// Looks at the key's value and does what is decided of it: without a hold where that only reads and nobody wrote since the last one, else under one.
+    pub(crate) fn change<
+        R: Wait,
+        J: ServerPlan,
+        P: LendPartition<Reader = ReaderSeat, Note = Note> + Drop,
+        D: Decide,
+    >(
+        &mut self,
+        rt: &R,
+        lock: &Mutex<OwnedPartition<J, P>>,
+        number: u32,
+        second: u64,
+        key: &[u8],
+        hash: u64,
+        decide: &D,
+        found: &mut ItemBuf,
+        next: &mut ItemBuf,
+    ) -> Changed
+        requires key { KeyFits key.now }
+        requires hashed { hash ≡ fnv1a key.now }
+        requires own { IsPartOf J.plan number self.old.taker.number self.old }
+        ensures { PartChanges J.plan number second key.entry.now (D.needs decide.entry.now) (D.becoming decide.entry.now) self.old result found.new self.new }
+    {
+        match self.look_on::<J, D>(number, second, key, hash, decide, found, next) {
+            Some(changed) => changed,
+            None => self.change_held(rt, lock, number, second, key, decide, found, next),
+        }
     }
 
     /// Asks the seat until it answers.

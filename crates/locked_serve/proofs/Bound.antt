@@ -3,7 +3,6 @@ use Rattle.std.proofs.Common.{◌≡◌, ℕ, ◌≤◌, inl, inr, List, [], len
 use Rattle.std.specs.Prelude.{Result, Ok, Err}
 use Rattle.std.proofs.lemmas.Option.{slice_get_within}
 use Rattle.mica_io.specs.Faults.{Rose}
-use Rattle.partition_model.specs.declared.options.Options.{Options}
 use Rattle.partition_model.specs.History.{History}
 use Rattle.partition_table.specs.declared.tables.KeptSeat.{KeptSeat}
 use Rattle.mica_fronts.specs.Answered.{Answered}
@@ -13,8 +12,9 @@ use Rattle.mica_fronts.specs.declared.totals.ServeFault.TheVariants.{Net, NoMemo
 use Rattle.stream_fronts.specs.declared.ports.StreamPorts.{StreamPorts}
 use Rattle.mica_serve.specs.Others.{Others, HaveAnsweredNothing}
 use Rattle.mica_serve.specs.Ends.{EndFacts, ServesFronts}
+use Rattle.locked_serve.specs.declared.service.Service.{Service}
 use Rattle.locked_serve.specs.declared.stop.Stop.{Stop}
-use Rattle.locked_serve.specs.declared.stop.Stop.TheVariants.{Unannounced, Fault}
+use Rattle.locked_serve.specs.declared.stop.Stop.TheVariants.{Fault}
 use Rattle.locked_serve.specs.Streams.{StreamFacts, ListenFacts, AreNewStreams, AreStreams, ServesBeside, others_of}
 use Rattle.locked_serve.specs.Causes.{CameTo, ComesBeside}
 use Rattle.locked_serve.proofs.Unheard.{no_answers, none_answered, as_heard, none_heard}
@@ -27,71 +27,84 @@ came_to_fault before after NoMemory = refl
 pub silent : (streams : StreamPorts) (olds news : List StreamFacts) → HaveAnsweredNothing (others_of (no_answers streams.fronts) olds news)
 silent streams olds news k own at = none_answered streams.fronts k own at
 
-module _ (says : Others → Option (Result Totals ServeFault) → Type 0) (leaves : List StreamFacts → Type 0) (options : Options) (base : ℕ) (streams : StreamPorts) (clocks : List ℕ) (before after : ListenFacts) where
+module _ (service : Service) (before : ListenFacts) {clocks : List ℕ} (heard : List StreamFacts) (new : AreNewStreams before.ports service.streams.port heard)
+    (within : length heard ≤ service.streams.fronts) {origin : ℕ → History} {batches : ℕ} {kept : List KeptSeat} {ends_before ends_after : List EndFacts} {news : List StreamFacts} where
+  are : length heard ≡ service.streams.fronts → {answer : Result Totals ServeFault} (b : ServesBeside service.options origin batches service.base clocks answer kept ends_before ends_after heard news)
+      → AreStreams service.options service.base service.streams before.ports clocks b.answers heard news
+  are full b = record {
+    are_new = new;
+    within = within;
+    fronts = b.many ∙ full;
+    served = b.streams;
+    unheard = λ k own at past. absurd (let low = slice_get_within b.answers k own at in omega (arith, low, past, b.many));
+  }
+
+module _ {says : Others → Option (Result Totals ServeFault) → Type 0} {leaves : List StreamFacts → Type 0} {answer : Result Totals Stop} {service : Service} {clocks : List ℕ}
+    {before after : ListenFacts} where
   -- a port of datagrams could not be bound
-  pub unbound : leaves [] → says (others_of (no_answers streams.fronts) [] []) (Some (Err Net)) → ComesBeside says leaves (Err (Fault Net)) options base streams clocks before after
-  unbound left said = record {
-    answers = no_answers streams.fronts;
+  pub unbound : answer ≡ Err (Fault Net) → leaves [] → says (others_of (no_answers service.streams.fronts) [] []) (Some (Err Net)) → ComesBeside says leaves answer service clocks before after
+  unbound is left said = subst (λ (a : Result Totals Stop). ComesBeside says leaves a service clocks before after) (sym is) (record {
+    answers = no_answers service.streams.fronts;
     olds = [];
     news = [];
-    are = none_heard options base streams before.ports clocks;
+    are = none_heard service.options service.base service.streams before.ports clocks;
     left = left;
     all = tt;
+    finished = tt;
     came = Some (Err Net);
     came_is = inl refl;
     unserved = tt;
     said = said;
-  }
+  })
 
-  module _ (heard : List StreamFacts) (new : AreNewStreams before.ports streams.port heard) (within : length heard ≤ streams.fronts) where
-    -- these were listened at, and nothing was served: the next could not be
-    pub unheard : leaves heard → Rose before.faults after.faults → says (others_of (no_answers streams.fronts) heard heard) None → ComesBeside says leaves (Err (Fault Net)) options base streams clocks before after
-    unheard left rose said = record {
-      answers = no_answers streams.fronts;
+  module _ (heard : List StreamFacts) (new : AreNewStreams before.ports service.streams.port heard) (within : length heard ≤ service.streams.fronts) where
+    -- these were listened at, and nothing was served, whatever stopped it
+    pub unserved : (stop : Stop) → answer ≡ Err stop → CameTo (Err stop) before.faults after.faults None → leaves heard
+        → says (others_of (no_answers service.streams.fronts) heard heard) None → ComesBeside says leaves answer service clocks before after
+    unserved stop is came left said = subst (λ (a : Result Totals Stop). ComesBeside says leaves a service clocks before after) (sym is) (record {
+      answers = no_answers service.streams.fronts;
       olds = heard;
       news = heard;
-      are = as_heard options base streams before.ports clocks heard new within;
+      are = as_heard service.options service.base service.streams before.ports clocks heard new within;
       left = left;
       all = tt;
+      finished = tt;
       came = None;
-      came_is = inr (refl, rose);
-      unserved = (refl, silent streams heard heard);
+      came_is = came;
+      unserved = (refl, silent service.streams heard heard);
       said = said;
-    }
-
-    -- or it could not be told
-    pub untold : leaves heard → says (others_of (no_answers streams.fronts) heard heard) None → ComesBeside says leaves (Err Unannounced) options base streams clocks before after
-    untold left said = record {
-      answers = no_answers streams.fronts;
-      olds = heard;
-      news = heard;
-      are = as_heard options base streams before.ports clocks heard new within;
-      left = left;
-      all = tt;
-      came = None;
-      came_is = refl;
-      unserved = (refl, silent streams heard heard);
-      said = said;
-    }
+    })
 
     -- all fronts were served
-    module _ {origin : ℕ → History} {batches : ℕ} {kept : List KeptSeat} {ends_before ends_after : List EndFacts} {news : List StreamFacts} (full : length heard ≡ streams.fronts) where
-      are : {answer : Result Totals ServeFault} (b : ServesBeside options origin batches base clocks answer kept ends_before ends_after heard news)
-          → AreStreams options base streams before.ports clocks b.answers heard news
-      are b = record {
-        are_new = new;
-        within = within;
-        fronts = b.many ∙ full;
-        served = b.streams;
-        unheard = λ k own at past. absurd (let low = slice_get_within b.answers k own at in omega (arith, low, past, b.many));
-      }
+    module _ {origin : ℕ → History} {batches : ℕ} {kept : List KeptSeat} {ends_before ends_after : List EndFacts} {news : List StreamFacts} (full : length heard ≡ service.streams.fronts) where
+      pub came_ok : (totals : Totals) → answer ≡ Ok totals → (b : ServesBeside service.options origin batches service.base clocks (Ok totals) kept ends_before ends_after heard news)
+          → leaves news → says (others_of b.answers heard news) (Some (Ok totals)) → ComesBeside says leaves answer service clocks before after
+      came_ok totals is b left said = subst (λ (a : Result Totals Stop). ComesBeside says leaves a service clocks before after) (sym is) (record {
+        answers = b.answers;
+        olds = heard;
+        news = news;
+        are = are service before heard new within full b;
+        left = left;
+        all = full;
+        finished = b.finished;
+        came = Some (Ok totals);
+        came_is = refl;
+        unserved = tt;
+        said = said;
+      })
 
-      pub came_ok : (totals : Totals) (b : ServesBeside options origin batches base clocks (Ok totals) kept ends_before ends_after heard news)
-          → leaves news → says (others_of b.answers heard news) (Some (Ok totals)) → ComesBeside says leaves (Ok totals) options base streams clocks before after
-      came_ok totals b left said =
-          record { answers = b.answers; olds = heard; news = news; are = are b; left = left; all = full; came = Some (Ok totals); came_is = refl; unserved = tt; said = said }
-
-      pub came_err : (fault : ServeFault) (b : ServesBeside options origin batches base clocks (Err fault) kept ends_before ends_after heard news)
-          → leaves news → says (others_of b.answers heard news) (Some (Err fault)) → ComesBeside says leaves (Err (Fault fault)) options base streams clocks before after
-      came_err fault b left said =
-          record { answers = b.answers; olds = heard; news = news; are = are b; left = left; all = tt; came = Some (Err fault); came_is = came_to_fault before.faults after.faults fault; unserved = tt; said = said }
+      pub came_err : (fault : ServeFault) → answer ≡ Err (Fault fault) → (b : ServesBeside service.options origin batches service.base clocks (Err fault) kept ends_before ends_after heard news)
+          → leaves news → says (others_of b.answers heard news) (Some (Err fault)) → ComesBeside says leaves answer service clocks before after
+      came_err fault is b left said = subst (λ (a : Result Totals Stop). ComesBeside says leaves a service clocks before after) (sym is) (record {
+        answers = b.answers;
+        olds = heard;
+        news = news;
+        are = are service before heard new within full b;
+        left = left;
+        all = tt;
+        finished = tt;
+        came = Some (Err fault);
+        came_is = came_to_fault before.faults after.faults fault;
+        unserved = tt;
+        said = said;
+      })

@@ -1,6 +1,6 @@
 -- What all fronts came to together, where each came to its own.
 use Rattle.std.proofs.Common.{◌≡◌, ℕ, ◌≤◌, ◌⊎◌, inl, inr, List, [], length, Some, slice_get}
-use Rattle.std.specs.Prelude.{⊤, Result, Ok, Err}
+use Rattle.std.specs.Prelude.{⊤, Result, Ok, Err, OnOk}
 use Rattle.partition_model.specs.declared.options.Options.{Options}
 use Rattle.partition_model.specs.History.{History}
 use Rattle.partition_table.specs.declared.tables.KeptSeat.{KeptSeat}
@@ -10,7 +10,7 @@ use Rattle.mica_fronts.specs.declared.totals.ServeFault.TheVariants.{Net, NoMemo
 use Rattle.mica_serve.specs.Ends.{EndFacts}
 use Rattle.mica_serve.specs.FrontRuns.{ComesTo}
 use Rattle.mica_serve.proofs.Gathered.{all_ran, KeepsOf}
-use Rattle.locked_serve.specs.Streams.{StreamFacts, StopsStream, ServesBeside, others_of}
+use Rattle.locked_serve.specs.Streams.{StreamFacts, HaveFinished, StopsStream, ServesBeside, others_of}
 use Rattle.locked_serve.specs.Running.{RanBeside, SumsUpBeside}
 
 module _ (options : Options) (some : 1 ≤ options.partitions) (origin : ℕ → History) (batches base : ℕ) (clocks : List ℕ) (left : List KeptSeat) (streams : List (Result ⊤ ServeFault))
@@ -24,11 +24,16 @@ module _ (options : Options) (some : 1 ≤ options.partitions) (origin : ℕ →
   )
   comes (Err NoMemory) sums = tt
 
+  finished : (answer : Result Totals ServeFault) → SumsUpBeside streams fronts answer → OnOk answer (HaveFinished options ran.answers news)
+  finished (Ok totals) sums = λ k own after. ran.finished k own after (sums.0 k)
+  finished (Err fault) sums = tt
+
   pub serves_beside : (kept : List KeptSeat) (answer : Result Totals ServeFault) → SumsUpBeside streams fronts answer
       → KeepsOf (others_of ran.answers olds news) options origin batches answer left kept → ServesBeside options origin batches base clocks answer kept before after olds news
   serves_beside kept answer sums keeps = record {
     answers = ran.answers;
     many = ran.many;
     streams = ran.served;
+    finished = finished answer sums;
     fronts = all_ran (others_of ran.answers olds news) options origin batches some left kept fronts before after ran.ran answer (comes answer sums) keeps;
   }

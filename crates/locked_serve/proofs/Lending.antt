@@ -7,7 +7,10 @@ use Rattle.mica_serve.proofs.Binding.{at_snoc}
 use Rattle.list_laws.proofs.UpTo.{UpTo, up_one}
 use Rattle.epoch_core.specs.declared.state.OwnerState.{OwnerState}
 use Rattle.epoch_core.specs.declared.reader.ReaderState.{ReaderState}
-use Rattle.partition_model.specs.History.{stamp_of}
+use Rattle.epoch_core.specs.declared.state.Phase.{Phase}
+use Rattle.epoch_core.specs.Joins.{ended_in}
+use Rattle.epoch_core.proofs.Prefixes.{prefix_same}
+use Rattle.partition_model.specs.History.{IsPrefix, stamp_of}
 use Rattle.partition_table.specs.Seats.{reader_state}
 use Rattle.mica_fronts.proofs.SoloSteps.{same_stamp}
 use Rattle.turn_book.specs.Entries.{BookView, TakerView, book_view}
@@ -15,6 +18,7 @@ use Rattle.locked_fronts.specs.declared.owned.Step.{Step}
 use Rattle.locked_fronts.specs.declared.part.LockedPart.{LockedPart}
 use Rattle.locked_fronts.specs.Plan.{Plan}
 use Rattle.locked_fronts.specs.Returned.{IsNew}
+use Rattle.locked_fronts.proofs.Turning.{plan_counts}
 use Rattle.locked_serve.specs.Filled.{IsFilledOwner}
 use Rattle.locked_serve.specs.Opening.{FilledView, IsPlanned, ArePlanned, LendsOne, IsNewPart, AreNewParts}
 
@@ -41,6 +45,13 @@ lent_part plan k p old new part was lends = record {
     newest = lends.newest ∙ same_stamp plan.options old.owner (ap (λ (o : OwnerState). o.shape) was.owner.state)
         ∙ ap (λ (r : ReaderState). stamp_of plan.options r.seen) (sym lends.seat);
     last = omega (arith, lends.unanswered);
+    counts = record {
+      history = old.owner.history;
+      counted = lends.counts ∙ plan_counts plan.options old.owner.shape old.owner.history (ap (λ (o : OwnerState). o.shape) was.owner.state);
+      seen = subst (λ (r : ReaderState). IsPrefix old.owner.history r.seen) (sym lends.seat) (prefix_same old.owner.history);
+      done = subst (λ (r : ReaderState). IsPrefix old.owner.history r.done) (sym lends.seat)
+          (subst (λ (p : Phase). IsPrefix old.owner.history (ended_in p old.owner.history)) (sym (ap (λ (o : OwnerState). o.phase) was.owner.state)) (prefix_same old.owner.history));
+    };
   };
   none = ap (λ (t : TakerView Step). t.mine) lends.taker;
   unanswered = lends.unanswered;
@@ -55,12 +66,16 @@ pub record Lending (plan : Plan) (f p : ℕ) (olds news : List FilledView) (hand
   pub each : (q : ℕ) (part : LockedPart) → slice_get hand q ≡ Some part → IsNewPart plan f q part
 
 module _ {plan : Plan} {f p : ℕ} {olds mids : List FilledView} {hand : List LockedPart} (of : ArePlanned plan f olds) (so_far : Lending plan f p olds mids hand) where
+  -- the next one is as it was
+  pub next_planned : (mid : FilledView) → slice_get mids p ≡ Some mid → IsPlanned plan f p mid
+  next_planned mid at =
+      let old = element_at olds p (omega (arith, slice_get_within mids p mid at, so_far.up.many)) in
+      subst (λ v. IsPlanned plan f p v) (sym (so_far.up.later p old.0 mid (omega arith) old.1 at)) (of.each p old.0 old.1)
+
   pub lends_next : (mid new : FilledView) (part : LockedPart) (after : List LockedPart) → slice_get mids p ≡ Some mid → LendsOne mid new part → after ≡ hand ++ part ∷ []
       → Lending plan f (p + 1) olds (slice_set mids p new) after
   lends_next mid new part after at lends pushed =
-      let old = element_at olds p (omega (arith, slice_get_within mids p mid at, so_far.up.many)) in
-      let same : mid ≡ old.0 = so_far.up.later p old.0 mid (omega arith) old.1 at in
-      let was : IsPlanned plan f p mid = subst (λ v. IsPlanned plan f p v) (sym same) (of.each p old.0 old.1) in
+      let was = next_planned mid at in
       record {
         up = up_one (λ old new. new ≡ enrolled old) p olds mids mid new so_far.up at lends.same;
         many = ap length pushed ∙ length_push hand part ∙ ap (λ n. n + 1) so_far.many;

@@ -30,7 +30,7 @@ use Rattle.mica_serve.specs.FrontRuns.{IsTakenIn}
 use Rattle.mica_serve.proofs.JobCounts.{total_few}
 use Rattle.locked_serve.specs.Opening.{AreNewParts, AreNewHands}
 use Rattle.locked_serve.specs.Running.{run_of}
-use Rattle.locked_serve.specs.Taking.{AreTakenBack, MayTakeHands, TakesHands}
+use Rattle.locked_serve.specs.Taking.{AreHands, AreTakenBack, MayTakeHands, TakesHands}
 use Rattle.locked_serve.proofs.Taken.{TookFrom, Stays, closed_at, stays_all, took_from}
 
 -- what a front tells of a part
@@ -47,10 +47,6 @@ pub none_taken : (parts : List LockedPart) → ((p : ℕ) (part : LockedPart) �
 none_taken [] none = refl
 none_taken (part ∷ parts) none =
     omega (arith, sum_by-cons (λ (x : LockedPart). length x.taker.mine) part parts, ap length (none 0 part refl), none_taken parts (λ p. none (suc p)))
-
--- each of these is what a front of its place has
-abbrev pub AreHands : Plan → List (List LockedPart) → Type 0
-AreHands plan hands = (f : ℕ) (parts : List LockedPart) → slice_get hands f ≡ Some parts → IsLockedFront plan (locked_view plan.options f parts)
 
 -- What the fronts had when they were opened and have after they ran, and the partitions as they were taken back and after they took in all of that.
 pub record HaveRan (plan : Plan) (olds news : List (List LockedPart)) (lefts afters : List Owned) : Type 0 where

@@ -1,6 +1,6 @@
 -- What fronts of connections and fronts of datagrams came to beside each other is what is known of fronts beside each other.
 use Rattle.std.proofs.Common.{◌≡◌, ℕ, ◌+◌, ◌<◌, ◌≤◌, inl, inr, List, [], ◌++◌, length, map, Option, Some, None, refl, sym, ap, ◌∙◌, subst, slice_get, arith, length-append}
-use Rattle.std.specs.Prelude.{Result, Ok, Err, sum, sum_by}
+use Rattle.std.specs.Prelude.{◌≢◌, Result, Ok, Err, sum, sum_by}
 use Rattle.std.specs.List.{AllZip}
 use Rattle.std.proofs.lemmas.List.{length-map}
 use Rattle.std.proofs.lemmas.List.Sums.{sum-map, sum_by-append}
@@ -28,10 +28,12 @@ use Rattle.mica_serve.proofs.ServedBeside.{closed_gets}
 use Rattle.locked_serve.specs.declared.streams.StreamTask.{StreamTask}
 use Rattle.locked_serve.specs.declared.worker.FrontTask.{FrontTask}
 use Rattle.locked_serve.specs.Opening.{AreNewParts, AreNewHands}
-use Rattle.locked_serve.specs.Streams.{StreamFacts, ServesStream, AreServed, AreUnserved, StopsStream, others_of}
+use Rattle.locked_serve.specs.Streams.{StreamFacts, HasFinished, ServesStream, AreServed, AreUnserved, StopsStream, others_of}
 use Rattle.locked_serve.specs.Running.{run_of, front_facts, IsReadyTask, AreReadyTasks, TaskRan, TasksRan, IsReadyStream, AreReadyStreams, StreamRan, StreamsRan, RunsStream, RanBeside}
 use Rattle.locked_serve.proofs.Joined.{at_left, at_right, at_either, same_sums}
-use Rattle.locked_serve.proofs.Ran.{AreHands, HaveRan, HandAt, hand_at, taken_hand, placed, kept, runs_all, shapes, histories, closes}
+use Rattle.locked_serve.specs.Taking.{AreHands}
+use Rattle.locked_serve.proofs.Ran.{HaveRan, HandAt, hand_at, taken_hand, placed, kept, runs_all, shapes, histories, closes}
+use Rattle.locked_serve.proofs.Streamed.{finished_at}
 use Rattle.locked_serve.proofs.Taken.{closed_by, closed_at}
 
 abbrev pub hand_of : {D : Type 0} → FrontTask D → List LockedPart
@@ -104,6 +106,14 @@ module _ {C K : Type 0} (plan : Plan) (facts : C → StreamFacts) (last : K → 
           subst (λ (y : StreamFacts × StreamFacts). ServesStream plan.options base (front_facts facts last s.old) (front_facts facts last s.new) own y.0 y.1) (λ i. (two i, three i)) s.run.serves,
         );
   }
+
+  pub finished : (k : ℕ) (own : List Answered) (after : StreamFacts) → ((fault : ServeFault) → slice_get (map (λ (t : StreamTask C K). t.answer) news) k ≢ Some (Err fault))
+      → slice_get answers k ≡ Some own → slice_get (map port_of news) k ≡ Some after → HasFinished plan.options own after
+  finished k own after well own_at after_at =
+      let s = all_at.2 k own own_at in
+      let same : facts s.new.port ≡ after = same_Some _ _ (sym (at_map port_of news k s.new s.is) ∙ after_at) in
+      subst (HasFinished plan.options own) same
+      (finished_at s.new.answer (λ fault is. well fault (at_map (λ (t : StreamTask C K). t.answer) news k s.new s.is ∙ ap Some is)) s.run.finished)
 
   pub stopped : (k : ℕ) → slice_get (map (λ (t : StreamTask C K). t.answer) news) k ≡ Some (Err Net) → StopsStream (map port_of olds) (map port_of news)
   stopped k at =
@@ -273,6 +283,7 @@ module _ {C K D : Type 0} (plan : Plan) (some : 1 ≤ plan.options.partitions) (
     answers = own;
     many = own_many ∙ sym (length-map stream_olds (λ (t : StreamTask C K). stream_facts t.port));
     served = served plan stream_facts last base stream_olds stream_news streams;
+    finished = finished plan stream_facts last base stream_olds stream_news streams;
     stopped = stopped plan stream_facts last base stream_olds stream_news streams;
     ran = record {
       fronts = runs plan batches facts (length stream_olds) olds news ran;

@@ -1,8 +1,7 @@
 -- What a server has told, and why it stopped, where it was filled and where it was not.
-use Rattle.std.proofs.Common.{◌≡◌, ◌≢◌, ◌<◌, ℕ, ◌⊎◌, inl, inr, List, [], Option, Some, None, refl, sym, ◌∙◌, subst, arith}
+use Rattle.std.proofs.Common.{◌≡◌, ◌<◌, ℕ, ◌⊎◌, inl, inr, List, [], Option, Some, None, refl, sym, ◌∙◌, subst, arith}
 use Rattle.std.specs.Prelude.{Result, Ok, Err}
 use Rattle.mica_io.specs.Faults.{Rose}
-use Rattle.partition_model.specs.declared.options.Options.{Options}
 use Rattle.partition_model.specs.declared.write.Write.{Write}
 use Rattle.partition_model.specs.History.{History}
 use Rattle.partition_table.specs.declared.tables.KeptSeat.{KeptSeat}
@@ -12,21 +11,37 @@ use Rattle.mica_fronts.specs.declared.totals.ServeFault.{ServeFault}
 use Rattle.mica_fronts.specs.declared.totals.ServeFault.TheVariants.{Net, NoMemory}
 use Rattle.stream_fronts.specs.declared.ports.StreamPorts.{StreamPorts}
 use Rattle.mica_serve.specs.Others.{Others}
+use Rattle.mica_serve.proofs.Whole.{net_kept}
+use Rattle.locked_serve.specs.declared.service.Service.{Service}
 use Rattle.locked_serve.specs.declared.filling.OpenFault.{OpenFault}
 use Rattle.locked_serve.specs.declared.filling.OpenFault.TheVariants as open_fault
 use Rattle.locked_serve.specs.declared.stop.Stop.{Stop}
 use Rattle.locked_serve.specs.declared.stop.Stop.TheVariants.{Refused, Unannounced, Fault}
 use Rattle.locked_serve.specs.Filled.{origin_of, RefusesFilling}
 use Rattle.locked_serve.specs.Streams.{StreamFacts, ListenFacts}
-use Rattle.locked_serve.specs.Causes.{PortFacts, HasPorts, LacksPort, CameTo, ComesBeside, HasCause, stop_of, IsCauseOfStop, HasAnnounced}
+use Rattle.locked_serve.specs.Causes.{PortFacts, HasPorts, LacksPort, CameTo, ComesBeside, HasCause, stop_of, IsCauseOfStop, HasAnnounced, Leaves}
+use Rattle.locked_serve.proofs.Heard.{kept_unheard}
 use Rattle.locked_serve.proofs.Released.{none_released}
 use Rattle.locked_serve.proofs.Unheard.{no_answers, none_heard}
 
+-- a port could not be had
+pub lacks_port : {A : Type 0} {answer : Result Totals Stop} (says fails : A → A → Type 0) (before after : PortFacts) (a : A) → answer ≡ Err (Fault Net) → LacksPort before after
+    → HasAnnounced says fails answer before after a a
+lacks_port says fails before after a is lacks = subst (λ (r : Result Totals Stop). HasAnnounced says fails r before after a a) (sym is) (inl (lacks, refl))
+
+-- it could not be told
+pub fails_to_tell : {A : Type 0} {answer : Result Totals Stop} (says fails : A → A → Type 0) (before after : PortFacts) (old new : A) → answer ≡ Err Unannounced → fails old new
+    → HasAnnounced says fails answer before after old new
+fails_to_tell says fails before after old new is failed = subst (λ (r : Result Totals Stop). HasAnnounced says fails r before after old new) (sym is) failed
+
 -- a fault that came once that was told
-pub fault_told : {A : Type 0} (fault : ServeFault) (says fails : A → A → Type 0) (before after : PortFacts) (old new : A) → HasPorts before after → says old new
-    → HasAnnounced says fails (Err (Fault fault)) before after old new
-fault_told Net says fails before after old new all said = inr (all, said)
-fault_told NoMemory says fails before after old new all said = inr said
+pub fault_told : {A : Type 0} {answer : Result Totals Stop} (fault : ServeFault) (says fails : A → A → Type 0) (before after : PortFacts) (old new : A) → answer ≡ Err (Fault fault)
+    → HasPorts before after → says old new → HasAnnounced says fails answer before after old new
+fault_told fault says fails before after old new is all said = subst (λ (r : Result Totals Stop). HasAnnounced says fails r before after old new) (sym is) (at fault)
+  where
+    at : (f : ServeFault) → HasAnnounced says fails (Err (Fault f)) before after old new
+    at Net = inr (all, said)
+    at NoMemory = inr said
 
 -- and what was told stands when the ends are released
 pub still_told : {A : Type 0} (answer : Result Totals Stop) (says fails : A → A → Type 0) (before mid after : PortFacts) (old new : A) → after.net.refused ≡ mid.net.refused
@@ -48,10 +63,10 @@ still_told (Err (Fault Net)) says fails before mid after old new refused faults 
 still_told (Err (Fault NoMemory)) says fails before mid after old new refused faults told = told
 
 -- what is said of the fronts of datagrams and of the ports that are left, said otherwise once these were let go
-pub says_then : {P Q : Others → Option (Result Totals ServeFault) → Type 0} {A B : List StreamFacts → Type 0} {answer : Result Totals Stop} {options : Options} {base : ℕ}
-    {streams : StreamPorts} {clocks : List ℕ} {before between after : ListenFacts} → after.faults ≡ between.faults → ((news : List StreamFacts) → A news → B news)
+pub says_then : {P Q : Others → Option (Result Totals ServeFault) → Type 0} {A B : List StreamFacts → Type 0} {answer : Result Totals Stop} {service : Service}
+    {clocks : List ℕ} {before between after : ListenFacts} → after.faults ≡ between.faults → ((news : List StreamFacts) → A news → B news)
     → ((others : Others) (came : Option (Result Totals ServeFault)) → P others came → Q others came)
-    → ComesBeside P A answer options base streams clocks before between → ComesBeside Q B answer options base streams clocks before after
+    → ComesBeside P A answer service clocks before between → ComesBeside Q B answer service clocks before after
 says_then {answer = answer} {before = before} same gone then it = record {
   answers = it.answers;
   olds = it.olds;
@@ -59,6 +74,7 @@ says_then {answer = answer} {before = before} same gone then it = record {
   are = it.are;
   left = gone it.news it.left;
   all = it.all;
+  finished = it.finished;
   came = it.came;
   came_is = subst (λ (n : ℕ). CameTo answer before.faults n it.came) (sym same) it.came_is;
   unserved = it.unserved;
@@ -66,34 +82,46 @@ says_then {answer = answer} {before = before} same gone then it = record {
 }
 
 -- there was no memory before any port was bound
-pub no_memory : (options : Options) (origin : ℕ → History) (base : ℕ) (ports : PortOptions) (streams : StreamPorts) (clocks : List ℕ) (kept : List KeptSeat) (all : PortFacts) → kept ≡ []
-    → HasCause (Err (Fault NoMemory)) options origin base ports streams clocks kept all all
-no_memory options origin base ports streams clocks kept all none = record {
-  answers = no_answers streams.fronts;
+pub no_memory : {answer : Result Totals Stop} {service : Service} {origin : ℕ → History} {clocks : List ℕ} {kept : List KeptSeat} {all : PortFacts} → answer ≡ Err (Fault NoMemory) → kept ≡ []
+    → HasCause answer service origin clocks kept all all
+no_memory {service = service} {origin = origin} {clocks = clocks} {kept = kept} {all = all} is none = subst (λ (r : Result Totals Stop). HasCause r service origin clocks kept all all) (sym is) (record {
+  answers = no_answers service.streams.fronts;
   olds = [];
   news = [];
-  are = none_heard options base streams all.listens.ports clocks;
+  are = none_heard service.options service.base service.streams all.listens.ports clocks;
   left = none_released all.listens.released;
   all = tt;
+  finished = tt;
   came = Some (Err NoMemory);
   came_is = refl;
   unserved = tt;
   said = none;
-}
+})
 
 -- a server that these writes filled
-pub cause_filled : (options : Options) (writes : List Write) (base : ℕ) (ports : PortOptions) (streams : StreamPorts) (clocks : List ℕ) (kept : List KeptSeat) (before after : PortFacts)
-    (answer : Result Totals Stop) → answer ≢ Err Refused → HasCause answer options (origin_of options writes) base ports streams clocks kept before after
-    → IsCauseOfStop answer options writes base ports streams clocks kept before after
-cause_filled options writes base ports streams clocks kept before after (Ok totals) filled is = is
-cause_filled options writes base ports streams clocks kept before after (Err (Fault fault)) filled is = is
-cause_filled options writes base ports streams clocks kept before after (Err Unannounced) filled is = is
-cause_filled options writes base ports streams clocks kept before after (Err Refused) filled is = absurd (filled refl)
+pub cause_filled : (answer : Result Totals Stop) (writes : List Write) {service : Service} {clocks : List ℕ} {kept : List KeptSeat} {before after : PortFacts}
+    → HasCause answer service (origin_of service.options writes) clocks kept before after → IsCauseOfStop answer service writes clocks kept before after
+cause_filled (Ok totals) writes is = is
+cause_filled (Err (Fault fault)) writes is = is
+cause_filled (Err Unannounced) writes is = is
+cause_filled (Err Refused) writes is = absurd is.came_is
 
 -- a server whose partitions could not be made and filled
-pub not_opened : {A : Type 0} (fault : OpenFault) (options : Options) (writes : List Write) (base : ℕ) (ports : PortOptions) (streams : StreamPorts) (clocks : List ℕ) (kept : List KeptSeat)
-    (all : PortFacts) → kept ≡ [] → (fault ≡ open_fault.Refused → RefusesFilling options writes) → (says fails : A → A → Type 0) (a : A)
-    → IsCauseOfStop (Err (stop_of fault)) options writes base ports streams clocks kept all all × HasAnnounced says fails (Err (stop_of fault)) all all a a
-not_opened open_fault.Refused options writes base ports streams clocks kept all none why says fails a = ((none, refl, why refl), refl)
-not_opened open_fault.NoMemory options writes base ports streams clocks kept all none why says fails a =
-    (no_memory options (origin_of options writes) base ports streams clocks kept all none, inl refl)
+pub not_opened : {answer : Result Totals Stop} (fault : OpenFault) (service : Service) (writes : List Write) (clocks : List ℕ) (kept : List KeptSeat) (all : PortFacts)
+    → answer ≡ Err (stop_of fault) → kept ≡ [] → (fault ≡ open_fault.Refused → RefusesFilling service.options writes) → IsCauseOfStop answer service writes clocks kept all all
+not_opened fault service writes clocks kept all is none why = subst (λ (r : Result Totals Stop). IsCauseOfStop r service writes clocks kept all all) (sym is) (at fault why)
+  where
+    at : (f : OpenFault) → (f ≡ open_fault.Refused → RefusesFilling service.options writes) → IsCauseOfStop (Err (stop_of f)) service writes clocks kept all all
+    at open_fault.Refused because = (none, refl, because refl)
+    at open_fault.NoMemory because = no_memory refl none
+
+-- which leaves all ports as they were, and tells nothing
+pub unopened : {A : Type 0} {says fails : PortOptions → StreamPorts → A → A → Type 0} {answer : Result Totals Stop} {service : Service} {all : PortFacts} {a : A} (fault : OpenFault)
+    → answer ≡ Err (stop_of fault) → all.net.binds ≡ 0 → Leaves says fails answer service all all a a
+unopened {says = says} {fails = fails} {service = service} {all = all} {a = a} fault is unbound =
+    subst (λ (r : Result Totals Stop). Leaves says fails r service all all a a) (sym is)
+    (record { kept = net_kept service.ports all.net unbound; heard = kept_unheard service.streams all.listens; announced = at fault })
+  where
+    at : (f : OpenFault) → HasAnnounced (says service.ports service.streams) (fails service.ports service.streams) (Err (stop_of f)) all all a a
+    at open_fault.Refused = refl
+    at open_fault.NoMemory = inl refl

@@ -1,14 +1,18 @@
 -- A front that was served behind its port, by the answers that its log tells; where it tells none, by some.
-use Rattle.std.proofs.Common.{◌≡◌, ℕ, false, List, [], Option, None, Some, refl}
-use Rattle.std.specs.Prelude.{IfSome}
+use Rattle.std.proofs.Common.{◌≡◌, ◌≢◌, ◌-◌, ◌+◌, ◌≤◌, inl, inr, ℕ, Bool, false, List, [], Option, None, Some, refl, arith}
+use Rattle.std.specs.Prelude.{⊤, IfSome, Result, Ok, Err, IsErrOf, OnOk}
+use Rattle.mica_io.specs.Faults.{Rose}
 use Rattle.partition_model.specs.declared.options.Options.{Options}
 use Rattle.stream_io.specs.Log.{Log}
 use Rattle.mica_fronts.specs.Answered.{Answered}
+use Rattle.mica_fronts.specs.declared.totals.ServeFault.{ServeFault}
+use Rattle.mica_fronts.specs.declared.totals.ServeFault.TheVariants.{Net, NoMemory}
+use Rattle.locked_fronts.specs.Parts.{most_turns}
 use Rattle.stream_fronts.specs.Going.{GoesBy, GoesByThese}
 use Rattle.stream_fronts.specs.Open.{OnLogs}
-use Rattle.stream_fronts.specs.Serving.{FrontAt, ServesFromNone}
+use Rattle.stream_fronts.specs.Serving.{FrontAt, IsFinished, ServesFromNone}
 use Rattle.stream_fronts.specs.declared.desk.TheConstants.{MOST_UNSENT}
-use Rattle.locked_serve.specs.Streams.{ServesClients}
+use Rattle.locked_serve.specs.Streams.{StreamFacts, HasFinished, HasStopped, ServesClients}
 
 -- it went on by these answers, and served its clients by them
 pub record GoesAndServes (options : Options) (base : ℕ) (old new : FrontAt) (before after : Option Log) : Type 0 where
@@ -26,3 +30,25 @@ both_by options base old new (Some before) (Some after) fresh goes serves =
     let log = serves fresh in
     let all = log.serves in
     record { answers = all.answers; goes = record { in_order = all.in_order; seconds = all.seconds; few = all.few }; clients = (log, refl) }
+
+-- a front that had all its writes before has finished, by what it was given
+pub finishes : (options : Options) (has_ended : Bool) (left writes : ℕ) → most_turns ≤ left + writes → IsFinished options has_ended left
+    → IsFinished options has_ended (most_turns - writes)
+finishes options has_ended left writes had is =
+    elim is as (λ _. IsFinished options has_ended (most_turns - writes)) [ inl ended ↦ inl ended | inr spent ↦ inr (omega (arith, had, spent)) ]
+
+pub finished_so : (answer : Result ⊤ ServeFault) {P Q : Type 0} → (P → Q) → OnOk answer P → OnOk answer Q
+finished_so (Ok none) then is = then is
+finished_so (Err fault) then is = tt
+
+-- where it came to no fault
+pub finished_at : (answer : Result ⊤ ServeFault) {P : Type 0} → ((fault : ServeFault) → answer ≢ Err fault) → OnOk answer P → P
+finished_at (Ok none) well is = is
+finished_at (Err fault) well is = absurd (well fault refl)
+
+-- so it has stopped
+pub stops : (options : Options) (answers : List Answered) (before after : StreamFacts) (answer : Result ⊤ ServeFault) → OnOk answer (HasFinished options answers after)
+    → (IsErrOf answer Net → Rose before.faults after.faults) → (IsErrOf answer NoMemory → after ≡ before) → HasStopped options answers before after
+stops options answers before after (Ok none) finished failed unserved = inl finished
+stops options answers before after (Err Net) finished failed unserved = inr (inl (failed refl))
+stops options answers before after (Err NoMemory) finished failed unserved = inr (inr (unserved refl))

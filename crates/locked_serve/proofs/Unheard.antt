@@ -1,5 +1,5 @@
 -- Fronts of connections that were not served.
-use Rattle.std.proofs.Common.{◌≡◌, ℕ, zero, suc, ◌≤◌, inl, List, [], ◌∷◌, length, false, true≢false, Option, None, Some, slice_get, replicate, refl, sym, ap, ◌∙◌, subst, arith}
+use Rattle.std.proofs.Common.{◌≡◌, ℕ, zero, suc, ◌≤◌, inl, inr, List, [], ◌∷◌, length, false, true≢false, Option, None, Some, slice_get, replicate, refl, sym, ap, ◌∙◌, subst, arith}
 use Rattle.std.specs.Prelude.{IfSome}
 use Rattle.std.proofs.lemmas.Option.{slice_get_within, same_Some}
 use Rattle.stream_io.specs.State.{Entry}
@@ -61,7 +61,7 @@ module _ (options : Options) (base : ℕ) where
     unmoved told,
     refl,
     subst (λ (y : List Answered × StreamFacts). ServesStream options base (unmoved told) (unmoved told) y.0 b y.1) (λ i. (sym none i, sym same i))
-        (record { port = refl; never_fall = omega arith; seconds = refl; ended = sym unserved.unended; clients = none_told told b.log unserved.fresh }),
+        (record { port = refl; never_fall = omega arith; seconds = refl; ended = sym unserved.unended; stopped = inr (inr refl); clients = none_told told b.log unserved.fresh }),
   )
 
   -- the ports that were listened at are as they were

@@ -1,7 +1,8 @@
 -- What each answer of a server says that was filled, and that tells once it listens at its ports.
 use Rattle.std.specs.Prelude.{◌≡◌, ◌⊎◌, ◌<◌, ℕ, List, [], length, Option, Some, None, option_map, Result, Ok, Err, OnOk}
 use Rattle.mica_io.specs.Faults.{Rose}
-use Rattle.partition_model.specs.declared.options.Options.{Options}
+use Rattle.mica_io.specs.declared.net.Net.{Ghosts as NetTells}
+use Rattle.stream_io.specs.declared.listeners.Listeners.{Ghosts as ListenersTell}
 use Rattle.partition_model.specs.declared.write.Write.{Write}
 use Rattle.partition_model.specs.History.{History}
 use Rattle.partition_table.specs.declared.tables.KeptSeat.{KeptSeat}
@@ -12,21 +13,23 @@ use Rattle.mica_fronts.specs.declared.totals.ServeFault.{ServeFault}
 use Rattle.mica_fronts.specs.declared.totals.ServeFault.TheVariants.{Net, NoMemory}
 use Rattle.stream_fronts.specs.declared.ports.StreamPorts.{StreamPorts}
 use Rattle.mica_serve.specs.Others.{Others}
-use Rattle.mica_serve.specs.NetRun.{NetFacts, IsCauseOnceBound}
+use Rattle.mica_serve.specs.NetRun.{NetFacts, KeepsNet, IsCauseOnceBound, net_facts}
+use Rattle.locked_serve.specs.declared.service.Service.{Service}
 use Rattle.locked_serve.specs.declared.filling.OpenFault.{OpenFault}
 use Rattle.locked_serve.specs.declared.filling.OpenFault.TheVariants as open_fault
 use Rattle.locked_serve.specs.declared.stop.Stop.{Stop}
 use Rattle.locked_serve.specs.declared.stop.Stop.TheVariants.{Refused, Unannounced, Fault}
 use Rattle.locked_serve.specs.Filled.{origin_of, RefusesFilling}
-use Rattle.locked_serve.specs.Streams.{StreamFacts, ListenFacts, AreStreams, LeavesStreams, others_of, with_ports}
+use Rattle.locked_serve.specs.Streams.{StreamFacts, ListenFacts, HaveFinished, KeepsListeners, AreStreams, LeavesStreams, listen_facts, others_of, with_ports}
 
 -- what contracts see of all ports at one moment: those of datagrams, and what listens at those of connections
 pub record PortFacts : Type 0 where
   pub net : NetFacts
   pub listens : ListenFacts
 
-abbrev pub port_facts : NetFacts → ListenFacts → PortFacts
-port_facts net listens = record { net = net; listens = listens }
+-- the facts of ports of both kinds, as a net and what listens tell them
+abbrev pub ports_at : {N E L C : Type 0} → NetTells N E → ListenersTell L C → N → L → PortFacts
+ports_at net listeners = λ n l. record { net = net_facts net n; listens = listen_facts listeners l }
 
 -- What the fronts came to where a server came to this: nothing where they were not served, as where a port could not be listened at, and the faults of what listens rose.
 abbrev pub CameTo : Result Totals Stop → ℕ → ℕ → Option (Result Totals ServeFault) → Type 0
@@ -37,30 +40,31 @@ CameTo (Err Unannounced) before after came = came ≡ None
 CameTo (Err Refused) before after came = ⊥
 
 -- The fronts of connections answered this and left this of their ports, and those of datagrams came to what is said of them, beside each other. Where they came to
--- totals, each of them all had its port.
-pub record ComesBeside (says : Others → Option (Result Totals ServeFault) → Type 0) (leaves : List StreamFacts → Type 0) (answer : Result Totals Stop) (options : Options) (base : ℕ) (streams : StreamPorts)
+-- totals, each of them all had its port, and has finished.
+pub record ComesBeside (says : Others → Option (Result Totals ServeFault) → Type 0) (leaves : List StreamFacts → Type 0) (answer : Result Totals Stop) (service : Service)
     (clocks : List ℕ) (before after : ListenFacts) : Type 0 where
   pub answers : List (List Answered)
   pub olds : List StreamFacts
   pub news : List StreamFacts
-  pub are : AreStreams options base streams before.ports clocks answers olds news
+  pub are : AreStreams service.options service.base service.streams before.ports clocks answers olds news
   pub left : leaves news
-  pub all : OnOk answer (length olds ≡ streams.fronts)
+  pub all : OnOk answer (length olds ≡ service.streams.fronts)
+  pub finished : OnOk answer (HaveFinished service.options answers news)
   pub came : Option (Result Totals ServeFault)
   pub came_is : CameTo answer before.faults after.faults came
   pub unserved : LeavesStreams came answers olds news
   pub said : says (others_of answers olds news) came
 
-abbrev pub HasCause : Result Totals Stop → Options → (ℕ → History) → ℕ → PortOptions → StreamPorts → List ℕ → List KeptSeat → PortFacts → PortFacts → Type 0
-HasCause answer options origin base ports streams clocks kept before after =
-    ComesBeside (λ others came. IsCauseOnceBound others came options origin ports kept before.net after.net)
-    (λ news. after.listens.released ≡ option_map (with_ports news) before.listens.released) answer options base streams clocks before.listens after.listens
+abbrev pub HasCause : Result Totals Stop → Service → (ℕ → History) → List ℕ → List KeptSeat → PortFacts → PortFacts → Type 0
+HasCause answer service origin clocks kept before after =
+    ComesBeside (λ others came. IsCauseOnceBound others came service.options origin service.ports kept before.net after.net)
+    (λ news. after.listens.released ≡ option_map (with_ports news) before.listens.released) answer service clocks before.listens after.listens
 
 -- What each answer says of a server that these writes fill. Where one of them was refused, there is no port. One that could not tell that it listens has
 -- received nothing.
-abbrev pub IsCauseOfStop : Result Totals Stop → Options → List Write → ℕ → PortOptions → StreamPorts → List ℕ → List KeptSeat → PortFacts → PortFacts → Type 0
-IsCauseOfStop (Err Refused) options writes base ports streams clocks kept before after = (kept ≡ []) × (after ≡ before) × RefusesFilling options writes
-IsCauseOfStop answer options writes base ports streams clocks kept before after = HasCause answer options (origin_of options writes) base ports streams clocks kept before after
+abbrev pub IsCauseOfStop : Result Totals Stop → Service → List Write → List ℕ → List KeptSeat → PortFacts → PortFacts → Type 0
+IsCauseOfStop (Err Refused) service writes clocks kept before after = (kept ≡ []) × (after ≡ before) × RefusesFilling service.options writes
+IsCauseOfStop answer service writes clocks kept before after = HasCause answer service (origin_of service.options writes) clocks kept before after
 
 -- the answer where the partitions could not be made and filled
 abbrev pub stop_of : OpenFault → Stop
@@ -82,3 +86,9 @@ HasAnnounced says fails (Err Refused) before after old new = new ≡ old
 HasAnnounced says fails (Err Unannounced) before after old new = fails old new
 HasAnnounced says fails (Err (Fault Net)) before after old new = (LacksPort before after × (new ≡ old)) ⊎ (HasPorts before after × says old new)
 HasAnnounced says fails (Err (Fault NoMemory)) before after old new = (new ≡ old) ⊎ says old new
+
+-- Whatever the answer: what is kept of all ports, and what became of the announcement.
+pub record Leaves {A : Type 0} (says fails : PortOptions → StreamPorts → A → A → Type 0) (answer : Result Totals Stop) (service : Service) (before after : PortFacts) (old new : A) : Type 0 where
+  pub kept : KeepsNet service.ports before.net after.net
+  pub heard : KeepsListeners service.streams before.listens after.listens
+  pub announced : HasAnnounced (says service.ports service.streams) (fails service.ports service.streams) answer before after old new

@@ -1,3 +1,4 @@
+pub mod Service
 pub mod Filled
 pub mod Streams
 pub mod Causes

@@ -12,6 +12,7 @@ use Rattle.turn_book.specs.Entries.{BookView, book_view, taker_view}
 use Rattle.locked_fronts.specs.declared.owned.Step.{Step}
 use Rattle.locked_fronts.specs.declared.part.LockedPart.{LockedPart}
 use Rattle.locked_fronts.specs.Plan.{Plan}
+use Rattle.locked_fronts.specs.Counts.{counts_after}
 use Rattle.locked_fronts.specs.Parts.{IsPartOf}
 use Rattle.mica_fronts.specs.declared.flushes.Flushes.{Flushes}
 use Rattle.mica_fronts.specs.Flushes.{flushes_in}
@@ -25,6 +26,7 @@ pub record FilledView : Type 0 where
   pub book : BookView Step
   pub flushes : Flushes
 
+-- what contracts see of a partition that was filled
 abbrev pub filled_view : {P : Type 0} → (P → OwnerState) → (P → TableId) → FilledPart P → FilledView
 filled_view owner home filled = record { home = home filled.part; owner = owner filled.part; book = filled.book; flushes = filled.flushes }
 
@@ -75,6 +77,7 @@ pub record IsPlanned (plan : Plan) (takers p : ℕ) (filled : FilledView) : Type
   pub book : filled.book ≡ book_view (plan.books p) takers []
   pub flushes : filled.flushes ≡ flushes_in filled.owner.history
 
+-- there is one filled partition for each number, and each is as the plan says
 pub record ArePlanned (plan : Plan) (takers : ℕ) (all : List FilledView) : Type 0 where
   pub many : length all ≡ plan.options.partitions
   pub each : (p : ℕ) (filled : FilledView) → slice_get all p ≡ Some filled → IsPlanned plan takers p filled
@@ -89,6 +92,7 @@ pub record LendsOne (old new : FilledView) (part : LockedPart) : Type 0 where
   pub home : reader_home part.seat ≡ old.home
   pub unanswered : part.last ≡ 0
   pub newest : part.newest ≡ stamp_of (options_in old.owner) old.owner.history
+  pub counts : part.counts ≡ counts_after (options_in old.owner) old.owner.history
 
 -- what front f begins with in a partition
 pub record IsNewPart (plan : Plan) (f p : ℕ) (part : LockedPart) : Type 0 where

@@ -1,5 +1,5 @@
 -- What each front makes of the port of its place, and what is left of the partitions then.
-use Rattle.std.specs.Prelude.{◌≡◌, ◌≢◌, ◌+◌, ◌<◌, ◌≤◌, ◌⊎◌, ⊤, ℕ, false, List, length, slice_get, slice_index_or, Some, IfSome, Result, Ok, Err, IsErrOf}
+use Rattle.std.specs.Prelude.{◌≡◌, ◌≢◌, ◌+◌, ◌<◌, ◌≤◌, ◌⊎◌, ⊤, ℕ, false, List, length, slice_get, slice_index_or, Some, IfSome, Result, Ok, Err, IsErrOf, OnOk}
 use Rattle.mica_io.specs.Faults.{Rose}
 use Rattle.mica_io.specs.Traffic.{new_traffic}
 use Rattle.partition_model.specs.declared.options.Options.{Options}
@@ -20,7 +20,7 @@ use Rattle.mica_serve.specs.FrontRuns.{FrontRun, RunsFront, RanAll, SumsUp}
 use Rattle.locked_serve.specs.declared.worker.FrontTask.{FrontTask}
 use Rattle.locked_serve.specs.declared.streams.StreamTask.{StreamTask}
 use Rattle.locked_serve.specs.Opening.{AreNewParts}
-use Rattle.locked_serve.specs.Streams.{StreamFacts, IsUnserved, ServesStream, AreServed, StopsStream, others_of}
+use Rattle.locked_serve.specs.Streams.{StreamFacts, HasFinished, IsUnserved, ServesStream, AreServed, StopsStream, others_of}
 
 -- Fronts of datagrams
 
@@ -51,11 +51,12 @@ module _ {D : Type 0} (plan : Plan) (batches : ℕ) (facts : D → EndFacts) whe
 
 -- Fronts of connections
 
--- A front was served behind its port. Its sessions went on by these answers, and it was given no writes but those among them.
+-- A front was served behind its port. Its sessions went on by these answers, and it was given no writes but those among them. Where it came to no fault, it has finished.
 pub record RunsStream (options : Options) (base : ℕ) (old new : FrontAt) (answered : List Answered) (answer : Result ⊤ ServeFault) (before after : StreamFacts) : Type 0 where
   pub serves : ServesStream options base old new answered before after
   pub in_order : AnswersInOrder options false old.sessions answered new.sessions
   pub few : old.left ≤ new.left + count_of_writes answered
+  pub finished : OnOk answer (HasFinished options answered after)
   pub cause : IsErrOf answer Net → Rose before.faults after.faults
 
 -- as what it has in hand, its clock and its port tell it
@@ -96,6 +97,8 @@ pub record RanBeside (options : Options) (origin : ℕ → History) (batches bas
   pub answers : List (List Answered)
   pub many : length answers ≡ length olds
   pub served : AreServed options base clocks answers olds news
+  pub finished : (k : ℕ) (own : List Answered) (after : StreamFacts) → ((fault : ServeFault) → slice_get streams k ≢ Some (Err fault))
+      → slice_get answers k ≡ Some own → slice_get news k ≡ Some after → HasFinished options own after
   pub stopped : (k : ℕ) → slice_get streams k ≡ Some (Err Net) → StopsStream olds news
   pub ran : RanAll (others_of answers olds news) options origin batches kept fronts before after
 

@@ -1,5 +1,6 @@
 -- A server as opened, with its partitions under their locks.
-use Rattle.std.specs.Prelude.{◌≡◌, ◌≤◌, ℕ, List, [], vec_capacity}
+use Rattle.std.specs.Prelude.{◌≡◌, ◌≤◌, ℕ, List, [], map, vec_capacity}
+use Rattle.std.specs.Global.{Vec}
 use Rattle.locked_fronts.specs.Plan.{Plan}
 use Rattle.locked_fronts.specs.declared.part.LockedPart.{LockedPart}
 use Rattle.locked_serve.specs.declared.server.Row.{Row}
@@ -22,8 +23,8 @@ module _ {P D C K : Type 0} where
     pub parts : (room.parts.items ≡ []) × (partitions ≤ vec_capacity room.parts)
 
   -- So many partitions under locks, what each front has of them, and room for all. The fronts of connections come first.
-  pub record IsLockedServer (plan : Plan) (streams fronts locks : ℕ) (stream_hands hands : List (List LockedPart)) (room : Room P D C K) : Type 0 where
+  pub record IsLockedServer (plan : Plan) (streams fronts locks : ℕ) (stream_hands hands : List (Vec LockedPart)) (room : Room P D C K) : Type 0 where
     pub locked : locks ≡ plan.options.partitions
-    pub lent_streams : AreNewHands plan 0 streams stream_hands
-    pub lent : AreNewHands plan streams fronts hands
+    pub lent_streams : AreNewHands plan 0 streams (map (λ hand. hand.items) stream_hands)
+    pub lent : AreNewHands plan streams fronts (map (λ hand. hand.items) hands)
     pub has_room : IsRoom streams fronts plan.options.partitions room

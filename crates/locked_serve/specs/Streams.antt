@@ -1,19 +1,22 @@
 -- The ports of connections, as contracts see them, and what their fronts make of them.
-use Rattle.std.specs.Prelude.{◌≡◌, ◌≢◌, ◌+◌, ◌<◌, ◌≤◌, ⊤, ℕ, Bool, false, List, [], ◌∷◌, length, slice_get, Option, None, Some, IfSome, option_map, Result}
+use Rattle.std.specs.Prelude.{◌≡◌, ◌≢◌, ◌⊎◌, ◌+◌, ◌-◌, ◌<◌, ◌≤◌, ⊤, ℕ, Bool, false, List, [], ◌∷◌, length, slice_get, Option, None, Some, IfSome, option_map, Result, OnOk}
 use Rattle.mica_io.specs.Faults.{Rose}
 use Rattle.stream_io.specs.Log.{Log}
+use Rattle.stream_io.specs.declared.connections.Connections.{Ghosts as StreamTells}
+use Rattle.stream_io.specs.declared.listeners.Listeners.{Ghosts as ListenersTell}
 use Rattle.stream_io.specs.PortLogs.{Place, PortLogs, with_port}
 use Rattle.partition_model.specs.declared.options.Options.{Options}
 use Rattle.partition_model.specs.History.{History}
 use Rattle.partition_table.specs.declared.tables.KeptSeat.{KeptSeat}
-use Rattle.mica_fronts.specs.Answered.{Answered}
+use Rattle.mica_fronts.specs.Answered.{Answered, count_of_writes}
 use Rattle.mica_fronts.specs.declared.totals.Totals.{Totals}
 use Rattle.mica_fronts.specs.declared.totals.ServeFault.{ServeFault}
 use Rattle.memcached_fronts.specs.Seconds.{seconds_of, ToldFrom}
 use Rattle.stream_fronts.specs.declared.desk.TheConstants.{MOST_UNSENT}
 use Rattle.stream_fronts.specs.declared.ports.StreamPorts.{StreamPorts}
 use Rattle.stream_fronts.specs.Open.{OnLogs}
-use Rattle.stream_fronts.specs.Serving.{FrontAt, ServesLog}
+use Rattle.stream_fronts.specs.Serving.{FrontAt, IsFinished, ServesLog}
+use Rattle.locked_fronts.specs.Parts.{most_turns}
 use Rattle.mica_serve.specs.Others.{Others, HaveAnsweredNothing}
 use Rattle.mica_serve.specs.Ends.{EndFacts, ServesFronts}
 
@@ -25,8 +28,8 @@ pub record StreamFacts : Type 0 where
   pub log : Option Log
 
 -- by what it tells
-abbrev pub stream_facts : {C : Type 0} → (C → ℕ) → (C → ℕ) → (C → Bool) → (C → Option Log) → C → StreamFacts
-stream_facts port faults has_ended log = λ c. record { port = port c; faults = faults c; has_ended = has_ended c; log = log c }
+abbrev pub stream_facts : {C : Type 0} → StreamTells C → C → StreamFacts
+stream_facts stream = λ c. record { port = stream.port c; faults = stream.faults c; has_ended = stream.has_ended c; log = stream.log c }
 
 -- what they see of what listens
 pub record ListenFacts : Type 0 where
@@ -35,8 +38,9 @@ pub record ListenFacts : Type 0 where
   pub released : Option PortLogs
   pub place : Place
 
-abbrev pub listen_facts : {L : Type 0} → (L → ℕ) → (L → Option PortLogs) → (L → Option PortLogs) → (L → Place) → L → ListenFacts
-listen_facts faults ports released place = λ l. record { faults = faults l; ports = ports l; released = released l; place = place l }
+-- by what listeners tell
+abbrev pub listen_facts : {L C : Type 0} → ListenersTell L C → L → ListenFacts
+listen_facts listeners = λ l. record { faults = listeners.faults l; ports = listeners.ports l; released = listeners.released l; place = listeners.place l }
 
 -- Before any connection came
 
@@ -91,12 +95,21 @@ pub record ReleasesStreams (streams : List StreamFacts) (before after : ListenFa
 abbrev pub ServesClients : Options → ℕ → FrontAt → FrontAt → List Answered → Log → Log → Type 0
 ServesClients options base old new answers before after = (served : ServesLog options false base MOST_UNSENT old new before after) × (served.serves.answers ≡ answers)
 
+-- The end of its port came; or of the writes that a front may be given in all too few are left for one command.
+abbrev pub HasFinished : Options → List Answered → StreamFacts → Type 0
+HasFinished options answers after = IsFinished options after.has_ended (most_turns - count_of_writes answers)
+
+-- Why a front serves no longer: it has finished; or a fault was counted; or it did not begin, and its port is as it was.
+abbrev pub HasStopped : Options → List Answered → StreamFacts → StreamFacts → Type 0
+HasStopped options answers before after = HasFinished options answers after ⊎ (Rose before.faults after.faults ⊎ (after ≡ before))
+
 -- A front answered so, behind its port: its clock told the seconds of these answers one after another. It knows whether the end came.
 pub record ServesStream (options : Options) (base : ℕ) (old new : FrontAt) (answers : List Answered) (before after : StreamFacts) : Type 0 where
   pub port : after.port ≡ before.port
   pub never_fall : before.faults ≤ after.faults
   pub seconds : ToldFrom old.second (seconds_of answers) new.second
   pub ended : new.has_ended ≡ after.has_ended
+  pub stopped : HasStopped options answers before after
   pub clients : OnLogs (ServesClients options base old new answers) before.log after.log
 
 -- Each front was served behind the port of its place, where its clock had told this second. The first unique number of a value is that of the base.
@@ -113,6 +126,11 @@ pub record AreStreams (options : Options) (base : ℕ) (streams : StreamPorts) (
   pub fronts : length answers ≡ streams.fronts
   pub served : AreServed options base clocks answers olds news
   pub unheard : (k : ℕ) (own : List Answered) → slice_get answers k ≡ Some own → length olds ≤ k → own ≡ []
+
+-- each has
+abbrev pub HaveFinished : Options → List (List Answered) → List StreamFacts → Type 0
+HaveFinished options answers news =
+    (k : ℕ) (own : List Answered) (after : StreamFacts) → slice_get answers k ≡ Some own → slice_get news k ≡ Some after → HasFinished options own after
 
 -- a fault came to one of them
 pub record StopsStream (olds news : List StreamFacts) : Type 0 where
@@ -138,4 +156,5 @@ pub record ServesBeside (options : Options) (origin : ℕ → History) (batches 
   pub answers : List (List Answered)
   pub many : length answers ≡ length olds
   pub streams : AreServed options base clocks answers olds news
+  pub finished : OnOk answer (HaveFinished options answers news)
   pub fronts : ServesFronts (others_of answers olds news) options origin batches answer kept before after

@@ -6,6 +6,7 @@ use Rattle.partition_table.specs.Seats.{reader_home}
 use Rattle.locked_fronts.specs.declared.returned.Returned.{Returned}
 use Rattle.locked_fronts.specs.declared.part.LockedPart.{LockedPart}
 use Rattle.locked_fronts.specs.Plan.{Plan}
+use Rattle.locked_fronts.specs.Parts.{IsLockedFront, locked_view}
 use Rattle.locked_fronts.specs.Returned.{TookIn}
 use Rattle.locked_fronts.specs.Owned.{Owned, owned_as, IsOwned}
 
@@ -15,6 +16,10 @@ left_view owner home left = owned_as left.number (home left.part) (owner left.pa
 -- one for each partition, in order
 pub record AreTakenBack (plan : Plan) (all : List Owned) : Type 0 where
   pub each : (p : ℕ) (left : Owned) → slice_get all p ≡ Some left → (left.number ≡ p) × IsOwned plan left
+
+-- each of these is what a front of its place has
+abbrev pub AreHands : Plan → List (List LockedPart) → Type 0
+AreHands plan hands = (f : ℕ) (parts : List LockedPart) → slice_get hands f ≡ Some parts → IsLockedFront plan (locked_view plan.options f parts)
 
 -- the part is of its table and of its book
 pub record MayTakeIn (left : Owned) (part : LockedPart) : Type 0 where
@@ -40,3 +45,10 @@ MayTakeHands all hands = (f : ℕ) (parts : List LockedPart) → slice_get hands
 abbrev pub TakesHands : List Owned → List Owned → List (List LockedPart) → Type 0
 TakesHands olds news [] = news ≡ olds
 TakesHands olds news (parts ∷ later) = (between : List Owned) × TakesHand olds between parts × TakesHands between news later
+
+-- all partitions were taken back, and took in these hands
+pub record TakesBack (plan : Plan) (hands : List (List LockedPart)) (news : List Owned) : Type 0 where
+  pub lefts : List Owned
+  pub many : length lefts ≡ plan.options.partitions
+  pub back : AreTakenBack plan lefts
+  pub took : TakesHands lefts news hands

@@ -28,9 +28,9 @@ pub trait Announce {
         connections: &[C],
     ) -> Result<(), Untold>
         requires bound { length ends.now ≡ ports.now.fronts }
-        requires new { AreNewEnds ports.now.port (map (end_facts D.port D.traffic D.faults D.has_ended D.script) ends.now) }
+        requires new { AreNewEnds ports.now.port (map (end_facts D.Datagrams) ends.now) }
         requires listens { length connections.now ≡ streams.now.fronts }
-        requires fresh { AreNewStreams None streams.now.port (map (stream_facts C.port C.faults C.has_ended C.log) connections.now) }
+        requires fresh { AreNewStreams None streams.now.port (map (stream_facts C.Connections) connections.now) }
         ensures said { OnOk result (says ports.now streams.now self.old self.new) }
         ensures failed { OnErr result (fails ports.now streams.now self.old self.new) };
 }

@@ -17,10 +17,10 @@ pub(crate) fn listen_all<L: Listeners>(
     requires streams { IsPossibleStreams streams.now }
     requires none { connections.old.items ≡ [] }
     requires room { streams.now.fronts ≤ vec_capacity connections.old }
-    ensures new { AreNewStreams (L.ports listeners.old) streams.now.port (map (stream_facts L.Port.port L.Port.faults L.Port.has_ended L.Port.log) connections.new.items) }
+    ensures new { AreNewStreams (L.ports listeners.old) streams.now.port (map (stream_facts L.Port.Connections) connections.new.items) }
     ensures all { OnOk result (vec_len connections.new ≡ streams.now.fronts) }
     ensures few { vec_len connections.new ≤ streams.now.fronts }
-    ensures kept { KeepsListeners streams.now (listen_facts L.faults L.ports L.released L.place listeners.old) (listen_facts L.faults L.ports L.released L.place listeners.new) }
+    ensures kept { KeepsListeners streams.now (listen_facts L.Listeners listeners.old) (listen_facts L.Listeners listeners.new) }
     ensures unreleased { L.released listeners.new ≡ L.released listeners.old }
     ensures steady { OnOk result (L.faults listeners.new ≡ L.faults listeners.old) }
     ensures cause { OnErr result (Rose (L.faults listeners.old) (L.faults listeners.new)) }
@@ -34,8 +34,8 @@ pub(crate) fn listen_all<L: Listeners>(
 
 /// Lets all ports go, in order.
 pub(crate) fn release_streams<L: Listeners>(listeners: &mut L, connections: Vec<L::Port>)
-    ensures { ReleasesStreams (map (stream_facts L.Port.port L.Port.faults L.Port.has_ended L.Port.log) connections.items)
-        (listen_facts L.faults L.ports L.released L.place listeners.old) (listen_facts L.faults L.ports L.released L.place listeners.new) }
+    ensures { ReleasesStreams (map (stream_facts L.Port.Connections) connections.items)
+        (listen_facts L.Listeners listeners.old) (listen_facts L.Listeners listeners.new) }
 {
     for port in connections {
         listeners.release(port);

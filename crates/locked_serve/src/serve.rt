@@ -1,17 +1,14 @@
 //! The server over partitions under locks: filled, bound, served and taken back.
-ghost use Rattle.std.specs.Prelude.{◌≡◌, ◌≢◌, ◌+◌, ◌<◌, ◌≤◌, ℕ, [], All, Err, length, map, vec_capacity};
-ghost use Rattle.partition_model.specs.Options.{IsPossible};
+ghost use Rattle.std.specs.Prelude.{◌≡◌, ◌<◌, ◌≤◌, ℕ, [], All, length, map, vec_capacity};
 ghost use Rattle.partition_model.specs.History.{IsHistory};
 ghost use Rattle.partition_model.specs.Write.{IsWrite};
 ghost use Rattle.partition_table.specs.Seats.{note_state, note_home};
-ghost use Rattle.stream_fronts.specs.StreamPorts.{IsPossibleStreams};
 ghost use Rattle.locked_fronts.specs.Owned.{NotesAre};
-ghost use Rattle.mica_serve.specs.PossiblePorts.{IsPossiblePorts};
 ghost use Rattle.mica_serve.specs.Ends.{end_facts};
-ghost use Rattle.mica_serve.specs.NetRun.{BindsAndServes, KeepsNet, net_facts};
-ghost use Rattle.locked_serve.specs.declared.serve.TheConstants.{MOST_FRONTS};
+ghost use Rattle.mica_serve.specs.NetRun.{BindsAndServes, net_facts};
+ghost use Rattle.locked_serve.specs.Service.{IsPossibleService, IsPlanOf};
 ghost use Rattle.locked_serve.specs.Streams.{KeepsListeners, listen_facts, stream_facts};
-ghost use Rattle.locked_serve.specs.Causes.{ComesBeside, HasCause, IsCauseOfStop, HasAnnounced, port_facts};
+ghost use Rattle.locked_serve.specs.Causes.{ComesBeside, HasCause, IsCauseOfStop, HasAnnounced, Leaves, ports_at};
 ghost use Rattle.locked_serve.specs.Opening.{ArePlanned, filled_view};
 ghost use Rattle.locked_serve.specs.Server.{IsLockedServer};
 
@@ -19,24 +16,22 @@ use crate::announce::Announce;
 use crate::listening::{listen_all, release_streams};
 use crate::opening::{FilledPart, open_parts};
 use crate::server::{LockedServer, serve_all};
+use crate::service::Shared;
 use crate::stop::Stop;
 use cache_partition::CachePartition;
 use epoch_core::LendPartition;
 use locked_fronts::ServerPlan;
-use memcached_stats::Board;
 use mica_clock::Clock;
-use mica_fronts::{PortOptions, Totals};
+use mica_fronts::Totals;
 use mica_io::{Gate, Net};
 use mica_serve::{bind_all, release_all};
-use partition_model::{Mode, Options, Write};
+use partition_model::{Mode, Write};
 use partition_table::{Note, OwnerSeat, ReaderSeat, Tables};
 use seated_partition::OnTable;
-use std::alloc::Global;
 use std::marker::Brand;
 use std::sync::Wait;
 use std::thread::Threads;
 use store_partition::StorePartition;
-use stream_fronts::StreamPorts;
 use stream_io::Listeners;
 use thread_rehearsal::rehearse;
 
@@ -54,70 +49,44 @@ fn bind_and_serve<
     G: Gate,
     A: Announce,
 >(
-    rt: &W,
-    alloc: Global,
-    options: &Options,
-    ports: &PortOptions,
-    streams: &StreamPorts,
-    base: u64,
-    board: &Board,
+    shared: &Shared<W, G>,
     server: LockedServer<J, P, N::End, L::Port, K>,
     net: &mut N,
     ends: &mut Vec<N::End>,
     listeners: &mut L,
     connections: &mut Vec<L::Port>,
     clocks: Vec<K>,
-    gate: &G,
     tables: &mut Tables,
     announce: &mut A,
 ) -> Result<Totals, Stop>
     requires same { (p : P) → P.state p ≡ P.owner p }
-    requires options { IsPossible options.now }
-    requires named { options.now ≡ J.plan.options }
-    requires takers { J.plan.fronts ≡ streams.now.fronts + ports.now.fronts }
-    requires some { 1 ≤ J.plan.fronts }
-    requires few { J.plan.fronts ≤ MOST_FRONTS }
-    requires ports { IsPossiblePorts ports.now }
-    requires streams { IsPossibleStreams streams.now }
-    requires clocks { length clocks.items ≡ streams.now.fronts }
-    requires filled { (p : ℕ) → p < options.now.partitions → IsHistory options.now (J.plan.origin p) }
-    requires server { IsLockedServer J.plan streams.now.fronts ports.now.fronts (length server.locks.items)
-        (map (λ hand. hand.items) server.stream_hands.items) (map (λ hand. hand.items) server.hands.items) server.room }
+    requires service { IsPossibleService shared.now.service }
+    requires plan { IsPlanOf shared.now.service J.plan }
+    requires clocks { length clocks.items ≡ shared.now.service.streams.fronts }
+    requires filled { (p : ℕ) → p < shared.now.service.options.partitions → IsHistory shared.now.service.options (J.plan.origin p) }
+    requires server { IsLockedServer J.plan shared.now.service.streams.fronts shared.now.service.ports.fronts (length server.locks.items)
+        server.stream_hands.items server.hands.items server.room }
     requires tables { tables.old ≡ [] }
     requires unbound { N.binds net.old ≡ 0 }
     requires none { ends.old.items ≡ [] }
-    requires room { ports.now.fronts ≤ vec_capacity ends.old }
+    requires room { shared.now.service.ports.fronts ≤ vec_capacity ends.old }
     requires no_streams { connections.old.items ≡ [] }
-    requires room_of_streams { streams.now.fronts ≤ vec_capacity connections.old }
-    ensures served { ComesBeside (λ others came. BindsAndServes others options.now J.plan.origin ports.now came tables.new
-        (net_facts N.faults N.binds N.first N.refused N.ports N.fails net.old) (net_facts N.faults N.binds N.first N.refused N.ports N.fails net.new)
-        (map (end_facts N.End.port N.End.traffic N.End.faults N.End.has_ended N.End.script) ends.new.items))
-        (λ news. news ≡ map (stream_facts L.Port.port L.Port.faults L.Port.has_ended L.Port.log) connections.new.items) result options.now base streams.now (map K.last clocks.items)
-        (listen_facts L.faults L.ports L.released L.place listeners.old) (listen_facts L.faults L.ports L.released L.place listeners.new) }
-    ensures unrefused { result ≢ Err Stop.Refused }
+    requires room_of_streams { shared.now.service.streams.fronts ≤ vec_capacity connections.old }
+    ensures served { ComesBeside (λ others came. BindsAndServes others shared.now.service.options J.plan.origin shared.now.service.ports came tables.new
+        (net_facts N.Net net.old) (net_facts N.Net net.new) (map (end_facts N.End.Datagrams) ends.new.items))
+        (λ news. news ≡ map (stream_facts L.Port.Connections) connections.new.items) result shared.now.service (map K.last clocks.items)
+        (listen_facts L.Listeners listeners.old) (listen_facts L.Listeners listeners.new) }
     ensures unreleased { L.released listeners.new ≡ L.released listeners.old }
-    ensures heard { KeepsListeners streams.now (listen_facts L.faults L.ports L.released L.place listeners.old) (listen_facts L.faults L.ports L.released L.place listeners.new) }
-    ensures announced { HasAnnounced (A.says ports.now streams.now) (A.fails ports.now streams.now) result
-        (port_facts (net_facts N.faults N.binds N.first N.refused N.ports N.fails net.old) (listen_facts L.faults L.ports L.released L.place listeners.old))
-        (port_facts (net_facts N.faults N.binds N.first N.refused N.ports N.fails net.new) (listen_facts L.faults L.ports L.released L.place listeners.new)) announce.old announce.new }
+    ensures heard { KeepsListeners shared.now.service.streams (listen_facts L.Listeners listeners.old) (listen_facts L.Listeners listeners.new) }
+    ensures announced { HasAnnounced (A.says shared.now.service.ports shared.now.service.streams) (A.fails shared.now.service.ports shared.now.service.streams) result
+        (ports_at N.Net L.Listeners net.old listeners.old) (ports_at N.Net L.Listeners net.new listeners.new) announce.old announce.new }
 {
+    let ports = &shared.service.ports;
+    let streams = &shared.service.streams;
     bind_all(net, ports, ends)?;
     listen_all(listeners, streams, connections)?;
     announce.ready(ports, streams, ends.as_slice(), connections.as_slice())?;
-    let totals = serve_all(
-        rt,
-        alloc,
-        options,
-        ports.batches,
-        base,
-        board,
-        server,
-        ends,
-        connections,
-        clocks,
-        gate,
-        tables,
-    )?;
+    let totals = serve_all(shared, server, ends, connections, clocks, tables)?;
     Ok(totals)
 }
 
@@ -132,68 +101,43 @@ fn serve_named<
     G: Gate,
     A: Announce,
 >(
-    rt: &W,
-    alloc: Global,
-    options: &Options,
-    ports: &PortOptions,
-    streams: &StreamPorts,
-    base: u64,
-    board: &Board,
+    shared: &Shared<W, G>,
     parts: Vec<FilledPart<P>>,
     net: &mut N,
     listeners: &mut L,
     clocks: Vec<K>,
-    gate: &G,
     tables: &mut Tables,
     announce: &mut A,
 ) -> Result<Totals, Stop>
     requires notes { NotesAre P.noted P.note_home note_state note_home }
     requires same { (p : P) → P.state p ≡ P.owner p }
-    requires options { IsPossible options.now }
-    requires ports { IsPossiblePorts ports.now }
-    requires streams { IsPossibleStreams streams.now }
-    requires named { options.now ≡ J.plan.options }
-    requires takers { J.plan.fronts ≡ streams.now.fronts + ports.now.fronts }
-    requires some { 1 ≤ J.plan.fronts }
-    requires few { J.plan.fronts ≤ MOST_FRONTS }
-    requires clocks { length clocks.items ≡ streams.now.fronts }
+    requires service { IsPossibleService shared.now.service }
+    requires plan { IsPlanOf shared.now.service J.plan }
     requires of { ArePlanned J.plan 0 (map (λ f. filled_view P.owner P.home f) parts.items) }
+    requires clocks { length clocks.items ≡ shared.now.service.streams.fronts }
     requires unbound { N.binds net.old ≡ 0 }
     requires tables { tables.old ≡ [] }
-    ensures unrefused { result ≢ Err Stop.Refused }
-    ensures cause { HasCause result options.now J.plan.origin base ports.now streams.now (map K.last clocks.items) tables.new
-        (port_facts (net_facts N.faults N.binds N.first N.refused N.ports N.fails net.old) (listen_facts L.faults L.ports L.released L.place listeners.old))
-        (port_facts (net_facts N.faults N.binds N.first N.refused N.ports N.fails net.new) (listen_facts L.faults L.ports L.released L.place listeners.new)) }
-    ensures kept { KeepsNet ports.now
-        (net_facts N.faults N.binds N.first N.refused N.ports N.fails net.old)
-        (net_facts N.faults N.binds N.first N.refused N.ports N.fails net.new) }
-    ensures heard { KeepsListeners streams.now (listen_facts L.faults L.ports L.released L.place listeners.old) (listen_facts L.faults L.ports L.released L.place listeners.new) }
-    ensures announced { HasAnnounced (A.says ports.now streams.now) (A.fails ports.now streams.now) result
-        (port_facts (net_facts N.faults N.binds N.first N.refused N.ports N.fails net.old) (listen_facts L.faults L.ports L.released L.place listeners.old))
-        (port_facts (net_facts N.faults N.binds N.first N.refused N.ports N.fails net.new) (listen_facts L.faults L.ports L.released L.place listeners.new)) announce.old announce.new }
+    ensures cause { HasCause result shared.now.service J.plan.origin (map K.last clocks.items) tables.new
+        (ports_at N.Net L.Listeners net.old listeners.old) (ports_at N.Net L.Listeners net.new listeners.new) }
+    ensures leaves { Leaves A.says A.fails result shared.now.service
+        (ports_at N.Net L.Listeners net.old listeners.old) (ports_at N.Net L.Listeners net.new listeners.new) announce.old announce.new }
 {
-    let server = LockedServer::<J, P, N::End, L::Port, K>::new(alloc, ports, streams, parts)?;
-    let mut ends = Vec::with_capacity(alloc, ports.fronts as usize)?;
-    let mut connections = Vec::with_capacity(alloc, streams.fronts as usize)?;
+    let service = &shared.service;
+    let server = LockedServer::<J, P, N::End, L::Port, K>::new(shared.alloc, service, parts)?;
+    let mut ends = Vec::with_capacity(shared.alloc, service.ports.fronts as usize)?;
+    let mut connections = Vec::with_capacity(shared.alloc, service.streams.fronts as usize)?;
     let answer = bind_and_serve(
-        rt,
-        alloc,
-        options,
-        ports,
-        streams,
-        base,
-        board,
+        shared,
         server,
         net,
         &mut ends,
         listeners,
         &mut connections,
         clocks,
-        gate,
         tables,
         announce,
     );
-    release_all(net, ends, ports.port);
+    release_all(net, ends, service.ports.port);
     release_streams(listeners, connections);
     answer
 }
@@ -208,57 +152,43 @@ fn serve_on<
     G: Gate,
     A: Announce,
 >(
-    rt: &W,
-    alloc: Global,
-    options: &Options,
-    ports: &PortOptions,
-    streams: &StreamPorts,
-    base: u64,
-    board: &Board,
+    shared: &Shared<W, G>,
     filling: Vec<Write>,
     net: &mut N,
     listeners: &mut L,
     clocks: Vec<K>,
-    gate: &G,
     tables: &mut Tables,
     announce: &mut A,
 ) -> Result<Totals, Stop>
     requires notes { NotesAre P.noted P.note_home note_state note_home }
     requires same { (p : P) → P.state p ≡ P.owner p }
-    requires options { IsPossible options.now }
-    requires mode { options.now.mode ≡ P.mode }
-    requires ports { IsPossiblePorts ports.now }
-    requires streams { IsPossibleStreams streams.now }
-    requires some { 1 ≤ streams.now.fronts + ports.now.fronts }
-    requires few { streams.now.fronts + ports.now.fronts ≤ MOST_FRONTS }
-    requires clocks { length clocks.items ≡ streams.now.fronts }
+    requires service { IsPossibleService shared.now.service }
+    requires mode { shared.now.service.options.mode ≡ P.mode }
+    requires clocks { length clocks.items ≡ shared.now.service.streams.fronts }
     requires filling { All IsWrite filling.items }
     requires unbound { N.binds net.old ≡ 0 }
     requires tables { tables.old ≡ [] }
-    ensures cause { IsCauseOfStop result options.now filling.items base ports.now streams.now (map K.last clocks.items) tables.new
-        (port_facts (net_facts N.faults N.binds N.first N.refused N.ports N.fails net.old) (listen_facts L.faults L.ports L.released L.place listeners.old))
-        (port_facts (net_facts N.faults N.binds N.first N.refused N.ports N.fails net.new) (listen_facts L.faults L.ports L.released L.place listeners.new)) }
-    ensures kept { KeepsNet ports.now
-        (net_facts N.faults N.binds N.first N.refused N.ports N.fails net.old)
-        (net_facts N.faults N.binds N.first N.refused N.ports N.fails net.new) }
-    ensures heard { KeepsListeners streams.now (listen_facts L.faults L.ports L.released L.place listeners.old) (listen_facts L.faults L.ports L.released L.place listeners.new) }
-    ensures announced { HasAnnounced (A.says ports.now streams.now) (A.fails ports.now streams.now) result
-        (port_facts (net_facts N.faults N.binds N.first N.refused N.ports N.fails net.old) (listen_facts L.faults L.ports L.released L.place listeners.old))
-        (port_facts (net_facts N.faults N.binds N.first N.refused N.ports N.fails net.new) (listen_facts L.faults L.ports L.released L.place listeners.new)) announce.old announce.new }
+    ensures cause { IsCauseOfStop result shared.now.service filling.items (map K.last clocks.items) tables.new
+        (ports_at N.Net L.Listeners net.old listeners.old) (ports_at N.Net L.Listeners net.new listeners.new) }
+    ensures leaves { Leaves A.says A.fails result shared.now.service
+        (ports_at N.Net L.Listeners net.old listeners.old) (ports_at N.Net L.Listeners net.new listeners.new) announce.old announce.new }
 {
-    rehearse(rt, alloc, streams.fronts + ports.fronts)?;
-    let parts = open_parts::<P>(alloc, options, filling.as_slice())?;
+    let service = &shared.service;
+    rehearse(
+        shared.rt,
+        shared.alloc,
+        service.streams.fronts + service.ports.fronts,
+    )?;
+    let parts = open_parts::<P>(shared.alloc, &service.options, filling.as_slice())?;
     drop(filling);
     serve_named::<Brand, W, P, N, L, K, G, A>(
-        rt, alloc, options, ports, streams, base, board, parts, net, listeners, clocks, gate,
-        tables, announce,
+        shared, parts, net, listeners, clocks, tables, announce,
     )
 }
 
 /// Fills the partitions by these writes, binds a port for each front of datagrams and listens at one for each front of connections, in order, and tells
 /// so. Then all fronts run side by side, each in a thread of its own, and each is the owner of a partition for as long as one write takes. A front of
-/// connections has a clock of its own; the first value that a partition accepts has this unique number. All ends are released. The owners' seats are
-/// kept, in the order of the partitions, where no front failed.
+/// connections has a clock of its own. All ends are released. The owners' seats are kept, in the order of the partitions, where no front failed.
 pub fn serve_locked<
     W: Threads + Wait + Sync,
     N: Net,
@@ -267,50 +197,31 @@ pub fn serve_locked<
     G: Gate,
     A: Announce,
 >(
-    rt: &W,
-    alloc: Global,
-    options: &Options,
-    ports: &PortOptions,
-    streams: &StreamPorts,
+    shared: &Shared<W, G>,
     filling: Vec<Write>,
     net: &mut N,
     listeners: &mut L,
     clocks: Vec<K>,
-    base: u64,
-    board: &Board,
-    gate: &G,
     tables: &mut Tables,
     announce: &mut A,
 ) -> Result<Totals, Stop>
-    requires options { IsPossible options.now }
-    requires ports { IsPossiblePorts ports.now }
-    requires streams { IsPossibleStreams streams.now }
-    requires some { 1 ≤ streams.now.fronts + ports.now.fronts }
-    requires few { streams.now.fronts + ports.now.fronts ≤ MOST_FRONTS }
-    requires clocks { length clocks.items ≡ streams.now.fronts }
+    requires service { IsPossibleService shared.now.service }
+    requires clocks { length clocks.items ≡ shared.now.service.streams.fronts }
     requires filling { All IsWrite filling.items }
     requires unbound { N.binds net.old ≡ 0 }
     requires tables { tables.old ≡ [] }
 
-    ensures cause { IsCauseOfStop result options.now filling.items base ports.now streams.now (map K.last clocks.items) tables.new
-        (port_facts (net_facts N.faults N.binds N.first N.refused N.ports N.fails net.old) (listen_facts L.faults L.ports L.released L.place listeners.old))
-        (port_facts (net_facts N.faults N.binds N.first N.refused N.ports N.fails net.new) (listen_facts L.faults L.ports L.released L.place listeners.new)) }
-    ensures kept { KeepsNet ports.now
-        (net_facts N.faults N.binds N.first N.refused N.ports N.fails net.old)
-        (net_facts N.faults N.binds N.first N.refused N.ports N.fails net.new) }
-    ensures heard { KeepsListeners streams.now (listen_facts L.faults L.ports L.released L.place listeners.old) (listen_facts L.faults L.ports L.released L.place listeners.new) }
-    ensures announced { HasAnnounced (A.says ports.now streams.now) (A.fails ports.now streams.now) result
-        (port_facts (net_facts N.faults N.binds N.first N.refused N.ports N.fails net.old) (listen_facts L.faults L.ports L.released L.place listeners.old))
-        (port_facts (net_facts N.faults N.binds N.first N.refused N.ports N.fails net.new) (listen_facts L.faults L.ports L.released L.place listeners.new)) announce.old announce.new }
+    ensures cause { IsCauseOfStop result shared.now.service filling.items (map K.last clocks.items) tables.new
+        (ports_at N.Net L.Listeners net.old listeners.old) (ports_at N.Net L.Listeners net.new listeners.new) }
+    ensures leaves { Leaves A.says A.fails result shared.now.service
+        (ports_at N.Net L.Listeners net.old listeners.old) (ports_at N.Net L.Listeners net.new listeners.new) announce.old announce.new }
 {
-    match options.mode {
+    match shared.service.options.mode {
         Mode::Cache => serve_on::<W, CachePartition<OwnerSeat>, N, L, K, G, A>(
-            rt, alloc, options, ports, streams, base, board, filling, net, listeners, clocks, gate,
-            tables, announce,
+            shared, filling, net, listeners, clocks, tables, announce,
         ),
         Mode::Store => serve_on::<W, StorePartition<OwnerSeat>, N, L, K, G, A>(
-            rt, alloc, options, ports, streams, base, board, filling, net, listeners, clocks, gate,
-            tables, announce,
+            shared, filling, net, listeners, clocks, tables, announce,
         ),
     }
 }

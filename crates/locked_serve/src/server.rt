@@ -1,15 +1,14 @@
 //! The partitions under their locks and the fronts before them, opened and run.
 ghost use Rattle.std.specs.Prelude.{◌≡◌, ◌+◌, ◌<◌, ◌≤◌, ℕ, [], IfOk, Some, length, map, slice_get, vec_len};
 ghost use Rattle.partition_model.specs.declared.options.TheConstants.{MOST_PARTITIONS};
-ghost use Rattle.partition_model.specs.Options.{IsPossible};
 ghost use Rattle.partition_model.specs.History.{IsHistory};
 ghost use Rattle.epoch_core.specs.declared.state.Phase.TheVariants.{Idle};
 ghost use Rattle.partition_table.specs.Tabled.{kept_seat_in};
 ghost use Rattle.partition_table.specs.Seats.{note_state, note_home};
 ghost use Rattle.locked_fronts.specs.Owned.{Owned, NotesAre};
-ghost use Rattle.mica_fronts.specs.declared.totals.TheConstants.{MAX_BATCHES};
 ghost use Rattle.mica_serve.specs.Ends.{AreOpen, end_facts};
 ghost use Rattle.locked_serve.specs.declared.serve.TheConstants.{MOST_FRONTS};
+ghost use Rattle.locked_serve.specs.Service.{IsPossibleService, IsPlanOf};
 ghost use Rattle.locked_serve.specs.Opening.{ArePlanned, filled_view};
 ghost use Rattle.locked_serve.specs.Streams.{AreUnserved, ServesBeside, stream_facts};
 ghost use Rattle.locked_serve.specs.Running.{RanBeside};
@@ -18,23 +17,21 @@ ghost use Rattle.locked_serve.specs.Server.{IsRow, IsRoom, IsLockedServer};
 
 use crate::answers::sum_up_beside;
 use crate::opening::{FilledPart, lend_hands, lock_parts};
+use crate::service::{Service, Shared};
 use crate::streams::{StreamTask, pair_streams, part_streams};
-use crate::taking::{keep_all, take_all_back, take_hands};
+use crate::taking::{keep_all, take_in_all};
 use crate::worker::{FrontTask, pair_up, part_fronts, run_workers};
 use epoch_core::LendPartition;
 use locked_fronts::{LockedPart, OwnedPartition, Returned, ServerPlan};
-use memcached_stats::Board;
 use mica_clock::Clock;
-use mica_fronts::{PortOptions, ServeFault, Totals};
+use mica_fronts::{ServeFault, Totals};
 use mica_io::{Datagrams, Gate, NoMemory};
-use partition_model::Options;
 use partition_table::{Note, ReaderSeat, Tables};
 use seated_partition::OnTable;
 use std::alloc::Global;
 use std::mem;
 use std::sync::{Mutex, Wait};
 use std::thread::Threads;
-use stream_fronts::StreamPorts;
 use stream_io::Connections;
 
 /// The room for the fronts of one kind, and for what they come to.
@@ -121,27 +118,23 @@ impl<
 > LockedServer<J, P, D, C, K> {
     pub(crate) fn new(
         alloc: Global,
-        ports: &PortOptions,
-        streams: &StreamPorts,
+        service: &Service,
         parts: Vec<FilledPart<P>>,
     ) -> Result<LockedServer<J, P, D, C, K>, NoMemory>
         requires notes { NotesAre P.noted P.note_home note_state note_home }
-        requires few { streams.now.fronts + ports.now.fronts ≤ MOST_FRONTS }
-        requires takers { J.plan.fronts ≡ streams.now.fronts + ports.now.fronts }
+        requires few { service.now.streams.fronts + service.now.ports.fronts ≤ MOST_FRONTS }
+        requires takers { J.plan.fronts ≡ service.now.streams.fronts + service.now.ports.fronts }
         requires partitions { J.plan.options.partitions ≤ MOST_PARTITIONS }
         requires of { ArePlanned J.plan 0 (map (λ f. filled_view P.owner P.home f) parts.items) }
-        ensures { IfOk result (λ server. IsLockedServer J.plan streams.now.fronts ports.now.fronts (length server.locks.items)
-            (map (λ hand. hand.items) server.stream_hands.items) (map (λ hand. hand.items) server.hands.items) server.room) }
+        ensures { IfOk result (λ server. IsLockedServer J.plan service.now.streams.fronts service.now.ports.fronts (length server.locks.items)
+            server.stream_hands.items server.hands.items server.room) }
     {
         let mut parts = parts;
-        let room = Room::new(
-            alloc,
-            streams.fronts as usize,
-            ports.fronts as usize,
-            parts.len(),
-        )?;
-        let stream_hands = lend_hands::<J, P>(alloc, &mut parts, 0, streams.fronts)?;
-        let hands = lend_hands::<J, P>(alloc, &mut parts, streams.fronts, ports.fronts)?;
+        let streams = service.streams.fronts;
+        let fronts = service.ports.fronts;
+        let room = Room::new(alloc, streams as usize, fronts as usize, parts.len())?;
+        let stream_hands = lend_hands::<J, P>(alloc, &mut parts, 0, streams)?;
+        let hands = lend_hands::<J, P>(alloc, &mut parts, streams, fronts)?;
         let locks = lock_parts(alloc, parts)?;
         Ok(LockedServer {
             locks,
@@ -170,34 +163,25 @@ fn run_all<
     K: Clock + Drop + Send,
     G: Gate,
 >(
-    rt: &W,
-    alloc: Global,
-    options: &Options,
-    batches: u64,
-    base: u64,
-    board: &Board,
+    shared: &Shared<W, G>,
     server: LockedServer<J, P, D, C, K>,
     ends: &mut Vec<D>,
     connections: &mut Vec<C>,
     clocks: Vec<K>,
-    gate: &G,
 ) -> Came<P>
-    requires options { IsPossible options.now }
-    requires named { options.now ≡ J.plan.options }
-    requires some { 1 ≤ J.plan.fronts }
-    requires few { J.plan.fronts ≤ MOST_FRONTS }
+    requires service { IsPossibleService shared.now.service }
+    requires plan { IsPlanOf shared.now.service J.plan }
     requires takers { J.plan.fronts ≡ length connections.old.items + length ends.old.items }
     requires clocks { length clocks.items ≡ length connections.old.items }
-    requires batches { batches ≤ MAX_BATCHES }
-    requires filled { (p : ℕ) → p < options.now.partitions → IsHistory options.now (J.plan.origin p) }
+    requires filled { (p : ℕ) → p < shared.now.service.options.partitions → IsHistory shared.now.service.options (J.plan.origin p) }
     requires server { IsLockedServer J.plan (length connections.old.items) (length ends.old.items) (length server.locks.items)
-        (map (λ hand. hand.items) server.stream_hands.items) (map (λ hand. hand.items) server.hands.items) server.room }
-    requires unserved { AreOpen (map (end_facts D.port D.traffic D.faults D.has_ended D.script) ends.old.items) }
-    requires fresh { AreUnserved (map (stream_facts C.port C.faults C.has_ended C.log) connections.old.items) }
-    ensures ran { RanBeside options.now J.plan.origin batches base (map K.last clocks.items)
+        server.stream_hands.items server.hands.items server.room }
+    requires unserved { AreOpen (map (end_facts D.Datagrams) ends.old.items) }
+    requires fresh { AreUnserved (map (stream_facts C.Connections) connections.old.items) }
+    ensures ran { RanBeside shared.now.service.options J.plan.origin shared.now.service.ports.batches shared.now.service.base (map K.last clocks.items)
         (map (λ left. kept_seat_in left.owner) (map (λ part. left_view P.owner P.home part) result.parts.items)) result.streams.items result.fronts.items
-        (map (end_facts D.port D.traffic D.faults D.has_ended D.script) ends.old.items) (map (end_facts D.port D.traffic D.faults D.has_ended D.script) ends.new.items)
-        (map (stream_facts C.port C.faults C.has_ended C.log) connections.old.items) (map (stream_facts C.port C.faults C.has_ended C.log) connections.new.items) }
+        (map (end_facts D.Datagrams) ends.old.items) (map (end_facts D.Datagrams) ends.new.items)
+        (map (stream_facts C.Connections) connections.old.items) (map (stream_facts C.Connections) connections.new.items) }
     ensures idle { (p : ℕ) (left : Owned) → slice_get (map (λ part. left_view P.owner P.home part) result.parts.items) p ≡ Some left → left.owner.phase ≡ Idle }
 {
     let LockedServer {
@@ -207,51 +191,38 @@ fn run_all<
         room,
     } = server;
     let Room {
-        streams,
-        fronts,
-        ports: room_of_ports,
+        mut streams,
+        mut fronts,
+        ports,
         ends: room_of_ends,
-        parts,
+        mut parts,
     } = room;
-    let ports_before = mem::replace(connections, room_of_ports);
+    let ports_before = mem::replace(connections, ports);
     let ends_before = mem::replace(ends, room_of_ends);
     let mut stream_tasks = streams.tasks;
     let mut tasks = fronts.tasks;
     pair_streams(stream_hands, ports_before, clocks, &mut stream_tasks);
     pair_up(hands, ends_before, &mut tasks);
     let first = stream_tasks.len() as u32;
-    let (stream_tasks, tasks) = run_workers(
-        rt,
-        alloc,
-        options,
-        batches,
-        base,
-        board,
+    run_workers(
+        shared,
         locks.as_slice(),
-        gate,
         first,
-        stream_tasks,
-        tasks,
+        &mut stream_tasks,
+        &mut tasks,
     );
-    let mut stream_hands = streams.hands;
-    let mut stream_answers = streams.answers;
     part_streams(
         stream_tasks,
         connections,
-        &mut stream_hands,
-        &mut stream_answers,
+        &mut streams.hands,
+        &mut streams.answers,
     );
-    let mut hands = fronts.hands;
-    let mut answers = fronts.answers;
-    part_fronts(tasks, ends, &mut hands, &mut answers);
-    let mut parts = parts;
-    take_all_back(rt, locks, &mut parts);
-    take_hands(&mut parts, stream_hands);
-    take_hands(&mut parts, hands);
+    part_fronts(tasks, ends, &mut fronts.hands, &mut fronts.answers);
+    take_in_all(shared.rt, locks, streams.hands, fronts.hands, &mut parts);
     Came {
         parts,
-        streams: stream_answers,
-        fronts: answers,
+        streams: streams.answers,
+        fronts: fronts.answers,
     }
 }
 
@@ -265,54 +236,33 @@ pub(crate) fn serve_all<
     K: Clock + Drop + Send,
     G: Gate,
 >(
-    rt: &W,
-    alloc: Global,
-    options: &Options,
-    batches: u64,
-    base: u64,
-    board: &Board,
+    shared: &Shared<W, G>,
     server: LockedServer<J, P, D, C, K>,
     ends: &mut Vec<D>,
     connections: &mut Vec<C>,
     clocks: Vec<K>,
-    gate: &G,
     tables: &mut Tables,
 ) -> Result<Totals, ServeFault>
     requires same { (p : P) → P.state p ≡ P.owner p }
-    requires options { IsPossible options.now }
-    requires named { options.now ≡ J.plan.options }
-    requires some { 1 ≤ J.plan.fronts }
-    requires few { J.plan.fronts ≤ MOST_FRONTS }
+    requires service { IsPossibleService shared.now.service }
+    requires plan { IsPlanOf shared.now.service J.plan }
     requires takers { J.plan.fronts ≡ length connections.old.items + length ends.old.items }
     requires clocks { length clocks.items ≡ length connections.old.items }
-    requires batches { batches ≤ MAX_BATCHES }
-    requires filled { (p : ℕ) → p < options.now.partitions → IsHistory options.now (J.plan.origin p) }
+    requires filled { (p : ℕ) → p < shared.now.service.options.partitions → IsHistory shared.now.service.options (J.plan.origin p) }
     requires server { IsLockedServer J.plan (length connections.old.items) (length ends.old.items) (length server.locks.items)
-        (map (λ hand. hand.items) server.stream_hands.items) (map (λ hand. hand.items) server.hands.items) server.room }
+        server.stream_hands.items server.hands.items server.room }
     requires tables { tables.old ≡ [] }
-    requires unserved { AreOpen (map (end_facts D.port D.traffic D.faults D.has_ended D.script) ends.old.items) }
-    requires fresh { AreUnserved (map (stream_facts C.port C.faults C.has_ended C.log) connections.old.items) }
-    ensures { ServesBeside options.now J.plan.origin batches base (map K.last clocks.items) result tables.new
-        (map (end_facts D.port D.traffic D.faults D.has_ended D.script) ends.old.items) (map (end_facts D.port D.traffic D.faults D.has_ended D.script) ends.new.items)
-        (map (stream_facts C.port C.faults C.has_ended C.log) connections.old.items) (map (stream_facts C.port C.faults C.has_ended C.log) connections.new.items) }
+    requires unserved { AreOpen (map (end_facts D.Datagrams) ends.old.items) }
+    requires fresh { AreUnserved (map (stream_facts C.Connections) connections.old.items) }
+    ensures { ServesBeside shared.now.service.options J.plan.origin shared.now.service.ports.batches shared.now.service.base (map K.last clocks.items) result tables.new
+        (map (end_facts D.Datagrams) ends.old.items) (map (end_facts D.Datagrams) ends.new.items)
+        (map (stream_facts C.Connections) connections.old.items) (map (stream_facts C.Connections) connections.new.items) }
 {
     let Came {
         parts,
         streams,
         fronts,
-    } = run_all(
-        rt,
-        alloc,
-        options,
-        batches,
-        base,
-        board,
-        server,
-        ends,
-        connections,
-        clocks,
-        gate,
-    );
+    } = run_all(shared, server, ends, connections, clocks);
     let totals = sum_up_beside(streams.as_slice(), fronts.as_slice())?;
     keep_all(parts, tables);
     Ok(totals)

@@ -1,19 +1,17 @@
 //! The fronts of connections side by side, each in a thread of its own.
 ghost use Rattle.std.specs.Prelude.{◌≡◌, ◌<◌, ◌≤◌, [], length, map, vec_len, vec_capacity};
-ghost use Rattle.partition_model.specs.Options.{IsPossible};
-ghost use Rattle.locked_serve.specs.declared.serve.TheConstants.{MOST_FRONTS};
+ghost use Rattle.locked_serve.specs.Service.{IsLockedPlan};
 ghost use Rattle.locked_serve.specs.Streams.{stream_facts};
 ghost use Rattle.locked_serve.specs.Running.{IsReadyStream, StreamRan, AreReadyStreams, StreamsRan};
 
+use crate::service::Shared;
 use epoch_core::LendPartition;
 use locked_fronts::{LockedFront, LockedPart, OwnedPartition, ServerPlan};
 use memcached_fronts::Numbering;
-use memcached_stats::Board;
 use mica_clock::Clock;
 use mica_fronts::ServeFault;
-use partition_model::Options;
+use mica_io::Gate;
 use partition_table::{Note, ReaderSeat};
-use std::alloc::Global;
 use std::mem;
 use std::sync::{Mutex, Wait};
 use std::thread::{Threads, for_each_mut};
@@ -37,38 +35,28 @@ impl<C: Connections, K: Clock> StreamTask<C, K> {
         W: Threads + Wait + Sync,
         J: ServerPlan,
         P: LendPartition<Reader = ReaderSeat, Note = Note> + Drop,
-    >(
-        &mut self,
-        rt: &W,
-        alloc: Global,
-        options: &Options,
-        base: u64,
-        board: &Board,
-        locks: &[Mutex<OwnedPartition<J, P>>],
-        number: u32,
-    )
-        requires valid { IsPossible options.now }
-        requires options { options.now ≡ J.plan.options }
-        requires locks { length locks.now ≡ options.now.partitions }
+        G: Gate,
+    >(&mut self, shared: &Shared<W, G>, locks: &[Mutex<OwnedPartition<J, P>>], number: u32)
+        requires plan { IsLockedPlan shared.now.service J.plan (length locks.now) }
         requires low { number < J.plan.fronts }
-        requires ready { IsReadyStream J.plan (stream_facts C.port C.faults C.has_ended C.log) K.last number self.old }
-        ensures { StreamRan J.plan (stream_facts C.port C.faults C.has_ended C.log) K.last base number self.old self.new }
+        requires ready { IsReadyStream J.plan (stream_facts C.Connections) K.last number self.old }
+        ensures { StreamRan J.plan (stream_facts C.Connections) K.last shared.now.service.base number self.old self.new }
     {
-        let parts = mem::replace(&mut self.parts, Vec::new(alloc));
+        let options = &shared.service.options;
+        let parts = mem::replace(&mut self.parts, Vec::new(shared.alloc));
         let mut front = LockedFront::new(options, locks, number, parts);
         let numbering = Numbering {
             partitions: options.partitions,
-            base,
+            base: shared.service.base,
         };
         self.answer = serve_connections(
-            rt,
-            alloc,
+            shared.rt,
+            shared.alloc,
             &mut front,
             &mut self.clock,
             numbering,
-            board,
+            shared.board,
             number,
-            u64::MAX,
             &mut self.port,
             &mut self.lacked,
         );
@@ -83,33 +71,23 @@ pub(crate) fn run_streams<
     P: LendPartition<Reader = ReaderSeat, Note = Note> + Drop + Send,
     C: Connections + Send,
     K: Clock + Drop + Send,
->(
-    rt: &W,
-    alloc: Global,
-    options: &Options,
-    base: u64,
-    board: &Board,
-    locks: &[Mutex<OwnedPartition<J, P>>],
-    streams: &mut Vec<StreamTask<C, K>>,
-)
-    requires valid { IsPossible options.now }
-    requires options { options.now ≡ J.plan.options }
-    requires locks { length locks.now ≡ options.now.partitions }
-    requires few { J.plan.fronts ≤ MOST_FRONTS }
+    G: Gate,
+>(shared: &Shared<W, G>, locks: &[Mutex<OwnedPartition<J, P>>], streams: &mut Vec<StreamTask<C, K>>)
+    requires plan { IsLockedPlan shared.now.service J.plan (length locks.now) }
     requires many { length streams.old.items ≤ J.plan.fronts }
-    requires ready { AreReadyStreams J.plan (stream_facts C.port C.faults C.has_ended C.log) K.last streams.old.items }
-    ensures { StreamsRan J.plan (stream_facts C.port C.faults C.has_ended C.log) K.last base streams.old.items streams.new.items }
+    requires ready { AreReadyStreams J.plan (stream_facts C.Connections) K.last streams.old.items }
+    ensures { StreamsRan J.plan (stream_facts C.Connections) K.last shared.now.service.base streams.old.items streams.new.items }
 {
     let threads = streams.len().max(1);
     for_each_mut(
-        rt,
+        shared.rt,
         streams.as_mut_slice(),
         threads,
         &|number, stream|
-            requires { (number < J.plan.fronts) × (J.plan.fronts ≤ MOST_FRONTS) × IsPossible options.now × (options.now ≡ J.plan.options) × (length locks.now ≡ options.now.partitions)
-                × IsReadyStream J.plan (stream_facts C.port C.faults C.has_ended C.log) K.last number stream.now }
-            ensures { StreamRan J.plan (stream_facts C.port C.faults C.has_ended C.log) K.last base number stream.entry.now stream.exit.now }
-        { stream.run(rt, alloc, options, base, board, locks, number as u32) },
+            requires { (number < J.plan.fronts) × IsLockedPlan shared.now.service J.plan (length locks.now)
+                × IsReadyStream J.plan (stream_facts C.Connections) K.last number stream.now }
+            ensures { StreamRan J.plan (stream_facts C.Connections) K.last shared.entry.now.service.base number stream.entry.now stream.exit.now }
+        { stream.run(shared, locks, number as u32) },
     );
 }
 

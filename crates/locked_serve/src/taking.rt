@@ -4,7 +4,7 @@ ghost use Rattle.partition_model.specs.declared.options.TheConstants.{MOST_PARTI
 ghost use Rattle.epoch_core.specs.declared.state.Phase.TheVariants.{Idle};
 ghost use Rattle.partition_table.specs.Tabled.{kept_seat_in};
 ghost use Rattle.locked_fronts.specs.Owned.{Owned, IsOwned};
-ghost use Rattle.locked_serve.specs.Taking.{AreTakenBack, MayTakeHand, TakesHand, MayTakeHands, TakesHands, left_view};
+ghost use Rattle.locked_serve.specs.Taking.{AreHands, AreTakenBack, TakesBack, MayTakeHand, TakesHand, MayTakeHands, TakesHands, left_view};
 
 use epoch_core::LendPartition;
 use locked_fronts::{LockedPart, OwnedPartition, Returned, ServerPlan};
@@ -30,12 +30,12 @@ fn take_back<R: Wait, J: ServerPlan, P: LendPartition<Reader = ReaderSeat, Note 
     unreachable!()
 }
 
-/// Takes all partitions from their locks.
-pub(crate) fn take_all_back<
-    R: Wait,
-    J: ServerPlan,
-    P: LendPartition<Reader = ReaderSeat, Note = Note> + Drop,
->(rt: &R, locks: Vec<Mutex<OwnedPartition<J, P>>>, parts: &mut Vec<Returned<P>>)
+// Takes all partitions from their locks.
+fn take_all_back<R: Wait, J: ServerPlan, P: LendPartition<Reader = ReaderSeat, Note = Note> + Drop>(
+    rt: &R,
+    locks: Vec<Mutex<OwnedPartition<J, P>>>,
+    parts: &mut Vec<Returned<P>>,
+)
     requires none { parts.old.items ≡ [] }
     requires room { vec_len locks ≤ vec_capacity parts.old }
     requires few { vec_len locks ≤ MOST_PARTITIONS }
@@ -65,8 +65,8 @@ fn take_hand<P: LendPartition<Reader = ReaderSeat, Note = Note> + Drop>(
     }
 }
 
-/// The partitions take in all that the fronts have in hand.
-pub(crate) fn take_hands<P: LendPartition<Reader = ReaderSeat, Note = Note> + Drop>(
+// The partitions take in all that the fronts have in hand.
+fn take_hands<P: LendPartition<Reader = ReaderSeat, Note = Note> + Drop>(
     parts: &mut Vec<Returned<P>>,
     hands: Vec<Vec<LockedPart>>,
 )
@@ -76,6 +76,30 @@ pub(crate) fn take_hands<P: LendPartition<Reader = ReaderSeat, Note = Note> + Dr
     for hand in hands {
         take_hand(parts, hand);
     }
+}
+
+/// Takes all partitions from their locks, with what the fronts of both kinds have in hand.
+pub(crate) fn take_in_all<
+    R: Wait,
+    J: ServerPlan,
+    P: LendPartition<Reader = ReaderSeat, Note = Note> + Drop,
+>(
+    rt: &R,
+    locks: Vec<Mutex<OwnedPartition<J, P>>>,
+    stream_hands: Vec<Vec<LockedPart>>,
+    hands: Vec<Vec<LockedPart>>,
+    parts: &mut Vec<Returned<P>>,
+)
+    requires none { parts.old.items ≡ [] }
+    requires room { vec_len locks ≤ vec_capacity parts.old }
+    requires few { vec_len locks ≤ MOST_PARTITIONS }
+    requires many { length locks.items ≡ J.plan.options.partitions }
+    requires hands { AreHands J.plan (map (λ hand. hand.items) stream_hands.items ++ map (λ hand. hand.items) hands.items) }
+    ensures { TakesBack J.plan (map (λ hand. hand.items) stream_hands.items ++ map (λ hand. hand.items) hands.items) (map (λ part. left_view P.owner P.home part) parts.new.items) }
+{
+    take_all_back(rt, locks, parts);
+    take_hands(parts, stream_hands);
+    take_hands(parts, hands);
 }
 
 /// Keeps the owners' seats, in order.

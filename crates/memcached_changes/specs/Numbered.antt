@@ -53,6 +53,7 @@ abbrev pub unless_refused : Option Outcome → Says → Says
 unless_refused None says = says
 unless_refused (Some outcome) says = if is_accepted outcome then says else Line NoRoom
 
+-- what is answered to a command, by what was stored at its second and what came of the write
 abbrev pub says_by : Order → When → Option (List ℕ) → Option Outcome → Says
 says_by order when stored outcome =
     let at = moment_at order.base when in

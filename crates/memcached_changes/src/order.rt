@@ -61,6 +61,7 @@ fn value_in(stored: Option<&[u8]>) -> Option<&[u8]>
 }
 
 impl<'a> CommandOrder<'a> {
+    /// What a client asks of a key, with the base of unique numbers.
     pub fn new(ask: &'a Ask<'a>, base: u64) -> CommandOrder<'a>
         requires { IsFitAsk ask.now }
         ensures { result ≡ record { ask = ask.now; base = base } }
@@ -92,6 +93,11 @@ impl<'a> Decide for CommandOrder<'a> {
 
     fn looks(&self) -> bool {
         looks(self.ask)
+    }
+
+    #[tactic(auto, using(crate::proofs::Becomings::get_gives_nothing))]
+    fn only_reads(&self) -> bool {
+        matches!(self.ask, Ask::Get)
     }
 
     #[tactic(auto, using(crate::proofs::Becomings::same_change))]

@@ -22,6 +22,7 @@ impl Model for SweepOrder {
 }
 
 impl SweepOrder {
+    /// A sweep of partitions whose unique numbers begin at the base.
     pub fn new(base: u64) -> SweepOrder
         ensures { result ≡ base }
     {

@@ -9,6 +9,7 @@ use Rattle.memcached_commands.specs.declared.ask.Ask.{Ask}
 use Rattle.memcached_commands.specs.declared.ask.Ask.TheVariants.{Get, GetTouch, Store, Join, Count, Touch, Delete, Spoil}
 use Rattle.memcached_commands.specs.declared.asks.Asked.{Asked}
 
+-- what is asked of a key
 abbrev pub asked : Ask → List ℕ → Asked
 asked ask key = record { key = key; ask = ask }
 

@@ -1,11 +1,18 @@
 //! What is replied to a command, as text.
-ghost use Rattle.std.specs.Prelude.{◌≡◌, ◌++◌, ◌∷◌, [], flat_map, OnOk, OnErr};
+ghost use Rattle.std.specs.Prelude.{◌≡◌, ◌++◌, ◌∷◌, [], Some, None, if◌then◌else◌, flat_map, OnOk, OnErr};
 ghost use Rattle.memcached_text.specs.Answer.{part_text, last_text, answer_text};
 ghost use Rattle.memcached_commands.specs.Answers.{parts_of, last_of, answer_of, unless_quiet};
 
 use crate::Says;
-use memcached_text::{Reply, fault_line, put_number, put_value, reply_line};
+use memcached_text::{Item, Reply, fault_line, put_last_value, put_number, put_value, reply_line};
 use mica_io::NoMemory;
+
+// The unique number of an item, where it is asked for.
+fn number_of(unique: bool, item: &Item) -> Option<u64>
+    ensures { result ≡ (if unique then Some item.now.unique else None) }
+{
+    if unique { Some(item.unique) } else { None }
+}
 
 /// Appends the item that a get of this key shows, if it shows one. When out of memory, nothing is appended.
 pub fn put_part(out: &mut Vec<u8>, unique: bool, key: &[u8], says: &Says) -> Result<(), NoMemory>
@@ -15,8 +22,13 @@ pub fn put_part(out: &mut Vec<u8>, unique: bool, key: &[u8], says: &Says) -> Res
     let Says::Shows(item) = says else {
         return Ok(());
     };
-    let number = if unique { Some(item.unique) } else { None };
-    put_value(out, key, item.flags, item.value.bytes(), number)
+    put_value(
+        out,
+        key,
+        item.flags,
+        item.value.bytes(),
+        number_of(unique, item),
+    )
 }
 
 // Appends a line.
@@ -27,8 +39,8 @@ fn put_line(out: &mut Vec<u8>, line: &[u8]) -> Result<(), NoMemory>
     Ok(out.extend_from_slice(line)?)
 }
 
-/// Appends the last line of what is replied, which for a get is its end. When out of memory, nothing is appended.
-pub fn put_last(out: &mut Vec<u8>, says: &Says) -> Result<(), NoMemory>
+// Appends the last line of what is replied, which for a get is its end. When out of memory, nothing is appended.
+fn put_last(out: &mut Vec<u8>, says: &Says) -> Result<(), NoMemory>
     ensures ok { OnOk result (out.new.items ≡ out.old.items ++ last_text (last_of says.now)) }
     ensures err { OnErr result (out.new.items ≡ out.old.items) }
 {
@@ -38,6 +50,24 @@ pub fn put_last(out: &mut Vec<u8>, says: &Says) -> Result<(), NoMemory>
         Says::Number(number) => put_number(out, *number),
         Says::Shows(_) | Says::Nothing => put_line(out, reply_line(Reply::End)),
     }
+}
+
+/// Appends all that is replied to a command of one key, which for a get is the item that it shows, if it shows one, and its end. When out of memory, nothing is
+/// appended.
+pub fn put_whole(out: &mut Vec<u8>, unique: bool, key: &[u8], says: &Says) -> Result<(), NoMemory>
+    ensures ok { OnOk result (out.new.items ≡ out.old.items ++ (flat_map part_text (parts_of unique key.now says.now) ++ last_text (last_of says.now))) }
+    ensures err { OnErr result (out.new.items ≡ out.old.items) }
+{
+    let Says::Shows(item) = says else {
+        return put_last(out, says);
+    };
+    put_last_value(
+        out,
+        key,
+        item.flags,
+        item.value.bytes(),
+        number_of(unique, item),
+    )
 }
 
 /// Appends what is replied to a command of one key, unless it is quiet. When out of memory, nothing is appended.
@@ -54,11 +84,5 @@ pub fn put_answer(
     if quiet {
         return Ok(());
     }
-    let start = out.len();
-    put_part(out, unique, key, says)?;
-    if put_last(out, says).is_err() {
-        out.truncate(start);
-        return Err(NoMemory);
-    }
-    Ok(())
+    put_whole(out, unique, key, says)
 }

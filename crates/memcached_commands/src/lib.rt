@@ -16,7 +16,7 @@ mod next_item;
 mod says;
 mod wanted;
 
-pub use answer::{put_answer, put_last, put_part};
+pub use answer::{put_answer, put_part, put_whole};
 pub use ask::{Ask, Says};
 pub use asks::{Asked, Asks, wants_numbers};
 pub use change::{change_stored, looks};

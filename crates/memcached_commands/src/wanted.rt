@@ -4,6 +4,7 @@ ghost use Rattle.memcached_commands.specs.Decide.{is_wanted, missed};
 
 use memcached_text::{Item, Reply, Wants};
 
+// Whether a store may go on, by what it wants to be there.
 pub fn is_wanted(wants: Wants, found: Option<&Item>) -> bool
     ensures { result ≡ is_wanted wants (option_copied found.entry) }
 {

@@ -26,6 +26,8 @@ use Rattle.mica_fronts.specs.Looks.{Look}
 use Rattle.mica_fronts.specs.Session.{Sessions, AnswersOne, ChangesOnly}
 use Rattle.memcached_fronts.specs.AskAnswers.{order_of, said_of}
 use Rattle.memcached_fronts.specs.Going.{AnswersAt, value_found}
+use Rattle.memcached_fronts.specs.Counting.{noted_if, noted_by}
+use Rattle.memcached_stats.specs.declared.tally.Tally.{Tally}
 
 -- What is said
 
@@ -67,6 +69,7 @@ module _ (options : Options) (is_alone : Bool) (base second : ℕ) (asked : Aske
     pub at : AnswersAt options is_alone base second old asked new answered
     pub said : says_by (order_of base asked) changed.when (value_found changed.found buffer) changed.outcome ≡ said_of base asked answered
     pub count : count_of_writes (answered ∷ []) ≡ count_of changed.outcome
+    pub noted : (partitions : ℕ) (tally : Tally) → noted_if partitions asked.key changed.when changed.outcome changed.stamp tally ≡ noted_by partitions answered tally
 
   pub answered_by : (c : Changed) (buffer : List ℕ)
       → ComesTo options is_alone second asked.key (looks asked.ask) (becoming_by (order_of base asked)) (old (partition_of asked.key options.partitions)) c buffer
@@ -88,6 +91,7 @@ module _ (options : Options) (is_alone : Bool) (base second : ℕ) (asked : Aske
         at = record { one = record { one = does; others = others }; to_ask = (refl, writes); at = ap Some comes.at };
         said = says_stored order c.when c.found buffer comes.value c.outcome comes.found ∙ ap (says_by order c.when comes.value) is;
         count = sym (ap count_of is);
+        noted = λ partitions tally. ap (λ o. noted_if partitions asked.key c.when o c.stamp tally) is;
       }
       go None (Some outcome) writes is does = absurd does
       go (Some write) None writes is does = absurd does
@@ -106,4 +110,5 @@ module _ (options : Options) (is_alone : Bool) (base second : ℕ) (asked : Aske
             };
             said = says_stored order c.when c.found buffer comes.value c.outcome comes.found ∙ ap (says_by order c.when comes.value) is;
             count = sym (ap count_of is);
+            noted = λ partitions tally i. noted_if partitions (sym key i) c.when (is i) c.stamp tally;
           }

@@ -1,5 +1,5 @@
 -- What a client's bytes spell, with more bytes and with more answers.
-use Rattle.std.proofs.Common.{◌≡◌, ◌≢◌, ◌==◌, inl, inr, ℕ, Bool, true, false, ltb, cond, List, [], ◌∷◌, ◌++◌, length, drop, refl, sym, ap, ◌∙◌, subst, arith}
+use Rattle.std.proofs.Common.{◌≡◌, ◌==◌, inl, inr, ℕ, Bool, true, false, ltb, cond, List, [], ◌∷◌, ◌++◌, length, drop, refl, sym, ap, ◌∙◌, subst, arith}
 use Rattle.std.proofs.Math.Dec.{eqb-zero-suc}
 use Rattle.std.proofs.lemmas.Bool.{ltb-true, ltb-false}
 use Rattle.std.proofs.lemmas.Grind.{flat_map-append}
@@ -13,19 +13,13 @@ use Rattle.memcached_text.proofs.NextLaws.{no_line_short, stays}
 use Rattle.memcached_commands.specs.declared.asks.Asked.{Asked}
 use Rattle.memcached_commands.specs.Asks.{asks_in}
 use Rattle.memcached_commands.specs.Answers.{unless_quiet}
-use Rattle.mica_fronts.specs.Answered.{Answered}
 use Rattle.memcached_stats.specs.Stats.{Told}
-use Rattle.memcached_fronts.specs.Exchange.{Exchange, AnswersNext, is_flush_all, is_answered, is_quiet, keyed_text, flush_text, due_to, due_before, longer}
+use Rattle.memcached_fronts.specs.Exchange.{Exchange, is_flush_all, is_answered, is_quiet, keyed_text, flush_text, due_to, due_before}
 use Rattle.memcached_fronts.specs.Spells.{Begins, MayFollow, Spells, taken_by, MayGoOn, due_to_all, answers_to_all}
 
 -- nothing stands in no bytes
 nothing : next_of [] ≡ More
 nothing = no_line_short [] refl (omega arith) tt
-
--- a list with one more is not empty
-not_empty : (es : List Exchange) (e : Exchange) → es ++ e ∷ [] ≢ []
-not_empty [] e is = cc
-not_empty (x ∷ es) e is = cc
 
 module _ (options : Options) (base : ℕ) where
   -- More bytes
@@ -81,22 +75,6 @@ module _ (options : Options) (base : ℕ) where
     elim is.1 as (λ _. MayFollow options x (y ∷ es ++ e ∷ [])) [ inl none ↦ absurd (cc) | inr follows ↦ inr follows ],
     spells_next (drop (len_of x.next) bytes) (y ∷ es) rest e is.2 may begins,
   )
-
-  -- the last of them is answered further
-  pub spells_longer : (bytes : List ℕ) (es : List Exchange) (e : Exchange) (more : List Answered) (told : Told) (rest : List ℕ) → Spells options base bytes (es ++ e ∷ []) rest
-      → AnswersNext options base e.next (e.answers ++ more) → Spells options base bytes (es ++ longer e more told ∷ []) rest
-  spells_longer bytes [] e more told rest is answers = (record { next = is.0.next; some = is.0.some; answers = answers }, inl refl, is.2)
-  spells_longer bytes (x ∷ es) e more told rest is answers = (
-    is.0,
-    elim is.1 as (λ _. MayFollow options x (es ++ longer e more told ∷ [])) [ inl none ↦ absurd (not_empty es e none) | inr follows ↦ inr follows ],
-    spells_longer (drop (len_of x.next) bytes) es e more told rest is.2 answers,
-  )
-
-  -- the one that goes on has answers to what was said
-  pub last_begins : (bytes : List ℕ) (es : List Exchange) (e : Exchange) (rest : List ℕ) → Spells options base bytes (es ++ e ∷ []) rest
-      → AnswersNext options base e.next e.answers
-  last_begins bytes [] e rest is = is.0.answers
-  last_begins bytes (x ∷ es) e rest is = last_begins (drop (len_of x.next) bytes) es e rest is.2
 
   -- something may follow all but a last one that is not answered, or that ends the connection
   pub may_go_on : (es : List Exchange) (e : Exchange) → is_answered options e ≡ true → is_last e.next ≡ false → MayGoOn options (es ++ e ∷ [])

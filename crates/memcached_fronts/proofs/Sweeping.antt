@@ -5,7 +5,8 @@ use Rattle.std.proofs.lemmas.List.Elements.{filter_map-append}
 use Rattle.std.proofs.lemmas.Option.{same_Some}
 use Rattle.mica_words.specs.Hash.{partition_of}
 use Rattle.partition_model.specs.declared.options.Options.{Options}
-use Rattle.partition_model.specs.declared.write.Op.TheVariants.{Del}
+use Rattle.partition_model.specs.declared.options.Mode.TheVariants.{Cache}
+use Rattle.partition_model.specs.declared.write.Op.TheVariants.{Del, Touch}
 use Rattle.partition_model.specs.declared.write.Outcome.{Outcome}
 use Rattle.partition_model.specs.declared.write.Write.{Write}
 use Rattle.partition_model.specs.Write.{write_of}
@@ -13,10 +14,10 @@ use Rattle.partition_model.specs.Run.{RunStep}
 use Rattle.memcached_changes.specs.Over.{is_over, sweeping}
 use Rattle.mica_fronts.specs.declared.changing.Changed.{Changed}
 use Rattle.mica_fronts.specs.declared.changing.When.{When}
-use Rattle.mica_fronts.specs.Answered.{Answered, changed, kept, step_in, steps_of, count_of_writes}
+use Rattle.mica_fronts.specs.Answered.{Answered, wrote, changed, kept, step_in, steps_of, count_of_writes}
 use Rattle.mica_fronts.specs.Changing.{stays, goes, write_for, write_by, DoesWrite, ComesTo, count_of}
 use Rattle.mica_fronts.specs.Looks.{Look}
-use Rattle.mica_fronts.specs.Session.{Sessions, Answers, AnswersOne, ChangesOnly}
+use Rattle.mica_fronts.specs.Session.{Sessions, Answers, AnswersOne, ChangesOnly, Writes}
 use Rattle.mica_fronts.proofs.InOrder.{answers_append}
 use Rattle.memcached_fronts.specs.Seconds.{second_in, seconds_of, ToldFrom}
 use Rattle.memcached_fronts.specs.Sweeps.{IsSweep, SweepsBy}
@@ -46,16 +47,28 @@ module _ (options : Options) (is_alone : Bool) (base : ℕ) where
   swept_then {old} {between} {new} {told = told} {then = then} {tells = tells} one two =
       let writes = ap length (filter_map-append step_in one.answers two.answers) ∙ length-append (steps_of one.answers) (steps_of two.answers) in record {
         answers = one.answers ++ two.answers;
-        sweeps = all_both (IsSweep base) one.answers two.answers one.sweeps two.sweeps;
+        sweeps = all_both (IsSweep options base) one.answers two.answers one.sweeps two.sweeps;
         in_order = answers_append options is_alone one.answers two.answers old between new one.in_order two.in_order;
         seconds = subst (λ s. ToldFrom told s tells) (sym (filter_map-append second_in one.answers two.answers))
             (told_then told then tells (seconds_of one.answers) (seconds_of two.answers) one.seconds two.seconds);
         few = omega (arith, one.few, two.few, writes);
       }
 
+  -- a key that was touched
+  pub one_touched : (old new : Sessions) (left left_after : ℕ) (key : List ℕ) (outcome : Outcome) (stamp : ℕ) → options.mode ≡ Cache
+      → Writes options is_alone (old (partition_of key options.partitions)) (record { write = write_of Touch key []; outcome = outcome; stamp = stamp }) (new (partition_of key options.partitions))
+      → ChangesOnly (partition_of key options.partitions) old new → left ≤ left_after + 1 → (told : ℕ) → SweepsBy options is_alone base old left told new left_after told
+  one_touched old new left left_after key outcome stamp mode writes others few told = record {
+    answers = wrote (record { write = write_of Touch key []; outcome = outcome; stamp = stamp }) ∷ [];
+    sweeps = ((mode, refl), tt);
+    in_order = (new, record { one = writes; others = others }, λ q. refl);
+    seconds = refl;
+    few = few;
+  }
+
   -- a key that was looked at
   module _ (old new : Sessions) (left left_after told second : ℕ) (key : List ℕ) (c : Changed) (buffer : List ℕ) (falls : told ≤ second) where
-    one_by : (a : Answered) → Answers options is_alone old a new → IsSweep base a → second_in a ≡ Some second → left ≤ left_after + count_of_writes (a ∷ [])
+    one_by : (a : Answered) → Answers options is_alone old a new → IsSweep options base a → second_in a ≡ Some second → left ≤ left_after + count_of_writes (a ∷ [])
         → SweepsBy options is_alone base old left told new left_after second
     one_by a here is at few = record {
       answers = a ∷ [];

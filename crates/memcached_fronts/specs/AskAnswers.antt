@@ -13,7 +13,7 @@ use Rattle.mica_fronts.specs.Changing.{write_by}
 abbrev pub order_of : ℕ → Asked → Order
 order_of base asked = record { ask = asked.ask; base = base }
 
--- The key was looked at under a hold, and what is decided of what was found there and then is the write that followed at once; or it is none.
+-- The key was looked at, and what is decided of what was found there and then is the write that followed at once; or it is none.
 abbrev pub AnswersAsk : ℕ → Asked → Answered → Type 0
 AnswersAsk base asked (changed step look) = write_by (becoming_by (order_of base asked)) asked.key look ≡ Some step.write
 AnswersAsk base asked (kept key stamp look) = (key ≡ asked.key) × (write_by (becoming_by (order_of base asked)) asked.key look ≡ None)

@@ -33,6 +33,7 @@ abbrev pub is_flush_all : Next → Bool
 is_flush_all (nexts.Command (commands.Flush due quiet) len) = true
 is_flush_all _ = false
 
+-- when the flush is due that a client asks for
 abbrev pub flush_due : Next → Due
 flush_due (nexts.Command (commands.Flush due quiet) len) = due
 flush_due _ = Now
@@ -50,6 +51,7 @@ AnswersNext options base next answers = AnswersBy (is_flush_all next) options ba
 abbrev pub count_of_answers : Options → Next → ℕ
 count_of_answers options next = if is_flush_all next then options.partitions else length (asks.asks_in next)
 
+-- whether all answers to what was said are there
 abbrev pub is_answered : Options → Exchange → Bool
 is_answered options e = length e.answers == count_of_answers options e.next
 

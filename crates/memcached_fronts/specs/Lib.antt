@@ -4,5 +4,6 @@ pub mod FlushAnswers
 pub mod Exchange
 pub mod Spells
 pub mod Going
+pub mod Counting
 pub mod Sweeps
 pub mod Laws

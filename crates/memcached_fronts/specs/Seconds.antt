@@ -9,13 +9,14 @@ use Rattle.mica_fronts.specs.Flushes.{is_flush, flush_in}
 abbrev pub second_asked : Flush → Option ℕ
 second_asked flush = if nat_lt 0 flush.asked then Some flush.asked else None
 
--- that of a flush, and of a look under a hold
+-- that of a flush, and of a look
 abbrev pub second_in : Answered → Option ℕ
 second_in (wrote step) = if is_flush step.write then second_asked (flush_in step.write.key) else None
 second_in (got key stamp value) = None
 second_in (changed step look) = Some look.when.second
 second_in (kept key stamp look) = Some look.when.second
 
+-- the seconds of all answers that have one, in order
 abbrev pub seconds_of : List Answered → List ℕ
 seconds_of answers = filter_map second_in answers
 

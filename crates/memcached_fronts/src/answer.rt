@@ -8,6 +8,7 @@ ghost use Rattle.memcached_commands.specs.Fit.{IsFitAsked};
 ghost use Rattle.mica_fronts.specs.Answered.{Answered, accepts, count_of_writes};
 ghost use Rattle.mica_fronts.specs.Session.{AnswersInOrder};
 ghost use Rattle.memcached_stats.specs.Stats.{Told, stats_text};
+ghost use Rattle.memcached_fronts.specs.Counting.{tally_after_all, tally_after_next};
 ghost use Rattle.memcached_fronts.specs.Exchange.{IsOpenAt, asks_stats, flush_due, flush_text, is_flush_all};
 ghost use Rattle.memcached_fronts.specs.FlushAnswers.{FlushesFrom, flush_at};
 ghost use Rattle.memcached_fronts.specs.Seconds.{ToldFrom, seconds_of};
@@ -182,7 +183,8 @@ fn answer_asks<'a, R: Threads + Wait + Sync, F: Changes, C: Clock>(
     ensures answered { (answers : List Answered)
         × AnswersFirst (F.options front.old) F.is_alone base asks.old (F.sessions front.old) (C.last clock.old) (F.sessions front.new) (C.last clock.new) answers
         × IfOk result (λ count. RepliesFirst base style.quiet style.unique asks.old limits answers out.old.items out.new.items count asks.new)
-        × (F.left front.old ≤ F.left front.new + count_of_writes answers) }
+        × (F.left front.old ≤ F.left front.new + count_of_writes answers)
+        × (buffers.new.tally ≡ tally_after_all base partitions asks.old answers buffers.old.tally) }
     ensures part { (text : List ℕ) × (out.new.items ≡ out.old.items ++ text) }
     ensures left { F.left front.old ≤ F.left front.new + limits.asks }
     ensures options { F.options front.new ≡ F.options front.old }
@@ -205,7 +207,7 @@ fn answer_asks<'a, R: Threads + Wait + Sync, F: Changes, C: Clock>(
     Ok(count)
 }
 
-/// Answers what a client said, of which so many answers were given, and appends the text that is due. When out of memory, nothing is appended, though
+/// Answers what a client said, of which so many answers were given, and appends the text that is due. What came of it is counted. When out of memory, nothing is appended, though
 /// some of it may be done: then the connection is to end.
 pub fn answer_next<'a, R: Threads + Wait + Sync, F: Changes, C: Clock>(
     rt: &R,
@@ -226,7 +228,8 @@ pub fn answer_next<'a, R: Threads + Wait + Sync, F: Changes, C: Clock>(
     ensures answered { (answers : List Answered)
         × GoesOn (F.options front.old) F.is_alone numbering.base next.entry done (F.sessions front.old) (C.last clock.old) (F.sessions front.new) (C.last clock.new) answers
         × IfOk result (Replies (F.options front.old) numbering.base next.entry done limits answers out.old.items out.new.items)
-        × (F.left front.old ≤ F.left front.new + count_of_writes answers) }
+        × (F.left front.old ≤ F.left front.new + count_of_writes answers)
+        × (buffers.new.tally ≡ tally_after_next numbering.base numbering.partitions next.entry done answers buffers.old.tally) }
     ensures err { OnErr result (out.new.items ≡ out.old.items) }
     ensures left { F.left front.old ≤ F.left front.new + limits.asks + numbering.partitions }
     ensures options { F.options front.new ≡ F.options front.old }

@@ -3,18 +3,20 @@ ghost use Rattle.std.specs.Prelude.{◌≡◌, ◌<◌, ◌≤◌, ◌+◌, ◌+
 ghost use Rattle.memcached_commands.specs.Fit.{IsFitAsked};
 ghost use Rattle.mica_fronts.specs.Answered.{Answered, count_of_writes};
 ghost use Rattle.memcached_fronts.specs.AskAnswers.{said_of};
+ghost use Rattle.memcached_fronts.specs.Counting.{count_of_accepted, noted_if, tally_after};
 ghost use Rattle.memcached_fronts.specs.Going.{AnswersAt, ask_text, value_found};
 
 use crate::buffers::Buffers;
+use crate::noted::Noted;
 use crate::plain::Style;
 use memcached_changes::CommandOrder;
-use memcached_commands::{Asked, Says, put_last, put_part};
+use memcached_commands::{Ask, Asked, Says, put_part, put_whole};
 use memcached_stats::{Tally, counter_of};
 use mica_clock::Clock;
 use mica_fronts::{Changed, Changes};
 use mica_io::NoMemory;
 use mica_words::{key_hash, partition_of};
-use partition_model::{Answer, ItemBuf};
+use partition_model::{Answer, ItemBuf, Outcome};
 use std::sync::Wait;
 use std::thread::Threads;
 
@@ -32,13 +34,11 @@ fn put_said(
     if style.quiet {
         return Ok(());
     }
-    let start = out.len();
-    put_part(out, style.unique, key, says)?;
-    if is_last && put_last(out, says).is_err() {
-        out.truncate(start);
-        return Err(NoMemory);
+    if is_last {
+        put_whole(out, style.unique, key, says)
+    } else {
+        put_part(out, style.unique, key, says)
     }
-    Ok(())
 }
 
 // The value in the buffer, where one was found.
@@ -51,18 +51,38 @@ fn value_found(found: Option<Answer>, buffer: &ItemBuf) -> Option<&[u8]>
     }
 }
 
-// Notes what a write left of its partition, where one was made.
-fn note_write(tally: &mut Tally, partitions: u32, key: &[u8], changed: &Changed) {
+// How many writes were accepted.
+fn count_of_accepted(outcome: Outcome) -> u64
+    ensures { result ≡ count_of_accepted outcome }
+{
+    if outcome.is_accepted() { 1 } else { 0 }
+}
+
+// Notes what a write left of its partition, where one was made, and what it leaves for the next sweep.
+fn note_write(
+    tally: &mut Tally,
+    noted: &mut Noted,
+    partitions: u32,
+    ask: &Ask,
+    key: &[u8],
+    changed: &Changed,
+)
+    ensures { tally.new ≡ noted_if partitions key.now changed.now.when changed.now.outcome changed.now.stamp tally.old }
+{
     if let Some(outcome) = changed.outcome {
-        let accepted = u64::from(outcome.is_accepted());
-        let writes = changed.when.written.saturating_add(accepted);
-        let partition = partition_of(key_hash(key), partitions.max(1));
+        let writes = changed
+            .when
+            .written
+            .saturating_add(count_of_accepted(outcome));
+        let hash = key_hash(key);
+        let partition = partition_of(hash, partitions.max(1));
         tally.note(partition, writes, changed.stamp);
+        noted.note(ask, hash, partition, outcome);
     }
 }
 
-/// Has what is asked of a key decided and done under one hold of its partition, at the second that the clock tells, and appends the text that is due
-/// to it. When out of memory, nothing is appended, and it is done all the same.
+/// Has what is asked of a key decided of one look and done with nothing between, at the second that the clock tells, and appends the text that is due
+/// to it. What came of it is counted. When out of memory, nothing is appended, and it is done all the same.
 pub fn answer_ask<R: Threads + Wait + Sync, F: Changes, C: Clock>(
     rt: &R,
     front: &mut F,
@@ -80,7 +100,8 @@ pub fn answer_ask<R: Threads + Wait + Sync, F: Changes, C: Clock>(
     ensures answered { (answered : Answered)
         × AnswersAt (F.options front.old) F.is_alone base (C.last clock.new) (F.sessions front.old) asked.now (F.sessions front.new) answered
         × OnOk result (out.new.items ≡ out.old.items ++ ask_text style.quiet style.unique is_last asked.now.key (said_of base asked.now answered))
-        × (F.left front.old ≤ F.left front.new + count_of_writes (answered ∷ [])) }
+        × (F.left front.old ≤ F.left front.new + count_of_writes (answered ∷ []))
+        × (buffers.new.tally ≡ tally_after base partitions asked.now answered buffers.old.tally) }
     ensures err { OnErr result (out.new.items ≡ out.old.items) }
     ensures never_falls { C.last clock.old ≤ C.last clock.new }
     ensures left { F.left front.old ≤ F.left front.new + 1 }
@@ -91,6 +112,7 @@ pub fn answer_ask<R: Threads + Wait + Sync, F: Changes, C: Clock>(
     let Buffers {
         found,
         next,
+        noted,
         tally,
         ..
     } = buffers;
@@ -101,6 +123,6 @@ pub fn answer_ask<R: Threads + Wait + Sync, F: Changes, C: Clock>(
     let stored = value_found(changed.found, found);
     let says = order.says(changed.when, stored, changed.outcome);
     tally.count(counter_of(&asked.ask, &says));
-    note_write(tally, partitions, key, &changed);
+    note_write(tally, noted, partitions, &asked.ask, key, &changed);
     put_said(out, style, is_last, key, &says)
 }

@@ -1,25 +1,30 @@
 //! What a front has in hand for its commands.
 
+use crate::noted::Noted;
 use memcached_stats::{Board, Tally};
 use mica_io::NoMemory;
 use partition_model::ItemBuf;
 use std::alloc::Global;
 
-/// Room for a value that is found, and for the one that is to be; what the front has counted; and where it shows that, in the place of this number.
+/// Room for a value that is found, and for the one that is to be; what is noted for the next sweep; what the front has counted; and where it shows that, in the place of
+/// this number.
 #[derive(Drop)]
 pub struct Buffers<'a> {
     pub found: ItemBuf,
     pub next: ItemBuf,
+    pub noted: Noted,
     pub tally: Tally,
     pub board: &'a Board,
     pub place: u32,
 }
 
 impl<'a> Buffers<'a> {
+    /// Empty buffers, with the place on the board at which their front counts.
     pub fn new(alloc: Global, board: &'a Board, place: u32) -> Result<Buffers<'a>, NoMemory> {
         Ok(Buffers {
             found: ItemBuf::new(alloc)?,
             next: ItemBuf::new(alloc)?,
+            noted: Noted::new(),
             tally: Tally::new(),
             board,
             place,

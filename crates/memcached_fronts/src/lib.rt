@@ -1,9 +1,9 @@
 //! How commands of memcached are answered through a front, with no connection.
 //!
-//! What a client said is answered key by key: each by one look under a hold of its partition, with the write that is decided there and then. So a get
+//! What a client said is answered key by key: each by one look, with the write that is decided of it as the next step. So a get
 //! of many keys may be answered in parts, with other answers between. The layer above may rely on this: the front's sessions go on by just the answers
 //! that `answer_next` says, these are answers to what was asked, and the text that is appended is the one that is due to them. Beside that `sweep` looks at a
-//! few places of an index, and deletes what is over there, in store mode.
+//! few places of an index, and deletes what is over there, in store mode. In cache mode it touches old items that commands used.
 #![tactic(auto)]
 
 mod answer;
@@ -11,10 +11,13 @@ mod ask;
 mod buffers;
 mod flush;
 mod laws;
+mod noted;
+mod pace;
 mod plain;
 mod sweeper;
 
 pub use answer::{Limits, Numbering, Progress, answer_next};
 pub use buffers::Buffers;
 pub use laws::spells_on;
+pub use noted::Noted;
 pub use sweeper::{Sweeper, sweep};

@@ -1,9 +1,11 @@
-//! Items that are over give their room back.
-ghost use Rattle.std.specs.Prelude.{◌≡◌, ◌<◌, ◌≤◌, ◌+◌};
+//! Items that are over give their room back, and items that are used stay.
+ghost use Rattle.std.specs.Prelude.{◌≡◌, ◌<◌, ◌≤◌, ◌+◌, ℕ};
 ghost use Rattle.mica_words.specs.Item.{KeyFits};
 ghost use Rattle.memcached_fronts.specs.Sweeps.{SweepsBy};
 
 use crate::answer::Numbering;
+use crate::noted::Noted;
+use crate::pace::Pace;
 use memcached_changes::{SweepOrder, is_over};
 use mica_clock::Clock;
 use mica_fronts::{Changed, Changes, Glances, Glimpse, When};
@@ -13,12 +15,6 @@ use std::alloc::Global;
 use std::sync::Wait;
 use std::thread::Threads;
 
-/// The fewest places that one sweep looks at: so many where the last one found nothing to take away.
-const LEAST_STRETCH: u32 = 4;
-
-/// The most places that one sweep looks at.
-const MOST_STRETCH: u32 = 512;
-
 /// For so many items a look under a hold tells how late it is in their partition.
 const FRESH: u32 = 64;
 
@@ -26,8 +22,11 @@ const FRESH: u32 = 64;
 #[derive(Drop)]
 pub struct Sweeper {
     partition: u32,
-    place: u64,
-    stretch: u32,
+    // The next place of each partition.
+    places: Vec<u64>,
+    // How often the end of its partition was passed since it turned to it.
+    laps: u32,
+    pace: Pace,
     // When its partition was looked at under a hold last, and for how many more items that is taken for now.
     when: Option<When>,
     fresh: u32,
@@ -38,11 +37,13 @@ pub struct Sweeper {
 }
 
 impl Sweeper {
-    pub fn new(alloc: Global) -> Result<Sweeper, NoMemory> {
+    /// A sweeper that begins with the first place of each of so many partitions.
+    pub fn new(alloc: Global, partitions: u32) -> Result<Sweeper, NoMemory> {
         Ok(Sweeper {
             partition: 0,
-            place: 0,
-            stretch: LEAST_STRETCH,
+            places: Vec::from_elem(alloc, 0, partitions as usize)?,
+            laps: 0,
+            pace: Pace::new(),
             when: None,
             fresh: 0,
             key: ItemBuf::new(alloc)?,
@@ -52,16 +53,51 @@ impl Sweeper {
         })
     }
 
-    // Goes to the first place of a partition.
-    fn begin(&mut self, partition: u32) {
+    // Turns to a partition, and goes on there where it was.
+    fn turn_to(&mut self, partition: u32) {
         self.partition = partition;
-        self.place = 0;
+        self.laps = 0;
         self.when = None;
     }
 
-    // Goes to the next place.
+    // The next place of its partition.
+    fn place(&self) -> u64 {
+        self.places
+            .get(self.partition as usize)
+            .copied()
+            .unwrap_or(0)
+    }
+
+    fn go_to(&mut self, place: u64) {
+        if let Some(next) = self.places.get_mut(self.partition as usize) {
+            *next = place;
+        }
+    }
+
     fn step(&mut self) {
-        self.place = self.place.saturating_add(1);
+        let place = self.place();
+        self.go_to(place.saturating_add(1));
+    }
+
+    // Behind the last place: goes to the first one, and on to the next partition unless room is wanted here. It is not to be had where all places were passed.
+    fn pass_end(&mut self, partitions: u32) {
+        self.go_to(0);
+        self.laps = self.laps.saturating_add(1);
+        if self.laps > 1 {
+            self.pace.rest();
+        }
+        if !self.pace.is_hurried() {
+            let next = self.partition.saturating_add(1);
+            self.turn_to(if next < partitions { next } else { 0 });
+        }
+    }
+
+    // Turns to the partition where a write found no room, if one did.
+    fn want_room(&mut self, full: Option<u32>) {
+        if let Some(partition) = full {
+            self.turn_to(partition);
+            self.pace.hurry();
+        }
     }
 
     // Whether the item that was glanced at seems to be there.
@@ -70,15 +106,6 @@ impl Sweeper {
             Some(when) => self.fresh > 0 && !is_over(base, when, self.head.value()),
             None => false,
         }
-    }
-
-    // Looks further where something was found, and less far where nothing was.
-    fn adapt(&mut self, found: bool) {
-        self.stretch = if found {
-            self.stretch.saturating_mul(2).min(MOST_STRETCH)
-        } else {
-            (self.stretch / 2).max(LEAST_STRETCH)
-        };
     }
 }
 
@@ -158,11 +185,11 @@ fn sweep_place<R: Threads + Wait + Sync, F: Glances, C: Clock>(
     ensures number { F.number front.new ≡ F.number front.old }
     ensures stands { F.stands front.new ≡ F.stands front.old }
 {
-    if sweeper.partition >= numbering.partitions {
-        sweeper.begin(0);
+    let (partition, place) = (sweeper.partition, sweeper.place());
+    if partition >= numbering.partitions {
+        sweeper.turn_to(0);
         return false;
     }
-    let (partition, place) = (sweeper.partition, sweeper.place);
     match front.glance(partition, place, &mut sweeper.key, &mut sweeper.head) {
         Glimpse::Item => sweep_item(rt, front, clock, numbering.base, sweeper),
         Glimpse::Nothing => {
@@ -170,19 +197,97 @@ fn sweep_place<R: Threads + Wait + Sync, F: Glances, C: Clock>(
             false
         }
         Glimpse::Beyond => {
-            sweeper.begin(partition + 1);
+            sweeper.pass_end(numbering.partitions);
             false
         }
     }
 }
 
-/// Looks at the next places, so many at most, and takes away what is over. Says how many places it looked at.
+// Looks at the next places, so many at most, and takes away what is over. Says how many places it looked at.
+fn sweep_places<R: Threads + Wait + Sync, F: Glances, C: Clock>(
+    rt: &R,
+    front: &mut F,
+    clock: &mut C,
+    numbering: Numbering,
+    most: u32,
+    sweeper: &mut Sweeper,
+) -> u32
+    requires partitions { numbering.partitions ≡ (F.options front.old).partitions }
+    requires left { most ≤ F.left front.old }
+    ensures swept { SweepsBy (F.options front.old) F.is_alone numbering.base (F.sessions front.old) (F.left front.old) (C.last clock.old) (F.sessions front.new) (F.left front.new) (C.last clock.new) }
+    ensures few { result ≤ most }
+    ensures left { F.left front.old ≤ F.left front.new + result }
+    ensures options { F.options front.new ≡ F.options front.old }
+    ensures number { F.number front.new ≡ F.number front.old }
+    ensures stands { F.stands front.new ≡ F.stands front.old }
+{
+    let mut looked = 0;
+    let mut taken: u32 = 0;
+    while looked < most && !sweeper.pace.is_enough(taken) {
+        let gone = sweep_place(rt, front, clock, numbering, sweeper);
+        taken = taken.saturating_add(u32::from(gone));
+        looked += 1;
+    }
+    sweeper.pace.adapt(looked, taken);
+    looked
+}
+
+// Touches a key with this hash, if its item is old, and if it may give a write. Says how many it gave.
+fn touch_old<R: Threads + Wait + Sync, F: Glances>(
+    rt: &R,
+    front: &mut F,
+    most: u64,
+    hash: u64,
+    key: &mut ItemBuf,
+) -> u64
+    requires left { most ≤ F.left front.old }
+    ensures swept { (base told : ℕ) → SweepsBy (F.options front.old) F.is_alone base (F.sessions front.old) (F.left front.old) told (F.sessions front.new) (F.left front.new) told }
+    ensures few { result ≤ most }
+    ensures left { F.left front.old ≤ F.left front.new + result }
+    ensures options { F.options front.new ≡ F.options front.old }
+    ensures number { F.number front.new ≡ F.number front.old }
+    ensures stands { F.stands front.new ≡ F.stands front.old }
+{
+    if most == 0 || !front.glance_old(hash, key) {
+        return 0;
+    }
+    front.touch(rt, key.value());
+    1
+}
+
+// Touches keys that were noted whose items are old, so many at most, and notes none any more. Says how many it touched.
+fn touch_used<R: Threads + Wait + Sync, F: Glances>(
+    rt: &R,
+    front: &mut F,
+    most: u64,
+    noted: &mut Noted,
+    key: &mut ItemBuf,
+) -> u64
+    requires left { most ≤ F.left front.old }
+    ensures swept { (base told : ℕ) → SweepsBy (F.options front.old) F.is_alone base (F.sessions front.old) (F.left front.old) told (F.sessions front.new) (F.left front.new) told }
+    ensures few { result ≤ most }
+    ensures left { F.left front.old ≤ F.left front.new + result }
+    ensures options { F.options front.new ≡ F.options front.old }
+    ensures number { F.number front.new ≡ F.number front.old }
+    ensures stands { F.stands front.new ≡ F.stands front.old }
+{
+    let mut touched = 0;
+    for hash in noted.used() {
+        touched += touch_old(rt, front, most - touched, *hash, key);
+    }
+    noted.forget_used();
+    touched
+}
+
+/// Touches what was used and is old, and looks at the next places of an index, as far as so many writes reach. Takes away what is over there. Where a write found
+/// no room, it looks far in that partition. Says how many writes it may have made.
 pub fn sweep<R: Threads + Wait + Sync, F: Glances, C: Clock>(
     rt: &R,
     front: &mut F,
     clock: &mut C,
     numbering: Numbering,
     most: u64,
+    noted: &mut Noted,
     sweeper: &mut Sweeper,
 ) -> u64
     requires partitions { numbering.partitions ≡ (F.options front.old).partitions }
@@ -194,11 +299,10 @@ pub fn sweep<R: Threads + Wait + Sync, F: Glances, C: Clock>(
     ensures number { F.number front.new ≡ F.number front.old }
     ensures stands { F.stands front.new ≡ F.stands front.old }
 {
-    let places = most.min(u64::from(sweeper.stretch));
-    let mut found = false;
-    for _ in 0..places {
-        found = sweep_place(rt, front, clock, numbering, sweeper) | found;
-    }
-    sweeper.adapt(found);
-    places
+    let touched = touch_used(rt, front, most, noted, &mut sweeper.key);
+    sweeper.want_room(noted.take_full());
+    let places = sweeper.pace.places(clock);
+    let left = u32::try_from(most - touched).unwrap_or(u32::MAX);
+    let looked = sweep_places(rt, front, clock, numbering, places.min(left), sweeper);
+    touched + u64::from(looked)
 }

@@ -1,6 +1,7 @@
 //! What a front counts for itself.
 
-ghost use Rattle.std.specs.Prelude.{◌<◌, ◌^◌};
+ghost use Rattle.std.specs.Prelude.{◌≡◌, ◌<◌, ◌+◌, ◌*◌, ◌^◌};
+ghost use Rattle.memcached_stats.specs.Tallies.{counted, none_tallied, noted, number_at, put_at, raised};
 
 use crate::counter::{COUNTERS, Counter};
 use partition_model::MOST_PARTITIONS;
@@ -10,7 +11,8 @@ pub const MOST_NUMBERS: usize = COUNTERS + 2 * MOST_PARTITIONS as usize;
 
 /// The place of the first number of a partition.
 pub fn place_of(partition: u32) -> usize
-    ensures { result < 2 ^ 34 }
+    ensures small { result < 2 ^ 34 }
+    ensures place { result ≡ COUNTERS + 2 * partition }
 {
     COUNTERS + 2 * partition as usize
 }
@@ -23,34 +25,54 @@ pub struct Tally {
 
 impl Tally {
     /// Where nothing was counted.
-    pub fn new() -> Tally {
+    pub fn new() -> Tally
+        ensures { result ≡ none_tallied }
+    {
         Tally {
             numbers: [0; MOST_NUMBERS],
         }
     }
 
-    /// Raises a counter by so many.
-    pub fn raise(&mut self, counter: Counter, by: u64) {
-        if let Some(number) = self.numbers.get_mut(counter as usize) {
-            *number = number.saturating_add(by);
+    // The number at a place, or none.
+    fn number(&self, place: usize) -> u64
+        ensures { result ≡ number_at place self.now }
+    {
+        self.numbers.get(place).copied().unwrap_or(0)
+    }
+
+    // Puts a number at a place, where there is one.
+    fn put(&mut self, place: usize, number: u64)
+        ensures { self.new ≡ put_at place number self.old }
+    {
+        if place < MOST_NUMBERS {
+            self.numbers[place] = number;
         }
     }
 
+    /// Raises a counter by so many.
+    pub fn raise(&mut self, counter: Counter, by: u64)
+        ensures { self.new ≡ raised counter by self.old }
+    {
+        let place = counter as usize;
+        let number = self.number(place);
+        self.put(place, number.saturating_add(by));
+    }
+
     /// Raises a counter by one, if any.
-    pub fn count(&mut self, counter: Option<Counter>) {
+    pub fn count(&mut self, counter: Option<Counter>)
+        ensures { self.new ≡ counted counter self.old }
+    {
         if let Some(counter) = counter {
             self.raise(counter, 1);
         }
     }
 
     /// Notes how many writes a partition has accepted, and its stamp.
-    pub fn note(&mut self, partition: u32, writes: u64, stamp: u64) {
+    pub fn note(&mut self, partition: u32, writes: u64, stamp: u64)
+        ensures { self.new ≡ noted partition writes stamp self.old }
+    {
         let place = place_of(partition);
-        if let Some(number) = self.numbers.get_mut(place) {
-            *number = writes;
-        }
-        if let Some(number) = self.numbers.get_mut(place + 1) {
-            *number = stamp;
-        }
+        self.put(place, writes);
+        self.put(place + 1, stamp);
     }
 }

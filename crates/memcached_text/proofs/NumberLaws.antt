@@ -60,9 +60,6 @@ pub record IsPartRead (word : List ℕ) (number : ℕ) (rest : List ℕ) : Type 
   pub digits : all_ascii_digits word ≡ all_ascii_digits rest
   pub value : digits_value 10 word ≡ digits_value_after 10 number rest
 
-pub none_read : (word : List ℕ) → IsPartRead word 0 word
-none_read word = record { digits = refl; value = refl }
-
 pub digit_is : (b : ℕ) → is_ascii_digit b ≡ true → digit_value b ≡ b - 48
 digit_is b is = grind (arith, common_steps, is)
 

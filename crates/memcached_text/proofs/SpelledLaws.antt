@@ -1,4 +1,4 @@
--- Bytes that begin with the text of a get or a set.
+-- Bytes that begin with the text of a get, a set or a count.
 use Rattle.std.proofs.Common.{◌≡◌, ℕ, zero, suc, ◌+◌, ◌-◌, ◌*◌, ◌<◌, ◌≤◌, Bool, true, false, cond, eqb, eqb-true, List, [], ◌∷◌, ◌++◌, length, take, get_or, None, nat_le, refl, sym, ap, subst, ◌∙◌, arith, codes, length-append, append_assoc}
 use Rattle.std.specs.Fmt.{decimal}
 use Rattle.std.specs.Char.{is_ascii_digit, digit_value}
@@ -12,13 +12,15 @@ use Rattle.memcached_text.specs.declared.limits.TheConstants.{MAX_KEY_LEN, MAX_T
 use Rattle.memcached_text.specs.declared.lifetime.TheConstants.{MAX_SECONDS}
 use Rattle.memcached_text.specs.declared.lifetime.Lifetime.TheVariants.{Forever, For, Until}
 use Rattle.memcached_text.specs.declared.command.Command.{Command}
-use Rattle.memcached_text.specs.declared.command.Command.TheVariants.{Get, Store}
+use Rattle.memcached_text.specs.declared.command.Command.TheVariants.{Get, Store, Count}
 use Rattle.memcached_text.specs.declared.next.Next.TheVariants as nexts
 use Rattle.memcached_text.specs.declared.command.Wants.TheVariants.{Whatever}
+use Rattle.memcached_text.specs.declared.command.Direction.{Direction}
+use Rattle.memcached_text.specs.declared.command.Direction.TheVariants.{Up, Down}
 use Rattle.memcached_text.specs.Lines.{Lacks}
 use Rattle.memcached_text.specs.Lifetimes.{lifetime_at}
 use Rattle.memcached_text.specs.Next.{next_of}
-use Rattle.memcached_text.specs.Spelling.{IsKey, asking, lifetime_text, command_text, BeginsAs}
+use Rattle.memcached_text.specs.Spelling.{IsKey, asking, lifetime_text, count_word, command_text, BeginsAs}
 use Rattle.memcached_text.proofs.NumberLaws.{own, both, digit_is}
 use Rattle.memcached_text.proofs.FitLaws.{at_fits}
 use Rattle.memcached_text.proofs.SpellingLaws.{regroup_text, text_len, reads_back}
@@ -147,6 +149,41 @@ set_begins from key value more flags expiry len quiet is is_key flags_is expiry_
     let size : length from ≡ length (command_text (Store Whatever key flags (lifetime_at expiry) value quiet)) + length more = ap length text ∙ length-append (command_text (Store Whatever key flags (lifetime_at expiry) value quiet)) more in
     record {
       is = (tt, is_key, omega arith, at_fits expiry expiry_is, omega arith);
+      more = more;
+      text = text;
+      whole = omega arith;
+    }
+
+-- the text of a count, with more behind it
+count_text : (direction : Direction) (key more : List ℕ) (delta : ℕ) (quiet : Bool)
+    → command_text (Count direction key delta quiet) ++ more ≡ count_word direction ++ 32 ∷ (key ++ 32 ∷ (decimal delta ++ (asking quiet ++ 13 ∷ 10 ∷ more)))
+count_text Up key more delta quiet =
+    regroup_text (codes "incr " ++ (key ++ 32 ∷ (decimal delta ++ asking quiet))) [] more
+    ∙ ap (λ t. codes "incr " ++ t) (append_assoc key (32 ∷ (decimal delta ++ asking quiet)) (13 ∷ 10 ∷ more) ∙ ap (λ t. key ++ 32 ∷ t) (append_assoc (decimal delta) (asking quiet) (13 ∷ 10 ∷ more)))
+count_text Down key more delta quiet =
+    regroup_text (codes "decr " ++ (key ++ 32 ∷ (decimal delta ++ asking quiet))) [] more
+    ∙ ap (λ t. codes "decr " ++ t) (append_assoc key (32 ∷ (decimal delta ++ asking quiet)) (13 ∷ 10 ∷ more) ∙ ap (λ t. key ++ 32 ∷ t) (append_assoc (decimal delta) (asking quiet) (13 ∷ 10 ∷ more)))
+
+-- what each step of reading a count found
+pub record IsCountText (direction : Direction) (from key more : List ℕ) (delta : ℕ) (quiet : Bool) : Type 0 where
+  pub text : List ℕ
+  pub behind_key : List ℕ
+  pub numbers : List ℕ
+  pub tail : List ℕ
+  pub whole : from ≡ count_word direction ++ 32 ∷ text
+  pub parts : text ≡ key ++ behind_key
+  pub space : behind_key ≡ 32 ∷ numbers
+  pub delta_read : numbers ≡ decimal delta ++ tail
+  pub tail_read : tail ≡ asking quiet ++ 13 ∷ 10 ∷ more
+
+pub count_begins : (direction : Direction) (from key more : List ℕ) (delta : ℕ) (quiet : Bool) → IsCountText direction from key more delta quiet → IsKey key → delta ≤ 4294967295 → BeginsAs from (Count direction key delta quiet) (length from - length more)
+count_begins direction from key more delta quiet is is_key small =
+    let here : from ≡ count_word direction ++ 32 ∷ (key ++ 32 ∷ (decimal delta ++ (asking quiet ++ 13 ∷ 10 ∷ more))) =
+    is.whole ∙ ap (λ t. count_word direction ++ 32 ∷ t) (is.parts ∙ ap (λ t. key ++ t) (is.space ∙ ap (λ t. 32 ∷ t) (is.delta_read ∙ ap (λ t. decimal delta ++ t) is.tail_read))) in
+    let text : from ≡ command_text (Count direction key delta quiet) ++ more = here ∙ sym (count_text direction key more delta quiet) in
+    let size : length from ≡ length (command_text (Count direction key delta quiet)) + length more = ap length text ∙ length-append (command_text (Count direction key delta quiet)) more in
+    record {
+      is = (is_key, omega arith);
       more = more;
       text = text;
       whole = omega arith;

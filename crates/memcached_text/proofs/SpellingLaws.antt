@@ -50,10 +50,6 @@ use Rattle.memcached_text.proofs.NextLaws.{text_more, next_is}
 abbrev AreKeys : List (List ℕ) → Type 0
 AreKeys words = AllByRecursion IsKey words
 
-AreKeys_append : (a b : List (List ℕ)) → AreKeys a → AreKeys b → AreKeys (a ++ b)
-AreKeys_append [] b left right = right
-AreKeys_append (word ∷ a) b left right = (left.0, AreKeys_append a b left.1 right)
-
 -- a word that is spelled out is a key, by computing
 abbrev is_plain : List ℕ → Bool
 is_plain word = (nat_lt 0 (length word) && nat_le (length word) MAX_KEY_LEN) && list_all (λ b. not (eqb b 32) && not (eqb b 10)) word

@@ -49,10 +49,6 @@ pub with_some : (word : List ℕ) (words : List (List ℕ)) → (length word == 
 with_some [] words some = absurd (true≢false some)
 with_some (b ∷ word) words some = refl
 
-pub with_none : (word : List ℕ) (words : List (List ℕ)) → (length word == 0) ≡ true → with_word word words ≡ words
-with_none [] words none = refl
-with_none (b ∷ word) words none = let zero : length (b ∷ word) ≡ 0 = eqb-true _ 0 none in absurd (omega arith)
-
 -- one word alone
 pub one_word : (word rest : List ℕ) → 0 < length word → rest ≡ [] → with_word word (words_of rest) ≡ word ∷ []
 one_word [] rest some none = absurd (omega arith)

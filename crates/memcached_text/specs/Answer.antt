@@ -28,19 +28,23 @@ pub data Last : Type 0 where
   refusal : Fault → Last
   number : ℕ → Last
 
+-- what is answered to a command: some parts, and a line behind them
 pub record Answer : Type 0 where
   pub parts : List Part
   pub last : Last
 
+-- the text of a part: a value that was found, or a count
 abbrev pub part_text : Part → List ℕ
 part_text (value found) = value_text found.key found.flags found.value found.unique
 part_text (stat counted) = stat_text counted.name counted.value
 
+-- the text of the line behind the parts
 abbrev pub last_text : Last → List ℕ
 last_text (line reply) = reply_text reply
 last_text (refusal fault) = fault_text fault
 last_text (number n) = number_text n
 
+-- the text of an answer
 abbrev pub answer_text : Answer → List ℕ
 answer_text answer = flat_map part_text answer.parts ++ last_text answer.last
 

@@ -50,6 +50,7 @@ other_forms =
     ∷ record { name = codes "ms"; meaning = λ words. Some (drop_meta_line words) }
     ∷ []
 
+-- all forms of lines
 abbrev pub forms : List Form
 forms = common_forms ++ other_forms
 

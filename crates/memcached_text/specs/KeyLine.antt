@@ -24,6 +24,7 @@ unfoldable pub get_line : Bool → List (List ℕ) → Option Line
 get_line unique [] = None
 get_line unique (key ∷ keys) = Some (got unique None (key ∷ keys))
 
+-- the line of a get that touches, by its lifetime if that can be read
 abbrev pub got_by : Bool → Option Lifetime → List (List ℕ) → Line
 got_by unique None keys = refused ExpiryFormat false
 got_by unique (Some lifetime) keys = got unique (Some lifetime) keys
@@ -49,6 +50,7 @@ delete_line (key ∷ second ∷ third ∷ []) =
     else refused DeleteUsage (is_noreply third))
 delete_line (_ ∷ _ ∷ _ ∷ _ ∷ _) = None
 
+-- the line of a count, by its number if that can be read
 abbrev pub counted_by : Direction → List ℕ → Option ℕ → Bool → Line
 counted_by direction key None quiet = refused DeltaFormat quiet
 counted_by direction key (Some delta) quiet = Whole (commands.Count direction key delta quiet)
@@ -64,6 +66,7 @@ unfoldable pub count_line : Direction → List (List ℕ) → Option Line
 count_line direction (key ∷ delta ∷ tail) = option_map (counted direction key delta) (quiet_tail delta tail)
 count_line direction _ = None
 
+-- the line of a touch, by its lifetime if that can be read
 abbrev pub touched_by : List ℕ → Option Lifetime → Bool → Line
 touched_by key None quiet = refused ExpiryFormat quiet
 touched_by key (Some lifetime) quiet = Whole (commands.Touch key lifetime quiet)

@@ -17,6 +17,7 @@ refused fault quiet = Refused fault quiet None
 abbrev pub refused_with : Fault → Bool → ℕ → Line
 refused_with fault quiet len = Refused fault quiet (Some len)
 
+-- the word that asks for no reply
 abbrev pub is_noreply : List ℕ → Bool
 is_noreply word = bytes_eq word (codes "noreply")
 

@@ -11,6 +11,7 @@ use Rattle.memcached_text.specs.Lines.{Lacks, words_of, without_return}
 use Rattle.memcached_text.specs.Line.{is_noreply}
 use Rattle.memcached_text.specs.Next.{next_of}
 
+-- whether a command wants no reply
 abbrev pub is_quiet : Command → Bool
 is_quiet (Store wants key flags lifetime value quiet) = quiet
 is_quiet (Join side key value quiet) = quiet

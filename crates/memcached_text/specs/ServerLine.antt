@@ -37,6 +37,7 @@ unfoldable pub stats_line : List (List ℕ) → Option Line
 stats_line [] = Some (Whole (commands.Stats Server))
 stats_line (word ∷ words) = if is_part word then Some (Whole (commands.Stats NoPart)) else None
 
+-- the line of `verbosity`, by its level if that can be read
 abbrev pub verbosity_by : Option ℕ → Bool → Line
 verbosity_by None quiet = refused Format quiet
 verbosity_by (Some level) quiet = Whole (commands.Verbosity quiet)

@@ -24,6 +24,7 @@ fn got(unique: bool, lifetime: Option<Lifetime>, keys: Words) -> Line
     })
 }
 
+// The line of `get` or `gets`, by the words behind it.
 #[tactic(auto, unfolding(crate::specs::KeyLine::get_line))]
 pub fn get_line(unique: bool, words: Words) -> Option<Line>
     ensures { result ≡ get_line unique words.entry }
@@ -40,6 +41,7 @@ pub fn get_line(unique: bool, words: Words) -> Option<Line>
     }))
 }
 
+// The line of `gat` or `gats`, by the words behind it.
 #[tactic(auto, unfolding(crate::specs::KeyLine::get_touch_line))]
 pub fn get_touch_line(unique: bool, mut words: Words) -> Option<Line>
     ensures { result ≡ get_touch_line unique words.entry }
@@ -65,6 +67,7 @@ fn deleted(key: &[u8], quiet: bool) -> Line
     })
 }
 
+// The line of `delete`, by the words behind it.
 #[tactic(auto, unfolding(crate::specs::KeyLine::delete_line))]
 pub fn delete_line(mut words: Words) -> Option<Line>
     ensures { result ≡ delete_line words.entry }
@@ -112,6 +115,7 @@ fn counted<'a>(direction: Direction, key: &'a [u8], delta: &[u8], quiet: bool) -
     }
 }
 
+// The line of `incr` or `decr`, by the words behind it.
 #[tactic(auto, unfolding(crate::specs::KeyLine::count_line))]
 pub fn count_line(direction: Direction, mut words: Words) -> Option<Line>
     ensures { result ≡ count_line direction words.entry }
@@ -140,6 +144,7 @@ fn touched<'a>(key: &'a [u8], expiry: &[u8], quiet: bool) -> Line<'a>
     }
 }
 
+// The line of `touch`, by the words behind it.
 #[tactic(auto, unfolding(crate::specs::KeyLine::touch_line))]
 pub fn touch_line(mut words: Words) -> Option<Line>
     ensures { result ≡ touch_line words.entry }

@@ -34,6 +34,6 @@ pub use laws::{one_answer, one_command, one_item, one_meaning, one_place, quiet_
 pub use lifetime::{Due, Lifetime};
 pub use limits::{HEADER_LEN, MAX_KEY_LEN, MAX_LINE_LEN, MAX_TEXT_LEN, MAX_WAITING_LEN};
 pub use next::{Next, next_command};
-pub use reply::{Reply, fault_line, put_number, put_stat, put_value, reply_line};
+pub use reply::{Reply, fault_line, put_last_value, put_number, put_stat, put_value, reply_line};
 pub use text::Text;
 pub use words::Words;

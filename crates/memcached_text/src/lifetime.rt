@@ -32,6 +32,7 @@ pub const MAX_SECONDS: u32 = 2_592_000;
 /// The lowest number that is read as an expiry time, without its sign.
 pub const MOST_BELOW: u64 = 9_223_372_036_854_775_808;
 
+/// The lifetime that a number of seconds names: never, from now on, or a time of day.
 pub fn lifetime_at(number: u32) -> Lifetime
     ensures { result ≡ lifetime_at number }
 {

@@ -8,7 +8,7 @@ use crate::block::{Block, END_LEN, block_at};
 use crate::forms::line_of;
 use crate::limits::{MAX_LINE_LEN, MAX_TEXT_LEN, MAX_WAITING_LEN};
 use crate::line::Line;
-use crate::spelled::{spelled_get, spelled_set};
+use crate::spelled::{spelled_count, spelled_get, spelled_set};
 use crate::split::split_at_byte;
 use crate::storage_line::ItemLine;
 use crate::{Command, Fault, Text, Words};
@@ -172,6 +172,11 @@ fn front_of(from: &[u8]) -> Next
     if let Some(set) = spelled_set(from) {
         let len = set.len;
         let command = set.command();
+        return Next::Command { command, len };
+    }
+    if let Some(count) = spelled_count(from) {
+        let len = count.len;
+        let command = count.command();
         return Next::Command { command, len };
     }
     front_line(from)

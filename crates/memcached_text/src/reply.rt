@@ -1,10 +1,10 @@
 //! Texts of replies.
-ghost use Rattle.std.specs.Prelude.{◌≡◌, ◌++◌, OnOk, OnErr};
-ghost use Rattle.memcached_text.specs.Replies.{reply_text, fault_text, value_text, number_text, stat_text};
+ghost use Rattle.std.specs.Prelude.{◌≡◌, ℕ, List, ◌+◌, ◌≤◌, ◌++◌, ◌∷◌, length, drop, codes, decimal, OnOk, OnErr};
+ghost use Rattle.memcached_text.specs.Replies.{reply_text, fault_text, value_text, unique_text, number_text, stat_text};
 
 use crate::Fault;
 use crate::append::append_parts;
-use itoa::Buffer;
+use itoa::{Buffer, write_digits};
 use mica_io::NoMemory;
 
 /// What is replied to a command, but for the values of a get.
@@ -71,9 +71,68 @@ pub fn fault_line(fault: Fault) -> &'static [u8]
     }
 }
 
+// The most bytes of a number behind a space.
+const NUMBER_LEN: usize = 21;
+
+// The bytes of three such numbers and a line's end.
+const NUMBERS_LEN: usize = 65;
+
+// Puts a space and a number in front of a place, and says where the space is.
+#[inline]
+fn put_before(line: &mut [u8], number: u64, place: usize) -> usize
+    requires room { NUMBER_LEN ≤ place }
+    requires within { place ≤ length line.old }
+    ensures near { place ≤ result + NUMBER_LEN }
+    ensures text { drop result line.new ≡ 32 ∷ decimal number ++ drop place line.old }
+{
+    let digits = write_digits(number, line, place);
+    line[digits - 1] = b' ';
+    digits - 1
+}
+
+// Puts what stands behind the key in the first line of a value at the end of the bytes, and says where it begins.
+#[inline]
+fn put_numbers(
+    line: &mut [u8; NUMBERS_LEN],
+    flags: u32,
+    value_len: usize,
+    unique: Option<u64>,
+) -> usize
+    ensures within { result ≤ NUMBERS_LEN }
+    ensures text { drop result line.new ≡ 32 ∷ decimal flags ++ (32 ∷ decimal value_len ++ (unique_text unique ++ codes "\r\n")) }
+{
+    let end = NUMBERS_LEN - 2;
+    line[end + 1] = b'\n';
+    line[end] = b'\r';
+    let uniques = match unique {
+        Some(unique) => put_before(line, unique, end),
+        None => end,
+    };
+    let lens = put_before(line, value_len as u64, uniques);
+    put_before(line, u64::from(flags), lens)
+}
+
+// Appends the value that a get found, and what is to stand behind it. Where memory runs out, nothing is appended.
+#[inline]
+#[tactic(auto, unfolding(crate::specs::Replies::value_text))]
+fn put_value_and(
+    out: &mut Vec<u8>,
+    key: &[u8],
+    flags: u32,
+    value: &[u8],
+    unique: Option<u64>,
+    end: &'static [u8],
+) -> Result<(), NoMemory>
+    ensures ok { OnOk result ((behind : List ℕ) → end.now ≡ codes "\r\n" ++ behind → out.new.items ≡ out.old.items ++ (value_text key.now flags value.now unique ++ behind)) }
+    ensures err { OnErr result (out.new.items ≡ out.old.items) }
+{
+    let mut line = [0; NUMBERS_LEN];
+    let start = put_numbers(&mut line, flags, value.len(), unique);
+    append_parts(out, &[b"VALUE ", key, &line[start..], value, end])
+}
+
 /// Appends the value that a get found, with its unique number where there is one. Where memory runs out, nothing is
 /// appended.
-#[tactic(auto, unfolding(crate::specs::Replies::value_text))]
 pub fn put_value(
     out: &mut Vec<u8>,
     key: &[u8],
@@ -84,28 +143,21 @@ pub fn put_value(
     ensures ok { OnOk result (out.new.items ≡ out.old.items ++ value_text key.now flags value.now unique) }
     ensures err { OnErr result (out.new.items ≡ out.old.items) }
 {
-    let mut flags_digits = Buffer::new();
-    let mut len_digits = Buffer::new();
-    let mut unique_digits = Buffer::new();
-    let flags = flags_digits.format(flags).as_bytes();
-    let len = len_digits.format(value.len()).as_bytes();
-    let (space, end) = (b" ".as_slice(), b"\r\n".as_slice());
-    let begin = b"VALUE ".as_slice();
-    match unique {
-        Some(unique) => {
-            let unique = unique_digits.format(unique).as_bytes();
-            append_parts(
-                out,
-                &[
-                    begin, key, space, flags, space, len, space, unique, end, value, end,
-                ],
-            )
-        }
-        None => append_parts(
-            out,
-            &[begin, key, space, flags, space, len, end, value, end],
-        ),
-    }
+    put_value_and(out, key, flags, value, unique, b"\r\n")
+}
+
+/// Appends the last value that a get found, and the end of its reply. Where memory runs out, nothing is appended.
+pub fn put_last_value(
+    out: &mut Vec<u8>,
+    key: &[u8],
+    flags: u32,
+    value: &[u8],
+    unique: Option<u64>,
+) -> Result<(), NoMemory>
+    ensures ok { OnOk result (out.new.items ≡ out.old.items ++ (value_text key.now flags value.now unique ++ reply_text Reply.End)) }
+    ensures err { OnErr result (out.new.items ≡ out.old.items) }
+{
+    put_value_and(out, key, flags, value, unique, b"\r\nEND\r\n")
 }
 
 /// Appends the number that a count gave. Where memory runs out, nothing is appended.

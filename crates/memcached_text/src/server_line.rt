@@ -33,6 +33,7 @@ fn flushed_now<'a>(quiet: bool) -> Line<'a>
     })
 }
 
+// The line of `flush_all`, by the words behind it.
 #[tactic(auto, unfolding(crate::specs::ServerLine::flush_line))]
 pub fn flush_line<'a>(mut words: Words<'a>) -> Option<Line<'a>>
     ensures { result ≡ flush_line words.entry }
@@ -64,6 +65,7 @@ fn is_part(word: &[u8]) -> bool
         || word == b"conns".as_slice()
 }
 
+// The line of `stats`, by the words behind it.
 #[tactic(auto, unfolding(crate::specs::ServerLine::stats_line))]
 pub fn stats_line<'a>(mut words: Words<'a>) -> Option<Line<'a>>
     ensures { result ≡ stats_line words.entry }
@@ -81,6 +83,7 @@ pub fn stats_line<'a>(mut words: Words<'a>) -> Option<Line<'a>>
     }))
 }
 
+// The line of `verbosity`, by the words behind it.
 #[tactic(auto, unfolding(crate::specs::ServerLine::verbosity_line))]
 pub fn verbosity_line<'a>(mut words: Words<'a>) -> Option<Line<'a>>
     ensures { result ≡ verbosity_line words.entry }

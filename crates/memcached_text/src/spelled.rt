@@ -2,11 +2,11 @@
 //! looked at once. All else is read by `front_line`.
 ghost use Rattle.std.specs.Prelude.{◌≡◌, ◌<◌, ◌≤◌, ◌++◌, ◌∷◌, [], false, None, length, codes, decimal, slice_index, IfSome, IsTrue};
 ghost use Rattle.memcached_text.specs.Lines.{Lacks};
-ghost use Rattle.memcached_text.specs.Spelling.{BeginsAs, asking};
+ghost use Rattle.memcached_text.specs.Spelling.{BeginsAs, asking, count_word};
 
 use crate::lifetime::lifetime_at;
 use crate::limits::{MAX_KEY_LEN, MAX_TEXT_LEN};
-use crate::{Command, Lifetime, Wants};
+use crate::{Command, Direction, Lifetime, Wants};
 use memchr::memchr2;
 
 // What stands before the first space or line feed, and the text from there on. None where neither stands near.
@@ -185,6 +185,7 @@ pub fn spelled_set(from: &[u8]) -> Option<SpelledSet>
 }
 
 impl<'a> SpelledSet<'a> {
+    /// The command that stores the item, whatever is there.
     #[inline]
     pub fn command(self) -> Command<'a>
         ensures { result ≡ Command.Store Wants.Whatever self.entry.key.now self.entry.flags self.entry.lifetime self.entry.value.now self.entry.quiet }
@@ -195,6 +196,65 @@ impl<'a> SpelledSet<'a> {
             flags: self.flags,
             lifetime: self.lifetime,
             value: self.value.into(),
+            quiet: self.quiet,
+        }
+    }
+}
+
+// Whether a count goes up or down, and what stands behind its word.
+#[inline]
+fn behind_count(from: &[u8]) -> Option<(Direction, &[u8])>
+    ensures { IfSome result (λ found. from.now ≡ count_word found.0 ++ 32 ∷ found.1.now) }
+{
+    match from {
+        [b'i', b'n', b'c', b'r', b' ', text @ ..] => Some((Direction::Up, text)),
+        [b'd', b'e', b'c', b'r', b' ', text @ ..] => Some((Direction::Down, text)),
+        _ => None,
+    }
+}
+
+/// A count, and the bytes of its text.
+#[derive(Drop)]
+pub struct SpelledCount<'a> {
+    direction: Direction,
+    key: &'a [u8],
+    delta: u32,
+    quiet: bool,
+    pub len: usize,
+}
+
+// A count by at most 4,294,967,295.
+#[inline]
+pub fn spelled_count(from: &[u8]) -> Option<SpelledCount>
+    ensures { IfSome result (λ count. BeginsAs from.now (Command.Count count.direction count.key.now count.delta count.quiet) count.len) }
+{
+    let (direction, text) = behind_count(from)?;
+    let (key, numbers) = first_part(text)?;
+    let numbers = behind_byte(numbers, b' ')?;
+    let (delta, end) = leading_number(numbers)?;
+    let (quiet, more) = line_end(end)?;
+    if !is_key_len(key.len()) {
+        return None;
+    }
+    Some(SpelledCount {
+        direction,
+        key,
+        delta,
+        quiet,
+        len: from.len() - more.len(),
+    })
+}
+
+impl<'a> SpelledCount<'a> {
+    // The command that counts.
+    #[inline]
+    pub fn command(self) -> Command<'a>
+        ensures { result ≡ Command.Count self.entry.direction self.entry.key.now self.entry.delta self.entry.quiet }
+    {
+        Command::Count {
+            direction: self.direction,
+            key: self.key.into(),
+            delta: u64::from(self.delta),
             quiet: self.quiet,
         }
     }

@@ -120,6 +120,7 @@ fn stored(item: Option<ItemLine>, len: Option<u32>, quiet: bool) -> Line
 // Each of the functions below is of the words behind a command's name, and gives `None` where they are too few or too
 // many.
 
+/// The line of a command that stores an item, by the words behind it.
 #[tactic(auto, unfolding(crate::specs::StorageLine::set_line))]
 pub fn set_line(verb: Verb, mut words: Words) -> Option<Line>
     ensures { result ≡ set_line verb words.entry }
@@ -132,6 +133,7 @@ pub fn set_line(verb: Verb, mut words: Words) -> Option<Line>
     Some(stored(item_of(verb, key, flags, expiry), block_len(len), quiet))
 }
 
+/// The line of `cas`, by the words behind it.
 #[tactic(auto, unfolding(crate::specs::StorageLine::cas_line))]
 pub fn cas_line(mut words: Words) -> Option<Line>
     ensures { result ≡ cas_line words.entry }
@@ -160,6 +162,7 @@ fn dropped<'a>(len: &[u8]) -> Line<'a>
     }
 }
 
+/// The line of a command whose block is dropped, by the words behind it.
 #[tactic(auto, unfolding(crate::specs::StorageLine::drop_meta_line))]
 pub fn drop_meta_line<'a>(mut words: Words<'a>) -> Line<'a>
     ensures { result ≡ drop_meta_line words.entry }

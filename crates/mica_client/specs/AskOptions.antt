@@ -2,6 +2,7 @@
 use Rattle.partition_model.specs.Options.{InRange}
 use Rattle.mica_client.specs.declared.options.AskOptions.{AskOptions}
 
+-- each number is in its range
 pub record IsValidAsk (options : AskOptions) : Type 0 where
   pub port : InRange 1024 65000 options.port
   pub partitions : InRange 1 16 options.partitions

@@ -4,6 +4,7 @@ use Rattle.std.specs.Fmt.{decimal}
 use Rattle.mica_client.specs.declared.fault.AskFault.{AskFault}
 use Rattle.mica_client.specs.declared.fault.AskFault.TheVariants.{Unread, Stranger, Double, Wrong, Lost, Link, NoMemory}
 
+-- the text of each fault that ends `ask`
 abbrev pub ask_fault_text : AskFault → List ℕ
 ask_fault_text Unread = codes "unread"
 ask_fault_text (Stranger ticket) = codes "stranger " ++ decimal ticket

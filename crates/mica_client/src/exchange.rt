@@ -1,4 +1,4 @@
-//! The exchange with a server.
+//! The exchange with a server: each batch is sent once, and its replies are awaited.
 ghost use Rattle.std.specs.Prelude.{◌≡◌, ◌<◌, ◌≤◌, ◌||◌, true, false, ℕ, None, length, IfOk, IfErr, OnOk, IsErrOf};
 ghost use Rattle.std.specs.List.{AllZip, AllByRecursion};
 ghost use Rattle.mica_io.specs.Faults.{Rose};

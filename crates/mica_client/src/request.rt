@@ -47,12 +47,14 @@ impl<'a> Model for Group<'a> {
 }
 
 impl<'a> Group<'a> {
+    /// Requests for the front behind a port.
     pub fn new(port: u16, requests: Vec<RequestRef<'a>>) -> Group<'a>
         ensures { result ≡ record { port = port; requests = requests.entry.items } }
     {
         Group { port, requests }
     }
 
+    /// The port that the requests go to.
     pub fn port(&self) -> u16
         ensures { result ≡ self.now.port }
     {

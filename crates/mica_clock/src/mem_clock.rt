@@ -12,6 +12,7 @@ pub struct MemClock<'a> {
 }
 
 impl<'a> MemClock<'a> {
+    /// A clock that shows these seconds one after another, and can't be read where there is none.
     pub fn new(script: &'a [Option<u64>]) -> MemClock<'a>
         ensures script { result.script.now ≡ script.now }
         ensures last { result.last ≡ 0 }

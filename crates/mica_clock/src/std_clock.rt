@@ -13,6 +13,7 @@ pub struct StdClock<'a, R> {
 }
 
 impl<'a, R: time::Clock> StdClock<'a, R> {
+    /// A clock that has told no second yet.
     pub fn new(rt: &'a R) -> StdClock<'a, R> {
         StdClock { rt, last: 0 }
     }

@@ -3,7 +3,10 @@ use Rattle.std.specs.Prelude.{◌≡◌, ℕ, Bool, true, List, Option}
 use Rattle.std.specs.Io.KnownBytes.{IsAtEnd}
 use Rattle.partition_table.specs.declared.tables.KeptSeat.{KeptSeat}
 use Rattle.mica_serve.specs.NetRun.{NetFacts}
+use Rattle.mica_io.specs.declared.sink.Sink.{Ghosts as SinkTells}
+use Rattle.mica_io.specs.declared.source.Source.{Ghosts as SourceTells}
 use Rattle.mica_client.specs.Talk.{Talk}
+use Rattle.mica_client.specs.declared.link.Link.{Ghosts as LinkTells}
 
 -- a source: the bytes that it has left, where it tells them, how many its reads gave, whether a read has answered that it ended, and its
 -- count of faults
@@ -14,8 +17,8 @@ pub record SourceFacts : Type 0 where
   pub faults : ℕ
 
 -- by what a source tells
-abbrev pub source_facts : {S : Type 0} → (S → Option (List ℕ)) → (S → ℕ) → (S → Bool) → (S → ℕ) → S → SourceFacts
-source_facts left given has_ended faults = λ s. record { left = left s; given = given s; has_ended = has_ended s; faults = faults s }
+abbrev pub source_facts : {S : Type 0} → SourceTells S → S → SourceFacts
+source_facts source = λ s. record { left = source.left s; given = source.given s; has_ended = source.has_ended s; faults = source.faults s }
 
 -- a sink: the bytes that it took, where it tells them, and its count of faults
 pub record SinkFacts : Type 0 where
@@ -23,8 +26,8 @@ pub record SinkFacts : Type 0 where
   pub faults : ℕ
 
 -- by what a sink tells
-abbrev pub sink_facts : {K : Type 0} → (K → Option (List ℕ)) → (K → ℕ) → K → SinkFacts
-sink_facts taken faults = λ k. record { taken = taken k; faults = faults k }
+abbrev pub sink_facts : {K : Type 0} → SinkTells K → K → SinkFacts
+sink_facts sink = λ k. record { taken = sink.taken k; faults = sink.faults k }
 
 -- a link: its datagrams, where it tells them, whether a receive has answered that it ended, the seconds of silence after which it ends, and
 -- its count of faults
@@ -35,8 +38,8 @@ pub record LinkFacts : Type 0 where
   pub faults : ℕ
 
 -- by what a link tells
-abbrev pub link_facts : {L : Type 0} → (L → Option Talk) → (L → Bool) → (L → ℕ) → (L → ℕ) → L → LinkFacts
-link_facts talk has_ended silence faults = λ l. record { talk = talk l; has_ended = has_ended l; silence = silence l; faults = faults l }
+abbrev pub link_facts : {L : Type 0} → LinkTells L → L → LinkFacts
+link_facts link = λ l. record { talk = link.talk l; has_ended = link.has_ended l; silence = link.silence l; faults = link.faults l }
 
 -- all that a run touches; the tables keep the owners' seats of a run that has ended
 pub record Outside : Type 0 where

@@ -31,10 +31,8 @@ pub fn ask_command<W: Threads + Wait + Sync, S: Source, K: Sink, L: Link>(
     requires open { S.has_ended source.old ≡ false }
     requires valid { IsValidAsk options.now }
     ensures { (net : NetFacts) → (kept : List KeptSeat) → KeepsPromise (ask_promise options.now)
-        (outside (source_facts S.left S.given S.has_ended S.faults source.old) (sink_facts K.taken K.faults sink.old) net kept
-        (link_facts L.talk L.has_ended L.silence L.faults link.old))
-        (outside (source_facts S.left S.given S.has_ended S.faults source.new) (sink_facts K.taken K.faults sink.new) net kept
-        (link_facts L.talk L.has_ended L.silence L.faults link.new)) result }
+        (outside (source_facts S.Source source.old) (sink_facts K.Sink sink.old) net kept (link_facts L.Link link.old))
+        (outside (source_facts S.Source source.new) (sink_facts K.Sink sink.new) net kept (link_facts L.Link link.new)) result }
 {
     let mut text = Vec::new(alloc);
     let trace = match read_input(alloc, source, sink, &mut text) {
@@ -54,8 +52,7 @@ fn print_report<W: Threads + Wait + Sync, K: Sink>(
     sink: &mut K,
 ) -> Status
     requires lines { AllByRecursion IsReportLine report.now }
-    ensures { IsTold Status.Done (report_text report.now)
-        (sink_facts K.taken K.faults sink.old) (sink_facts K.taken K.faults sink.new) result }
+    ensures { IsTold Status.Done (report_text report.now) (sink_facts K.Sink sink.old) (sink_facts K.Sink sink.new) result }
 {
     let texts = match texts_of(rt, alloc, report, 1) {
         Ok(texts) => texts,
@@ -83,8 +80,7 @@ fn status_of(fault: AskFault) -> Status
 
 // Writes the line that names why there is no report; where memory ran out, there is none.
 fn tell_fault<K: Sink>(alloc: Global, fault: AskFault, sink: &mut K) -> Status
-    ensures { IsToldFault fault
-        (sink_facts K.taken K.faults sink.old) (sink_facts K.taken K.faults sink.new) result }
+    ensures { IsToldFault fault (sink_facts K.Sink sink.old) (sink_facts K.Sink sink.new) result }
 {
     if fault == AskFault::NoMemory {
         return Status::NoMemory;

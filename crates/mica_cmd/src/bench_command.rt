@@ -32,8 +32,7 @@ pub fn bench_command<W: Threads + Wait + Sync, K: Sink, G: Gate>(
     requires generator { is_valid generator.now ≡ true }
     requires tables { tables.old ≡ [] }
     ensures { (source : SourceFacts) → (net : NetFacts) → (link : LinkFacts) → KeepsPromise (bench_promise options.now generator.now)
-        (outside source (sink_facts K.taken K.faults sink.old) net tables.old link)
-        (outside source (sink_facts K.taken K.faults sink.new) net tables.new link) result }
+        (outside source (sink_facts K.Sink sink.old) net tables.old link) (outside source (sink_facts K.Sink sink.new) net tables.new link) result }
 {
     match summary_of_run(rt, alloc, options, generator, gate, tables) {
         Ok(text) => write_due(sink, text.as_slice(), Status::Done),

@@ -30,8 +30,8 @@ pub fn check_command<S: Source, K: Sink>(
     requires open { S.has_ended source.old ≡ false }
     requires valid { IsValid options.now }
     ensures { (net : NetFacts) → (kept : List KeptSeat) → (link : LinkFacts) → KeepsPromise (check_promise options.now)
-        (outside (source_facts S.left S.given S.has_ended S.faults source.old) (sink_facts K.taken K.faults sink.old) net kept link)
-        (outside (source_facts S.left S.given S.has_ended S.faults source.new) (sink_facts K.taken K.faults sink.new) net kept link) result }
+        (outside (source_facts S.Source source.old) (sink_facts K.Sink sink.old) net kept link)
+        (outside (source_facts S.Source source.new) (sink_facts K.Sink sink.new) net kept link) result }
 {
     let bytes = match read_source(alloc, source, sink) {
         Ok(bytes) => bytes,
@@ -103,8 +103,7 @@ fn find(alloc: Global, options: &Options, bytes: &[u8]) -> Result<Finding, NoMem
 }
 
 fn tell<K: Sink>(alloc: Global, sink: &mut K, finding: Finding) -> Status
-    ensures { IsTold (status_of finding) (with_line_feed (finding_text finding))
-        (sink_facts K.taken K.faults sink.old) (sink_facts K.taken K.faults sink.new) result }
+    ensures { IsTold (status_of finding) (with_line_feed (finding_text finding)) (sink_facts K.Sink sink.old) (sink_facts K.Sink sink.new) result }
 {
     let status = finding.status();
     match format!(in alloc; "{finding}\n") {

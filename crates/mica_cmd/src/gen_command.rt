@@ -17,8 +17,7 @@ use std::alloc::Global;
 pub fn gen_command<K: Sink>(alloc: Global, generator: &GenOptions, sink: &mut K) -> Status
     requires { is_valid generator.now ≡ true }
     ensures { (source : SourceFacts) → (net : NetFacts) → (kept : List KeptSeat) → (link : LinkFacts) → KeepsPromise (gen_promise generator.now)
-        (outside source (sink_facts K.taken K.faults sink.old) net kept link)
-        (outside source (sink_facts K.taken K.faults sink.new) net kept link) result }
+        (outside source (sink_facts K.Sink sink.old) net kept link) (outside source (sink_facts K.Sink sink.new) net kept link) result }
 {
     match gen_text(alloc, generator) {
         Ok(text) => write_due(sink, text.as_slice(), Status::Done),

@@ -27,8 +27,8 @@ pub fn image_command<S: Source, K: Sink>(
     requires valid { IsValid options.now }
     requires mode { options.now.mode ≡ Mode.Store }
     ensures { (net : NetFacts) → (kept : List KeptSeat) → (link : LinkFacts) → KeepsPromise (image_promise options.now)
-        (outside (source_facts S.left S.given S.has_ended S.faults source.old) (sink_facts K.taken K.faults sink.old) net kept link)
-        (outside (source_facts S.left S.given S.has_ended S.faults source.new) (sink_facts K.taken K.faults sink.new) net kept link) result }
+        (outside (source_facts S.Source source.old) (sink_facts K.Sink sink.old) net kept link)
+        (outside (source_facts S.Source source.new) (sink_facts K.Sink sink.new) net kept link) result }
 {
     let mut text = Vec::new(alloc);
     let trace = match read_input(alloc, source, sink, &mut text) {

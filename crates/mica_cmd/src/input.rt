@@ -19,14 +19,11 @@ pub fn read_source<S: Source, K: Sink>(
     sink: &mut K,
 ) -> Result<Vec<u8>, Status>
     requires open { S.has_ended source.old ≡ false }
-    ensures all { IfOk result (λ bytes. ReadsWhole
-        (source_facts S.left S.given S.has_ended S.faults source.old) (source_facts S.left S.given S.has_ended S.faults source.new) bytes.items) }
+    ensures all { IfOk result (λ bytes. ReadsWhole (source_facts S.Source source.old) (source_facts S.Source source.new) bytes.items) }
     ensures unwritten { OnOk result (sink.new ≡ sink.old) }
-    ensures stopped { IfErr result (λ status. WritesDue (IsDueOfInput NoneByBytes
-        (source_facts S.left S.given S.has_ended S.faults source.old) (source_facts S.left S.given S.has_ended S.faults source.new))
-        (sink_facts K.taken K.faults sink.old) (sink_facts K.taken K.faults sink.new) status) }
-    ensures reads { ReadsInput
-        (source_facts S.left S.given S.has_ended S.faults source.old) (source_facts S.left S.given S.has_ended S.faults source.new) }
+    ensures stopped { IfErr result (λ status. WritesDue (IsDueOfInput NoneByBytes (source_facts S.Source source.old) (source_facts S.Source source.new))
+        (sink_facts K.Sink sink.old) (sink_facts K.Sink sink.new) status) }
+    ensures reads { ReadsInput (source_facts S.Source source.old) (source_facts S.Source source.new) }
 {
     match read_up_to(alloc, source, MAX_SOURCE_LEN) {
         Ok(bytes) => Ok(bytes),
@@ -38,8 +35,7 @@ pub fn read_source<S: Source, K: Sink>(
 
 // Writes the line that names why a trace is refused.
 fn refuse<K: Sink>(alloc: Global, sink: &mut K, fault: TraceFault) -> Status
-    ensures { IsRefusedWith fault
-        (sink_facts K.taken K.faults sink.old) (sink_facts K.taken K.faults sink.new) result }
+    ensures { IsRefusedWith fault (sink_facts K.Sink sink.old) (sink_facts K.Sink sink.new) result }
 {
     if fault == TraceFault::NoMemory {
         return Status::NoMemory;
@@ -59,14 +55,11 @@ pub fn read_input<'a, S: Source, K: Sink>(
     text: &'a mut Vec<u8>,
 ) -> Result<Trace<'a>, Status>
     requires open { S.has_ended source.old ≡ false }
-    ensures trace { IfOk result (λ trace. GivesTrace
-        (source_facts S.left S.given S.has_ended S.faults source.old) (source_facts S.left S.given S.has_ended S.faults source.new) trace) }
+    ensures trace { IfOk result (λ trace. GivesTrace (source_facts S.Source source.old) (source_facts S.Source source.new) trace) }
     ensures unwritten { OnOk result (sink.new ≡ sink.old) }
-    ensures stopped { IfErr result (λ status. WritesDue (IsDueOfInput (IsDueOfTrace NoneByTrace)
-        (source_facts S.left S.given S.has_ended S.faults source.old) (source_facts S.left S.given S.has_ended S.faults source.new))
-        (sink_facts K.taken K.faults sink.old) (sink_facts K.taken K.faults sink.new) status) }
-    ensures reads { ReadsInput
-        (source_facts S.left S.given S.has_ended S.faults source.old) (source_facts S.left S.given S.has_ended S.faults source.new) }
+    ensures stopped { IfErr result (λ status. WritesDue (IsDueOfInput (IsDueOfTrace NoneByTrace) (source_facts S.Source source.old) (source_facts S.Source source.new))
+        (sink_facts K.Sink sink.old) (sink_facts K.Sink sink.new) status) }
+    ensures reads { ReadsInput (source_facts S.Source source.old) (source_facts S.Source source.new) }
 {
     *text = match read_source(alloc, source, sink) {
         Ok(bytes) => bytes,

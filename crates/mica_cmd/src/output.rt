@@ -7,8 +7,7 @@ use mica_io::{Sink, write_all};
 
 /// Writes the text that is due with a status. Where that fails, the status is `WriteFault` instead.
 pub fn write_due<K: Sink>(sink: &mut K, text: &[u8], status: Status) -> Status
-    ensures { IsWritten status text.now
-        (sink_facts K.taken K.faults sink.old) (sink_facts K.taken K.faults sink.new) result }
+    ensures { IsWritten status text.now (sink_facts K.Sink sink.old) (sink_facts K.Sink sink.new) result }
 {
     match write_all(sink, text) {
         Ok(()) => status,

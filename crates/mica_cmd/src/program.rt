@@ -75,10 +75,8 @@ pub fn run_program<W: Threads + Wait + Sync, S: Source, K: Sink, N: Net, G: Gate
     requires net { N.binds net.old ≡ 0 }
     requires tables { tables.old ≡ [] }
     ensures { Exits (words_of string_bytes args)
-        (outside (source_facts S.left S.given S.has_ended S.faults source.old) (sink_facts K.taken K.faults sink.old)
-        (net_facts N.faults N.binds N.first N.refused N.ports N.fails net.old) tables.old (link_facts L.talk L.has_ended L.silence L.faults link.old))
-        (outside (source_facts S.left S.given S.has_ended S.faults source.new) (sink_facts K.taken K.faults sink.new)
-        (net_facts N.faults N.binds N.first N.refused N.ports N.fails net.new) tables.new (link_facts L.talk L.has_ended L.silence L.faults link.new)) (exit_status result) }
+        (outside (source_facts S.Source source.old) (sink_facts K.Sink sink.old) (net_facts N.Net net.old) tables.old (link_facts L.Link link.old))
+        (outside (source_facts S.Source source.new) (sink_facts K.Sink sink.new) (net_facts N.Net net.new) tables.new (link_facts L.Link link.new)) (exit_status result) }
 {
     match all_words(alloc, args) {
         Ok(words) => exit_code(mica(

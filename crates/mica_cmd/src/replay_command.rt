@@ -30,8 +30,8 @@ pub fn replay_command<W: Threads + Wait + Sync, S: Source, K: Sink, G: Gate>(
     requires valid { IsValid options.now }
     requires tables { tables.old ≡ [] }
     ensures { (net : NetFacts) → (link : LinkFacts) → KeepsPromise (replay_promise options.now)
-        (outside (source_facts S.left S.given S.has_ended S.faults source.old) (sink_facts K.taken K.faults sink.old) net tables.old link)
-        (outside (source_facts S.left S.given S.has_ended S.faults source.new) (sink_facts K.taken K.faults sink.new) net tables.new link) result }
+        (outside (source_facts S.Source source.old) (sink_facts K.Sink sink.old) net tables.old link)
+        (outside (source_facts S.Source source.new) (sink_facts K.Sink sink.new) net tables.new link) result }
 {
     let mut text = Vec::new(alloc);
     let trace = match read_input(alloc, source, sink, &mut text) {

@@ -33,10 +33,8 @@ pub fn serve_command<W: Threads + Wait + Sync, K: Sink, N: Net, G: Gate>(
     requires unbound { N.binds net.old ≡ 0 }
     requires tables { tables.old ≡ [] }
     ensures { (source : SourceFacts) → (link : LinkFacts) → KeepsPromise (serve_promise options.now ports.now)
-        (outside source (sink_facts K.taken K.faults sink.old)
-        (net_facts N.faults N.binds N.first N.refused N.ports N.fails net.old) tables.old link)
-        (outside source (sink_facts K.taken K.faults sink.new)
-        (net_facts N.faults N.binds N.first N.refused N.ports N.fails net.new) tables.new link) result }
+        (outside source (sink_facts K.Sink sink.old) (net_facts N.Net net.old) tables.old link)
+        (outside source (sink_facts K.Sink sink.new) (net_facts N.Net net.new) tables.new link) result }
 {
     match serve(rt, alloc, options, ports, net, gate, tables) {
         Ok(totals) => print_totals(alloc, totals, sink),
@@ -47,8 +45,7 @@ pub fn serve_command<W: Threads + Wait + Sync, K: Sink, N: Net, G: Gate>(
 
 /// Prints the line of the totals.
 pub fn print_totals<K: Sink>(alloc: Global, totals: Totals, sink: &mut K) -> Status
-    ensures { IsTold Status.Done (totals_text totals)
-        (sink_facts K.taken K.faults sink.old) (sink_facts K.taken K.faults sink.new) result }
+    ensures { IsTold Status.Done (totals_text totals) (sink_facts K.Sink sink.old) (sink_facts K.Sink sink.new) result }
 {
     let Totals {
         batches,

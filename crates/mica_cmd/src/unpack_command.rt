@@ -19,8 +19,8 @@ use store_image::{Image, ImageFault, put_image, read_image};
 pub fn unpack_command<S: Source, K: Sink>(alloc: Global, source: &mut S, sink: &mut K) -> Status
     requires { S.has_ended source.old ≡ false }
     ensures { (net : NetFacts) → (kept : List KeptSeat) → (link : LinkFacts) → KeepsPromise unpack_promise
-        (outside (source_facts S.left S.given S.has_ended S.faults source.old) (sink_facts K.taken K.faults sink.old) net kept link)
-        (outside (source_facts S.left S.given S.has_ended S.faults source.new) (sink_facts K.taken K.faults sink.new) net kept link) result }
+        (outside (source_facts S.Source source.old) (sink_facts K.Sink sink.old) net kept link)
+        (outside (source_facts S.Source source.new) (sink_facts K.Sink sink.new) net kept link) result }
 {
     let bytes = match read_source(alloc, source, sink) {
         Ok(bytes) => bytes,
@@ -33,8 +33,7 @@ pub fn unpack_command<S: Source, K: Sink>(alloc: Global, source: &mut S, sink: &
 }
 
 fn print_pairs<K: Sink>(alloc: Global, image: &Image, sink: &mut K) -> Status
-    ensures { IsTold Status.Done (trace_text (put_lines image.now))
-        (sink_facts K.taken K.faults sink.old) (sink_facts K.taken K.faults sink.new) result }
+    ensures { IsTold Status.Done (trace_text (put_lines image.now)) (sink_facts K.Sink sink.old) (sink_facts K.Sink sink.new) result }
 {
     let mut text = Vec::new(alloc);
     match put_image(image, &mut text) {
@@ -45,8 +44,7 @@ fn print_pairs<K: Sink>(alloc: Global, image: &Image, sink: &mut K) -> Status
 
 /// Writes the line that names why an image is refused.
 pub fn refuse_image<K: Sink>(alloc: Global, sink: &mut K, fault: ImageFault) -> Status
-    ensures { IsRefusedImage fault
-        (sink_facts K.taken K.faults sink.old) (sink_facts K.taken K.faults sink.new) result }
+    ensures { IsRefusedImage fault (sink_facts K.Sink sink.old) (sink_facts K.Sink sink.new) result }
 {
     if fault == ImageFault::NoMemory {
         return Status::NoMemory;

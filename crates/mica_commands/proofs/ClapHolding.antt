@@ -11,7 +11,7 @@ use Rattle.clap.specs.declared.parser.matches.ValueSource.TheVariants.{CommandLi
 use Rattle.clap.specs.Values.{reading_of}
 use Rattle.clap.specs.declared.builder.value_parser.Reading.{Reading}
 use Rattle.clap.specs.declared.builder.value_parser.ValueParser.TheVariants.{String}
-use Rattle.mica_commands.specs.ClapCommand.{option_rule, command_shape, app_with}
+use Rattle.mica_commands.specs.ClapCommand.{option_rule, command_shape}
 use Rattle.mica_commands.specs.Words.{Text, Given, has_name, is_given}
 
 -- the option as building leaves it
@@ -43,9 +43,6 @@ id_found n (m ∷ ms) e = grind (arith, common_steps, same_text m n, id_found n 
 -- the shape of the built command
 abbrev pub shape : Text → List Text → Shape
 shape command names = record (command_shape command names) { rules = map opt names; is_built = true; disable_help_subcommand = true }
-
-pub shape_is : (command : Text) (names : List Text) → (built (app_with command names)).top ≡ shape command names
-shape_is command names = ap (λ (r : List Rule). record (shape command names) { rules = r }) (filled_options 1 names)
 
 -- what was given, as clap holds it
 abbrev pub how : Reading

@@ -33,5 +33,6 @@ has_room options =
     && nat_le (options.ops + syncs_of options) MAX_LINES
     && nat_le (longest_text options) MAX_SOURCE_LEN
 
+-- whether each number is in its range, and a trace of them has room
 abbrev pub is_valid : GenOptions → Bool
 is_valid options = are_in_ranges options && has_room options

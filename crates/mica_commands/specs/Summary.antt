@@ -77,5 +77,6 @@ abbrev pub stamps_text : ℕ → List ℕ → List ℕ
 stamps_text p [] = []
 stamps_text p (stamp ∷ stamps) = number_line (codes "stamp " ++ decimal p) stamp ++ stamps_text (p + 1) stamps
 
+-- the text that `bench` writes: the counts, and then each partition's last stamp
 abbrev pub summary_text : Options → List TraceLine → List Line → List ℕ
 summary_text options trace report = counts_text trace report ++ stamps_text 0 (last_stamps options trace report)

@@ -31,6 +31,7 @@ pub fn number_of(text: &str, least: u64, most: u64) -> Option<u64>
     }
 }
 
+/// The number of an option, or what holds where it is not named. `None` where it is no such number.
 pub fn number(
     found: &ArgMatches<'_>,
     name: &str,
@@ -69,6 +70,7 @@ pub fn required(found: &ArgMatches<'_>, name: &str, least: u32, most: u32) -> Op
     Some(value as u32)
 }
 
+/// The mode, if it is named as one.
 pub fn mode(found: &ArgMatches<'_>) -> Option<Mode>
     ensures { result ≡ value_of mode (first_value (found_of found.now)) }
 {

@@ -3,16 +3,13 @@ use Rattle.std.proofs.Common.{◌≡◌, ℕ, ◌⊎◌, inl, inr, List, take, O
 use Rattle.std.specs.Prelude.{Result, Ok, Err}
 use Rattle.partition_model.specs.declared.options.Options.{Options}
 use Rattle.partition_model.specs.declared.write.Write.{Write}
-use Rattle.partition_table.specs.declared.tables.KeptSeat.{KeptSeat}
 use Rattle.mica_fronts.specs.declared.totals.Totals.{Totals}
 use Rattle.mica_fronts.specs.declared.totals.ServeFault.TheVariants.{Net, NoMemory as NoRoom}
 use Rattle.mica_fronts.specs.declared.ports.PortOptions.{PortOptions}
+use Rattle.locked_serve.specs.declared.service.Service.{Service as LockedService}
 use Rattle.locked_serve.specs.declared.stop.Stop.{Stop}
 use Rattle.locked_serve.specs.declared.stop.Stop.TheVariants.{Refused, Unannounced, Fault}
-use Rattle.mica_serve.specs.NetRun.{NetFacts, KeepsNet}
-use Rattle.stream_fronts.specs.declared.ports.StreamPorts.{StreamPorts}
-use Rattle.locked_serve.specs.Streams.{ListenFacts, KeepsListeners}
-use Rattle.locked_serve.specs.Causes.{IsCauseOfStop, HasAnnounced, PortFacts, LacksPort, HasPorts}
+use Rattle.locked_serve.specs.Causes.{HasAnnounced, Leaves, PortFacts, LacksPort, HasPorts}
 use Rattle.mica_cmd.specs.declared.status.Status.{Status}
 use Rattle.mica_commands.specs.Words.{Text}
 use Rattle.mica_commands.specs.declared.stream_words.StreamOptions.{StreamOptions}
@@ -21,14 +18,14 @@ use Rattle.mica_cmd.specs.Outside.{SinkFacts}
 use Rattle.mica_cmd.specs.Promise.{IsUnwritten}
 use Rattle.mica_daemon.specs.Files.{FilesFacts}
 use Rattle.mica_daemon.specs.Filling.{KeepsFiles}
-use Rattle.mica_daemon.specs.Daemon.{DaemonOutside, daemon_outside, Says, FailsToSay, ready_text, WritesLast, ServesAloud, ServesPlaced, BindsNothing, KeepsUp, place_of, placed}
+use Rattle.mica_daemon.specs.Daemon.{DaemonOutside, Says, FailsToSay, ready_text, WritesLast, ServesAloud, ServesPlaced, BindsNothing, KeepsUp, place_of, placed}
 
 -- what was announced by a sink with a line at hand was announced by the sink
 module _ {A : Type 0} (line_of : A → List ℕ) (sink_of : A → SinkFacts) (line : List ℕ) (old new : A) (same : line_of old ≡ line) where
   said : Says (line_of old) (sink_of old) (sink_of new) → Says line (sink_of old) (sink_of new)
   said is = subst (λ l. Says l (sink_of old) (sink_of new)) same is
 
-  pub announced_by : (answer : Result Totals Stop) (before after : PortFacts)
+  announced_by : (answer : Result Totals Stop) (before after : PortFacts)
       → HasAnnounced (λ a b. Says (line_of a) (sink_of a) (sink_of b)) (λ a b. FailsToSay (line_of a) (sink_of a) (sink_of b)) answer before after old new
       → HasAnnounced (Says line) (FailsToSay line) answer before after (sink_of old) (sink_of new)
   announced_by (Ok totals) before after is = said is
@@ -45,28 +42,29 @@ module _ {A : Type 0} (line_of : A → List ℕ) (sink_of : A → SinkFacts) (li
         | inr told ↦ inr (said told)
       ]
 
+-- so is what is left beside it
+pub leaves_by : {A : Type 0} (line_of : A → List ℕ) (sink_of : A → SinkFacts) {answer : Result Totals Stop} {service : LockedService} {before after : PortFacts} {old new : A}
+    → line_of old ≡ ready_text service.ports service.streams
+    → Leaves (λ _ _ a b. Says (line_of a) (sink_of a) (sink_of b)) (λ _ _ a b. FailsToSay (line_of a) (sink_of a) (sink_of b)) answer service before after old new
+    → Leaves (λ ports streams. Says (ready_text ports streams)) (λ ports streams. FailsToSay (ready_text ports streams)) answer service before after (sink_of old) (sink_of new)
+leaves_by line_of sink_of {answer} {service} {before} {after} {old} {new} same it = record {
+  kept = it.kept;
+  heard = it.heard;
+  announced = announced_by line_of sink_of (ready_text service.ports service.streams) old new same answer before after it.announced;
+}
+
 -- what is written last, by why it stopped short
 pub written_last : (stop cause : Stop) (old new : SinkFacts) (status : Status) → stop ≡ cause → WritesLast (Err cause) old new status → WritesLast (Err stop) old new status
 written_last stop cause old new status is last = subst (λ (s : Stop). WritesLast (Err s) old new status) (sym is) last
 
--- a server that came to this answer
-pub serves : (options : Options) (ports : PortOptions) (streams : StreamPorts) (seconds : List ℕ) (base : ℕ) (answer : Result Totals Stop) (writes : List Write) (old new : DaemonOutside) (between : SinkFacts) (status : Status)
-    → IsCauseOfStop answer options writes base ports streams seconds new.tables old.ports new.ports
-    → HasAnnounced (Says (ready_text ports streams)) (FailsToSay (ready_text ports streams)) answer old.ports new.ports old.sink between
-    → KeepsNet ports old.ports.net new.ports.net → KeepsListeners streams old.ports.listens new.ports.listens → WritesLast answer between new.sink status
-    → ServesAloud options ports streams seconds base writes old new status
-serves options ports streams seconds base answer writes old new between status is announced kept heard last =
-    record { answer = answer; said = between; cause = is; announced = announced; last = last; kept = kept; heard = heard }
-
 -- a server whose listeners had been told where to listen, with the clocks that it took
-pub serves_placed : (options : Options) (ports : PortOptions) (streams : StreamOptions) (all taken : List ℕ) (base : ℕ) (writes : List Write) (sink : SinkFacts) (net : NetFacts)
-    (listens told : ListenFacts) (tables : List KeptSeat) (new : DaemonOutside) (status : Status) → take streams.ports.fronts all ≡ taken
-    → told ≡ record listens { place = place_of streams }
-    → ServesAloud options ports streams.ports taken base writes (daemon_outside sink net told tables) new status
-    → ServesPlaced options ports streams all base writes (daemon_outside sink net listens tables) new status
-serves_placed options ports streams all taken base writes sink net listens told tables new status same is served =
-    subst (λ s. ServesAloud options ports streams.ports s base writes (placed (place_of streams) (daemon_outside sink net listens tables)) new status) (sym same)
-    (subst (λ l. ServesAloud options ports streams.ports taken base writes (daemon_outside sink net l tables) new status) is served)
+pub serves_placed : {options : Options} {ports : PortOptions} {streams : StreamOptions} {all taken : List ℕ} {base : ℕ} {writes : List Write} {old told new : DaemonOutside} {status : Status}
+    → take streams.ports.fronts all ≡ taken → told ≡ placed (place_of streams) old
+    → ServesAloud (record { options = options; ports = ports; streams = streams.ports; base = base }) taken writes told new status
+    → ServesPlaced options ports streams all base writes old new status
+serves_placed {options} {ports} {streams} {base = base} {writes = writes} {new = new} {status = status} same is served =
+    subst (λ (y : List ℕ × DaemonOutside). ServesAloud (record { options = options; ports = ports; streams = streams.ports; base = base }) y.0 writes y.1 new status)
+    (λ i. (sym same i, is i)) served
 
 kept_files : (image : Option Text) (files : FilesFacts) → KeepsFiles image files files
 kept_files None files = refl

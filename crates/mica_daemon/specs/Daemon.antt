@@ -13,10 +13,9 @@ use Rattle.mica_fronts.specs.declared.totals.ServeFault.TheVariants.{Net, NoMemo
 use Rattle.mica_fronts.specs.declared.ports.PortOptions.{PortOptions}
 use Rattle.locked_serve.specs.declared.stop.Stop.{Stop}
 use Rattle.locked_serve.specs.declared.stop.Stop.TheVariants.{Refused, Unannounced, Fault}
-use Rattle.mica_serve.specs.NetRun.{NetFacts, KeepsNet}
 use Rattle.stream_fronts.specs.declared.ports.StreamPorts.{StreamPorts}
-use Rattle.locked_serve.specs.Streams.{ListenFacts, KeepsListeners}
-use Rattle.locked_serve.specs.Causes.{IsCauseOfStop, HasAnnounced, PortFacts, port_facts}
+use Rattle.locked_serve.specs.declared.service.Service.{Service as LockedService}
+use Rattle.locked_serve.specs.Causes.{IsCauseOfStop, Leaves, PortFacts}
 use Rattle.mica_commands.specs.declared.stream_words.StreamOptions.{StreamOptions}
 use Rattle.mica_commands.specs.DaemonWords.{Service}
 use Rattle.mica_cmd.specs.declared.status.Status.{Status}
@@ -50,8 +49,8 @@ pub record DaemonOutside : Type 0 where
   pub tables : List KeptSeat
 
 -- of its parts
-abbrev pub daemon_outside : SinkFacts → NetFacts → ListenFacts → List KeptSeat → DaemonOutside
-daemon_outside sink net listens tables = record { sink = sink; ports = port_facts net listens; tables = tables }
+abbrev pub daemon_outside : SinkFacts → PortFacts → List KeptSeat → DaemonOutside
+daemon_outside sink ports tables = record { sink = sink; ports = ports; tables = tables }
 
 -- what is written last, by what the server came to, and the status
 abbrev pub WritesLast : Result Totals Stop → SinkFacts → SinkFacts → Status → Type 0
@@ -63,14 +62,12 @@ WritesLast (Err Unannounced) old new status = (status ≡ WriteFault) × (new �
 
 -- The server, which these writes filled, came to this answer, for the cause that it names. It said that its ports are had where they were, and wrote what is due at its end.
 -- The clocks of its fronts behind connections had told these seconds before, and unique numbers of values begin at the base.
-pub record ServesAloud (options : Options) (ports : PortOptions) (streams : StreamPorts) (seconds : List ℕ) (base : ℕ) (writes : List Write) (old new : DaemonOutside) (status : Status) : Type 0 where
+pub record ServesAloud (service : LockedService) (seconds : List ℕ) (writes : List Write) (old new : DaemonOutside) (status : Status) : Type 0 where
   pub answer : Result Totals Stop
   pub said : SinkFacts
-  pub cause : IsCauseOfStop answer options writes base ports streams seconds new.tables old.ports new.ports
-  pub announced : HasAnnounced (Says (ready_text ports streams)) (FailsToSay (ready_text ports streams)) answer old.ports new.ports old.sink said
+  pub cause : IsCauseOfStop answer service writes seconds new.tables old.ports new.ports
+  pub leaves : Leaves (λ ports streams. Says (ready_text ports streams)) (λ ports streams. FailsToSay (ready_text ports streams)) answer service old.ports new.ports old.sink said
   pub last : WritesLast answer said new.sink status
-  pub kept : KeepsNet ports old.ports.net new.ports.net
-  pub heard : KeepsListeners streams old.ports.listens new.ports.listens
 
 -- no port was had, and no table is kept
 pub record BindsNothing (old new : DaemonOutside) : Type 0 where
@@ -88,7 +85,7 @@ placed place old = record old { ports = record old.ports { listens = record old.
 -- It served, and all ports of connections were listened at where the words say. Of the clocks each of their fronts took one.
 abbrev pub ServesPlaced : Options → PortOptions → StreamOptions → List ℕ → ℕ → List Write → DaemonOutside → DaemonOutside → Status → Type 0
 ServesPlaced options ports streams seconds base writes old new status =
-    ServesAloud options ports streams.ports (take streams.ports.fronts seconds) base writes (placed (place_of streams) old) new status
+    ServesAloud (record { options = options; ports = ports; streams = streams.ports; base = base }) (take streams.ports.fronts seconds) writes (placed (place_of streams) old) new status
 
 -- it served so, or had no memory before it began
 abbrev pub ServesOrNot : Options → PortOptions → StreamOptions → List ℕ → ℕ → List Write → DaemonOutside → DaemonOutside → Status → Type 0

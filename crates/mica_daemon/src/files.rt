@@ -49,6 +49,7 @@ pub struct HostFiles<'a, R> {
 }
 
 impl<'a, R: FileSystem> HostFiles<'a, R> {
+    /// The files of this machine.
     pub fn new(rt: &'a R) -> HostFiles<'a, R>
         ensures { ⟦<HostFiles<'a, R> as Files>⟧.faults result ≡ 0 }
     {

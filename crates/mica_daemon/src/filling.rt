@@ -24,7 +24,7 @@ fn read_file<F: Files, K: Sink>(
     ensures all { IfOk result (λ bytes. OfFile (F.file files.old name.now) (λ b. bytes.items ≡ b)) }
     ensures unwritten { OnOk result (sink.new ≡ sink.old) }
     ensures stopped { IfErr result (λ status. WritesDue (IsDueOfFile (files_facts F.file F.free F.faults files.old) (files_facts F.file F.free F.faults files.new) (Some name.now))
-        (sink_facts K.taken K.faults sink.old) (sink_facts K.taken K.faults sink.new) status) }
+        (sink_facts K.Sink sink.old) (sink_facts K.Sink sink.new) status) }
     ensures never_fall { F.faults files.old ≤ F.faults files.new }
 {
     match files.read(alloc, name, MAX_SOURCE_LEN) {
@@ -60,7 +60,7 @@ pub(crate) fn filling_of<F: Files, K: Sink>(
     ensures are_writes { IfOk result (λ writes. All IsWrite writes.items) }
     ensures unwritten { OnOk result (sink.new ≡ sink.old) }
     ensures stopped { IfErr result (λ status. WritesDue (IsDueOfFile (files_facts F.file F.free F.faults files.old) (files_facts F.file F.free F.faults files.new) (option_map (λ name. name.now) image.entry))
-        (sink_facts K.taken K.faults sink.old) (sink_facts K.taken K.faults sink.new) status) }
+        (sink_facts K.Sink sink.old) (sink_facts K.Sink sink.new) status) }
     ensures files { KeepsFiles (option_map (λ name. name.now) image.entry) (files_facts F.file F.free F.faults files.old) (files_facts F.file F.free F.faults files.new) }
 {
     let Some(name) = image else {

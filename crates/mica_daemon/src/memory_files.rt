@@ -24,6 +24,7 @@ pub struct MemFiles {
 }
 
 impl MemFiles {
+    /// No files, of which reads may be told to fail.
     pub fn new(alloc: Global) -> Self
         ensures files { (name : List ℕ) → ⟦<MemFiles as Files>⟧.file result name ≡ None }
         ensures script { (name : List ℕ) → ⟦<MemFiles as Files>⟧.script result name ≡ Some (record { is_there = false; fails = []; calls = 0 }) }

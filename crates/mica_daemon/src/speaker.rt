@@ -23,9 +23,9 @@ impl<K: Sink + Drop> Announce for Speaker<K> {
     ghost use Rattle.mica_cmd.specs.Outside.{sink_facts};
     ghost use Rattle.mica_daemon.specs.Daemon.{Says, FailsToSay};
 
-    ghost says = { λ _ _ a b. Says (string_bytes a.line) (sink_facts K.taken K.faults a.sink) (sink_facts K.taken K.faults b.sink) };
+    ghost says = { λ _ _ a b. Says (string_bytes a.line) (sink_facts K.Sink a.sink) (sink_facts K.Sink b.sink) };
 
-    ghost fails = { λ _ _ a b. FailsToSay (string_bytes a.line) (sink_facts K.taken K.faults a.sink) (sink_facts K.taken K.faults b.sink) };
+    ghost fails = { λ _ _ a b. FailsToSay (string_bytes a.line) (sink_facts K.Sink a.sink) (sink_facts K.Sink b.sink) };
 
     fn ready<D: Datagrams, C: Connections>(
         &mut self,

@@ -3,8 +3,8 @@ ghost use Rattle.std.specs.Prelude.{◌≡◌, ◌≤◌, [], All, length, map, 
 ghost use Rattle.partition_model.specs.Options.{IsPossible};
 ghost use Rattle.partition_model.specs.Write.{IsWrite};
 ghost use Rattle.locked_serve.specs.declared.stop.Stop.TheVariants.{Fault};
-ghost use Rattle.mica_serve.specs.NetRun.{net_facts};
-ghost use Rattle.locked_serve.specs.Streams.{listen_facts};
+ghost use Rattle.locked_serve.specs.Service.{IsPossibleService};
+ghost use Rattle.locked_serve.specs.Causes.{ports_at};
 ghost use Rattle.mica_commands.specs.declared.daemon_words.TheConstants.{MOST_FRONTS};
 ghost use Rattle.mica_commands.specs.DaemonWords.{daemon_of, ArePossibleFronts};
 ghost use Rattle.mica_cmd.specs.Outside.{sink_facts};
@@ -16,8 +16,7 @@ use crate::board::board_of;
 use crate::filling::filling_of;
 use crate::listening::PlacedListeners;
 use crate::speaker::{Speaker, ready_line};
-use locked_serve::{Stop, serve_locked};
-use memcached_stats::Board;
+use locked_serve::{Service, Shared, Stop, serve_locked};
 use mica_clock::Clock;
 use mica_cmd::{Status, print_totals, write_due};
 use mica_commands::{DaemonOptions, StreamOptions, WordsFault, read_daemon};
@@ -29,12 +28,11 @@ use partition_table::Tables;
 use std::alloc::Global;
 use std::sync::Wait;
 use std::thread::Threads;
-use stream_fronts::StreamPorts;
 use stream_io::Listeners;
 
 // Writes the line of a fault that stopped the server.
 fn write_fault<K: Sink>(fault: ServeFault, sink: &mut K) -> Status
-    ensures { WritesLast (Err (Fault fault)) (sink_facts K.taken K.faults sink.old) (sink_facts K.taken K.faults sink.new) result }
+    ensures { WritesLast (Err (Fault fault)) (sink_facts K.Sink sink.old) (sink_facts K.Sink sink.new) result }
 {
     match fault {
         ServeFault::Net => write_due(sink, b"net fault\n", Status::NetFault),
@@ -51,38 +49,26 @@ fn serve_aloud<
     C: Clock + Drop + Send,
     G: Gate,
 >(
-    rt: &W,
-    alloc: Global,
-    options: &Options,
-    ports: &PortOptions,
-    streams: &StreamPorts,
+    shared: &Shared<W, G>,
     filling: Vec<Write>,
     speaker: &mut Speaker<K>,
     net: &mut N,
     listeners: &mut L,
     clocks: Vec<C>,
-    base: u64,
-    board: &Board,
-    gate: &G,
     tables: &mut Tables,
 ) -> Status
-    requires options { IsPossible options.now }
-    requires fronts { ArePossibleFronts ports.now streams.now }
-    requires clocks { length clocks.items ≡ streams.now.fronts }
+    requires service { IsPossibleService shared.now.service }
+    requires clocks { length clocks.items ≡ shared.now.service.streams.fronts }
     requires filling { All IsWrite filling.items }
-    requires line { string_bytes speaker.old.line ≡ ready_text ports.now streams.now }
+    requires line { string_bytes speaker.old.line ≡ ready_text shared.now.service.ports shared.now.service.streams }
     requires unbound { N.binds net.old ≡ 0 }
     requires tables { tables.old ≡ [] }
-    ensures { ServesAloud options.now ports.now streams.now (map C.last clocks.items) base filling.items
-        (daemon_outside (sink_facts K.taken K.faults speaker.old.sink) (net_facts N.faults N.binds N.first N.refused N.ports N.fails net.old) (listen_facts L.faults L.ports L.released L.place listeners.old) tables.old)
-        (daemon_outside (sink_facts K.taken K.faults speaker.new.sink) (net_facts N.faults N.binds N.first N.refused N.ports N.fails net.new) (listen_facts L.faults L.ports L.released L.place listeners.new) tables.new)
-        result }
+    ensures { ServesAloud shared.now.service (map C.last clocks.items) filling.items
+        (daemon_outside (sink_facts K.Sink speaker.old.sink) (ports_at N.Net L.Listeners net.old listeners.old) tables.old)
+        (daemon_outside (sink_facts K.Sink speaker.new.sink) (ports_at N.Net L.Listeners net.new listeners.new) tables.new) result }
 {
-    match serve_locked(
-        rt, alloc, options, ports, streams, filling, net, listeners, clocks, base, board, gate,
-        tables, speaker,
-    ) {
-        Ok(totals) => print_totals(alloc, totals, &mut speaker.sink),
+    match serve_locked(shared, filling, net, listeners, clocks, tables, speaker) {
+        Ok(totals) => print_totals(shared.alloc, totals, &mut speaker.sink),
         Err(Stop::Refused) => write_due(&mut speaker.sink, b"pair refused\n", Status::ImageRefused),
         Err(Stop::Fault(fault)) => write_fault(fault, &mut speaker.sink),
         Err(Stop::Unannounced) => Status::WriteFault,
@@ -120,9 +106,8 @@ fn stay_up<
     requires unbound { N.binds net.old ≡ 0 }
     requires tables { tables.old ≡ [] }
     ensures { ServesOrNot options.now ports.now streams.now (map C.last clocks.items) base filling.items
-        (daemon_outside (sink_facts K.taken K.faults speaker.old.sink) (net_facts N.faults N.binds N.first N.refused N.ports N.fails net.old) (listen_facts L.faults L.ports L.released L.place listeners.old) tables.old)
-        (daemon_outside (sink_facts K.taken K.faults speaker.new.sink) (net_facts N.faults N.binds N.first N.refused N.ports N.fails net.new) (listen_facts L.faults L.ports L.released L.place listeners.new) tables.new)
-        result }
+        (daemon_outside (sink_facts K.Sink speaker.old.sink) (ports_at N.Net L.Listeners net.old listeners.old) tables.old)
+        (daemon_outside (sink_facts K.Sink speaker.new.sink) (ports_at N.Net L.Listeners net.new listeners.new) tables.new) result }
 {
     let Ok(board) = board_of(
         alloc,
@@ -141,22 +126,20 @@ fn stay_up<
             listeners.set_place(streams.address, streams.connections);
             let mut clocks = clocks;
             clocks.truncate(streams.ports.fronts as usize);
-            serve_aloud(
+            let service = Service {
+                options: *options,
+                ports: *ports,
+                streams: streams.ports,
+                base,
+            };
+            let shared = Shared {
                 rt,
                 alloc,
-                options,
-                ports,
-                &streams.ports,
-                filling,
-                speaker,
-                net,
-                listeners,
-                clocks,
-                base,
-                &board,
+                service,
+                board: &board,
                 gate,
-                tables,
-            )
+            };
+            serve_aloud(&shared, filling, speaker, net, listeners, clocks, tables)
         }
         Err(NoMemory) => Status::NoMemory,
     }
@@ -201,9 +184,8 @@ pub fn daemon<
     requires clocks { MOST_FRONTS ≤ length clocks.items }
     requires tables { tables.old ≡ [] }
     ensures { KeepsUp (daemon_of (map string_bytes words.now)) (map C.last clocks.items) base (files_facts F.file F.free F.faults files.old) (files_facts F.file F.free F.faults files.new)
-        (daemon_outside (sink_facts K.taken K.faults speaker.old.sink) (net_facts N.faults N.binds N.first N.refused N.ports N.fails net.old) (listen_facts L.faults L.ports L.released L.place listeners.old) tables.old)
-        (daemon_outside (sink_facts K.taken K.faults speaker.new.sink) (net_facts N.faults N.binds N.first N.refused N.ports N.fails net.new) (listen_facts L.faults L.ports L.released L.place listeners.new) tables.new)
-        result }
+        (daemon_outside (sink_facts K.Sink speaker.old.sink) (ports_at N.Net L.Listeners net.old listeners.old) tables.old)
+        (daemon_outside (sink_facts K.Sink speaker.new.sink) (ports_at N.Net L.Listeners net.new listeners.new) tables.new) result }
 {
     let DaemonOptions {
         options,

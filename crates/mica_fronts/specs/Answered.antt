@@ -7,20 +7,22 @@ use Rattle.partition_model.specs.Write.{is_accepted}
 use Rattle.partition_model.specs.Run.{RunStep}
 use Rattle.mica_fronts.specs.Looks.{Look}
 
--- A write, with its outcome and its stamp; or the value of a key, or none, at a stamp. Under a hold: a write that was made of a look, or a look at a
--- key, at a stamp, where nothing was written.
+-- A write, with its outcome and its stamp; or the value of a key, or none, at a stamp, by a try that the seat tells. Or a write that was made of a look;
+-- or a look at a key, at a stamp, where nothing was written: no seat tells a try for it.
 pub data Answered : Type 0 where
   wrote : RunStep → Answered
   got : List ℕ → ℕ → Option (List ℕ) → Answered
   changed : RunStep → Look → Answered
   kept : List ℕ → ℕ → Look → Answered
 
+-- the key that was asked of
 abbrev pub key_of : Answered → List ℕ
 key_of (wrote step) = step.write.key
 key_of (got key stamp value) = key
 key_of (changed step look) = step.write.key
 key_of (kept key stamp look) = key
 
+-- the stamp that was told with the answer
 abbrev pub stamp_given : Answered → ℕ
 stamp_given (wrote step) = step.stamp
 stamp_given (got key stamp value) = stamp
@@ -34,7 +36,7 @@ step_in (got key stamp value) = None
 step_in (changed step look) = Some step
 step_in (kept key stamp look) = None
 
--- whether it was answered by a seat, without a hold
+-- whether it was answered by a try that the seat tells
 abbrev pub is_get : Answered → Bool
 is_get (wrote step) = false
 is_get (got key stamp value) = true
@@ -48,6 +50,7 @@ accepts (got key stamp value) = false
 accepts (changed step look) = is_accepted step.outcome
 accepts (kept key stamp look) = false
 
+-- the partition of the key
 abbrev pub partition_in : Options → Answered → ℕ
 partition_in options answered = partition_of (key_of answered) options.partitions
 
@@ -67,5 +70,6 @@ writes_of options partition answers = steps_of (answers_of options partition ans
 abbrev pub gets_of : Options → ℕ → List Answered → List Answered
 gets_of options partition answers = filter is_get (answers_of options partition answers)
 
+-- how many of the answers are of writes
 abbrev pub count_of_writes : List Answered → ℕ
 count_of_writes answers = length (steps_of answers)

@@ -1,4 +1,4 @@
--- What becomes of a value that is looked at and written under one hold.
+-- What becomes of a value that is looked at and written with nothing between.
 use Rattle.std.specs.Prelude.{◌≡◌, ℕ, Bool, false, List, [], Option, Some, None, ⊤}
 use Rattle.partition_model.specs.declared.options.Options.{Options}
 use Rattle.partition_model.specs.declared.write.Op.TheVariants.{Put, Del}
@@ -26,6 +26,12 @@ IsChange stays Stay next = ⊤
 IsChange (becomes value) Become next = next ≡ value
 IsChange goes Go next = ⊤
 IsChange _ _ _ = ⊥
+
+-- the key gets no value of it
+abbrev pub GivesNothing : Becoming → Type 0
+GivesNothing stays = ⊤
+GivesNothing (becomes value) = ⊥
+GivesNothing goes = ⊤
 
 -- The write that it is, if any. A put does also where the key has no value, and what is not there is not deleted.
 abbrev pub write_for : List ℕ → Option (List ℕ) → Becoming → Option Write

@@ -42,6 +42,7 @@ pub record RefusesBatch (dealing : Dealing) : Type 0 where
   pub no_turns : dealing.turns ≡ []
   pub replies : dealing.replies ≡ bad_batch_text ∷ []
 
+-- a datagram was answered as a batch, or refused as none
 abbrev pub IsDealing : Dealing → Type 0
 IsDealing dealing = AnswersBatch dealing ⊎ RefusesBatch dealing
 

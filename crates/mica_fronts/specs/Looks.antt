@@ -1,4 +1,4 @@
--- What is found by a look at a key under a hold of its partition.
+-- What is found by a look at a key, with what is counted behind the same history.
 use Rattle.std.specs.Prelude.{◌≡◌, ℕ, List, length, Option}
 use Rattle.partition_model.specs.declared.options.Options.{Options}
 use Rattle.partition_model.specs.History.{History, answer_of}

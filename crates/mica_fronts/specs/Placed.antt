@@ -13,6 +13,7 @@ pub record Placed : Type 0 where
 abbrev pub steps_by : ℕ → List Placed → List RunStep
 steps_by front placed = filter_map (λ q. if q.front == front then Some q.step else None) placed
 
+-- the steps without the fronts that they are of
 abbrev pub steps_in : List Placed → List RunStep
 steps_in placed = map (λ q. q.step) placed
 

@@ -33,6 +33,7 @@ pub record QueueView : Type 0 where
   pub left : ℕ
   pub parts : List FrontPart
 
+-- what contracts see of a front, of its parts
 abbrev pub queue_view : Options → ℕ → ℕ → ℕ → List FrontPart → QueueView
 queue_view options number next left parts =
     record { options = options; number = number; next = next; left = left; parts = parts }
@@ -75,9 +76,11 @@ ended_part number part = record part {
 
 -- What contracts see of it as a front
 
+-- the step that an acknowledgement tells
 abbrev pub step_by : Ack → RunStep
 step_by ack = record { write = ack.write; outcome = ack.outcome; stamp = ack.stamp }
 
+-- the step with the ticket of its job
 abbrev pub acknowledged_by : Ack → Acknowledged
 acknowledged_by ack = record { ticket = ack.ticket; step = step_by ack }
 
@@ -86,6 +89,7 @@ abbrev pub stand_of : FrontPart → Stand
 stand_of part =
     record { jobs = part.jobs.queue; number = part.jobs.number; most = part.jobs.jobs; acks = part.acks.queue; table = part.acks.table }
 
+-- what a part was told: its steps, and its seat's tries
 abbrev pub told_by : FrontPart → Told
 told_by part = record {
   steps = map step_by part.acks.list;
@@ -107,6 +111,7 @@ abbrev pub session_or_none : Option FrontPart → Session
 session_or_none None = record { seen = []; done = []; last = 0; told = None }
 session_or_none (Some part) = session_of part
 
+-- the session of each part, by the number of its partition
 abbrev pub sessions_of : List FrontPart → Sessions
 sessions_of parts = λ p. session_or_none (slice_get parts p)
 

@@ -25,6 +25,7 @@ pub record IsUpTo (batches : ℕ) (totals : Totals) : Type 0 where
   pub requests : totals.requests ≤ 255 * batches
   pub refused : totals.bad ≤ batches
 
+-- whether a datagram was answered with no turn
 abbrev pub has_no_turns : Dealing → Bool
 has_no_turns dealing = length dealing.turns == 0
 

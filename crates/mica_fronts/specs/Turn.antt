@@ -31,7 +31,7 @@ write_in request = write_by request.want request.key request.value
 abbrev pub writes_of_one : Request → ℕ
 writes_of_one request = if is_some (write_in request) then 1 else 0
 
--- It is what the request asks that was answered. None asks for a look under a hold.
+-- It is what the request asks that was answered. None asks for a look.
 abbrev pub Asks : Request → Answered → Type 0
 Asks request (wrote step) = write_in request ≡ Some step.write
 Asks request (got key stamp value) = (write_in request ≡ None) × (key ≡ request.key)

@@ -1,4 +1,4 @@
-//! One datagram to a front.
+//! One datagram of a caller's, answered by a front into datagrams in memory.
 ghost use Rattle.std.specs.Prelude.{◌≡◌, ◌≤◌, List, IfOk, OnErr};
 ghost use Rattle.mica_fronts.specs.Turn.{Turn};
 ghost use Rattle.mica_fronts.specs.Answering.{DealsWith, DealsInPart};

@@ -1,11 +1,11 @@
 //! A front that looks at a value and writes under one hold.
-ghost use Rattle.std.specs.Prelude.{◌≡◌, ◌+◌, ◌<◌, ◌≤◌, ℕ, Bool, false, List, [], Option, option_copied};
+ghost use Rattle.std.specs.Prelude.{◌≡◌, ◌+◌, ◌<◌, ◌≤◌, ℕ, Bool, true, false, List, [], Option, option_copied};
 ghost use Rattle.mica_words.specs.Hash.{partition_of};
 ghost use Rattle.mica_words.specs.Item.{KeyFits};
-ghost use Rattle.partition_model.specs.declared.write.Op.TheVariants.{Del};
+ghost use Rattle.partition_model.specs.declared.write.Op.TheVariants.{Del, Touch};
 ghost use Rattle.partition_model.specs.Write.{write_of};
 ghost use Rattle.mica_fronts.specs.Session.{ChangesOnly, Writes};
-ghost use Rattle.mica_fronts.specs.Changing.{Becoming, IsChange, ComesTo, count_of};
+ghost use Rattle.mica_fronts.specs.Changing.{Becoming, GivesNothing, IsChange, ComesTo, count_of};
 
 use crate::front::Front;
 use partition_model::{Answer, Change, ItemBuf, Outcome};
@@ -38,6 +38,13 @@ pub trait Decide {
         ensures needs { result ≡ needs self.now }
         ensures blind { result ≡ false → (when : When) (one other : Option (List ℕ)) → becoming self.now when one ≡ becoming self.now when other };
 
+    /// Whether it gives the key no value, and mostly leaves what it finds. A front may then try it without a hold first.
+    fn only_reads(&self) -> bool
+        ensures { result ≡ true → (when : When) (found : Option (List ℕ)) → GivesNothing (becoming self.now when found) }
+    {
+        false
+    }
+
     /// What becomes of the value that was found, or of none.
     fn decide(&self, when: When, found: Option<&[u8]>, next: &mut ItemBuf) -> Change
         ensures { IsChange (becoming self.now when (option_copied found.entry)) result next.new };
@@ -55,7 +62,7 @@ pub struct Changed {
     pub stamp: u64,
 }
 
-/// A front that looks at a value, decides, and writes what was decided, with nothing between.
+/// A front that looks at a value, decides, and writes what was decided, with nothing between. Where nothing is to be written, it may look without a hold.
 pub trait Changes: Front {
     fn change<R: Threads + Wait + Sync, D: Decide>(
         &mut self,
@@ -84,6 +91,19 @@ pub trait Changes: Front {
         ensures written { let p = partition_of key.entry.now (Self.options self.old).partitions in
             Writes (Self.options self.old) Self.is_alone (Self.sessions self.old p)
             (record { write = write_of Del key.entry.now []; outcome = result.0; stamp = result.1 }) (Self.sessions self.new p) }
+        ensures others { ChangesOnly (partition_of key.entry.now (Self.options self.old).partitions) (Self.sessions self.old) (Self.sessions self.new) }
+        ensures left { Self.left self.old ≤ Self.left self.new + 1 }
+        ensures options { Self.options self.new ≡ Self.options self.old }
+        ensures number { Self.number self.new ≡ Self.number self.old }
+        ensures stands { Self.stands self.new ≡ Self.stands self.old };
+
+    /// The outcome of a touch, and the stamp after it. It takes no memory.
+    fn touch<R: Threads + Wait + Sync>(&mut self, rt: &R, key: &[u8]) -> (Outcome, u64)
+        requires key { KeyFits key.now }
+        requires left { 0 < Self.left self.old }
+        ensures written { let p = partition_of key.entry.now (Self.options self.old).partitions in
+            Writes (Self.options self.old) Self.is_alone (Self.sessions self.old p)
+            (record { write = write_of Touch key.entry.now []; outcome = result.0; stamp = result.1 }) (Self.sessions self.new p) }
         ensures others { ChangesOnly (partition_of key.entry.now (Self.options self.old).partitions) (Self.sessions self.old) (Self.sessions self.new) }
         ensures left { Self.left self.old ≤ Self.left self.new + 1 }
         ensures options { Self.options self.new ≡ Self.options self.old }

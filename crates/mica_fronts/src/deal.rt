@@ -1,4 +1,4 @@
-//! What a front makes of one datagram.
+//! The requests of one datagram, each answered by its partition before the next one.
 ghost use Rattle.std.specs.Prelude.{◌≡◌, ◌+◌, ◌<◌, ◌≤◌, ◌⊎◌, ◌∷◌, [], ℕ, List, length, Option, Some, None, IsTrue, IfOk, OnOk, OnErr};
 ghost use Rattle.partition_model.specs.Answer.{IsAnswer};
 ghost use Rattle.partition_model.specs.Write.{HasValueOf, write_of};

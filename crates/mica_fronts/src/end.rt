@@ -1,4 +1,4 @@
-//! One front behind its end.
+//! One front from its first datagram to its last: received at the end of its port, dealt with and replied to.
 ghost use Rattle.std.specs.Prelude.{◌≡◌, ◌*◌, ◌+◌, ◌<◌, ◌≤◌, true, false, length, is_some, is_none, All, ⊤, IfOk, IfSome, IfNone, OnOk, OnErr, IsErrOf};
 ghost use Rattle.mica_io.specs.Faults.{Rose};
 ghost use Rattle.mica_io.specs.Traffic.{new_traffic};

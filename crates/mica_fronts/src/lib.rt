@@ -7,6 +7,7 @@
 mod ahead;
 mod batch;
 mod changing;
+mod counting;
 mod deal;
 mod end;
 mod flushes;
@@ -22,6 +23,7 @@ mod totals;
 
 pub use batch::serve_batch;
 pub use changing::{Changed, Changes, Decide, When};
+pub use counting::Counts;
 pub use end::serve_end;
 pub use flushes::{FLUSH_LEN, Flush, Flushes, flush_in};
 pub use front::Front;

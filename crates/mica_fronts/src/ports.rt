@@ -1,4 +1,4 @@
-//! The ports of a server.
+//! The options of a server's ports.
 ghost use Rattle.std.specs.Prelude.{◌↔◌, IsTrue};
 
 use crate::totals::MAX_BATCHES;

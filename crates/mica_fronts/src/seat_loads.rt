@@ -1,5 +1,5 @@
 //! Loads by a reader's seat outside its gets: ahead of them, so that what they will look at is at hand, and of what stands in an index.
-ghost use Rattle.std.specs.Prelude.{◌≡◌, ◌≤◌, ◌<◌, ◌^◌, length};
+ghost use Rattle.std.specs.Prelude.{◌≡◌, ◌≤◌, ◌<◌, ◌^◌, true, length, IfSome};
 ghost use Rattle.mica_words.specs.declared.item.TheConstants.{MAX_KEY_LEN};
 ghost use Rattle.mica_words.specs.Item.{KeyFits};
 ghost use Rattle.partition_model.specs.declared.options.TheConstants.{MOST_PARTITIONS};
@@ -8,7 +8,7 @@ use crate::glancing::Glimpse;
 use epoch_core::{ReaderWords, Shape, WordAt};
 use mica_words::{
     MAX_KEY_LEN, SLOTS, bucket_of, entry_offset, entry_tag, header_key_len, header_value_len,
-    tag_of,
+    key_hash, tag_of, tail_of,
 };
 use partition_model::{ItemBuf, Mode, Options};
 use partition_table::ReaderSeat;
@@ -67,19 +67,30 @@ fn load_bytes(seat: &ReaderSeat, offset: u64, len: usize, out: &mut ItemBuf)
     out.truncate(len);
 }
 
+// Loads the key of an item, and tells its header; none where no item stands.
+fn load_key(seat: &ReaderSeat, offset: u64, key: &mut ItemBuf) -> Option<u64>
+    requires offset { offset < 2 ^ 48 }
+    ensures key { IfSome result (λ _. KeyFits key.new) }
+{
+    let header = seat.peek(WordAt::Item(offset));
+    let key_len = header_key_len(header) as usize;
+    if key_len == 0 || key_len > MAX_KEY_LEN {
+        return None;
+    }
+    load_bytes(seat, offset + 2, key_len, key);
+    Some(header)
+}
+
 // Loads the key of an item, and the first bytes of its value.
 fn glance_at(seat: &ReaderSeat, offset: u64, key: &mut ItemBuf, head: &mut ItemBuf) -> Glimpse
     requires offset { offset < 2 ^ 48 }
     ensures key { result ≡ Glimpse.Item → KeyFits key.new }
 {
-    let header = seat.peek(WordAt::Item(offset));
-    let key_len = header_key_len(header) as usize;
-    if key_len == 0 || key_len > MAX_KEY_LEN {
+    let Some(header) = load_key(seat, offset, key) else {
         return Glimpse::Nothing;
-    }
-    let value_at = offset + 2 + key_len.div_ceil(8) as u64;
+    };
+    let value_at = offset + 2 + key.value().len().div_ceil(8) as u64;
     let head_len = (header_value_len(header) as usize).min(HEAD_LEN);
-    load_bytes(seat, offset + 2, key_len, key);
     load_bytes(seat, value_at, head_len, head);
     Glimpse::Item
 }
@@ -100,4 +111,27 @@ pub fn glance(seat: &ReaderSeat, place: u64, key: &mut ItemBuf, head: &mut ItemB
         return Glimpse::Nothing;
     }
     glance_at(seat, entry_offset(entry), key, head)
+}
+
+// Whether more than half of the log was written behind an item at the offset.
+fn is_old(words: u32, tail: u64, offset: u64) -> bool {
+    tail.saturating_sub(offset) > u64::from(words / 2)
+}
+
+/// Loads the key of an item with this hash, if it is behind the half of a log whose stamp was this.
+pub fn glance_old(seat: &ReaderSeat, stamp: u64, hash: u64, key: &mut ItemBuf) -> bool
+    ensures key { result ≡ true → KeyFits key.new }
+{
+    let shape = seat.shape();
+    let bucket = bucket_of(hash, shape.buckets);
+    let (tag, tail) = (tag_of(hash), tail_of(stamp));
+    for slot in 0..SLOTS {
+        let entry = seat.peek(WordAt::Entry(bucket, slot));
+        let offset = entry_offset(entry);
+        if entry != 0 && entry_tag(entry) == tag && is_old(shape.words, tail, offset) {
+            let header = load_key(seat, offset, key);
+            return header.is_some() && key_hash(key.value()) == hash;
+        }
+    }
+    false
 }

@@ -89,6 +89,7 @@ pub struct SoloFront {
 }
 
 impl SoloFront {
+    /// A front with an empty partition for each number.
     pub fn new(alloc: Global, options: &Options) -> Result<SoloFront, NoMemory>
         requires { IsValid options.now }
         ensures options { IfOk result (λ f. ⟦<SoloFront as Front>⟧.options f ≡ options.now) }

@@ -29,6 +29,7 @@ impl<'a> CowBytes<'a> {
         b"".as_slice().into()
     }
 
+    /// The bytes as a slice, whether they are lent or owned.
     pub fn bytes(&self) -> &[u8]
         ensures { result.now ≡ self.now }
     {

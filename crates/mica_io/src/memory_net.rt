@@ -24,6 +24,7 @@ pub struct MemNet {
 }
 
 impl MemNet {
+    /// A net without ports. The calls of `bind` that are to fail are listed by their numbers from 1.
     pub fn new(alloc: Global, fails: &[u32]) -> Result<Self, NoMemory>
         ensures ports { IfOk result (λ n. ⟦<MemNet as Net>⟧.ports n ≡ Some (λ number. absent)) }
         ensures fails { IfOk result (λ n. ⟦<MemNet as Net>⟧.fails n ≡ Some fails.now) }
@@ -41,6 +42,7 @@ impl MemNet {
         })
     }
 
+    /// Whether this port was added.
     pub fn has_port(&self, port: u16) -> bool
         ensures { IfSome (⟦<MemNet as Net>⟧.ports self.now) (λ all. result ≡ is_added (all port)) }
     {

@@ -1,4 +1,4 @@
-//! A net.
+//! A net: ports that are bound, and ends that are released.
 ghost use Rattle.std.specs.Prelude.{◌≡◌, ◌<◌, ◌≤◌, ◌+◌, ◌⊎◌, ◌==◌, ◌||◌, not, ℕ, false, List, Some, Option, is_err, IfOk, IfSome, IfNone, None, OnErr, min, if◌then◌else◌};
 ghost use Rattle.mica_io.specs.Faults.{Rose, LAST_COUNT, faults_after};
 ghost use Rattle.mica_io.specs.Script.{is_listed};

@@ -47,6 +47,7 @@ impl SentRoom {
         })
     }
 
+    /// How many bytes more may be kept.
     pub fn room(&self) -> usize
         ensures { result ≡ self.now.room }
     {

@@ -42,6 +42,7 @@ pub struct UdpNet<'a, R> {
 }
 
 impl<'a, R: Sockets> UdpNet<'a, R> {
+    /// A net of sockets of this machine.
     pub fn new(rt: &'a R) -> UdpNet<'a, R>
         ensures unbound { ⟦<UdpNet<'a, R> as Net>⟧.binds result ≡ 0 }
         ensures faults { ⟦<UdpNet<'a, R> as Net>⟧.faults result ≡ 0 }

@@ -6,6 +6,7 @@ use mica_io::NoMemory;
 use mica_words::SLOTS;
 use std::alloc::Global;
 
+// How many keys each main bucket has, and how many spares they need together.
 #[derive(Drop)]
 pub struct BucketKeys {
     pub keys: Vec<u32>,
@@ -13,6 +14,7 @@ pub struct BucketKeys {
 }
 
 impl BucketKeys {
+    // Buckets without keys.
     pub fn new(alloc: Global, buckets: u32) -> Result<Self, NoMemory>
         ensures keys { IfOk result (λ new. new.keys.items ≡ replicate buckets 0) }
         ensures spares { IfOk result (λ new. new.spares ≡ 0) }

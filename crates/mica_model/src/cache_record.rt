@@ -36,6 +36,7 @@ impl Model for CacheRecord {
 }
 
 impl CacheRecord {
+    /// A record of these parts.
     pub fn new(key: Bytes, value: Bytes, offset: u64, room: u32) -> Self
         ensures { result ≡ record { key = key; value = value; offset = offset; room = room } }
     {
@@ -48,12 +49,14 @@ impl CacheRecord {
         }
     }
 
+    /// The record's key.
     pub fn key(&self) -> &[u8]
         ensures { result.now ≡ self.now.key }
     {
         self.key.bytes()
     }
 
+    /// The record's value.
     pub fn value(&self) -> &[u8]
         ensures { result.now ≡ self.now.value }
     {
@@ -67,6 +70,7 @@ impl CacheRecord {
         self.room
     }
 
+    /// Whether the record is of this key.
     pub fn has_key(&self, key: &[u8]) -> bool
         ensures { result ≡ has_key key.now self.now }
     {
@@ -87,6 +91,7 @@ impl CacheRecord {
         tail_of(stamp).saturating_sub(u64::from(words)) <= self.offset
     }
 
+    /// Whether the record's key is in this bucket.
     #[tactic(auto, unfolding(mica_words::specs::Hash::bucket_of))]
     pub fn is_in_bucket(&self, bucket: u32, options: &Options) -> bool
         requires { IsValid options.now }
@@ -103,6 +108,7 @@ impl CacheRecord {
         self.room = room;
     }
 
+    /// Gives the record another value, in its place.
     pub fn rewrite(&mut self, value: Bytes)
         ensures { self.new ≡ record self.old { value = value } }
     {

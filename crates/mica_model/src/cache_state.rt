@@ -38,6 +38,7 @@ impl Model for CacheState {
 }
 
 impl CacheState {
+    /// The empty cache.
     pub fn new(alloc: Global) -> Self
         ensures { result ≡ start }
     {
@@ -48,12 +49,14 @@ impl CacheState {
         }
     }
 
+    /// The stamp of the state.
     pub fn stamp(&self) -> u64
         ensures { result ≡ self.now.stamp }
     {
         self.stamp
     }
 
+    /// How many writes were accepted.
     pub fn accepted(&self) -> u64
         ensures { result ≡ self.now.accepted }
     {
@@ -68,6 +71,7 @@ impl CacheState {
         self.accepted = accepted;
     }
 
+    /// The records in order, the oldest first.
     pub fn records(&self) -> &[CacheRecord]
         ensures { result.now ≡ self.now.records }
     {
@@ -317,6 +321,7 @@ impl CacheState {
         remove_at(&mut self.records, at);
     }
 
+    /// Counts one more accepted write.
     pub fn count(&mut self)
         requires { self.old.accepted < MAX_WEAR }
         ensures { self.new ≡ record self.old { accepted = self.old.accepted + 1 } }

@@ -16,6 +16,7 @@ use std::alloc::Global;
 use std::collections::BTreeMap;
 use std::marker::Model;
 
+// The cells of keys, with what their buckets and their rooms come to.
 #[derive(Drop)]
 pub struct CellTable {
     buckets: u32,
@@ -40,6 +41,7 @@ impl Model for CellTable {
 }
 
 impl CellTable {
+    // A table without cells.
     pub fn new(alloc: Global, buckets: u32) -> Result<Self, NoMemory>
         requires { 1 ≤ buckets }
         ensures { IfOk result (λ table. table ≡ record { buckets = buckets; cells = empty }) }
@@ -52,6 +54,7 @@ impl CellTable {
         })
     }
 
+    // The cell of a key, if it has one.
     pub fn get(&self, key: &[u8]) -> Option<&Cell>
         ensures { option_map (λ cell. cell_of cell.now) result ≡ get self.now.cells key.now }
     {
@@ -65,6 +68,7 @@ impl CellTable {
         self.get(key).map_or(0, |cell| cell.room)
     }
 
+    // The words of all rooms.
     pub fn rooms(&self) -> u32
         ensures { result ≡ rooms self.now.cells }
     {

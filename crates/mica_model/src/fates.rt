@@ -15,6 +15,7 @@ pub struct Fates {
 }
 
 impl Fates {
+    /// No notes.
     pub fn new(alloc: Global) -> Self
         ensures { notes_of result ≡ no_notes }
     {

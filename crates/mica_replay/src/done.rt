@@ -27,6 +27,7 @@ impl Model for Done {
 }
 
 impl Done {
+    /// No replies, with room for so many.
     pub fn new(alloc: Global, room: u32) -> Result<Self, NoMemory>
         ensures { IfOk result (λ d. d ≡ replies_with [] room) }
     {
@@ -51,6 +52,7 @@ impl Done {
         self.spare
     }
 
+    /// How many replies there are.
     pub fn len(&self) -> u32
         ensures { result ≡ length self.now.list }
     {

@@ -1,4 +1,4 @@
-//! The owner's part of a round.
+//! What an owner does in a round: the jobs of its queue, to the end.
 ghost use Rattle.std.specs.Prelude.{◌≡◌, ◌≤◌, ◌<◌, ◌*◌, ℕ, true};
 ghost use Rattle.owner_queue.specs.Messages.{has_end};
 ghost use Rattle.mica_replay.specs.JobReplies.{RepliesToJobs};

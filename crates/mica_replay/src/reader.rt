@@ -1,4 +1,4 @@
-//! A reader's part of a round.
+//! What a reader does in a round: the gets that were shared out to it, by its seats.
 ghost use Rattle.std.specs.Prelude.{◌≡◌, ◌<◌, ◌^◌, All, length, map, slice_get, IfOk, OnErr};
 ghost use Rattle.std.specs.Option.{option_copied};
 ghost use Rattle.std.specs.Vec.Iter.{into_iter_items};
@@ -38,6 +38,7 @@ impl Model for Found {
 }
 
 impl Found {
+    /// How many gets there are.
     pub fn len(&self) -> u32
         ensures { result ≡ length self.now }
     {

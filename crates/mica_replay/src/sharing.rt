@@ -1,4 +1,4 @@
-//! Each worker's part of a round.
+//! The lines of a round, shared out to owners and readers.
 ghost use Rattle.std.specs.Prelude.{◌≡◌, ◌<◌, ◌≤◌, ◌+◌, ◌-◌, ◌^◌, ℕ, IfOk, OnOk, map, length, take, drop};
 ghost use Rattle.partition_model.specs.Options.{IsValid};
 ghost use Rattle.mica_trace.specs.Rounds.{writes_of};

@@ -117,53 +117,62 @@ module _ (others : Others) (options : Options) (some : 1 ≤ options.partitions)
   cause None run = (run.means.2, unserved run)
 
 -- the run up to the release
-module _ (ports : PortOptions) (before mid : NetFacts) (olds : List EndFacts) (are_new : AreNewEnds ports.port olds)
-    (bound : OnPorts (BindsEnds ports.port olds) before.ports mid.ports) (within : length olds ≤ ports.fronts) (never_fall : before.faults ≤ mid.faults)
-    (fails : mid.fails ≡ before.fails) (binds : mid.binds ≤ ports.fronts) (first : 0 < mid.binds → mid.first ≡ ports.port) (others : Others) (options : Options) (origin : ℕ → History)
+-- ports were bound, up to the first bind that failed
+pub record Bound (ports : PortOptions) (before mid : NetFacts) (olds : List EndFacts) : Type 0 where
+  pub are_new : AreNewEnds ports.port olds
+  pub bound : OnPorts (BindsEnds ports.port olds) before.ports mid.ports
+  pub within : length olds ≤ ports.fronts
+  pub never_fall : before.faults ≤ mid.faults
+  pub fails : mid.fails ≡ before.fails
+  pub binds : mid.binds ≤ ports.fronts
+  pub first : 0 < mid.binds → mid.first ≡ ports.port
+
+module _ {ports : PortOptions} {before mid : NetFacts} {olds : List EndFacts} (b : Bound ports before mid olds) {others : Others} {options : Options} {origin : ℕ → History}
     (filled : (p : ℕ) → p < options.partitions → IsHistory options (origin p)) where
   -- a run that ended before any end was served
-  run_unserved : (answer : Option (Result Totals ServeFault)) (kept : List KeptSeat) → MeansForRun others answer options origin ports kept before mid olds olds → BindsAndServes others options origin ports answer kept before mid olds
-  run_unserved answer kept means = record {
+  run_unserved : {answer : Option (Result Totals ServeFault)} {kept : List KeptSeat} → MeansForRun others answer options origin ports kept before mid olds olds
+      → BindsAndServes others options origin ports answer kept before mid olds
+  run_unserved means = record {
     olds = olds;
-    are_new = are_new;
-    bound = bound;
+    are_new = b.are_new;
+    bound = b.bound;
     filled = filled;
-    within = within;
+    within = b.within;
     many = refl;
-    keeps = λ i b a is is'. same_kept b a (cc);
-    never_fall = never_fall;
-    fails = fails;
-    binds = binds;
-    first = first;
-    begins = none_begun ports.batches ports.port olds are_new;
+    keeps = λ i old new is is'. same_kept old new (cc);
+    never_fall = b.never_fall;
+    fails = b.fails;
+    binds = b.binds;
+    first = b.first;
+    begins = none_begun ports.batches ports.port olds b.are_new;
     means = means;
   }
 
-  pub run_failed : (answer : Option (Result Totals ServeFault)) (kept : List KeptSeat) → answer ≡ Some (Err Net) → kept ≡ [] → Rose before.faults mid.faults → before.refused < mid.refused → HaveAnsweredNothing others
-      → BindsAndServes others options origin ports answer kept before mid olds
-  run_failed answer kept is none rose refused silent =
-      run_unserved answer kept (subst (λ (r : Option (Result Totals ServeFault)). MeansForRun others r options origin ports kept before mid olds olds) (sym is) (inl (record { rose = rose; refused = refused; untouched = refl }, none, silent)))
+  pub run_failed : {answer : Option (Result Totals ServeFault)} {kept : List KeptSeat} → answer ≡ Some (Err Net) → kept ≡ [] → Rose before.faults mid.faults → before.refused < mid.refused
+      → HaveAnsweredNothing others → BindsAndServes others options origin ports answer kept before mid olds
+  run_failed {kept = kept} is none rose refused silent =
+      run_unserved (subst (λ (r : Option (Result Totals ServeFault)). MeansForRun others r options origin ports kept before mid olds olds) (sym is)
+      (inl (record { rose = rose; refused = refused; untouched = refl }, none, silent)))
 
   -- all ports were bound, and the ends left unserved
-  pub run_left : (answer : Option (Result Totals ServeFault)) (kept : List KeptSeat) → answer ≡ None → kept ≡ [] → length olds ≡ ports.fronts
-      → BindsAndServes others options origin ports answer kept before mid olds
-  run_left answer kept is none full = run_unserved answer kept (subst (λ (r : Option (Result Totals ServeFault)). MeansForRun others r options origin ports kept before mid olds olds) (sym is) (full, refl, none))
+  pub run_left : {kept : List KeptSeat} → kept ≡ [] → length olds ≡ ports.fronts → BindsAndServes others options origin ports None kept before mid olds
+  run_left none full = run_unserved (full, refl, none)
 
-  pub run_served : (answer : Result Totals ServeFault) (kept : List KeptSeat) (news : List EndFacts) → length olds ≡ ports.fronts
+  pub run_served : (answer : Result Totals ServeFault) {kept : List KeptSeat} {news : List EndFacts} → length olds ≡ ports.fronts
       → (is_some before.fails ≡ true → mid.faults ≡ before.faults) → ServesFronts others options origin ports.batches answer kept olds news
       → BindsAndServes others options origin ports (Some answer) kept before mid news
-  run_served answer kept news full steady s = record {
+  run_served answer {kept} {news} full steady s = record {
     olds = olds;
-    are_new = are_new;
-    bound = bound;
+    are_new = b.are_new;
+    bound = b.bound;
     filled = filled;
-    within = within;
+    within = b.within;
     many = s.many;
     keeps = s.keeps;
-    never_fall = never_fall;
-    fails = fails;
-    binds = binds;
-    first = first;
+    never_fall = b.never_fall;
+    fails = b.fails;
+    binds = b.binds;
+    first = b.first;
     begins = s.begins;
     means = by answer s.means;
   }

@@ -16,6 +16,7 @@ use Rattle.mica_serve.specs.Others.{Others, all_answers}
 use Rattle.mica_serve.specs.Served.{Served}
 use Rattle.mica_fronts.specs.Totals.{Counts}
 
+-- how many tries a session closed
 abbrev pub closed_of : Option Told → ℕ
 closed_of None = 0
 closed_of (Some told) = told.closed

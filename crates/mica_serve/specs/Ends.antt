@@ -1,6 +1,7 @@
 -- The ends behind which the fronts stand, as contracts see them.
 use Rattle.std.specs.Prelude.{◌≡◌, ◌≢◌, ◌+◌, ◌<◌, ◌≤◌, ◌⊎◌, ℕ, Bool, true, false, List, [], take, drop, map, length, slice_get, nat_lt, Option, Some, is_some, IfSome, All, Result, Ok, Err}
 use Rattle.mica_io.specs.Faults.{Rose}
+use Rattle.mica_io.specs.declared.datagrams.Datagrams.{Ghosts as EndTells}
 use Rattle.mica_io.specs.Traffic.{Datagram, Traffic, EndScript, new_traffic}
 use Rattle.mica_io.specs.PortStates.{PortStates, waiting, out, back}
 use Rattle.partition_model.specs.declared.options.Options.{Options}
@@ -26,14 +27,8 @@ pub record EndFacts : Type 0 where
   pub has_script : Bool
 
 -- by what an end tells
-abbrev pub end_facts : {D : Type 0} → (D → ℕ) → (D → Option Traffic) → (D → ℕ) → (D → Bool) → (D → Option EndScript) → D → EndFacts
-end_facts port traffic faults has_ended script = λ e. record {
-  port = port e;
-  traffic = traffic e;
-  faults = faults e;
-  has_ended = has_ended e;
-  has_script = is_some (script e);
-}
+abbrev pub end_facts : {D : Type 0} → EndTells D → D → EndFacts
+end_facts end = λ e. record { port = end.port e; traffic = end.traffic e; faults = end.faults e; has_ended = end.has_ended e; has_script = is_some (end.script e) }
 
 -- an end that was just bound to this port
 pub record IsNewEnd (port : ℕ) (end : EndFacts) : Type 0 where

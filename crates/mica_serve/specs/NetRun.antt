@@ -1,6 +1,7 @@
 -- What a net tells before and after a call.
 use Rattle.std.specs.Prelude.{◌≡◌, ◌≢◌, ◌+◌, ◌⊎◌, ℕ, ◌<◌, ◌≤◌, true, List, [], length, slice_get, Option, Some, None, is_some, IfSome, min, sum_by, Result, Ok, Err}
 use Rattle.mica_io.specs.PortStates.{PortStates, out}
+use Rattle.mica_io.specs.declared.net.Net.{Ghosts as NetTells}
 use Rattle.mica_io.specs.Faults.{Rose, LAST_COUNT}
 use Rattle.partition_model.specs.declared.options.Options.{Options}
 use Rattle.partition_model.specs.History.{History, IsHistory}
@@ -24,15 +25,8 @@ pub record NetFacts : Type 0 where
   pub fails : Option (List ℕ)
 
 -- by what a net tells
-abbrev pub net_facts : {N : Type 0} → (N → ℕ) → (N → ℕ) → (N → ℕ) → (N → ℕ) → (N → Option PortStates) → (N → Option (List ℕ)) → N → NetFacts
-net_facts faults binds first refused ports fails = λ n. record {
-  faults = faults n;
-  binds = binds n;
-  first = first n;
-  refused = refused n;
-  ports = ports n;
-  fails = fails n;
-}
+abbrev pub net_facts : {N E : Type 0} → NetTells N E → N → NetFacts
+net_facts net = λ n. record { faults = net.faults n; binds = net.binds n; first = net.first n; refused = net.refused n; ports = net.ports n; fails = net.fails n }
 
 -- a fact of the ports before and after, where the net tells them; it goes on telling them, or telling nothing
 abbrev pub OnPorts : (PortStates → PortStates → Type 0) → Option PortStates → Option PortStates → Type 0

@@ -3,6 +3,7 @@ use Rattle.partition_model.specs.Options.{InRange}
 use Rattle.mica_fronts.specs.declared.totals.TheConstants.{MAX_BATCHES}
 use Rattle.mica_fronts.specs.declared.ports.PortOptions.{PortOptions}
 
+-- each number is in its range, where there may be no front
 pub record IsPossiblePorts (ports : PortOptions) : Type 0 where
   pub port : InRange 1024 65000 ports.port
   pub fronts : InRange 0 64 ports.fronts

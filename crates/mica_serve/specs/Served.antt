@@ -64,7 +64,7 @@ pub record ServesKept (options : Options) (origin history : History) (key : List
   pub stamped : stamp ≡ stamp_of options cut
   pub looked : IsLookAt options cut key look
 
--- a look under a hold of the partition
+-- a look at a key, with the write that was made of it if any
 abbrev pub ServesLook : Options → History → List RunStep → Answered → Type 0
 ServesLook options origin run (wrote step) = ⊤
 ServesLook options origin run (got key stamp value) = ⊤
@@ -79,7 +79,7 @@ NoFall earlier later =
 
 -- All fronts
 
--- The writes of all fronts are one run of each partition's machine, from what it began with, each get is its answer, each look under a hold is what
+-- The writes of all fronts are one run of each partition's machine, from what it began with, each get is its answer, each look is what
 -- it has there, with nothing between a look and the write made of it, and the stamps given to each front never fall.
 pub record AnswersLawfully (options : Options) (origin : ℕ → History) (fronts : List (List Answered)) (runs : ℕ → List Placed) : Type 0 where
   pub writes : (p : ℕ) → p < options.partitions → ServesWrites options (origin p) p fronts (runs p)

@@ -37,6 +37,7 @@ pub(crate) struct Room<D> {
 }
 
 impl<D: Drop> Room<D> {
+    /// Room for the tasks of so many fronts.
     pub fn new(alloc: Global, fronts: usize) -> Result<Room<D>, NoMemory>
         requires { fronts ≤ 16 }
         ensures { IfOk result (IsRoom fronts) }
@@ -104,10 +105,10 @@ pub(crate) fn run_all<
     requires options { IsValid options.now }
     requires ports { IsValidPorts ports.now }
     requires server { IsServer P.owner P.home options.now ports.now server }
-    requires open { AreOpen (map (end_facts D.port D.traffic D.faults D.has_ended D.script) ends.old.items) }
+    requires open { AreOpen (map (end_facts D.Datagrams) ends.old.items) }
     requires many { length ends.old.items ≡ ports.now.fronts }
     ensures ran { RanAll alone options.now empty_origin ports.now.batches (map (λ task. kept_seat_in (P.owner task.part)) result.0.items) result.1.items
-        (map (end_facts D.port D.traffic D.faults D.has_ended D.script) ends.old.items) (map (end_facts D.port D.traffic D.faults D.has_ended D.script) ends.new.items) }
+        (map (end_facts D.Datagrams) ends.old.items) (map (end_facts D.Datagrams) ends.new.items) }
     ensures idle { (p : ℕ) (task : OwnerTask P) → slice_get result.0.items p ≡ Some task → (P.owner task.part).phase ≡ Idle }
 {
     let Room {

@@ -29,13 +29,17 @@ use std::thread::Threads;
 use store_partition::StorePartition;
 
 /// Binds a port for each front, in order, up to the first bind that fails.
-pub fn bind_all<N: Net>(net: &mut N, ports: &PortOptions, ends: &mut Vec<N::End>) -> Result<(), Failed>
+pub fn bind_all<N: Net>(
+    net: &mut N,
+    ports: &PortOptions,
+    ends: &mut Vec<N::End>,
+) -> Result<(), Failed>
     requires ports { IsPossiblePorts ports.now }
     requires unbound { N.binds net.old ≡ 0 }
     requires none { ends.old.items ≡ [] }
     requires room { ports.now.fronts ≤ vec_capacity ends.old }
-    ensures new { AreNewEnds ports.now.port (map (end_facts N.End.port N.End.traffic N.End.faults N.End.has_ended N.End.script) ends.new.items) }
-    ensures bound { OnPorts (BindsEnds ports.now.port (map (end_facts N.End.port N.End.traffic N.End.faults N.End.has_ended N.End.script) ends.new.items)) (N.ports net.old) (N.ports net.new) }
+    ensures new { AreNewEnds ports.now.port (map (end_facts N.End.Datagrams) ends.new.items) }
+    ensures bound { OnPorts (BindsEnds ports.now.port (map (end_facts N.End.Datagrams) ends.new.items)) (N.ports net.old) (N.ports net.new) }
     ensures all { OnOk result (vec_len ends.new ≡ ports.now.fronts) }
     ensures few { vec_len ends.new ≤ ports.now.fronts }
     ensures none_refused { OnOk result (N.refused net.new ≡ N.refused net.old) }
@@ -56,12 +60,10 @@ pub fn bind_all<N: Net>(net: &mut N, ports: &PortOptions, ends: &mut Vec<N::End>
 
 /// Releases the ends, the last one first.
 pub fn release_all<N: Net>(net: &mut N, ends: Vec<N::End>, first: u16)
-    requires ports { AreAtPorts first (map (end_facts N.End.port N.End.traffic N.End.faults N.End.has_ended N.End.script) ends.items) }
+    requires ports { AreAtPorts first (map (end_facts N.End.Datagrams) ends.items) }
     requires out { IfSome (N.ports net.old) (λ all. (i : ℕ) → i < vec_len ends → all (first + i) ≡ out) }
-    requires tell { IfSome (N.ports net.old) (λ all. TellAll (map (end_facts N.End.port N.End.traffic N.End.faults N.End.has_ended N.End.script) ends.items)) }
-    ensures { ReleasesNet first (map (end_facts N.End.port N.End.traffic N.End.faults N.End.has_ended N.End.script) ends.items)
-        (net_facts N.faults N.binds N.first N.refused N.ports N.fails net.old)
-        (net_facts N.faults N.binds N.first N.refused N.ports N.fails net.new) }
+    requires tell { IfSome (N.ports net.old) (λ all. TellAll (map (end_facts N.End.Datagrams) ends.items)) }
+    ensures { ReleasesNet first (map (end_facts N.End.Datagrams) ends.items) (net_facts N.Net net.old) (net_facts N.Net net.new) }
 {
     let mut ends = ends;
     while let Some(end) = ends.pop() {
@@ -91,11 +93,11 @@ fn serve_all<
     requires ports { IsValidPorts ports.now }
     requires server { IsServer P.owner P.home options.now ports.now server }
     requires tables { tables.old ≡ [] }
-    requires open { AreOpen (map (end_facts D.port D.traffic D.faults D.has_ended D.script) ends.old.items) }
+    requires open { AreOpen (map (end_facts D.Datagrams) ends.old.items) }
     requires many { vec_len ends.old ≡ ports.now.fronts }
     ensures { ServesFronts alone options.now empty_origin ports.now.batches result tables.new
-        (map (end_facts D.port D.traffic D.faults D.has_ended D.script) ends.old.items)
-        (map (end_facts D.port D.traffic D.faults D.has_ended D.script) ends.new.items) }
+        (map (end_facts D.Datagrams) ends.old.items)
+        (map (end_facts D.Datagrams) ends.new.items) }
 {
     let (owners, answers) = run_all(rt, alloc, options, ports, server, ends, gate);
     let totals = sum_up(answers.as_slice())?;
@@ -129,10 +131,8 @@ fn bind_and_serve<
     requires unbound { N.binds net.old ≡ 0 }
     requires none { ends.old.items ≡ [] }
     requires room { ports.now.fronts ≤ vec_capacity ends.old }
-    ensures { BindsAndServes alone options.now empty_origin ports.now (Some result) tables.new
-        (net_facts N.faults N.binds N.first N.refused N.ports N.fails net.old)
-        (net_facts N.faults N.binds N.first N.refused N.ports N.fails net.new)
-        (map (end_facts N.End.port N.End.traffic N.End.faults N.End.has_ended N.End.script) ends.new.items) }
+    ensures { BindsAndServes alone options.now empty_origin ports.now (Some result) tables.new (net_facts N.Net net.old) (net_facts N.Net net.new)
+        (map (end_facts N.End.Datagrams) ends.new.items) }
 {
     bind_all(net, ports, ends)?;
     serve_all(rt, alloc, options, ports, server, ends, gate, tables)
@@ -160,12 +160,8 @@ fn serve_on<
     requires ports { IsValidPorts ports.now }
     requires unbound { N.binds net.old ≡ 0 }
     requires tables { tables.old ≡ [] }
-    ensures cause { IsCauseOf alone result options.now empty_origin ports.now tables.new
-        (net_facts N.faults N.binds N.first N.refused N.ports N.fails net.old)
-        (net_facts N.faults N.binds N.first N.refused N.ports N.fails net.new) }
-    ensures kept { KeepsNet ports.now
-        (net_facts N.faults N.binds N.first N.refused N.ports N.fails net.old)
-        (net_facts N.faults N.binds N.first N.refused N.ports N.fails net.new) }
+    ensures cause { IsCauseOf alone result options.now empty_origin ports.now tables.new (net_facts N.Net net.old) (net_facts N.Net net.new) }
+    ensures kept { KeepsNet ports.now (net_facts N.Net net.old) (net_facts N.Net net.new) }
 {
     let server = Server::<P, N::End>::open(rt, alloc, options, ports)?;
     let mut ends = Vec::with_capacity(alloc, ports.fronts as usize)?;
@@ -192,12 +188,8 @@ pub fn serve<W: Threads + Wait + Sync, N: Net, G: Gate>(
     requires unbound { N.binds net.old ≡ 0 }
     requires tables { tables.old ≡ [] }
 
-    ensures cause { IsCauseOf alone result options.now empty_origin ports.now tables.new
-        (net_facts N.faults N.binds N.first N.refused N.ports N.fails net.old)
-        (net_facts N.faults N.binds N.first N.refused N.ports N.fails net.new) }
-    ensures kept { KeepsNet ports.now
-        (net_facts N.faults N.binds N.first N.refused N.ports N.fails net.old)
-        (net_facts N.faults N.binds N.first N.refused N.ports N.fails net.new) }
+    ensures cause { IsCauseOf alone result options.now empty_origin ports.now tables.new (net_facts N.Net net.old) (net_facts N.Net net.new) }
+    ensures kept { KeepsNet ports.now (net_facts N.Net net.old) (net_facts N.Net net.new) }
 {
     match options.mode {
         Mode::Cache => serve_on::<W, CachePartition<OwnerSeat>, N, G>(

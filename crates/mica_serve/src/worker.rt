@@ -63,8 +63,8 @@ impl<D: Datagrams> FrontTask<D> {
         batches: u64,
         gate: &G,
     )
-        requires { IsReadyFront batches (end_facts D.port D.traffic D.faults D.has_ended D.script) self.old }
-        ensures { FrontRan batches (end_facts D.port D.traffic D.faults D.has_ended D.script) self.old self.new }
+        requires { IsReadyFront batches (end_facts D.Datagrams) self.old }
+        ensures { FrontRan batches (end_facts D.Datagrams) self.old self.new }
     {
         let Some(mut front) = self.front.take() else {
             unreachable!()
@@ -112,8 +112,8 @@ fn run_fronts<W: Threads + Wait + Sync, D: Datagrams + Drop + Send, G: Gate>(
     gate: &G,
     fronts: &mut Vec<FrontTask<D>>,
 )
-    requires { All (IsReadyFront batches (end_facts D.port D.traffic D.faults D.has_ended D.script)) fronts.old.items }
-    ensures { FrontsRan batches (end_facts D.port D.traffic D.faults D.has_ended D.script) fronts.old.items fronts.new.items }
+    requires { All (IsReadyFront batches (end_facts D.Datagrams)) fronts.old.items }
+    ensures { FrontsRan batches (end_facts D.Datagrams) fronts.old.items fronts.new.items }
 {
     let threads = fronts.len().max(1);
     for_each_mut(
@@ -121,8 +121,8 @@ fn run_fronts<W: Threads + Wait + Sync, D: Datagrams + Drop + Send, G: Gate>(
         fronts.as_mut_slice(),
         threads,
         &|_, front|
-            requires { IsReadyFront batches (end_facts D.port D.traffic D.faults D.has_ended D.script) front.now }
-            ensures { FrontRan batches (end_facts D.port D.traffic D.faults D.has_ended D.script) front.entry.now front.exit.now }
+            requires { IsReadyFront batches (end_facts D.Datagrams) front.now }
+            ensures { FrontRan batches (end_facts D.Datagrams) front.entry.now front.exit.now }
         { front.run(rt, alloc, batches, gate) },
     );
 }
@@ -143,9 +143,9 @@ pub(crate) fn run_workers<
 )
     requires notes { (n : Note) → (P.noted n ≡ note_state n) × (P.note_home n ≡ note_home n) }
     requires owners { All (IsReadyTask P.owner P.home) owners.old.items }
-    requires fronts { All (IsReadyFront batches (end_facts D.port D.traffic D.faults D.has_ended D.script)) fronts.old.items }
+    requires fronts { All (IsReadyFront batches (end_facts D.Datagrams)) fronts.old.items }
     ensures owners { OwnersRan P.owner P.home owners.old.items owners.new.items }
-    ensures fronts { FrontsRan batches (end_facts D.port D.traffic D.faults D.has_ended D.script) fronts.old.items fronts.new.items }
+    ensures fronts { FrontsRan batches (end_facts D.Datagrams) fronts.old.items fronts.new.items }
 {
     join_mut(
         rt,
@@ -153,7 +153,7 @@ pub(crate) fn run_workers<
             requires { IsSync W.row × IsSync G.row × ((n : Note) → (P.noted n ≡ note_state n) × (P.note_home n ≡ note_home n)) × All (IsReadyTask P.owner P.home) owners.now.items }
         { run_owners(rt, gate, owners) },
         &mut ||
-            requires { IsSync W.row × IsSync G.row × All (IsReadyFront batches (end_facts D.port D.traffic D.faults D.has_ended D.script)) fronts.now.items }
+            requires { IsSync W.row × IsSync G.row × All (IsReadyFront batches (end_facts D.Datagrams)) fronts.now.items }
         { run_fronts(rt, alloc, batches, gate, fronts) },
     );
 }

@@ -1,5 +1,6 @@
 //! The tests of the commands and of the server that rows of data can't say: workers that meet at a gate, a replay beside the plain
-//! machine, single datagrams, and datagrams over real sockets. The rows of the top call are the data of the program `rows`.
+//! machine, single datagrams, datagrams over real sockets, and the program on the words of a test. The rows of the top call are the
+//! data of the program `rows`.
 #![tactic(auto)]
 
 #[cfg(test)]
@@ -18,6 +19,8 @@ mod filled;
 mod filled_udp;
 #[cfg(test)]
 mod front_words;
+#[cfg(test)]
+mod host;
 #[cfg(test)]
 mod large;
 #[cfg(test)]

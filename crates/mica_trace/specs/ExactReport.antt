@@ -12,6 +12,7 @@ use Rattle.mica_trace.specs.LawfulReport.{IsLineFor, steps_of, history_after, An
 abbrev pub writes_before : Options → ℕ → List TraceLine → ℕ → ℕ
 writes_before options partition trace n = length (writes_of options partition (take n trace))
 
+-- A report that is lawful, and whose gets are answered as of their own place in the trace.
 pub record ExactReport (options : Options) (trace : List TraceLine) (report : List Line) : Type 0 where
   -- its lines stand one to one for those of the trace
   pub lines : AllZip IsLineFor trace report

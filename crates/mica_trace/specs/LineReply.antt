@@ -37,5 +37,6 @@ RepliesTo options from _ _ to = ⊥
 abbrev pub is_for : Options → ℕ → TraceLine → Bool
 is_for options partition line = not (is_sync line) && is_in_partition options partition line
 
+-- the lines of a partition
 abbrev pub lines_for : Options → ℕ → List TraceLine → List TraceLine
 lines_for options partition lines = filter (is_for options partition) lines

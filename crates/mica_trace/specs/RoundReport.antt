@@ -26,9 +26,11 @@ IsOneRound (line ∷ next ∷ lines) = (is_sync line ≡ false) × IsOneRound (n
 
 -- Gets
 
+-- whether a line is a get
 abbrev pub is_get : TraceLine → Bool
 is_get line = is_get_op line.op
 
+-- how many gets there are
 abbrev pub gets_in : List TraceLine → ℕ
 gets_in lines = count_by is_get lines
 

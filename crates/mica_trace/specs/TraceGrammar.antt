@@ -85,6 +85,7 @@ pub record IsTrace (text : List ℕ) (lines : List TraceLine) : Type 0 where
   pub spelled : AllZip IsTextOf (lines_of text) lines
   pub within : IsWithinLimits lines
 
+-- the text spells no trace
 abbrev pub IsNoTrace : List ℕ → Type 0
 IsNoTrace text = (lines : List TraceLine) → ¬ (IsTrace text lines)
 

@@ -109,6 +109,7 @@ impl Report {
         Ok(())
     }
 
+    /// How many lines there are.
     pub fn len(&self) -> u32
         ensures { result ≡ length self.now }
     {

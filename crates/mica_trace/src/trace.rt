@@ -38,6 +38,7 @@ impl<'a> Trace<'a> {
         Trace { lines }
     }
 
+    /// How many lines there are.
     pub fn len(&self) -> u32
         ensures { result ≡ length self.now }
     {

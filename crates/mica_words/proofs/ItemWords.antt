@@ -1,5 +1,5 @@
 -- What stands at each place of an item, and that it determines the key and the value.
-use Rattle.std.proofs.Common.{◌≡◌, ℕ, zero, suc, ◌+◌, ◌<◌, List, [], ◌∷◌, ◌++◌, length, slice_index, refl, sym, ap, ◌∙◌, arith, length-append, rules}
+use Rattle.std.proofs.Common.{◌≡◌, ℕ, ◌+◌, ◌<◌, List, [], ◌∷◌, ◌++◌, length, slice_index, refl, sym, ap, ◌∙◌, arith, length-append}
 use Rattle.std.proofs.lemmas.Grind.{same_number_lists}
 use Rattle.std.proofs.lemmas.List.{get_or_append_left, get_or-append-add}
 use Rattle.std.proofs.lemmas.Grind.{common_steps}
@@ -8,7 +8,7 @@ use Rattle.mica_words.specs.Header.{header_of}
 use Rattle.mica_words.specs.Item.{words_for, item_size}
 use Rattle.mica_words.specs.Packing.{AreBytes, packed, unpacked}
 use Rattle.mica_words.specs.Spelling.{item_words}
-use Rattle.mica_words.proofs.PackedBytes.{length-packed, same_from_words, unpacked-packed}
+use Rattle.mica_words.proofs.PackedBytes.{length-packed, unpacked-packed}
 
 pub length-item_words : (room : ℕ) (key value : List ℕ) → length (item_words room key value) ≡ item_size key value
 unfolding item_words
@@ -44,24 +44,6 @@ value_word room key value i below =
       get_or-append-add (header_of room (length key) (length value) ∷ fnv1a key ∷ []) (packed key ++ packed value) (length (packed key) + i) 0,
       get_or-append-add (packed key) (packed value) i 0,
     )
-
--- the words from the hash to the key's last say nothing of the room and the value
-pub key_word : (room : ℕ) (key value : List ℕ) (i : ℕ) → 0 < i → i < 2 + words_for (length key)
-    → slice_index (item_words room key value) i ≡ slice_index (item_words 0 key []) i
-key_word room key value zero some below = absurd (omega arith)
-key_word room key value (suc zero) some below = hash_word room key value ∙ sym (hash_word 0 key [])
-key_word room key value (suc (suc i)) some below =
-    search (rules, slice_index (item_words room key value), slice_index (item_words 0 key []), packed_key_word room key value i (omega arith), packed_key_word 0 key [] i (omega arith))
-
--- keys of one length are one where these words agree
-pub same_key : (key other : List ℕ) → AreBytes key → AreBytes other → length key ≡ length other
-    → ((i : ℕ) → 0 < i → i < 2 + words_for (length key) → slice_index (item_words 0 key []) i ≡ slice_index (item_words 0 other []) i) → key ≡ other
-same_key key other small fewer same each =
-    let words : length (packed key) ≡ words_for (length key) = length-packed key in
-    let others : length (packed other) ≡ words_for (length other) = length-packed other in
-    same_from_words key other small fewer same (same_number_lists (packed key) (packed other) (omega (arith, ap words_for same))
-    (λ i below. sym (packed_key_word 0 key [] i (omega arith))
-    ∙ (each (2 + i) (omega arith) (omega arith) ∙ packed_key_word 0 other [] i (omega (arith, ap words_for same)))))
 
 -- words that hold the packed value unpack to it
 pub same_value : (value words : List ℕ) → AreBytes value → length words ≡ words_for (length value)

@@ -1,5 +1,5 @@
 -- What a try's loads, its stamp and its two epochs tell together.
-use Rattle.std.proofs.Common.{le_refl, ◌≡◌, ◌≢◌, ℕ, ◌+◌, ◌*◌, ◌%◌, ◌<◌, ◌≤◌, List, [], ◌∷◌, ◌++◌, Bool, false, refl, sym, ap, ◌∙◌, subst, arith, eq-eqb, ne_eqb, Option, Some, None, inl, inr, if◌then◌else◌}
+use Rattle.std.proofs.Common.{le_refl, ◌≡◌, ◌≢◌, ℕ, ◌+◌, ◌*◌, ◌%◌, ◌<◌, ◌≤◌, List, [], ◌∷◌, ◌++◌, Bool, false, refl, sym, ap, ◌∙◌, subst, arith, eq-eqb, Option, Some, None, inl, inr, if◌then◌else◌}
 use Rattle.std.specs.Prelude.{Contains, IfSome}
 use Rattle.mica_words.specs.declared.entry.TheConstants.{SLOTS}
 use Rattle.mica_words.specs.Hash.{bucket_of}
@@ -28,7 +28,7 @@ use Rattle.optimistic_get.specs.Search.{IsWeighed, by_tag, by_item, by_best, IsB
 use Rattle.optimistic_get.specs.declared.getting.Got.{Got}
 use Rattle.optimistic_get.proofs.Entries.{tagged}
 use Rattle.optimistic_get.specs.Settled.{TriesAtRest}
-use Rattle.optimistic_get.specs.Gets.{is_again, IsAnsweredAt, TriesMade, TryAnswers, TryFails}
+use Rattle.optimistic_get.specs.Gets.{is_again, IsAnsweredAt, TriesMade, TryAnswers}
 
 -- What the loads spell
 
@@ -235,16 +235,6 @@ module _ (r q : ReaderState) (b n : ℕ) (first : q ≡ opened b n r) (least : 2
           fails = same_fails still;
           closed = one_closed still;
           answered = answered still bytes here None (spells_miss q2.shape (loads_in q2) stamp b key search.behind best no_item whole.0 whole.1);
-        }
-
-    pub moved : last ≢ n → TryFails r b n last q4
-    moved other =
-        let low = told.least in record {
-          made = once;
-          loads = subst (λ (z : Bool). q4.loads ≤ r.loads + (if z then 1 else most_loads r.shape)) (sym (ne_eqb (n % 2) 1 (λ odd. omega (arith, odd, even)))) loads_once;
-          fails = fails_now ∙ ap (λ (z : Bool). if z then r.fails else (r.fails ++ failure b n last ∷ [])) (ne_eqb last n other);
-          closed = closed_now ∙ (ap (λ (z : Bool). r.closed + (if z then 1 else 0)) (ne_eqb last n other) ∙ (omega arith));
-          failure = record { fails = (low, inr (omega arith)); least = least };
         }
 
     -- the loads of a plan at rest

@@ -23,6 +23,7 @@ pub record IsReadAt (old : ReaderState) (key : List ℕ) (stamp : ℕ) (value : 
   pub seat : SeatAnswers old new 1
   pub answer : IsAnswerAt (options_of old.shape) new.seen key stamp value
 
+-- the answer, and what is in the buffer, are those of the key at a history that the reader has seen
 abbrev pub IsRead : ReaderState → List ℕ → Got → List ℕ → ReaderState → Type 0
 IsRead old key (Hit stamp) buffer new = IsReadAt old key stamp (Some buffer) new
 IsRead old key (Miss stamp) buffer new = IsReadAt old key stamp None new × (buffer ≡ [])

@@ -1,4 +1,4 @@
-//! The get.
+//! A get: tries of the key's bucket, until one does not fail or none is left.
 ghost use Rattle.std.specs.Prelude.{◌≡◌, ◌<◌};
 ghost use Rattle.mica_words.specs.Hash.{bucket_of as bucket_of_key, fnv1a};
 ghost use Rattle.mica_words.specs.Item.{KeyFits};

@@ -1,4 +1,4 @@
-//! One try.
+//! One try of a get, between two loads of its bucket's epoch.
 ghost use Rattle.std.specs.Prelude.{◌≡◌, ◌<◌, ◌^◌, ◌↔◌, IsTrue, IfSome};
 ghost use Rattle.mica_words.specs.Hash.{bucket_of};
 ghost use Rattle.epoch_core.specs.Shape.{IsMain};

@@ -30,9 +30,6 @@ other_end p taken m n = has_end_more p taken m ∙ (ap (λ l. has_end p taken ||
 own_more : (p : ℕ) (taken : List Message) (m : Message) (b : Bool) → sender_of m ≡ p → is_end m ≡ b → has_end p (taken ++ m ∷ []) ≡ (has_end p taken || (b || false))
 own_more p taken m b e is = has_end_more p taken m ∙ (ap (λ l. has_end p taken || list_any is_end l) (from_own sender_of p m e) ∙ ap (λ b. has_end p taken || (b || false)) is)
 
-flags_job : (flags : List Bool) (taken : List Message) (m : Message) → is_end m ≡ false → HasFlags flags taken → HasFlags flags (taken ++ m ∷ [])
-flags_job flags taken m is has p l = has p l ∙ ap Some (⊎_elim (λ (e : sender_of m ≡ p). sym (own_more p taken m false e is ∙ or_false (has_end p taken))) (λ (n : sender_of m ≢ p). sym (other_end p taken m n)) (same_or_not (sender_of m) p))
-
 get_set_same : (flags : List Bool) (i : ℕ) (b : Bool) → i < length flags → slice_get (set flags i b) i ≡ Some b
 get_set_same flags i b l = slice_get-get_or (set flags i b) i b (omega (arith, length-set flags i b)) ∙ ap Some (get_or-set_same flags i b b l)
 

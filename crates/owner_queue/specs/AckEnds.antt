@@ -12,6 +12,7 @@ pub record AckBox : Type 0 where
   pub shape : Shape
   pub list : List Ack
 
+-- an end of a queue of acknowledgements, of these parts
 abbrev pub ack_box : Queue Ack → TableId → Shape → List Ack → AckBox
 ack_box queue table shape list = record { queue = queue; table = table; shape = shape; list = list }
 

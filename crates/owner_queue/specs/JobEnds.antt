@@ -11,6 +11,7 @@ pub record Outbox : Type 0 where
   pub jobs : ℕ
   pub sent : List Message
 
+-- a sender of jobs, of these parts
 abbrev pub outbox : Queue Message → ℕ → ℕ → List Message → Outbox
 outbox queue number jobs sent = record { queue = queue; number = number; jobs = jobs; sent = sent }
 
@@ -21,6 +22,7 @@ pub record Inbox : Type 0 where
   pub jobs : ℕ
   pub taken : List Message
 
+-- a receiver of jobs, of these parts
 abbrev pub inbox : Queue Message → ℕ → ℕ → List Message → Inbox
 inbox queue senders jobs taken = record { queue = queue; senders = senders; jobs = jobs; taken = taken }
 

@@ -6,6 +6,7 @@ use Rattle.owner_queue.specs.declared.message.Message.{Message}
 use Rattle.owner_queue.specs.declared.message.Message.TheVariants as kind
 use Rattle.ruled_queue.specs.Delivery as delivery
 
+-- the sender that a message is of
 abbrev pub sender_of : Message → ℕ
 sender_of (kind.Job j) = j.sender
 sender_of (kind.End p) = p
@@ -15,6 +16,7 @@ abbrev pub ticket_of : Message → ℕ
 ticket_of (kind.Job j) = j.ticket
 ticket_of (kind.End p) = 0
 
+-- whether the sender ends with it
 abbrev pub is_end : Message → Bool
 is_end (kind.Job j) = false
 is_end (kind.End p) = true

@@ -21,13 +21,16 @@ pub record DoneJob : Type 0 where
   pub sender : ℕ
   pub answer : Acknowledged
 
+-- a job with what came of it
 abbrev pub done_by : Job → Outcome → ℕ → DoneJob
 done_by job outcome stamp =
     record { sender = job.sender; answer = record { ticket = job.ticket; step = record { write = job.write; outcome = outcome; stamp = stamp } } }
 
+-- the job of one that is done
 abbrev pub job_of : DoneJob → Job
 job_of it = record { sender = it.sender; ticket = it.answer.ticket; write = it.answer.step.write }
 
+-- the job of a message, if it has one
 abbrev pub job_in : Message → Option Job
 job_in (kind.Job job) = Some job
 job_in (kind.End sender) = None

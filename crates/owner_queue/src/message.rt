@@ -22,6 +22,7 @@ pub enum Message<'a> {
 }
 
 impl<'a> Message<'a> {
+    /// The number of the sender.
     pub fn sender(&self) -> u32
         ensures { result ≡ sender_of self.now }
     {

@@ -1,5 +1,5 @@
 -- What every state of the cache machine has, and that each accepted write keeps it.
-use Rattle.std.proofs.Common.{◌≡◌, ℕ, ◌+◌, ◌*◌, ◌≤◌, ◌<◌, List, [], ◌∷◌, ◌++◌, length, Option, Some, None, Bool, true, false, cond, not, refl, sym, ap, subst, arith, ◌≢◌, eqb, ⊎_elim, rules}
+use Rattle.std.proofs.Common.{◌≡◌, ℕ, ◌+◌, ◌*◌, ◌≤◌, ◌<◌, List, [], ◌∷◌, ◌++◌, Option, Some, None, Bool, true, false, cond, not, refl, sym, ap, subst, arith, ◌≢◌, eqb, ⊎_elim, rules}
 use Rattle.std.specs.List.{find, filter, AllByRecursion as AllOf, count_by}
 use Rattle.std.specs.Prelude.{map}
 use Rattle.std.proofs.lemmas.Bool.{not-true, true≢false, leb-true, eqb-true, eqb-false, ne_eqb, cases_eq}
@@ -51,9 +51,6 @@ unfolding cache.start
 start_kept options = grind (arith, common_steps)
 
 -- a value that an operation has fits, and no value does
-
-none_fits : (value : List ℕ) → value ≡ [] → ValueFits value
-none_fits value none = let empty : length value ≡ 0 = ap length none in omega arith
 
 pub fits_by : (op : Op) (value : List ℕ) → HasValueOf op value → ValueFits value
 fits_by op value fits = grind (arith, common_steps)

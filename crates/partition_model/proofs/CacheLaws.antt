@@ -146,10 +146,6 @@ module _ (options : Options) (s : Cache) (write : Write) where
   written_own (Some held) at =
       grind (arith, keeps_put options s write held at, laid.found_map (rewritten write) (rewritten_key write) write.key s.records held, rewritten_key write, found.found_passes (has_key write.key) s.records held, laid.found_key write.key s.records held)
 
-  -- so these are the words of its item
-  pub put_item : write.op ≡ Put → (p : ℕ) → offset_of options s write ≤ p → p < offset_of options s write + size_of write → cs.IsOfItem options s write p
-  put_item at p least most = grind (arith, common_steps, written_own (kept_record options s write) refl)
-
 -- An item that the log is asked to store, and stores, has no more words than the log.
 module _ (options : Options) (write : Write) where
   pub reply_fits : (op : Op) (found : Bool) → GivesValue op → is_accepted (cs.reply_of op options write found) ≡ true → size_of write ≤ options.words

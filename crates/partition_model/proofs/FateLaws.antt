@@ -68,10 +68,6 @@ module _ (options : Options) (s : Cache) (write : Write) (key : List ℕ) where
 
 -- `Held` exactly where the key has a record
 
-held_by : (had wrote live left : Bool) (n : ℕ) (before : Fate) → (left ≡ true → live ≡ true) → (live ≡ true → wrote ≡ true) → (before ≡ Held → had ≡ true)
-    → pick had wrote live left n before ≡ Held → left ≡ true
-held_by had wrote live left n before up up' back is = grind (arith, common_steps)
-
 -- the fate says `Held` exactly of a key with a record
 pub record IsRight (s : Cache) (key : List ℕ) (fate : Fate) : Type 0 where
   pub on : has_record s key ≡ true → fate ≡ Held

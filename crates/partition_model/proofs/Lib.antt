@@ -13,3 +13,4 @@ pub mod BucketSums
 pub mod PowersOfTwo
 pub mod Runs
 pub mod PossibleOptions
+mod Touching

@@ -10,7 +10,7 @@ use Rattle.partition_model.specs.declared.write.Op.{Op}
 use Rattle.partition_model.specs.declared.write.Op.TheVariants.{Put, Add, Touch, Del}
 use Rattle.partition_model.specs.declared.write.Outcome.{Outcome}
 use Rattle.partition_model.specs.declared.write.Outcome.TheVariants.{Stored, Deleted, Absent, Touched, FullBlock, Worn, Exists}
-use Rattle.partition_model.specs.Write.{size_of, is_accepted}
+use Rattle.partition_model.specs.Write.{size_of}
 use Rattle.partition_model.specs.Cache.{Record, Cache, has_key, record_of, is_live}
 use Rattle.partition_model.specs.Limits.{is_at_end}
 
@@ -22,6 +22,7 @@ is_worn options cache = nat_le options.wear cache.accepted || is_at_end cache.st
 abbrev pub may_keep : Options → Cache → Write → Record → Bool
 may_keep options cache write held = nat_le (size_of write) held.room && is_live options.words (cache.stamp + 1) held.offset
 
+-- the record, where a put may keep its place
 abbrev pub kept_if : Options → Cache → Write → Option Record → Option Record
 kept_if options cache write None = None
 kept_if options cache write (Some held) = if may_keep options cache write held then Some held else None
@@ -66,6 +67,7 @@ after_touch (Some held) cache write = after_append cache (new_record cache write
 abbrev pub after_delete : Cache → Write → Cache
 after_delete cache write = record cache { records = others write.key cache.records; stamp = cache.stamp + 1 }
 
+-- the state after an accepted write, before the log passes records
 abbrev pub after_op : Op → Options → Cache → Write → Cache
 after_op Put options cache write = after_put (kept_record options cache write) cache write
 after_op Add options cache write = after_append cache (new_record cache write.key write.value)
@@ -81,9 +83,11 @@ abbrev pub without_passed : Options → Cache → Cache
 without_passed options cache =
     record cache { records = filter (λ held. is_live options.words cache.stamp held.offset) cache.records }
 
+-- whether the record's key is in the bucket
 abbrev pub is_in_bucket : Options → ℕ → Record → Bool
 is_in_bucket options bucket held = bucket_of held.key options.buckets == bucket
 
+-- the records without the first that passes the test
 abbrev pub without_first : (Record → Bool) → List Record → List Record
 without_first test [] = []
 without_first test (held ∷ records) = if test held then records else (held ∷ without_first test records)
@@ -118,11 +122,7 @@ unfoldable pub reply : Options → Cache → Write → Outcome
 reply options cache write =
     if is_worn options cache then Worn else reply_of write.op options write (is_some (record_of cache write.key))
 
--- one step: the reply, and the state after it, which is as it was where the reply refuses the write
-abbrev pub cache_step : Options → Cache → Write → Outcome × Cache
-cache_step options cache write =
-    (reply options cache write, if is_accepted (reply options cache write) then after options cache write else cache)
-
+-- the offset is one of the record's item
 abbrev pub IsInItem : Option Record → ℕ → Type 0
 IsInItem None p = ⊥
 IsInItem (Some held) p = (held.offset ≤ p) × (p < held.offset + item_size held.key held.value)

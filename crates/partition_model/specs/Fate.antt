@@ -8,6 +8,7 @@ use Rattle.partition_model.specs.Write.{GivesValue}
 use Rattle.partition_model.specs.Cache.{Cache, start, record_of}
 use Rattle.partition_model.specs.CacheStep.{after_write, without_passed, after}
 
+-- whether the cache has a record of the key
 abbrev pub has_record : Cache → List ℕ → Bool
 has_record cache key = is_some (record_of cache key)
 

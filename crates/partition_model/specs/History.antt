@@ -17,6 +17,7 @@ pub data State : Type 0 where
   cache_state : cache.Cache → State
   store_state : store.Store → State
 
+-- the empty machine of a mode
 abbrev pub start : Mode → State
 start CacheMode = cache_state cache.start
 start StoreMode = store_state store.start
@@ -31,10 +32,12 @@ abbrev pub Allows : Options → State → Write → Outcome → Type 0
 Allows options (cache_state s) write outcome = outcome ≡ cache_step.reply options s write
 Allows options (store_state s) write outcome = store_step.Allows options s write outcome
 
+-- the stamp of a state
 abbrev pub stamp_in : State → ℕ
 stamp_in (cache_state s) = s.stamp
 stamp_in (store_state s) = s.stamp
 
+-- how many writes a state has accepted
 abbrev pub accepted_in : State → ℕ
 accepted_in (cache_state s) = s.accepted
 accepted_in (store_state s) = s.accepted
@@ -49,6 +52,7 @@ pub record IsStep (options : Options) (old : State) (write : Write) (outcome : O
   pub allowed : Allows options old write outcome
   pub result : new ≡ (if is_accepted outcome then after options old write else old)
 
+-- the accepted writes of a partition, in order
 abbrev pub History : Type 0
 History = List Write
 
@@ -73,6 +77,7 @@ abbrev pub IsAcceptedAfter : Options → History → Write → Type 0
 IsAcceptedAfter options history write =
     (outcome : Outcome) × (is_accepted outcome ≡ true) × MayGive options history write outcome
 
+-- each write is accepted behind those before it
 abbrev pub IsHistoryFrom : Options → History → History → Type 0
 IsHistoryFrom options before [] = Unit {0}
 IsHistoryFrom options before (write ∷ later) =

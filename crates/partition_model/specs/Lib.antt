@@ -10,3 +10,4 @@ pub mod StoreStep
 pub mod History
 pub mod Run
 pub mod Limits
+pub mod Touches

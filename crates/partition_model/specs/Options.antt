@@ -3,6 +3,7 @@ use Rattle.std.specs.Prelude.{◌≡◌, ℕ, ◌≤◌, ◌^◌}
 use Rattle.partition_model.specs.declared.options.Options.{Options}
 use Rattle.partition_model.specs.declared.options.TheConstants.{MAX_WEAR, MOST_PARTITIONS, MOST_SPARES, MOST_WORDS, MOST_WEAR}
 
+-- the number is neither below the least nor above the most
 abbrev pub InRange : ℕ → ℕ → ℕ → Type 0
 InRange least most n = (least ≤ n) × (n ≤ most)
 

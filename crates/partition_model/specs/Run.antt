@@ -13,6 +13,7 @@ pub record RunStep : Type 0 where
   pub outcome : Outcome
   pub stamp : ℕ
 
+-- the write of a step, if it was accepted
 abbrev pub accepted_write : RunStep → Option Write
 accepted_write step = if is_accepted step.outcome then Some step.write else None
 

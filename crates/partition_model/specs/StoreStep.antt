@@ -89,6 +89,7 @@ abbrev pub after_delete : Store → Write → Store
 after_delete store write =
     record { cells = remove store.cells write.key; stamp = store.stamp + 1; accepted = store.accepted + 1 }
 
+-- the cells after an accepted write of each operation
 abbrev pub after_op : Op → Store → Write → Store
 after_op Put store write = after_put store write
 after_op Add store write = after_put store write

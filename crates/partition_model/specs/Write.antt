@@ -8,6 +8,7 @@ use Rattle.partition_model.specs.declared.write.Write.{Write}
 use Rattle.partition_model.specs.declared.write.Outcome.{Outcome}
 use Rattle.partition_model.specs.declared.write.Outcome.TheVariants.{Stored, Deleted, Absent, Touched, FullSpare, FullBlock, Worn, Exists}
 
+-- the write of these parts
 abbrev pub write_of : Op → List ℕ → List ℕ → Write
 write_of op key value = record { op = op; key = key; value = value }
 

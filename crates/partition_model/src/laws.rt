@@ -7,6 +7,7 @@ ghost use Rattle.partition_model.specs.History.{History, IsHistory, IsPrefix, Is
 ghost use Rattle.partition_model.specs.Limits.{last_tail};
 ghost use Rattle.partition_model.specs.Write.{IsWrite};
 ghost use Rattle.partition_model.specs.Options.{IsValid, IsPossible};
+ghost use Rattle.partition_model.specs.Touches.{TouchesKeep};
 
 /// Partitions can be made of what the words of `mica` may ask for.
 pub fn valid_is_possible()
@@ -25,4 +26,9 @@ pub fn one_cut()
         → begun ≢ history → stamp_of options begun < stamp_of options history }
     ensures one { (options : Options) (history : History) (stamp : ℕ) (a b : History)
         → IsCut options history stamp a → IsCut options history stamp b → a ≡ b }
+{}
+
+/// A touch in cache mode changes no value: a key keeps its own, unless the log passes it.
+pub fn touches_keep()
+    ensures { TouchesKeep }
 {}

@@ -61,5 +61,6 @@ sizes_in mode partitions bytes =
     let spares = spares_for mode buckets in
     record { partitions = partitions; buckets = buckets; spares = spares; words = words_for mode bytes buckets spares }
 
+-- the sizes for a mode and so much memory
 abbrev pub sizes_for : Mode → ℕ → Sizes
 sizes_for mode memory = sizes_in mode (partitions_for memory) (share_of memory)

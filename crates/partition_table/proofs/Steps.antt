@@ -330,11 +330,6 @@ met_owns (Owns o) w e = refl
 met_owns (Reads r) w e = absurd (cc e)
 met_owns Spent w e = absurd (cc e)
 
-pub met_owner : (v w : View) → is_owner v ≡ true → owner_in (view_met v w) ≡ met_by (owner_in v) (reader_in w)
-met_owner (Owns o) w e = refl
-met_owner (Reads r) w e = absurd (cc e)
-met_owner Spent w e = absurd (cc e)
-
 pub met_reads : (v w : View) → is_reader v ≡ true → (is_reader (view_met v w) ≡ true) × (reader_in (view_met v w) ≡ told (reader_in v) (reader_in w))
 met_reads (Owns o) w e = absurd (cc e)
 met_reads (Reads r) w e = (refl, refl)

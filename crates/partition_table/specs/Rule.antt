@@ -38,6 +38,7 @@ first_view shape = Owns (as_made shape)
 
 -- The state in a view, and some state in a view of another kind.
 
+-- the shape of no table
 abbrev pub no_shape : Shape
 no_shape = record { mode = Cache; buckets = 0; spares = 0; words = 0; wear = 0 }
 

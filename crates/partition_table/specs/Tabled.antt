@@ -5,6 +5,7 @@ use Rattle.partition_table.specs.declared.owner.OwnerSeat.{OwnerSeat}
 use Rattle.partition_table.specs.declared.tables.KeptSeat.{KeptSeat}
 use Rattle.partition_table.specs.Seats.{owner_state}
 
+-- what is kept of an owner whose run is over
 abbrev pub kept_seat_in : OwnerState → KeptSeat
 kept_seat_in o = record { shape = o.shape; history = o.history; closed = o.closed }
 

@@ -17,5 +17,5 @@ mod tables;
 
 pub use making::{make, make_from_zeros, zeros_for};
 pub use owner::OwnerSeat;
-pub use reader::{Note, ReaderSeat};
+pub use reader::{Aside, Note, ReaderSeat};
 pub use tables::{KeptSeat, Tables};

@@ -20,6 +20,7 @@ pub(crate) struct Places {
 }
 
 impl Places {
+    /// The places of a shape, at the first lap.
     pub fn new(shape: &Shape) -> Places
         requires { 0 < shape.now.words }
         ensures { result.shape ≡ shape.now }

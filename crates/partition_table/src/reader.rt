@@ -1,4 +1,4 @@
-//! A seat that reads, and a note of what one has seen.
+//! A seat that reads, a note of what one has seen, and what one has set aside.
 ghost use Rattle.std.specs.Prelude.{◌≡◌, ◌+◌, ◌^◌, ◌<◌, true, [], Some, None};
 ghost use Rattle.std.specs.Arc.{arc_value};
 ghost use Rattle.partition_model.specs.History.{IsPrefix};
@@ -15,6 +15,7 @@ use crate::rule::{PartitionTable, View};
 use atomic_table::Seat;
 use epoch_core::{ReaderWords, Shape, WordAt};
 use std::alloc::Global;
+use std::mem;
 use std::sync::Arc;
 
 /// A reader's seat at a partition's table.
@@ -42,8 +43,18 @@ pub struct Note {
     pub ghost light: { seat.me.1 ≡ [] },
 }
 
+/// What a reader's seat has set aside. It cannot load.
+#[derive(Drop)]
+pub struct Aside {
+    seat: Seat<(), View>,
+    bucket: u32,
+    pub ghost reads: { is_reader seat.me.0 ≡ true },
+    pub ghost light: { seat.me.1 ≡ [] },
+    pub ghost tries: { (t : Try) → (reader_in seat.me.0).current ≡ Some t → (t.bucket ≡ bucket) × IsMain (reader_in seat.me.0).shape bucket },
+}
+
 impl ReaderSeat {
-    ghost use Rattle.partition_table.specs.Seats.{reader_state, reader_home, note_state, note_home};
+    ghost use Rattle.partition_table.specs.Seats.{reader_state, reader_home, note_state, note_home, aside_state, aside_home};
 
     /// A note of the writes that this seat has seen.
     pub fn note(&mut self) -> Note
@@ -77,6 +88,33 @@ impl ReaderSeat {
             block[i] = self.table.shared.load::<Looks>(&mut self.seat, place);
         }
         block
+    }
+
+    /// Sets aside all that it knows, and goes on as one that was just split off and has seen the same. What it tries then is told nowhere.
+    pub fn set_aside(&mut self) -> Aside
+        ensures aside { aside_state result ≡ reader_state self.old }
+        ensures aside_home { aside_home result ≡ reader_home self.old }
+        ensures anew { reader_state self.new ≡ note_of (reader_state self.old) }
+        ensures home { reader_home self.new ≡ reader_home self.old }
+    {
+        let Note { seat: anew } = self.note();
+        let seat = mem::replace(&mut self.seat, anew);
+        Aside {
+            seat,
+            bucket: self.bucket,
+        }
+    }
+
+    /// Goes on with what it had set aside, and forgets all since.
+    pub fn take_up(&mut self, aside: Aside)
+        requires home { aside_home aside ≡ reader_home self.old }
+        requires shape { (aside_state aside).shape ≡ (reader_state self.old).shape }
+        ensures state { reader_state self.new ≡ aside_state aside }
+        ensures home { reader_home self.new ≡ reader_home self.old }
+    {
+        let Aside { seat, bucket } = aside;
+        self.seat = seat;
+        self.bucket = bucket;
     }
 
     /// Takes in what a note of the same table has seen.

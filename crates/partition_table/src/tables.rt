@@ -37,6 +37,7 @@ impl Model for Tables {
 }
 
 impl Tables {
+    /// No tables.
     pub fn new() -> Tables
         ensures { result ≡ [] }
     {
@@ -52,6 +53,7 @@ impl Tables {
         }
     }
 
+    /// How many tables are kept.
     pub fn len(&self) -> u32
         ensures { result ≡ length self.now }
     {

@@ -20,12 +20,14 @@ pub struct Asked {
     pub place: usize,
 }
 
+/// Whether a line is a get.
 pub fn is_get(line: &TraceLine) -> bool
     ensures { result ≡ is_get line.now }
 {
     matches!(line.op, TraceOp::Get)
 }
 
+/// The partition of a line's key.
 pub fn partition_in(options: &Options, line: &TraceLine) -> u32
     requires { 1 ≤ options.now.partitions }
     ensures { result ≡ partition_in options.now line.now }

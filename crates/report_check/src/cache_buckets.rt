@@ -45,6 +45,7 @@ impl CacheBuckets {
         })
     }
 
+    /// The stamp of the state.
     pub fn stamp(&self) -> u64
         ensures { result ≡ self.now.stamp }
     {

@@ -13,6 +13,7 @@ use mica_model::{Answer, ItemBuf, Mode, Op, Options, Outcome, StoreMachine};
 use mica_trace::Line;
 use std::alloc::Global;
 
+/// The machine of a partition, in either mode.
 #[derive(Drop)]
 pub enum Machine {
     Cache(CacheBuckets),
@@ -31,6 +32,7 @@ impl Machine {
         }
     }
 
+    /// The stamp of the state.
     pub fn stamp(&self) -> u64
         ensures { (state : State) → IsAt state self.now → result ≡ stamp_in state }
     {

@@ -15,8 +15,10 @@ abbrev pub Queue : Type 0 → Type 0
 Queue T = TableId × Badge (Key T)
 
 module _ {T S : Type 0} where
+  -- the queue that a pass is for
   abbrev pub queue_of : Pass T (Knows T S) → Queue T
   queue_of p = (p.table_id, p.me.0.of)
 
+  -- what the holder of a pass knows
   abbrev pub known : Pass T (Knows T S) → Knows T S
   known p = view p

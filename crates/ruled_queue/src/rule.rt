@@ -30,6 +30,7 @@ pub struct Knows<T, S> {
     pub heard: u64,
 }
 
+/// What holds of a queue: each sender's messages arrive once and in its order.
 pub struct InOrder;
 
 impl<S, T: Queued<S>> Protocol<T, Knows<T, S>> for InOrder {
@@ -67,6 +68,7 @@ impl<S, T: Queued<S>> Join<Knows<T, S>> for TakenIn {
     ghost spent = { nobody T.unset };
 }
 
+/// What a sender knows once its message is in the queue.
 pub struct Sends;
 
 impl<T, S> Outcome<T, Knows<T, S>> for Sends {
@@ -81,6 +83,7 @@ impl<T, S> Lesson<T, Knows<T, S>> for Sends {
     ghost fact = { λ v items. ⊤ };
 }
 
+/// What the receiver knows once it took a message.
 pub struct Takes;
 
 impl<S, T: Queued<S>> Outcome<T, Knows<T, S>> for Takes {

@@ -13,11 +13,9 @@ use Rattle.std.proofs.lemmas.Bool.{true≢false}
 use Rattle.std.proofs.lemmas.Slice.Eq.{bytes_eq-Decides}
 use Rattle.partition_model.specs.declared.options.Options.{Options}
 use Rattle.partition_model.specs.declared.options.Mode.TheVariants.{Store as StoreMode}
-use Rattle.partition_model.specs.declared.write.Op.{Op}
 use Rattle.partition_model.specs.declared.write.Op.TheVariants.{Del as DelOp}
 use Rattle.partition_model.specs.declared.write.Write.{Write}
-use Rattle.partition_model.specs.declared.write.Outcome.{Outcome}
-use Rattle.partition_model.specs.Write.{is_accepted, GivesValue, write_of}
+use Rattle.partition_model.specs.Write.{GivesValue}
 use Rattle.partition_model.specs.Fate.{GivesNoValue}
 use Rattle.partition_model.specs.Store as store
 use Rattle.partition_model.specs.StoreStep as ss
@@ -58,10 +56,6 @@ module _ (options : Options) (key : List ℕ) where
   PutsNot line = put_key line ≢ Some key
 
   module _ (k v : List ℕ) (h : History) (all : AllByRecursion (GivesNoValue key) h) where
-    -- one write more, if it was accepted
-    one_more : (does : Op) (outcome : Outcome) → GivesNoValue key (write_of does k v)
-        → AllByRecursion (GivesNoValue key) (cons_option (cond (is_accepted outcome) (Some (write_of does k v)) None) [] ++ h)
-    one_more does outcome none = grind (arith, common_steps)
 
     leaves : (op : TraceOp) (r : Line) → (key_by op k ≢ Some key) → AllByRecursion (GivesNoValue key) (history_of (cons_option (step_by (write_by op k v) r) []) ++ h)
     leaves op r not = grind (arith, common_steps)

@@ -45,6 +45,7 @@ pair_text pair = length pair.key ∷ to_le_bytes w16 (length pair.value) ++ pair
 abbrev pub header_text : ℕ → List ℕ
 header_text count = MAGIC ++ VERSION ∷ to_le_bytes w32 count
 
+-- the text of an image of these pairs
 unfoldable pub image_text : List Pair → List ℕ
 image_text pairs = header_text (length pairs) ++ flat_map pair_text pairs
 

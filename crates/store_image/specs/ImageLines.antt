@@ -8,5 +8,6 @@ use Rattle.store_image.specs.ImageGrammar.{Pair}
 abbrev pub put_line : Pair → TraceLine
 put_line pair = record { op = Put; key = pair.key; value = pair.value }
 
+-- a trace that puts each pair
 abbrev pub put_lines : List Pair → List TraceLine
 put_lines pairs = map put_line pairs

@@ -9,5 +9,6 @@ use Rattle.store_image.specs.ImageGrammar.{Pair}
 abbrev pub put_write : Pair → Write
 put_write pair = write_of Put pair.key pair.value
 
+-- a put of each pair
 abbrev pub put_writes : List Pair → List Write
 put_writes pairs = map put_write pairs

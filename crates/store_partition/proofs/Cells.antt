@@ -57,17 +57,11 @@ cell_left Del s w = None
 
 -- what a write that gives a value does
 pub cell_given : (op : Op) (s : Store) (w : Write) → GivesValue op → cell_left op s w ≡ Some (cell_put s w)
-cell_given Put s w gives = refl
-cell_given Add s w gives = refl
-cell_given Touch s w gives = absurd gives
-cell_given Del s w gives = absurd gives
+cell_given op s w gives = grind (arith, common_steps)
 
 -- and one that gives none leaves a key without a cell so
 pub none_left : (op : Op) (s : Store) (w : Write) → ¬ (GivesValue op) → get s.cells w.key ≡ None → cell_left op s w ≡ None
-none_left Put s w other none = absurd (other tt)
-none_left Add s w other none = absurd (other tt)
-none_left Touch s w other none = none
-none_left Del s w other none = refl
+none_left op s w other none = grind (arith, common_steps)
 
 left_put : (s : Store) (w : Write) → get (ss.after_put s w).cells w.key ≡ Some (cell_put s w)
 left_put s w = get-insert nat_list_cmp_total s.cells w.key (cell_put s w) w.key

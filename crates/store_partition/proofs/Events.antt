@@ -335,8 +335,7 @@ module _ (h : Held) (a : AcceptedWrite h.o) (b : ℕ) (here : b ≡ bucket_in h.
               (let more = length_permutation _ _ e.heap.more in
               let less = length_permutation _ _ heap.1 in
               let lengths = length-append e.given (used_blocks bs) in
-              omega (arith, as_cells h, ex.all, e.count, length-append e.taken (used_blocks h.blocks), e.split.long, e.long))
-              ∙ ap len cells;
+              omega (arith, as_cells h, ex.all, e.count, length-append e.taken (used_blocks h.blocks), e.split.long, e.long)) ∙ ap len cells;
           words =
               (let more = sum_by-IsPermutation (λ (y : Block). y.size) _ _ e.heap.more in
               let less = sum_by-IsPermutation (λ (y : Block). y.size) _ _ heap.1 in

@@ -15,7 +15,8 @@ use Rattle.store_partition.proofs.Words.{option_map, value_in, FullBlock, FullSp
 use Rattle.store_partition.proofs.Words.{Stored, free_spares, inl, inr, item_size, nil_from_length, refused_step, spares_in_use, subst₂}
 use Rattle.store_partition.proofs.Words.{false, true}
 use Rattle.store_partition.proofs.Words.{sum_by_popped, used_blocks-taken, words_of-fills, words_parted, write_of}
-use Rattle.store_partition.proofs.Lists.{block_within, nothing, once_by, same_or_apart, single, added, list_on}
+use Rattle.store_partition.proofs.Words.{block_within, same_or_apart}
+use Rattle.store_partition.proofs.Lists.{nothing, once_by, single, added, list_on}
 use Rattle.store_partition.proofs.Cells.{one_or_none}
 use Rattle.circular_log.proofs.SpeltItem.{spelt_item}
 use Rattle.partition_model.specs.StoreStep as ss

@@ -17,8 +17,7 @@ pub record ListStands (o : OwnerState) (b : ℕ) : Type 0 where
       → (i : ℕ) × (i < length (entries_of o b)) × Spells o b (at (entries_of o b) i) key cell
   pub once : (i j : ℕ) (key : List ℕ) (cell : Cell) → i < length (entries_of o b) → j < length (entries_of o b)
       → Spells o b (at (entries_of o b) i) key cell → Spells o b (at (entries_of o b) j) key cell → i ≡ j
-  pub rooms : (i j : ℕ) → i < length (entries_of o b) → j < length (entries_of o b) → i ≢ j
-      → RoomsApart o (at (entries_of o b) i) (at (entries_of o b) j)
+  pub rooms : (i j : ℕ) → i < length (entries_of o b) → j < length (entries_of o b) → i ≢ j → RoomsApart o (at (entries_of o b) i) (at (entries_of o b) j)
   pub apart : (other i j : ℕ) → IsMain o.shape other → other ≢ b → marked_in o.phase other ≡ 0
       → i < length (entries_of o b) → j < length (entries_of o other) → RoomsApart o (at (entries_of o b) i) (at (entries_of o other) j)
 

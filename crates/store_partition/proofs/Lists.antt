@@ -1,11 +1,11 @@
 -- Lists: entries of which each stands once, and the used blocks of a heap.
 use Rattle.std.proofs.lemmas.Grind.{common_steps}
 use Rattle.epoch_core.proofs.Differing.{AllDiffer}
-use Rattle.store_partition.proofs.Words.{AddsBlock, All-contains, Block, Contains, Contains-permutation, Fills, IsBlockList, IsGiven, IsPermutation}
+use Rattle.store_partition.proofs.Words.{AddsBlock, Block, Contains, Contains-permutation, Fills, IsBlockList, IsGiven, IsPermutation}
 use Rattle.store_partition.proofs.Words.{IsPermutation-middle, IsPermutation-remove, IsPermutation-swap_remove, IsPermutation-sym}
 use Rattle.store_partition.proofs.Words.{List, [], ap, arith, at, back_fills, drop, get_or_default, length, list_remove, refl, set_split, slice_set}
-use Rattle.store_partition.proofs.Words.{subst, subst₂, suc, swap_remove, sym, take, used_apart, used_block, used_blocks, used_blocks-given}
-use Rattle.store_partition.proofs.Words.{used_within, words_of, words_of-fills, ℕ, ◌++◌, ◌+◌, ◌-◌, ◌<◌, ◌∙◌, ◌∷◌, ◌≡◌, ◌≤◌, ◌⊎◌}
+use Rattle.store_partition.proofs.Words.{subst, subst₂, suc, swap_remove, sym, take, used_block, used_blocks, used_blocks-given}
+use Rattle.store_partition.proofs.Words.{same_or_apart, words_of, words_of-fills, ℕ, ◌++◌, ◌+◌, ◌-◌, ◌<◌, ◌∙◌, ◌∷◌, ◌≡◌, ◌≤◌}
 
 pub once_by : (xs : List ℕ) → ((i j : ℕ) → i < length xs → j < length xs → at xs i ≡ at xs j → i ≡ j) → AllDiffer xs
 once_by xs places i j d less m same = grind (arith, places i j, get_or_default xs i 0 d, get_or_default xs j d 0)
@@ -34,19 +34,7 @@ module _ (xs : List ℕ) (n e : ℕ) (l : n < length xs) where
         (ap (λ z. take (length xs - 1) (slice_set xs n z)) (get_or_default xs (length xs - 1) e 0 (omega arith)))
         (IsPermutation-swap_remove xs n e l (sym (get_or_default xs n e 0 l ∙ is)))
 
--- The used blocks of a heap: they lie apart, and what becomes of them where one is taken or given back
-
--- a used block lies in the heap
-pub block_within : (words : ℕ) (blocks : List Block) → IsBlockList words blocks → (place size : ℕ) → Contains (used_blocks blocks) (used_block place size) → place + size ≤ words
-block_within words blocks list place size has = grind (arith, common_steps, All-contains, used_within words blocks list)
-
--- two used blocks are one, or lie apart
-pub same_or_apart : (words : ℕ) (blocks : List Block) → IsBlockList words blocks → (one other : Block) → Contains (used_blocks blocks) one
-    → Contains (used_blocks blocks) other → (one ≡ other) ⊎ ((one.place + one.size ≤ other.place) ⊎ (other.place + other.size ≤ one.place))
-same_or_apart words blocks list one other has has' =
-    let apart = used_apart words blocks list in
-    let is = get_or_default (used_blocks blocks) has.0 other one has.1 in
-    grind (arith, is, has.1, has.2, has'.1, has'.2, apart has.0 has'.0 other, apart has'.0 has.0 other)
+-- The used blocks of a heap: what becomes of them where one is taken or given back
 
 -- one block more
 pub added : (old new : List Block) (block : Block) → AddsBlock old new block → IsPermutation new (block ∷ old)

@@ -30,8 +30,7 @@ pub record DelKnown (o : OwnerState) (index : Index) (blocks : List Block) (w : 
   pub removes : (o2 : OwnerState) → o2 ≡ marked_in_bucket o b w t
       → record { index : IsIndexOf index o2; marked : marked_in o2.phase b ≡ 1; bucket : IsMain o2.shape b; spot : IsUsed o2 b spot }
   pub closes : (o2 o4 : OwnerState) (index' : Index) → o2 ≡ marked_in_bucket o b w t → Kept o4 → IsIndexOf index' o4
-      → ChangesChain o2 o4 b (swap_remove (entries_of o2 b) (place_in_chain o2 b spot) 0)
-      → Closes o w Deleted b t index' (Gave blocks old) o4
+      → ChangesChain o2 o4 b (swap_remove (entries_of o2 b) (place_in_chain o2 b spot) 0) → Closes o w Deleted b t index' (Gave blocks old) o4
   pub small : old < 2 ^ 32
   pub gives : HasUsed blocks old
 
@@ -46,10 +45,7 @@ reply_left None = Absent
 reply_left (Some spot) = Touched
 
 pub no_value : (op : Op) → ¬ (GivesValue op) → HasValueOf op []
-no_value Put other = absurd (other tt)
-no_value Add other = absurd (other tt)
-no_value Touch other = refl
-no_value Del other = refl
+no_value op other = grind (arith, common_steps)
 
 module _ (h : Held) (key : List ℕ) (fits : KeyFits key) (bytes : AreBytes key) (unworn : length h.o.history < h.o.shape.wear)
     (n : ℕ) (counted : n ≡ length h.o.history) (b : ℕ) (here : b ≡ bucket_in h.o key) where

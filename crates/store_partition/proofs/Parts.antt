@@ -2,13 +2,16 @@
 use Rattle.std.proofs.lemmas.Grind.{common_steps}
 use Rattle.partition_model.specs.Store as store
 use Rattle.chained_index.specs.ChainEntries.{buckets_from, buckets_of, entries_in, entries_of}
-use Rattle.store_partition.proofs.Words.{AreParts, Block, Bool, CacheMode, Cell, Contains, Decides, Decides-eqb, Fills, Has, Index}
-use Rattle.store_partition.proofs.Words.{IsIndexOf, IsMain, IsCoalesced, IsPossibleShape, Kept, List, Met, Mode, OwnerState, Shape, StoreMode, [], ap}
+use Rattle.store_partition.proofs.Words.{AreParts, Block, Bool, CacheMode, Cell, Contains, Decides, Decides-eqb, Has, Index}
+use Rattle.store_partition.proofs.Words.{IsIndexOf, IsMain, IsPossibleShape, Kept, List, Met, Mode, OwnerState, Shape, StoreMode, [], ap}
 use Rattle.store_partition.proofs.Words.{arith, as_made, cells_of, chained, cond, dense_on, dite, empty, entry_offset, flat_map, free_block}
 use Rattle.store_partition.proofs.Words.{get-empty, if◌then◌else◌, is_member-Decides, kept_as_made, keys_in, len, len-empty, length, link_in, listed}
 use Rattle.store_partition.proofs.Words.{nat_cmp, no_keys, no_rooms, not, props, refl, room_in, rooms, slice_cmp, slice_index, start, subst, suc, sym}
 use Rattle.store_partition.proofs.Words.{used_block, used_blocks, zero, ℕ, ℕ_discrete, ∥∥₁_elim, ◌&&◌, ◌+◌, ◌<◌, ◌==◌, ◌∙◌, ◌∷◌, ◌≡◌}
-use Rattle.store_partition.proofs.Held.{Held}
+use Rattle.store_partition.proofs.Words.{AreBytes, IsOwnerStep, Some, Spot, Write, coalesced_once, fills_once, worn_step, ◌≤◌}
+use Rattle.store_partition.proofs.Held.{Held, Known, known}
+use Rattle.partition_model.specs.declared.write.Outcome.TheVariants.{Worn}
+use Rattle.store_partition.specs.Sought.{IsSought}
 
 -- What is only said to hold of the parts holds of them, since each fact has one proof or can be found
 
@@ -23,16 +26,8 @@ block_tells : (x y : Block) → Decides (same_block x y) (x ≡ y)
 unfolding same_block
 block_tells x y = grind (arith, common_steps)
 
-fills_once : (from end : ℕ) (blocks : List Block) → IsProp (Fills from blocks end)
-fills_once from end [] = hlevel props
-fills_once from end (block ∷ blocks) = hlevel (props, fills_once (from + block.size) end blocks)
-
-merged_once : (blocks : List Block) → IsProp (IsCoalesced blocks)
-merged_once [] = hlevel props
-merged_once (block ∷ blocks) = hlevel (props, merged_once blocks)
-
-pub whole : (index : Index) (blocks : List Block) (o : OwnerState) → ∥ AreParts index blocks o ∥₁ → AreParts index blocks o
-whole index blocks o has = record {
+pub whole : {index : Index} {blocks : List Block} {o : OwnerState} → ∥ AreParts index blocks o ∥₁ → AreParts index blocks o
+whole {index} {blocks} {o} has = record {
   mode = ∥∥₁_elim has (hlevel props) (λ p. p.mode);
   idle = ∥∥₁_elim has (hlevel props) (λ p. p.idle);
   known = record {
@@ -48,7 +43,7 @@ whole index blocks o has = record {
   entries = ∥∥₁_elim has (hlevel props) (λ p. p.entries);
   list = record {
     fills = ∥∥₁_elim has (fills_once 0 o.shape.words blocks) (λ p. p.list.fills);
-    merged = ∥∥₁_elim has (merged_once blocks) (λ p. p.list.merged);
+    merged = ∥∥₁_elim has (coalesced_once blocks) (λ p. p.list.merged);
   };
   used = λ b l i less. found same_block block_tells (used_blocks blocks) _
       (∥∥₁_elim has (hlevel props) (λ p. ∣ p.used b l i less ∣₁));
@@ -56,8 +51,16 @@ whole index blocks o has = record {
   words = ∥∥₁_elim has (hlevel props) (λ p. p.words);
 }
 
-abbrev pub held : (o : OwnerState) → Kept o → (index : Index) (blocks : List Block) → ∥ AreParts index blocks o ∥₁ → Held
-held o kept index blocks parts = record { o = o; kept = kept; index = index; blocks = blocks; parts = whole index blocks o parts }
+module _ {o : OwnerState} {index : Index} {blocks : List Block} where
+  abbrev pub held : Kept o → ∥ AreParts index blocks o ∥₁ → Held
+  held kept parts = record { o = o; kept = kept; index = index; blocks = blocks; parts = whole parts }
+
+  -- a key that was sought has an entry
+  pub known_at : (kept : Kept o) (parts : ∥ AreParts index blocks o ∥₁) {key : List ℕ} {b : ℕ} {spot : Spot} → IsSought o key b (Some spot) → AreBytes key → Known (held kept parts) key b spot
+  known_at kept parts {key} {b} {spot} sought bytes = known (held kept parts) key b sought.bucket bytes spot sought.found
+
+  pub worn : ∥ AreParts index blocks o ∥₁ → o.shape.wear ≤ length o.history → (w : Write) → IsOwnerStep o o w Worn
+  worn parts reached w = worn_step o (whole parts).idle reached w
 
 -- The parts of a partition over words as made
 
@@ -120,8 +123,7 @@ module _ (o : OwnerState) (met : Met) (closed : ℕ) where
     entries = λ b main. ap (length {A = ℕ}) (entries_same b) ∙ k.entries b main;
     list = k.list;
     used = λ b main.
-        subst (λ z. (i : ℕ) → i < length z
-        → Contains (used_blocks blocks) (used_block (entry_offset (slice_index z i)) (room_in o (slice_index z i))))
+        subst (λ z. (i : ℕ) → i < length z → Contains (used_blocks blocks) (used_block (entry_offset (slice_index z i)) (room_in o (slice_index z i))))
         (sym (entries_same b)) (k.used b main);
     count = k.count;
     words = k.words;

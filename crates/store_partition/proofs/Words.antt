@@ -73,8 +73,8 @@ pub use Rattle.epoch_core.specs.declared.state.Met.{Met}
 pub use Rattle.epoch_core.specs.declared.state.OwnerState.{OwnerState}
 pub use Rattle.epoch_core.specs.declared.state.Phase.TheVariants.{Marked}
 pub use Rattle.block_heap.proofs.Counting.{words_parted}
-pub use Rattle.block_heap.proofs.Order.{back_fills, words_of-append, words_of-fills}
-pub use Rattle.block_heap.proofs.UsedBlocks.{AddsBlock, taken_apart, taken_within, used_apart, used_blocks-given, used_blocks-taken, used_within}
+pub use Rattle.block_heap.proofs.Order.{back_fills, coalesced_once, fills_once, words_of-append, words_of-fills}
+pub use Rattle.block_heap.proofs.UsedBlocks.{AddsBlock, block_within, same_or_apart, taken_apart, taken_within, used_blocks-given, used_blocks-taken}
 pub use Rattle.block_heap.specs.Blocks.{Fills, HasUsed, IsBlockList, IsCoalesced, MayLack, free_block, used_block, used_blocks, words_of}
 pub use Rattle.block_heap.specs.Changes.{IsGiven, IsTaken}
 pub use Rattle.block_heap.specs.declared.block.Block.{Block}

@@ -39,7 +39,7 @@ pub record StandsBy (options : Options) (base had lacked : ℕ) (clients : List 
 -- They went on by answers that were given to clients and by sweeps, and of the first P holds.
 abbrev pub GoesBySwept : Options → Bool → ℕ → Sessions → ℕ → ℕ → Sessions → ℕ → ℕ → (List Given → Type 0) → Type 0
 GoesBySwept options is_alone base old left told new left_after tells P =
-    (given : List Given) × (answers : List Answered) × HasSweeps base (answers_in given) answers × GoesByThese options is_alone old left told answers new left_after tells × P given
+    (given : List Given) × (answers : List Answered) × HasSweeps options base (answers_in given) answers × GoesByThese options is_alone old left told answers new left_after tells × P given
 
 -- Where nothing had been done before, sessions and clock went on by answers by which all stands.
 abbrev pub StandsSince : Options → Bool → ℕ → Sessions → ℕ → ℕ → ℕ → Sessions → ℕ → ℕ → ℕ → List (Option Client) → Log → Log → Type 0
@@ -101,8 +101,8 @@ module _ (options : Options) (is_alone : Bool) (base : ℕ) (old : Sessions) (le
         let here = answers_in second.0 in (
           f.0 ++ second.0,
           f.1 ++ here,
-          subst (λ (a : List Answered). HasSweeps base a (f.1 ++ here)) (sym (map-append (λ (g : Given). g.answered) f.0 second.0))
-              (has_both base f.1 here (answers_in f.0) here f.2 (unswept base here)),
+          subst (λ (a : List Answered). HasSweeps options base a (f.1 ++ here)) (sym (map-append (λ (g : Given). g.answered) f.0 second.0))
+              (has_both options base f.1 here (answers_in f.0) here f.2 (unswept options base here)),
           these_then options is_alone f.3 second.1,
           record {
             schedule = second.2.schedule ∙ t.schedule ∙ by.schedule;
@@ -126,8 +126,8 @@ module _ (options : Options) (is_alone : Bool) (base : ℕ) (old : Sessions) (le
         let sweeps = subst (λ (p : Options). SweepsBy p is_alone base between then_left then_told new left_after tells) is more in (
           f.0,
           f.1 ++ sweeps.answers,
-          subst (λ (a : List Answered). HasSweeps base a (f.1 ++ sweeps.answers)) (append-nil (answers_in f.0))
-              (has_both base f.1 sweeps.answers (answers_in f.0) [] f.2 (only_swept base sweeps.answers sweeps.sweeps)),
+          subst (λ (a : List Answered). HasSweeps options base a (f.1 ++ sweeps.answers)) (append-nil (answers_in f.0))
+              (has_both options base f.1 sweeps.answers (answers_in f.0) [] f.2 (only_swept options base sweeps.answers sweeps.sweeps)),
           these_then options is_alone f.3 (these_sweeps sweeps),
           f.4,
         )

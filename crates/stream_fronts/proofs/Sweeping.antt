@@ -7,19 +7,19 @@ use Rattle.mica_fronts.specs.Session.{Sessions}
 use Rattle.memcached_fronts.specs.Sweeps.{IsSweep, HasSweeps, SweepsBy}
 use Rattle.stream_fronts.specs.Going.{GoesBy, GoesByThese}
 
-module _ (base : ℕ) where
-  pub unswept : (answers : List Answered) → HasSweeps base answers answers
+module _ (options : Options) (base : ℕ) where
+  pub unswept : (answers : List Answered) → HasSweeps options base answers answers
   unswept [] = refl
   unswept (a ∷ answers) = inr (answers, refl, unswept answers)
 
-  pub only_swept : (answers : List Answered) → AllByRecursion (IsSweep base) answers → HasSweeps base [] answers
+  pub only_swept : (answers : List Answered) → AllByRecursion (IsSweep options base) answers → HasSweeps options base [] answers
   only_swept [] all = refl
   only_swept (a ∷ answers) all = inl (all.0, only_swept answers all.1)
 
-  pub has_both : (whole more given later : List Answered) → HasSweeps base given whole → HasSweeps base later more → HasSweeps base (given ++ later) (whole ++ more)
-  has_both [] more given later first then = subst (λ (g : List Answered). HasSweeps base (g ++ later) more) (sym first) then
+  pub has_both : (whole more given later : List Answered) → HasSweeps options base given whole → HasSweeps options base later more → HasSweeps options base (given ++ later) (whole ++ more)
+  has_both [] more given later first then = subst (λ (g : List Answered). HasSweeps options base (g ++ later) more) (sym first) then
   has_both (a ∷ whole) more given later first then =
-      elim first as (λ _. HasSweeps base (given ++ later) (a ∷ whole ++ more)) [
+      elim first as (λ _. HasSweeps options base (given ++ later) (a ∷ whole ++ more)) [
         | inl one ↦ inl (one.0, has_both whole more given later one.1 then)
         | inr one ↦ inr (one.0 ++ later, ap (λ g. g ++ later) one.1, has_both whole more one.0 later one.2 then)
       ]

@@ -1,9 +1,9 @@
 -- What calls for one connection make of a log.
-use Rattle.std.proofs.Common.{◌≡◌, ◌≢◌, ℕ, ◌+◌, ◌<◌, ◌≤◌, Bool, cond, List, [], ◌∷◌, ◌++◌, length, take, drop, refl, sym, ap, ◌∙◌, subst, arith, append_assoc, length-drop}
+use Rattle.std.proofs.Common.{◌≡◌, ℕ, ◌+◌, ◌<◌, cond, List, [], ◌∷◌, ◌++◌, length, take, drop, refl, sym, ap, ◌∙◌, subst, arith, append_assoc, length-drop}
 use Rattle.std.specs.Prelude.{slice_get, Option, Some, None, Result, Ok, Err, IfSome}
 use Rattle.std.specs.List.{AllByRecursion}
 use Rattle.std.proofs.Math.Seq.{take-add}
-use Rattle.std.proofs.lemmas.List.{append-nil, take-append-drop}
+use Rattle.std.proofs.lemmas.List.{append-nil}
 use Rattle.std.proofs.lemmas.Bool.{eq-eqb}
 use Rattle.stream_io.specs.declared.schedule.Step.{Step}
 use Rattle.stream_io.specs.declared.schedule.Step.TheVariants.{Opens, Reports, Happens}
@@ -234,31 +234,12 @@ wrote_more number asks text piece so_far answer (Some a) (Some b) new piece_is s
     subst (λ o. OnLogs (OnHeld number (WritesMore text so_far answer)) (Some a) o) (sym made.1)
     (subst (λ h. IfSome h (λ d. WritesMore text so_far answer d a made.0)) (sym stands.1.0) (wrote_then text so_far answer c a b made.0 one made.2))
 
--- where all of it was sent, nothing is left
-pub wrote_all : (number : ℕ) (text : List ℕ) (n : ℕ) (old new : Option Log) → length text ≤ n → OnLogs (OnHeld number (SendsFirst text n)) old new → OnLogs (OnHeld number (SendsOf text (Ok n))) old new
-wrote_all number text n old new all sends = on_one number (SendsFirst text n) (SendsOf text (Ok n)) old new (λ c a b s. (s, λ less. absurd (omega (arith, all, less)))) sends
-
 -- where one more took nothing, the peer takes no more
 pub wrote_last : (number : ℕ) (text : List ℕ) (so_far n : ℕ) (old new : Option Log) → n ≡ 0 → OnLogs (OnHeld number (WritesMore text so_far (Ok n))) old new
     → OnLogs (OnHeld number (SendsOf text (Ok so_far))) old new
 wrote_last number text so_far n old new none sends =
     let same : so_far + n ≡ so_far = omega (arith, none) in
     on_one number (WritesMore text so_far (Ok n)) (SendsOf text (Ok so_far)) old new (λ c a b w. (subst (λ m. Sends c (take m text) a b) same w.0, w.1 none)) sends
-
-some_left : (n : ℕ) (text after : List ℕ) → after ≡ drop n text → after ≢ [] → n < length text
-some_left n text [] is some = absurd (some refl)
-some_left n text (x ∷ after) is some = let len = ap length is in let rest = length-drop n text in omega (arith, len, rest)
-
--- of what was not sent
-pub sends_rest : (number : ℕ) (text after : List ℕ) (n : ℕ) (all : Bool) (old new : Option Log) → after ≡ drop n text → OnLogs (OnHeld number (SendsOf text (Ok n))) old new
-    → OnLogs (OnHeld number (SendsFrom text after (Ok all))) old new
-sends_rest number text after n all old new is sends =
-    on_one number (SendsOf text (Ok n)) (SendsFrom text after (Ok all)) old new (λ c a b s. (
-      take n text,
-      s.0,
-      sym (take-append-drop n text) ∙ ap (λ r. take n text ++ r) (sym is),
-      λ some. s.1 (some_left n text after is some),
-    )) sends
 
 -- nothing was sent yet
 pub wrote_none : (number : ℕ) (text : List ℕ) (old : Option Log) → OnLogs (OnHeld number (SendsFirst text 0)) old old

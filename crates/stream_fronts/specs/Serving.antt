@@ -1,5 +1,5 @@
 -- What a front made of the connections at its port.
-use Rattle.std.specs.Prelude.{◌≡◌, ℕ, ◌+◌, ◌<◌, ◌≤◌, Bool, true, List, [], length, min, slice_get, IfSome}
+use Rattle.std.specs.Prelude.{◌≡◌, ◌⊎◌, ℕ, ◌+◌, ◌<◌, ◌≤◌, Bool, true, List, [], length, min, slice_get, IfSome}
 use Rattle.partition_model.specs.declared.options.Options.{Options}
 use Rattle.mica_io.specs.Faults.{LAST_COUNT}
 use Rattle.stream_io.specs.Log.{Log, state_of, connections_of, received_of, sent_of}
@@ -7,6 +7,7 @@ use Rattle.mica_fronts.specs.Answered.{Answered, count_of_writes}
 use Rattle.mica_fronts.specs.Session.{Sessions, AnswersInOrder}
 use Rattle.memcached_fronts.specs.Seconds.{seconds_of, ToldFrom}
 use Rattle.memcached_fronts.specs.Sweeps.{HasSweeps}
+use Rattle.stream_fronts.specs.declared.answer.TheConstants.{LIMITS}
 use Rattle.stream_fronts.specs.Given.{Given, answers_in, given_to}
 use Rattle.stream_fronts.specs.Closing.{IsSettled}
 use Rattle.stream_fronts.specs.Moments.{TalksThrough}
@@ -20,6 +21,14 @@ pub record FrontAt : Type 0 where
   pub lacked : ℕ
   pub has_ended : Bool
 
+-- a front may be given fewer writes than one command may need
+abbrev pub IsSpent : Options → ℕ → Type 0
+IsSpent options left = left < LIMITS.asks + options.partitions
+
+-- why it serves no longer, where no fault came: the end of its port did, or it is spent
+abbrev pub IsFinished : Options → Bool → ℕ → Type 0
+IsFinished options has_ended left = (has_ended ≡ true) ⊎ IsSpent options left
+
 -- Nothing is left to be reported, and each connection is settled.
 pub record IsDone (options : Options) (base : ℕ) (log : Log) (all : List Given) : Type 0 where
   pub over : (state_of log).later ≡ []
@@ -31,7 +40,7 @@ pub record IsDone (options : Options) (base : ℕ) (log : Log) (all : List Given
 -- connections there was no memory, as many as were counted. Where the end came, and calls can move bytes at all, the front is done.
 pub record AnswersClients (options : Options) (is_alone : Bool) (base most : ℕ) (old new : FrontAt) (log : Log) (all : List Given) : Type 0 where
   pub answers : List Answered
-  pub sweeps : HasSweeps base (answers_in all) answers
+  pub sweeps : HasSweeps options base (answers_in all) answers
   pub in_order : AnswersInOrder options is_alone old.sessions answers new.sessions
   pub seconds : ToldFrom old.second (seconds_of answers) new.second
   pub few : old.left ≤ new.left + count_of_writes answers

@@ -11,7 +11,7 @@ use crate::next::{is_last, len_of, said_next};
 use memcached_fronts::{Buffers, Limits, Numbering, answer_next};
 use memcached_text::Next;
 use mica_clock::Clock;
-use mica_fronts::Changes;
+use mica_fronts::Counts;
 use mica_io::NoMemory;
 use std::sync::Wait;
 use std::thread::Threads;
@@ -76,7 +76,7 @@ pub enum Said {
 
 /// Answers the command that the bytes begin with, to which so many answers were given, and appends its replies.
 #[tactic(auto, using(crate::proofs::Going::by_none, crate::proofs::Going::by_answers))]
-fn answer_one<R: Threads + Wait + Sync, F: Changes, K: Clock>(
+fn answer_one<R: Threads + Wait + Sync, F: Counts, K: Clock>(
     rt: &R,
     front: &mut F,
     clock: &mut K,
@@ -116,12 +116,11 @@ fn answer_one<R: Threads + Wait + Sync, F: Changes, K: Clock>(
 
 /// Answers what the bytes spell, in order, to whose first command so many answers were given, and appends the replies.
 #[tactic(auto, using(crate::proofs::Going::by_none, crate::proofs::Going::by_both))]
-pub fn answer_bytes<R: Threads + Wait + Sync, F: Changes, K: Clock>(
+pub fn answer_bytes<R: Threads + Wait + Sync, F: Counts, K: Clock>(
     rt: &R,
     front: &mut F,
     clock: &mut K,
     numbering: Numbering,
-    left: &mut u64,
     buffers: &mut Buffers,
     bytes: &[u8],
     done: usize,
@@ -129,7 +128,6 @@ pub fn answer_bytes<R: Threads + Wait + Sync, F: Changes, K: Clock>(
 ) -> Result<Answered, NoMemory>
     requires open { IsOpenAt (next_of bytes.now) done }
     requires partitions { numbering.partitions ≡ (F.options front.old).partitions }
-    requires left { left.old ≤ F.left front.old }
     ensures within { IfOk result (λ a. a.taken ≤ length bytes.now) }
     ensures open { IfOk result (λ a. IsOpenAt (next_of (drop a.taken bytes.now)) a.done) }
     ensures talk { GoesBySome (F.options front.old) F.is_alone (F.sessions front.old) (F.left front.old) (K.last clock.old) (F.sessions front.new) (F.left front.new) (K.last clock.new)
@@ -137,7 +135,6 @@ pub fn answer_bytes<R: Threads + Wait + Sync, F: Changes, K: Clock>(
         (StandsAs (F.options front.old) numbering.base (length bytes.now) a.stand (place_in bytes.now a)))
         (λ _. SpokeFrom (F.options front.old) numbering.base (length bytes.now) (place_at bytes.now done) answers)) }
     ensures goes { GoesBy (F.options front.old) F.is_alone (F.sessions front.old) (F.left front.old) (K.last clock.old) (F.sessions front.new) (F.left front.new) (K.last clock.new) }
-    ensures left { left.new ≤ F.left front.new }
     ensures options { F.options front.new ≡ F.options front.old }
     ensures number { F.number front.new ≡ F.number front.old }
     ensures stands { F.stands front.new ≡ F.stands front.old }
@@ -145,10 +142,9 @@ pub fn answer_bytes<R: Threads + Wait + Sync, F: Changes, K: Clock>(
     let cost = LIMITS.asks as u64 + u64::from(numbering.partitions);
     let (mut taken, mut done) = (0, done);
     for _ in 0..MOST_COMMANDS {
-        if *left < cost || out.len() >= LIMITS.bytes {
+        if front.writes_left() < cost || out.len() >= LIMITS.bytes {
             break;
         }
-        *left -= cost;
         let rest = &bytes[taken..];
         let said = answer_one(rt, front, clock, numbering, buffers, rest, done, out)?;
         match said {

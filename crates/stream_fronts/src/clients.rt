@@ -13,6 +13,7 @@ pub struct Clients {
 }
 
 impl Clients {
+    /// No clients.
     pub fn new(alloc: Global) -> Clients
         ensures { result.held.items ≡ [] }
     {

@@ -1,7 +1,7 @@
 //! A front behind a port of connections: commands that bytes spell are answered in order, what is left of them is kept of each connection, and bytes are
 //! received and sent.
 //!
-//! `serve_connections` serves a port to its end, or until nearly all writes that it may give are given. A connection that there is no memory for is closed,
+//! `serve_connections` serves a port to its end, or until the front may be given fewer writes than one command may need. A connection that there is no memory for is closed,
 //! and the others go on. After each report it looks at a few places of an index and deletes what is over there: these sweeps stand between its answers to
 //! clients. The layer above may rely on this: the front's sessions and the clock go on by some answers, in order, and by no others, whatever
 //! clients say and whenever they break off. The front keeps its options, its number and its stands, and the port is the same. The call fails only where the

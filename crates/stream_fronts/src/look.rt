@@ -13,7 +13,7 @@ use crate::client::Client;
 use crate::desk::MOST_UNSENT;
 use memcached_fronts::{Buffers, Numbering};
 use mica_clock::Clock;
-use mica_fronts::Changes;
+use mica_fronts::Counts;
 use mica_io::NoMemory;
 use std::alloc::Global;
 use std::sync::Wait;
@@ -43,13 +43,12 @@ impl Client {
 
 /// Answers what the bytes spell, where so many answers were given to their first command, and keeps what is left of them. If the replies were more than may be
 /// kept, it would be as if memory lacked; none are that long.
-pub fn look_at<R: Threads + Wait + Sync, F: Changes, K: Clock>(
+pub fn look_at<R: Threads + Wait + Sync, F: Counts, K: Clock>(
     rt: &R,
     alloc: Global,
     front: &mut F,
     clock: &mut K,
     numbering: Numbering,
-    left: &mut u64,
     client: &mut Client,
     bytes: &[u8],
     done: usize,
@@ -59,7 +58,6 @@ pub fn look_at<R: Threads + Wait + Sync, F: Changes, K: Clock>(
     requires short { length bytes.now ≤ MAX_WAITING_LEN }
     requires open { IsOpenAt (next_of bytes.now) done }
     requires partitions { numbering.partitions ≡ (F.options front.old).partitions }
-    requires left { left.old ≤ F.left front.old }
     ensures client { IfOk result (λ _. IsClient client.new) }
     ensures leaving { IfOk result (λ stand. client.new.leaving ≡ leaves stand) }
     ensures few { IfOk result (λ _. length replies.new.items ≤ MOST_UNSENT) }
@@ -70,15 +68,12 @@ pub fn look_at<R: Threads + Wait + Sync, F: Changes, K: Clock>(
         (StandsAs (F.options front.old) numbering.base (length bytes.now) stand (place_of client.new)))
         (λ _. SpokeFrom (F.options front.old) numbering.base (length bytes.now) (place_at bytes.now done) answers)) }
     ensures goes { GoesBy (F.options front.old) F.is_alone (F.sessions front.old) (F.left front.old) (K.last clock.old) (F.sessions front.new) (F.left front.new) (K.last clock.new) }
-    ensures left { left.new ≤ F.left front.new }
     ensures options { F.options front.new ≡ F.options front.old }
     ensures number { F.number front.new ≡ F.number front.old }
     ensures stands { F.stands front.new ≡ F.stands front.old }
 {
     replies.clear();
-    let answered = answer_bytes(
-        rt, front, clock, numbering, left, buffers, bytes, done, replies,
-    )?;
+    let answered = answer_bytes(rt, front, clock, numbering, buffers, bytes, done, replies)?;
     if replies.len() > MOST_UNSENT {
         return Err(NoMemory);
     }

@@ -1,5 +1,5 @@
 //! One front behind its port.
-ghost use Rattle.std.specs.Prelude.{◌≡◌, ◌<◌, ◌≤◌, ℕ, false, [], length, is_some, IfOk, IfSome, IsErrOf, vec_len};
+ghost use Rattle.std.specs.Prelude.{◌≡◌, ◌<◌, ◌≤◌, ℕ, false, [], length, is_some, IfOk, IfSome, IsErrOf, OnOk, vec_len};
 ghost use Rattle.partition_model.specs.declared.options.Options.{Options};
 ghost use Rattle.mica_io.specs.Faults.{Rose};
 ghost use Rattle.memcached_text.specs.declared.limits.TheConstants.{MAX_WAITING_LEN};
@@ -8,7 +8,7 @@ ghost use Rattle.stream_fronts.specs.Calls.{LeavesPort, MovesFront};
 ghost use Rattle.stream_fronts.specs.Clients.{AreOpen};
 ghost use Rattle.stream_fronts.specs.Going.{GoesBy};
 ghost use Rattle.stream_fronts.specs.Open.{IsOpen, IsOpened, OnLogs};
-ghost use Rattle.stream_fronts.specs.Serving.{ServesFromNone};
+ghost use Rattle.stream_fronts.specs.Serving.{IsFinished, ServesFromNone};
 ghost use Rattle.stream_fronts.specs.Standing.{GoesByGiven, StandsOn};
 
 use crate::answer::LIMITS;
@@ -21,7 +21,7 @@ use crate::visits::visit_on;
 use memcached_fronts::{Numbering, Sweeper, sweep};
 use memcached_stats::{Board, Counter, Tally};
 use mica_clock::Clock;
-use mica_fronts::{Changes, Glances, ServeFault};
+use mica_fronts::{Counts, Glances, ServeFault};
 use mica_io::NoMemory;
 use std::alloc::Global;
 use std::sync::Wait;
@@ -30,13 +30,12 @@ use stream_io::{Connections, Event};
 
 /// Visits the connection under a number, where one is held. Says for how many there was no memory, one at most.
 #[tactic(auto, using(crate::proofs::Going::by_none))]
-fn visit_held<R: Threads + Wait + Sync, F: Changes, K: Clock, C: Connections>(
+fn visit_held<R: Threads + Wait + Sync, F: Counts, K: Clock, C: Connections>(
     rt: &R,
     alloc: Global,
     front: &mut F,
     clock: &mut K,
     numbering: Numbering,
-    left: &mut u64,
     connections: &mut C,
     number: u32,
     clients: &mut Clients,
@@ -45,14 +44,12 @@ fn visit_held<R: Threads + Wait + Sync, F: Changes, K: Clock, C: Connections>(
     requires room { vec_len desk.old.room ≡ MAX_WAITING_LEN }
     requires clients { AreOpen clients.old.held.items (C.log connections.old) }
     requires partitions { numbering.partitions ≡ (F.options front.old).partitions }
-    requires left { left.old ≤ F.left front.old }
     ensures room { vec_len desk.new.room ≡ MAX_WAITING_LEN }
     ensures clients { AreOpen clients.new.held.items (C.log connections.new) }
     ensures port { LeavesPort C.log C.has_ended C.faults C.port connections.old connections.new }
     ensures front { MovesFront F.options F.number F.stands F.is_alone F.sessions F.left K.last front.old clock.old front.new clock.new }
     ensures serves { GoesByGiven (F.options front.old) F.is_alone (F.sessions front.old) (F.left front.old) (K.last clock.old) (F.sessions front.new) (F.left front.new) (K.last clock.new)
         (λ given. OnLogs (StandsOn (F.options front.old) numbering.base (Event.Ready number) clients.old.held.items result given clients.new.held.items) (C.log connections.old) (C.log connections.new)) }
-    ensures left { left.new ≤ F.left front.new }
 {
     let Some(mut client) = clients.take(number) else {
         return 0;
@@ -64,7 +61,6 @@ fn visit_held<R: Threads + Wait + Sync, F: Changes, K: Clock, C: Connections>(
         front,
         clock,
         numbering,
-        left,
         connections,
         number,
         &mut client,
@@ -137,13 +133,12 @@ fn take_in<C: Connections>(
 
 /// Serves what is reported. Says for how many connections there was no memory.
 #[tactic(auto, using(crate::proofs::Going::by_none))]
-fn serve_event<R: Threads + Wait + Sync, F: Changes, K: Clock, C: Connections>(
+fn serve_event<R: Threads + Wait + Sync, F: Counts, K: Clock, C: Connections>(
     rt: &R,
     alloc: Global,
     front: &mut F,
     clock: &mut K,
     numbering: Numbering,
-    left: &mut u64,
     connections: &mut C,
     event: Event,
     clients: &mut Clients,
@@ -153,14 +148,12 @@ fn serve_event<R: Threads + Wait + Sync, F: Changes, K: Clock, C: Connections>(
     requires clients { AreOpen clients.old.held.items (C.log connections.old) }
     requires event { IfSome (C.log connections.old) (IsOpened event) }
     requires partitions { numbering.partitions ≡ (F.options front.old).partitions }
-    requires left { left.old ≤ F.left front.old }
     ensures room { vec_len desk.new.room ≡ MAX_WAITING_LEN }
     ensures clients { AreOpen clients.new.held.items (C.log connections.new) }
     ensures port { LeavesPort C.log C.has_ended C.faults C.port connections.old connections.new }
     ensures front { MovesFront F.options F.number F.stands F.is_alone F.sessions F.left K.last front.old clock.old front.new clock.new }
     ensures serves { GoesByGiven (F.options front.old) F.is_alone (F.sessions front.old) (F.left front.old) (K.last clock.old) (F.sessions front.new) (F.left front.new) (K.last clock.new)
         (λ given. OnLogs (StandsOn (F.options front.old) numbering.base event clients.old.held.items result given clients.new.held.items) (C.log connections.old) (C.log connections.new)) }
-    ensures left { left.new ≤ F.left front.new }
 {
     match event {
         Event::Opened(number) => take_in(alloc, connections, number, clients),
@@ -170,7 +163,6 @@ fn serve_event<R: Threads + Wait + Sync, F: Changes, K: Clock, C: Connections>(
             front,
             clock,
             numbering,
-            left,
             connections,
             number,
             clients,
@@ -179,8 +171,8 @@ fn serve_event<R: Threads + Wait + Sync, F: Changes, K: Clock, C: Connections>(
     }
 }
 
-/// Serves the connections of a port, to its end, or until nearly so many writes were given to the front. A connection that there is no memory for is closed,
-/// and `lacked` counts it. What the front counts is shown in this place of the board. After each report it sweeps a few places of the partitions.
+/// Serves the connections of a port, to its end, or until the front may be given fewer writes than one command may need. A connection that there is no memory for is closed,
+/// and `lacked` counts it. What the front counts is shown in this place of the board. After each report it sweeps a few places of the partitions, and touches old items that were used.
 #[tactic(auto, using(crate::proofs::Going::by_none))]
 pub fn serve_connections<R: Threads + Wait + Sync, F: Glances, K: Clock, C: Connections>(
     rt: &R,
@@ -190,18 +182,17 @@ pub fn serve_connections<R: Threads + Wait + Sync, F: Glances, K: Clock, C: Conn
     numbering: Numbering,
     board: &Board,
     place: u32,
-    most: u64,
     connections: &mut C,
     lacked: &mut u64,
 ) -> Result<(), ServeFault>
     requires open { C.has_ended connections.old ≡ false }
     requires partitions { numbering.partitions ≡ (F.options front.old).partitions }
-    requires left { most ≤ F.left front.old }
     ensures goes { GoesBy (F.options front.old) F.is_alone (F.sessions front.old) (F.left front.old) (K.last clock.old) (F.sessions front.new) (F.left front.new) (K.last clock.new) }
     ensures serves { OnLogs (ServesFromNone (F.options front.old) F.is_alone numbering.base MOST_UNSENT
         (record { sessions = F.sessions front.old; left = F.left front.old; second = K.last clock.old; lacked = lacked.old; has_ended = C.has_ended connections.old })
         (record { sessions = F.sessions front.new; left = F.left front.new; second = K.last clock.new; lacked = lacked.new; has_ended = C.has_ended connections.new }))
         (C.log connections.old) (C.log connections.new) }
+    ensures ends { OnOk result (IsFinished (F.options front.new) (C.has_ended connections.new) (F.left front.new)) }
     ensures cause { IsErrOf result ServeFault.Net → Rose (C.faults connections.old) (C.faults connections.new) }
     ensures none_served { IsErrOf result ServeFault.NoMemory → (front.new ≡ front.old) × (connections.new ≡ connections.old) }
     ensures never_fall { C.faults connections.old ≤ C.faults connections.new }
@@ -212,12 +203,11 @@ pub fn serve_connections<R: Threads + Wait + Sync, F: Glances, K: Clock, C: Conn
     ensures stands { F.stands front.new ≡ F.stands front.old }
 {
     let mut desk = Desk::new(alloc, board, place)?;
-    let mut sweeper = Sweeper::new(alloc)?;
+    let mut sweeper = Sweeper::new(alloc, numbering.partitions)?;
     let mut clients = Clients::new(alloc);
-    let mut left = most;
     let least = LIMITS.asks as u64 + u64::from(numbering.partitions);
     for _ in rt.forever() {
-        if left < least {
+        if front.writes_left() < least {
             break;
         }
         let Some(event) = connections.next()? else {
@@ -229,7 +219,6 @@ pub fn serve_connections<R: Threads + Wait + Sync, F: Glances, K: Clock, C: Conn
             front,
             clock,
             numbering,
-            &mut left,
             connections,
             event,
             &mut clients,
@@ -238,7 +227,9 @@ pub fn serve_connections<R: Threads + Wait + Sync, F: Glances, K: Clock, C: Conn
         *lacked = lacked.saturating_add(count);
         count_event(event, count, &mut desk.buffers.tally);
         desk.buffers.show();
-        left -= sweep(rt, front, clock, numbering, left, &mut sweeper);
+        let most = front.writes_left();
+        let noted = &mut desk.buffers.noted;
+        sweep(rt, front, clock, numbering, most, noted, &mut sweeper);
     }
     Ok(())
 }

@@ -24,6 +24,7 @@ impl Model for Unsent {
 }
 
 impl Unsent {
+    /// Nothing to be sent.
     pub fn new(alloc: Global) -> Unsent
         ensures { result ≡ [] }
     {
@@ -33,6 +34,7 @@ impl Unsent {
         }
     }
 
+    /// The bytes that are still to be sent.
     pub fn bytes(&self) -> &[u8]
         ensures { result.now ≡ self.now }
     {

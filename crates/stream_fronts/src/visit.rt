@@ -17,7 +17,7 @@ use crate::look::look_at;
 use memcached_fronts::{Buffers, Numbering};
 use memcached_stats::{Counter, Tally};
 use mica_clock::Clock;
-use mica_fronts::Changes;
+use mica_fronts::Counts;
 use mica_io::NoMemory;
 use std::alloc::Global;
 use std::mem;
@@ -152,13 +152,12 @@ fn fill<C: Connections>(
 
 /// Answers what lies in the room, but for what is to be dropped.
 #[tactic(auto, using(crate::proofs::Going::by_none))]
-fn look_at_room<R: Threads + Wait + Sync, F: Changes, K: Clock>(
+fn look_at_room<R: Threads + Wait + Sync, F: Counts, K: Clock>(
     rt: &R,
     alloc: Global,
     front: &mut F,
     clock: &mut K,
     numbering: Numbering,
-    left: &mut u64,
     client: &mut Client,
     bytes: &[u8],
     buffers: &mut Buffers,
@@ -170,7 +169,6 @@ fn look_at_room<R: Threads + Wait + Sync, F: Changes, K: Clock>(
     requires short { length bytes.now ≤ MAX_WAITING_LEN }
     requires kept { bytes.now ≡ client.old.kept.items ++ drop (length client.old.kept.items) bytes.now }
     requires partitions { numbering.partitions ≡ (F.options front.old).partitions }
-    requires left { left.old ≤ F.left front.old }
     ensures client { IfOk result (λ _. IsClient client.new) }
     ensures leaving { IfOk result (λ stand. client.new.leaving ≡ leaves stand) }
     ensures few { IfOk result (λ _. length replies.new.items ≤ MOST_UNSENT) }
@@ -182,7 +180,6 @@ fn look_at_room<R: Threads + Wait + Sync, F: Changes, K: Clock>(
         (received ++ drop (length client.old.kept.items) bytes.now) given due))
         (λ _. SpokeBehind (F.options front.old) numbering.base MAX_WAITING_LEN (place_of client.old) (drop (length client.old.kept.items) bytes.now) answers)) }
     ensures goes { GoesBy (F.options front.old) F.is_alone (F.sessions front.old) (F.left front.old) (K.last clock.old) (F.sessions front.new) (F.left front.new) (K.last clock.new) }
-    ensures left { left.new ≤ F.left front.new }
     ensures options { F.options front.new ≡ F.options front.old }
     ensures number { F.number front.new ≡ F.number front.old }
     ensures stands { F.stands front.new ≡ F.stands front.old }
@@ -194,19 +191,18 @@ fn look_at_room<R: Threads + Wait + Sync, F: Changes, K: Clock>(
     }
     let bytes = &bytes[client.dropping..];
     look_at(
-        rt, alloc, front, clock, numbering, left, client, bytes, 0, buffers, replies,
+        rt, alloc, front, clock, numbering, client, bytes, 0, buffers, replies,
     )
 }
 
 /// Goes on with a command that was answered in part, or reads once and answers. Says why no more was answered, and what the read gave.
 #[tactic(auto, using(crate::proofs::Opening::still_open, crate::proofs::Opening::same_keeps, crate::proofs::Going::by_none))]
-fn answer_more<R: Threads + Wait + Sync, F: Changes, K: Clock, C: Connections>(
+fn answer_more<R: Threads + Wait + Sync, F: Counts, K: Clock, C: Connections>(
     rt: &R,
     alloc: Global,
     front: &mut F,
     clock: &mut K,
     numbering: Numbering,
-    left: &mut u64,
     connections: &mut C,
     number: u32,
     client: &mut Client,
@@ -217,7 +213,6 @@ fn answer_more<R: Threads + Wait + Sync, F: Changes, K: Clock, C: Connections>(
     requires reading { client.old.leaving ≡ false }
     requires open { IfSome (C.log connections.old) (IsOpen number client.old.asks) }
     requires partitions { numbering.partitions ≡ (F.options front.old).partitions }
-    requires left { left.old ≤ F.left front.old }
     ensures room { vec_len desk.new.room ≡ MAX_WAITING_LEN }
     ensures client { IfOk result (λ _. IsClient client.new) }
     ensures leaving { IfOk result (λ r. IfOk r (λ stood. client.new.leaving ≡ leaves stood.0)) }
@@ -233,7 +228,6 @@ fn answer_more<R: Threads + Wait + Sync, F: Changes, K: Clock, C: Connections>(
     ensures faults { C.faults connections.new ≡ C.faults connections.old }
     ensures port { C.port connections.new ≡ C.port connections.old }
     ensures goes { GoesBy (F.options front.old) F.is_alone (F.sessions front.old) (F.left front.old) (K.last clock.old) (F.sessions front.new) (F.left front.new) (K.last clock.new) }
-    ensures left { left.new ≤ F.left front.new }
     ensures options { F.options front.new ≡ F.options front.old }
     ensures number { F.number front.new ≡ F.number front.old }
     ensures stands { F.stands front.new ≡ F.stands front.old }
@@ -248,7 +242,7 @@ fn answer_more<R: Threads + Wait + Sync, F: Changes, K: Clock, C: Connections>(
         let done = client.done;
         let bytes = kept.as_slice();
         let stand = look_at(
-            rt, alloc, front, clock, numbering, left, client, bytes, done, buffers, replies,
+            rt, alloc, front, clock, numbering, client, bytes, done, buffers, replies,
         )?;
         return Ok(Ok((stand, None)));
     }
@@ -259,7 +253,7 @@ fn answer_more<R: Threads + Wait + Sync, F: Changes, K: Clock, C: Connections>(
     count_input(input, &mut buffers.tally);
     let bytes = &room[..len];
     let stand = look_at_room(
-        rt, alloc, front, clock, numbering, left, client, bytes, buffers, replies,
+        rt, alloc, front, clock, numbering, client, bytes, buffers, replies,
     )?;
     Ok(Ok((stand, input)))
 }
@@ -292,13 +286,12 @@ fn after_all(leaving: bool, stand: Stand, input: Option<Input>) -> After
 
 /// Sends what waits; where all of it was taken, answers more, and sends the replies.
 #[tactic(auto, using(crate::proofs::Opening::still_open, crate::proofs::Opening::keeps_on, crate::proofs::Going::by_none))]
-pub fn visit_once<R: Threads + Wait + Sync, F: Changes, K: Clock, C: Connections>(
+pub fn visit_once<R: Threads + Wait + Sync, F: Counts, K: Clock, C: Connections>(
     rt: &R,
     alloc: Global,
     front: &mut F,
     clock: &mut K,
     numbering: Numbering,
-    left: &mut u64,
     connections: &mut C,
     number: u32,
     client: &mut Client,
@@ -308,7 +301,6 @@ pub fn visit_once<R: Threads + Wait + Sync, F: Changes, K: Clock, C: Connections
     requires client { IsClient client.old }
     requires open { IfSome (C.log connections.old) (IsOpen number client.old.asks) }
     requires partitions { numbering.partitions ≡ (F.options front.old).partitions }
-    requires left { left.old ≤ F.left front.old }
     ensures room { vec_len desk.new.room ≡ MAX_WAITING_LEN }
     ensures client { IfOk result (λ _. IsClient client.new) }
     ensures talks { GoesBySome (F.options front.old) F.is_alone (F.sessions front.old) (F.left front.old) (K.last clock.old) (F.sessions front.new) (F.left front.new) (K.last clock.new)
@@ -322,7 +314,6 @@ pub fn visit_once<R: Threads + Wait + Sync, F: Changes, K: Clock, C: Connections
     ensures faults { C.faults connections.new ≡ C.faults connections.old }
     ensures port { C.port connections.new ≡ C.port connections.old }
     ensures goes { GoesBy (F.options front.old) F.is_alone (F.sessions front.old) (F.left front.old) (K.last clock.old) (F.sessions front.new) (F.left front.new) (K.last clock.new) }
-    ensures left { left.new ≤ F.left front.new }
     ensures options { F.options front.new ≡ F.options front.old }
     ensures number { F.number front.new ≡ F.number front.old }
     ensures stands { F.stands front.new ≡ F.stands front.old }
@@ -341,7 +332,6 @@ pub fn visit_once<R: Threads + Wait + Sync, F: Changes, K: Clock, C: Connections
         front,
         clock,
         numbering,
-        left,
         connections,
         number,
         client,

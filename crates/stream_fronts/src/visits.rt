@@ -1,5 +1,5 @@
 //! Visits of a connection, one after another.
-ghost use Rattle.std.specs.Prelude.{◌≡◌, ◌<◌, ◌≤◌, IfOk, IfSome, MatchResult, vec_len};
+ghost use Rattle.std.specs.Prelude.{◌≡◌, true, false, ◌<◌, ◌≤◌, IfOk, IfSome, MatchResult, vec_len};
 ghost use Rattle.memcached_text.specs.declared.limits.TheConstants.{MAX_WAITING_LEN};
 ghost use Rattle.stream_fronts.specs.Calls.{LeavesPort, MovesFront};
 ghost use Rattle.stream_fronts.specs.Clients.{IsClient};
@@ -13,21 +13,29 @@ use crate::desk::Desk;
 use crate::visit::{After, visit_once};
 use memcached_fronts::Numbering;
 use mica_clock::Clock;
-use mica_fronts::Changes;
+use mica_fronts::Counts;
 use mica_io::NoMemory;
 use std::alloc::Global;
 use std::sync::Wait;
 use std::thread::Threads;
 use stream_io::Connections;
 
-/// Visits until there is no more to do at once, or it may be asked for again.
-pub fn visit_on<R: Threads + Wait + Sync, F: Changes, K: Clock, C: Connections>(
+// Whether a connection is left: nothing is to be done at once, or it was visited twice and may be asked for again.
+fn is_left(after: After, is_again: bool, asks: u64) -> bool
+    ensures left { result ≡ true → after ≡ After.Again → 0 < asks }
+    ensures again { result ≡ false → after ≡ After.Again }
+{
+    after != After::Again || is_again && asks > 0
+}
+
+/// Visits until there is no more to do at once, or it may be asked for again and was visited twice. Mostly the second visit finds that nothing more came: then it
+/// need not be reported again.
+pub fn visit_on<R: Threads + Wait + Sync, F: Counts, K: Clock, C: Connections>(
     rt: &R,
     alloc: Global,
     front: &mut F,
     clock: &mut K,
     numbering: Numbering,
-    left: &mut u64,
     connections: &mut C,
     number: u32,
     client: &mut Client,
@@ -37,7 +45,6 @@ pub fn visit_on<R: Threads + Wait + Sync, F: Changes, K: Clock, C: Connections>(
     requires client { IsClient client.old }
     requires open { IfSome (C.log connections.old) (IsOpen number client.old.asks) }
     requires partitions { numbering.partitions ≡ (F.options front.old).partitions }
-    requires left { left.old ≤ F.left front.old }
     ensures again { IfOk result (λ after. after ≡ After.Again → 0 < client.new.asks) }
     ensures room { vec_len desk.new.room ≡ MAX_WAITING_LEN }
     ensures client { IfOk result (λ _. IsClient client.new) }
@@ -49,8 +56,8 @@ pub fn visit_on<R: Threads + Wait + Sync, F: Changes, K: Clock, C: Connections>(
     ensures keeps { OnLogs Keeps (C.log connections.old) (C.log connections.new) }
     ensures port { LeavesPort C.log C.has_ended C.faults C.port connections.old connections.new }
     ensures front { MovesFront F.options F.number F.stands F.is_alone F.sessions F.left K.last front.old clock.old front.new clock.new }
-    ensures left { left.new ≤ F.left front.new }
 {
+    let mut is_again = false;
     for _ in rt.forever() {
         let after = visit_once(
             rt,
@@ -58,15 +65,15 @@ pub fn visit_on<R: Threads + Wait + Sync, F: Changes, K: Clock, C: Connections>(
             front,
             clock,
             numbering,
-            left,
             connections,
             number,
             client,
             desk,
         )?;
-        if after != After::Again || client.asks > 0 {
+        if is_left(after, is_again, client.asks) {
             return Ok(after);
         }
+        is_again = true;
     }
     Ok(After::Over)
 }

@@ -1,6 +1,6 @@
 -- Each entry takes what the schedule and its connections need for it.
 use Rattle.std.proofs.Common.{◌≡◌, ℕ, zero, suc, ◌+◌, ◌*◌, ◌<◌, ◌≤◌, false, List, [], ◌∷◌, ◌++◌, length, sym, ap, ◌∙◌, subst, arith}
-use Rattle.std.specs.Prelude.{slice_get, slice_index_or, take, min, Option, None, Some, if◌then◌else◌}
+use Rattle.std.specs.Prelude.{slice_get, slice_index_or, take, Option, None, Some, if◌then◌else◌}
 use Rattle.std.specs.List.{sum_by}
 use Rattle.std.proofs.lemmas.List.{length-take, length-drop}
 use Rattle.std.proofs.lemmas.List.Sums.{sum_by-cons, sum_by_push}
@@ -46,10 +46,6 @@ change_needs change x =
 -- a window that grows fits
 pub window_fits : (c takes bound : ℕ) (all : List Connection) (x : Connection) → c < length all → x ≡ slice_index_or all c x → sum_by need_of all + takes < bound → x.window + takes < bound
 window_fits c takes bound all x there is small = let p = part c all x (slice_get-get_or all c x there ∙ ap Some (sym is)) in omega (arith, p, small)
-
-pub asks_fit : (c most : ℕ) (all : List Connection) (x : Connection) → c < length all → x ≡ slice_index_or all c x → sum_by need_of all < 4294967296
-    → x.asks + 2 * min (length x.waiting) most < 18446744073709551616
-asks_fit c most all x there is small = let p = part c all x (slice_get-get_or all c x there ∙ ap Some (sym is)) in omega (arith, p, small)
 
 -- what stands after each entry needs less
 pub opened_needs : (all : List Connection) (later : List Step) (window : ℕ) (bytes : List ℕ) (x : Connection) → need_of x ≡ window + 1

@@ -3,7 +3,6 @@ use Rattle.std.proofs.Common.{◌≡◌, ℕ, zero, suc, ◌+◌, ◌-◌, ◌<�
 use Rattle.std.specs.Prelude.{slice_get, slice_index_or, take, drop, map, min, Option, Some, Ok, IfSome}
 use Rattle.std.specs.List.{sum_by}
 use Rattle.std.proofs.lemmas.List.{length-append, append-nil, length-take-le}
-use Rattle.std.proofs.lemmas.List.Sums.{sum_by-cons}
 use Rattle.std.proofs.lemmas.Option.{slice_get_within, slice_get-get_or}
 use Rattle.stream_io.specs.declared.schedule.Change.{Change}
 use Rattle.stream_io.specs.declared.schedule.Step.{Step}
@@ -13,7 +12,7 @@ use Rattle.stream_io.specs.State.{State, Entry, after, changed, opened, reported
 use Rattle.stream_io.specs.declared.connections.Input.TheVariants.{Bytes}
 use Rattle.stream_io.specs.Log.{after_meeting_one}
 use Rattle.stream_io.specs.Calls.{IsGiven, IsTaken}
-use Rattle.stream_io.specs.MemoryConnection.{owed, pending, need, need_of, cost_of, are_below}
+use Rattle.stream_io.specs.MemoryConnection.{owed, pending, need, cost_of, are_below}
 use Rattle.stream_io.specs.Stage.{Goes, IsStage, Played, played_state, played_connections}
 use Rattle.stream_io.proofs.Places.{KeepsNumber, length_changed, below_changed, below_push}
 use Rattle.stream_io.proofs.Room.{opened_needs, reported_needs, happened_needs, pushed_needs, read_needs, write_needs, ask_needs, close_needs}
@@ -203,16 +202,6 @@ module _ (schedule : List Step) (at : ℕ) (reports : List ℕ) (paid : ℕ) (al
       (goes_on schedule entries room 1 (asked c) (record { connections = all; later = later }) (record { connections = all'; later = later' }) s.goes
       (ap (λ (l : List Step). record { connections = all'; later = l }) (sym push)) less)
 
-  -- what a step brings fits beside all that the connections need
-  pub step_small : (step : Step) (takes : ℕ) → slice_get schedule at ≡ Some step → takes ≤ cost_of step → sum_by need_of all + takes < 18446744073709551616
-  step_small step takes is fits =
-      let n = next_needs step is in
-      let few = s.few in
-      omega (arith, n, sum_by-cons cost_of step rest, fits, few)
-
-  pub all_small : sum_by need_of all < 4294967296
-  all_small = let n = before s.goes in let few = s.few in omega (arith, n, few)
-
   module _ (p : Played) (view : record { schedule = schedule; entries = entries } ≡ p) where
     all_are : played_connections p ≡ all
     all_are = ap (λ (st : State). st.connections) (played_is schedule at reports paid all entries room s p view)
@@ -222,9 +211,6 @@ module _ (schedule : List Step) (at : ℕ) (reports : List ℕ) (paid : ℕ) (al
 
     pub there_too : (c : ℕ) → c < length (played_connections p) → c < length all
     there_too c there = subst (λ l. c < length l) all_are there
-
-    pub meets : (step : Step) → slice_get schedule at ≡ Some step → after_meeting_one (played_state p).later p.entries ≡ after_meeting_one (step ∷ rest) p.entries
-    meets step is = ap (λ l. after_meeting_one l p.entries) (later_is ∙ next_pending schedule at reports paid step is)
 
     pub meets_none : drop at schedule ≡ [] → after_meeting_one (played_state p).later p.entries ≡ p.entries
     meets_none over =

@@ -24,10 +24,6 @@ more_waits came n unread fits =
     let count : min (length unread - came) n ≡ min n (length rest) = min_comm (length unread - came) n ∙ ap (min n) (sym (length-drop came unread)) in
     take-add came (min (length unread - came) n) unread ∙ ap (λ l. take came unread ++ l) (ap (λ k. take k rest) count ∙ take_min n rest)
 
-pub fewer_come : (came n : ℕ) (unread : List ℕ) → came ≤ length unread
-    → drop (came + min (length unread - came) n) unread ≡ drop n (drop came unread)
-fewer_come came n unread fits = grind (arith, common_steps)
-
 -- of what waits, so many can be read still
 pub kept_waits : (n m : ℕ) (unread : List ℕ) → take (min n m) (take (min n m) unread) ≡ take m (take n unread)
 kept_waits n m unread = grind (arith, common_steps)

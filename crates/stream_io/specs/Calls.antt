@@ -73,10 +73,12 @@ took c bytes (Err broken) entries = entries
 abbrev pub AfterMeeting : ℕ → Log → (ℕ → Connection → Type 0) → Type 0
 AfterMeeting number log P = OfHeld number log (λ c. IfSome (slice_get (connections_of (after_met log)) c) (P c))
 
+-- what a read of so much room answers and gives, and the entry that it leaves in the log
 abbrev pub ReadGives : ℕ → ℕ → List ℕ → Result Input Broken → Log → Option Log → Type 0
 ReadGives number room out answer old new = AfterMeeting number old (λ c connection.
     IsGiven connection (min room old.script.piece) out answer × (new ≡ Some (with_entries (gave c connection answer) (after_met old))))
 
+-- what a write of these bytes answers, and the entry that it leaves in the log
 abbrev pub WriteTakes : ℕ → List ℕ → Result ℕ Broken → Log → Option Log → Type 0
 WriteTakes number bytes answer old new = AfterMeeting number old (λ c connection.
     IsTaken connection old.script.piece bytes answer × (new ≡ Some (with_entries (took c bytes answer) (after_met old))))
@@ -86,8 +88,10 @@ abbrev pub MayAsk : ℕ → Log → Type 0
 MayAsk number log = (c : ℕ) → held number (connections_of log) ≡ Some c
     → IfSome (slice_get (connections_of log) c) (λ connection. 0 < connection.asks)
 
+-- the log goes on by a call of `again`
 abbrev pub Asks : ℕ → Log → Option Log → Type 0
 Asks number old new = OfHeld number old (λ c. new ≡ Some (logged (asked c) old))
 
+-- the log goes on by a close
 abbrev pub Closes : ℕ → Log → Option Log → Type 0
 Closes number old new = OfHeld number old (λ c. new ≡ Some (logged (closed c) old))

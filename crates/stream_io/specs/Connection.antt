@@ -36,6 +36,7 @@ abbrev pub readable : Option ℕ → List ℕ → List ℕ
 readable None waiting = waiting
 readable (Some count) waiting = take count waiting
 
+-- the connection after a change of its peer
 abbrev pub after_change : Change → Connection → Connection
 after_change change c = record c {
   to_come = if change.ends || is_some change.breaks then [] else drop change.comes c.to_come;
@@ -53,8 +54,10 @@ after_read count c = record c { waiting = drop count c.waiting; asks = c.asks + 
 abbrev pub after_write : ℕ → Connection → Connection
 after_write count c = record c { window = c.window - count }
 
+-- the connection once it was reported again
 abbrev pub after_ask : Connection → Connection
 after_ask c = record c { asks = c.asks - 1 }
 
+-- the connection once it was closed
 abbrev pub after_close : Connection → Connection
 after_close c = record c { is_closed = true }

@@ -13,12 +13,11 @@ pub record Log : Type 0 where
   pub script : Script
   pub entries : List Entry
 
-abbrev pub new_log : List Step → Script → Log
-new_log schedule script = record { schedule = schedule; script = script; entries = [] }
-
+-- the log with its entries changed
 abbrev pub with_entries : (List Entry → List Entry) → Log → Log
 with_entries f log = record log { entries = f log.entries }
 
+-- the log with one entry more, which stands first
 abbrev pub logged : Entry → Log → Log
 logged entry log = with_entries (λ entries. entry ∷ entries) log
 
@@ -26,9 +25,11 @@ logged entry log = with_entries (λ entries. entry ∷ entries) log
 abbrev pub called : Log → Log
 called log = record log { script = after_call log.script }
 
+-- what the schedule and the entries come to
 abbrev pub state_of : Log → State
 state_of log = state_after log.schedule log.entries
 
+-- all connections that were made, in order
 abbrev pub connections_of : Log → List Connection
 connections_of log = (state_of log).connections
 

@@ -7,6 +7,7 @@ use Rattle.stream_io.specs.Log.{Log}
 abbrev pub PortLogs : Type 0
 PortLogs = ℕ → Option Log
 
+-- nothing waits at the port any more
 abbrev pub without_port : ℕ → PortLogs → PortLogs
 without_port port ports = λ n. if n == port then None else ports n
 
@@ -19,5 +20,6 @@ pub record Place : Type 0 where
   pub address : Ipv4Addr
   pub most : ℕ
 
+-- the place of these parts
 abbrev pub place_at : Ipv4Addr → ℕ → Place
 place_at address most = record { address = address; most = most }

@@ -39,9 +39,11 @@ abbrev pub number_or : ℕ → Option Connection → ℕ
 number_or c None = c
 number_or c (Some connection) = connection.number
 
+-- the number of the c-th connection
 abbrev pub number_at : ℕ → List Connection → ℕ
 number_at c all = number_or c (slice_get all c)
 
+-- the connections after a step of the schedule, of which one that is made is under the number
 abbrev pub after_step : ℕ → Step → List Connection → List Connection
 after_step number (Opens window bytes) all = all ++ new_connection number window bytes ∷ []
 after_step number (Reports c change) all = changed c (after_change change) all
@@ -58,6 +60,7 @@ after_meeting state (Happens c change ∷ later) =
     record { connections = changed c (after_change change) state.connections; later = later ++ Reports c nothing ∷ [] }
 after_meeting state _ = state
 
+-- the state after an entry
 abbrev pub after : Entry → State → State
 after (opened number) state = after_report number state state.later
 after (reported number) state = after_report number state state.later

@@ -62,6 +62,7 @@ fn changed<'a>(unread: &'a [u8], came: usize, change: &Change) -> (&'a [u8], usi
 }
 
 impl<'a> MemConnection<'a> {
+    /// A connection as it is made: all that its peer sends is to come.
     pub fn new(number: u32, window: u32, bytes: &'a [u8]) -> Self
         ensures { result ≡ new_connection number window bytes.now }
     {
@@ -77,12 +78,14 @@ impl<'a> MemConnection<'a> {
         }
     }
 
+    /// The number that the connection is under.
     pub fn number(&self) -> u32
         ensures { result ≡ self.now.number }
     {
         self.number
     }
 
+    /// Whether it is open under this number.
     pub fn is_under(&self, number: u32) -> bool
         ensures { result ≡ is_under number self.now }
     {
@@ -96,12 +99,14 @@ impl<'a> MemConnection<'a> {
         self.came
     }
 
+    /// How many bytes writes take now.
     pub fn window(&self) -> usize
         ensures { result ≡ self.now.window }
     {
         self.window
     }
 
+    /// Whether it is broken.
     pub fn is_broken(&self) -> bool
         ensures { result ≡ self.now.is_broken }
     {
@@ -121,6 +126,7 @@ impl<'a> MemConnection<'a> {
         }
     }
 
+    /// Lets its peer do something.
     pub fn change(&mut self, change: &Change)
         requires { self.old.window + change.now.takes < 2 ^ 64 }
         ensures { self.new ≡ after_change change.now self.old }
@@ -156,6 +162,7 @@ impl<'a> MemConnection<'a> {
         self.window -= count;
     }
 
+    /// Counts one asked report less.
     pub fn ask(&mut self)
         requires { 0 < self.old.asks }
         ensures { self.new ≡ after_ask self.old }
@@ -163,6 +170,7 @@ impl<'a> MemConnection<'a> {
         self.asks -= 1;
     }
 
+    /// Closes it.
     pub fn close(&mut self)
         ensures { self.new ≡ after_close self.old }
     {

@@ -59,6 +59,7 @@ impl<'a> MemLog<'a> {
         })
     }
 
+    /// Notes one entry more.
     pub fn note(&mut self, note: Note<'a>)
         requires { 0 < self.old.room }
         ensures entries { self.new.entries ≡ noted note.entry ∷ self.old.entries }

@@ -15,6 +15,7 @@ pub struct Change {
 }
 
 impl Change {
+    /// A change of nothing.
     pub const NOTHING: Change = Change {
         comes: 0,
         takes: 0,

@@ -80,6 +80,7 @@ fn put(out: &mut [u8], bytes: &[u8])
 }
 
 impl<'a> Stage<'a> {
+    /// A stage on which nothing has happened.
     #[tactic(auto, using(crate::proofs::Stages::stage_new))]
     pub fn new(alloc: Global, schedule: &'a [Step]) -> Result<Self, NoMemory>
         ensures schedule { IfOk result (λ s. s.schedule ≡ schedule.entry.now) }

@@ -21,6 +21,7 @@ pub struct TcpListeners<'a, R> {
 }
 
 impl<'a, R: Sockets> TcpListeners<'a, R> {
+    /// Listeners at an address, for at most so many connections at a port.
     pub fn new(rt: &'a R, alloc: Global, address: Ipv4Addr, most: u32) -> TcpListeners<'a, R>
         ensures place { ⟦<TcpListeners<'a, R> as Listeners>⟧.place result ≡ place_at address most }
         ensures faults { ⟦<TcpListeners<'a, R> as Listeners>⟧.faults result ≡ 0 }

@@ -17,6 +17,7 @@ pub record TakerView (T : Type 0) : Type 0 where
   pub mine : List T
 
 module _ {T : Type 0} where
+  -- an entry of these parts
   abbrev pub entry : ℕ → T → Entry T
   entry number what = record { taker = number; what = what }
 
@@ -24,8 +25,10 @@ module _ {T : Type 0} where
   abbrev pub entries_by : ℕ → List (Entry T) → List T
   entries_by number entries = filter_map (λ e. if e.taker == number then Some e.what else None) entries
 
+  -- what contracts see of a book
   abbrev pub book_view : TableId → ℕ → List (Entry T) → BookView T
   book_view table takers entries = record { table = table; takers = takers; entries = entries }
 
+  -- what contracts see of a taker
   abbrev pub taker_view : TableId → ℕ → List T → TakerView T
   taker_view table number mine = record { table = table; number = number; mine = mine }

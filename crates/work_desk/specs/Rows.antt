@@ -4,6 +4,7 @@ use Rattle.work_desk.specs.declared.rule.Knows.{Knows}
 use Rattle.work_desk.specs.Desk.{giver, told}
 
 module _ {T S : Type 0} where
+  -- a giver whose work was taken back
   abbrev pub free_again : Knows T S → Knows T S
   free_again g = giver g.terms None
 
@@ -17,6 +18,7 @@ module _ {T S : Type 0} where
   handed (w ∷ ws) [] = []
   handed (w ∷ ws) (g ∷ gs) = giver g.terms (Some w) ∷ handed ws gs
 
+  -- each of the givers has handed out work
   abbrev pub AllHanded : List (Knows T S) → Type 0
   AllHanded [] = ⊤
   AllHanded (g ∷ gs) = (g.work ≢ None) × AllHanded gs

@@ -46,6 +46,7 @@ impl Terms<()> for Brand {
     ghost terms = { tt };
 }
 
+/// What holds of a desk: a worker gets exactly the work that was handed to it.
 pub struct Law;
 
 impl<S, T: Work<S>> TableRule<Option<T>, Knows<T, S>, ()> for Law {

@@ -12,10 +12,10 @@ use Rattle.locked_serve.proofs.listening.listen_all.Given as given
 use Rattle.locked_serve.proofs.listening.listen_all.Goals as goal
 
 abbrev facts : (g : given.Over) → g.row.L-Port.Denot → StreamFacts
-facts g = stream_facts g.L.Port.Connections.port g.L.Port.Connections.faults g.L.Port.Connections.has_ended g.L.Port.Connections.log
+facts g = stream_facts g.L.Port.Connections
 
 abbrev listens_at : (g : given.Over) → g.row.L.Denot → ListenFacts
-listens_at g = listen_facts g.L.Listeners.faults g.L.Listeners.ports g.L.Listeners.released g.L.Listeners.place
+listens_at g = listen_facts g.L.Listeners
 
 pub loop-k-init : goal.loop-k-init
 loop-k-init g c =

@@ -7,7 +7,7 @@ invariant-loop-k g l = record {
   len : vec_len l.connections ≡ l.k;
   room : l.streams.fronts ≤ vec_capacity l.connections;
   new : AreNewStreams (g.L.Listeners.ports l.initial.listeners) l.streams.port
-      (map (stream_facts g.L.Port.Connections.port g.L.Port.Connections.faults g.L.Port.Connections.has_ended g.L.Port.Connections.log) l.connections.items);
+      (map (stream_facts g.L.Port.Connections) l.connections.items);
   others : LeavesOthers l.streams.port l.k (g.L.Listeners.ports l.initial.listeners) (g.L.Listeners.ports l.listeners);
   faults : g.L.Listeners.faults l.listeners ≡ g.L.Listeners.faults l.initial.listeners;
   released : g.L.Listeners.released l.listeners ≡ g.L.Listeners.released l.initial.listeners;

@@ -8,7 +8,7 @@ use Rattle.locked_serve.proofs.listening.release_streams.Given as given
 use Rattle.locked_serve.proofs.listening.release_streams.Goals as goal
 
 abbrev facts : (g : given.Over) → g.row.L-Port.Denot → StreamFacts
-facts g = stream_facts g.L.Port.Connections.port g.L.Port.Connections.faults g.L.Port.Connections.has_ended g.L.Port.Connections.log
+facts g = stream_facts g.L.Port.Connections
 
 pub loop-port-init : goal.loop-port-init
 loop-port-init g c = record { released = none_released (g.L.Listeners.released c.args.listeners.now); ports = refl; place = refl; faults = refl }

@@ -4,6 +4,6 @@ use Rattle.locked_serve.proofs.listening.release_streams.Given as goal
 
 abbrev pub invariant-loop-port : goal.invariant-loop-port
 invariant-loop-port g l =
-    ReleasesStreams (map (stream_facts g.L.Port.Connections.port g.L.Port.Connections.faults g.L.Port.Connections.has_ended g.L.Port.Connections.log) l.yielded)
-    (listen_facts g.L.Listeners.faults g.L.Listeners.ports g.L.Listeners.released g.L.Listeners.place l.initial.listeners)
-    (listen_facts g.L.Listeners.faults g.L.Listeners.ports g.L.Listeners.released g.L.Listeners.place l.listeners)
+    ReleasesStreams (map (stream_facts g.L.Port.Connections) l.yielded)
+    (listen_facts g.L.Listeners l.initial.listeners)
+    (listen_facts g.L.Listeners l.listeners)

@@ -5,7 +5,7 @@ use Rattle.list_laws.proofs.Places.{at_map}
 use Rattle.list_laws.proofs.UpTo.{up_none}
 use Rattle.locked_serve.specs.declared.opening.FilledPart.{FilledPart}
 use Rattle.locked_serve.specs.Opening.{FilledView, filled_view}
-use Rattle.locked_serve.proofs.Lending.{Lending, enrolled, lends_next, all_lent, all_enrolled}
+use Rattle.locked_serve.proofs.Lending.{Lending, enrolled, next_planned, lends_next, all_lent, all_enrolled}
 use Rattle.locked_serve.proofs.opening.lend_hand.Given as given
 use Rattle.locked_serve.proofs.opening.lend_hand.Goals as goal
 
@@ -18,6 +18,15 @@ loop-p-init g c = record {
   many = ap length c.in_ok-hand.ensures.items;
   each = λ q part at. absurd (let low = slice_get_within c.in_ok-hand.hand.items q part at in omega (arith, ap length c.in_ok-hand.ensures.items));
 }
+
+pub lend-requires : goal.lend-requires
+lend-requires g c =
+    let i = c.loop-p.invariant in
+    let now = c.loop-p.parts.items in
+    let part = c.index_mut-part.result.now in
+    let low : c.loop-p.p < length now =
+    omega (arith, i.up.many, length-map now (view g), length-map c.args.parts.now.items (view g), c.loop-p-test.true, c.args.parts.now.ok, c.len-count.ensures) in
+    (next_planned c.requires.of i (view g part) (at_map (view g) now c.loop-p.p part (slice_get_read now (length now) c.loop-p.p part refl low c.index_mut-part.ensures.value))).flushes
 
 pub loop-p-preserved : goal.loop-p-preserved
 loop-p-preserved g c =

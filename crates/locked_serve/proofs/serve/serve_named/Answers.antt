@@ -1,5 +1,5 @@
 use Rattle.std.proofs.Common.{rules, ◌≡◌, ◌+◌, ◌<◌, ℕ, List, length, vec_len, map, refl, sym, ap, ◌∙◌, subst, arith}
-use Rattle.std.specs.Prelude.{IfSome, Option, option_map, Result, Ok, Err}
+use Rattle.std.specs.Prelude.{IfSome, Option, option_map, Result, Err}
 use Rattle.std.proofs.lemmas.List.{length-map}
 use Rattle.std.proofs.lemmas.Result.{err_from_is_err_and}
 use Rattle.mica_io.specs.PortStates.{out}
@@ -7,125 +7,108 @@ use Rattle.mica_fronts.specs.declared.totals.Totals.{Totals}
 use Rattle.mica_fronts.specs.declared.totals.ServeFault.{ServeFault}
 use Rattle.mica_serve.specs.Others.{Others}
 use Rattle.mica_serve.specs.Ends.{EndFacts, end_facts}
-use Rattle.mica_serve.specs.NetRun.{NetFacts, BindsAndServes, IsCauseOnceBound, net_facts}
+use Rattle.mica_serve.specs.NetRun.{NetFacts, net_facts}
 use Rattle.mica_serve.proofs.PortRuns.{kept_at}
-use Rattle.mica_serve.proofs.Whole.{out_until, tell_until, keeps, cause, net_kept}
+use Rattle.mica_serve.proofs.Whole.{out_until, tell_until, keeps, cause}
 use Rattle.partition_model.specs.declared.options.Options.{Options}
 use Rattle.partition_model.specs.History.{IsHistory}
-use Rattle.locked_serve.specs.declared.stop.Stop.{Stop}
+use Rattle.locked_serve.specs.declared.filling.OpenFault.TheVariants as open_fault
 use Rattle.locked_serve.specs.Opening.{filled_view}
 use Rattle.locked_serve.specs.Streams.{StreamFacts, ListenFacts, listen_facts, stream_facts, with_ports}
-use Rattle.locked_serve.specs.Causes.{PortFacts, HasCause, port_facts}
-use Rattle.locked_serve.proofs.Heard.{kept_unheard}
+use Rattle.locked_serve.specs.Causes.{PortFacts, ports_at}
 use Rattle.locked_serve.proofs.Released.{kept_released}
 use Rattle.locked_serve.proofs.Named.{accepted}
-use Rattle.locked_serve.proofs.Stopped.{says_then, still_told, no_memory}
+use Rattle.locked_serve.proofs.Stopped.{says_then, still_told, no_memory, unopened}
 use Rattle.locked_serve.proofs.serve.serve_named.Given as given
 use Rattle.locked_serve.proofs.serve.serve_named.Goals as goal
 
 abbrev facts : (g : given.Over) → g.row.N-End.Denot → EndFacts
-facts g = end_facts g.N.End.Datagrams.port g.N.End.Datagrams.traffic g.N.End.Datagrams.faults g.N.End.Datagrams.has_ended g.N.End.Datagrams.script
+facts g = end_facts g.N.End.Datagrams
 
 abbrev of_stream : (g : given.Over) → g.row.L-Port.Denot → StreamFacts
-of_stream g = stream_facts g.L.Port.Connections.port g.L.Port.Connections.faults g.L.Port.Connections.has_ended g.L.Port.Connections.log
+of_stream g = stream_facts g.L.Port.Connections
 
 abbrev net_at : (g : given.Over) → g.row.N.Denot → NetFacts
-net_at g = net_facts g.N.Net.faults g.N.Net.binds g.N.Net.first g.N.Net.refused g.N.Net.ports g.N.Net.fails
+net_at g = net_facts g.N.Net
 
 abbrev listens_at : (g : given.Over) → g.row.L.Denot → ListenFacts
-listens_at g = listen_facts g.L.Listeners.faults g.L.Listeners.ports g.L.Listeners.released g.L.Listeners.place
+listens_at g = listen_facts g.L.Listeners
 
-abbrev ports_at : (g : given.Over) → g.row.N.Denot → g.row.L.Denot → PortFacts
-ports_at g net listeners = port_facts (net_at g net) (listens_at g listeners)
+abbrev ports_of : (g : given.Over) → g.row.N.Denot → g.row.L.Denot → PortFacts
+ports_of g = ports_at g.N.Net g.L.Listeners
 
 pub release_all-requires-clause-ports : goal.release_all-requires-clause-ports
 release_all-requires-clause-ports g c _ _ =
     let run = c.bind_and_serve-answer.ensures.served.said in
-    kept_at c.args.ports.now.port run.olds (map (facts g) c.bind_and_serve-answer.new.ends.items) run.many run.are_new run.keeps
+    kept_at c.args.shared.now.service.ports.port run.olds (map (facts g) c.bind_and_serve-answer.new.ends.items) run.many run.are_new run.keeps
 
 pub release_all-requires-clause-out : goal.release_all-requires-clause-out
 release_all-requires-clause-out g c _ _ =
     let run = c.bind_and_serve-answer.ensures.served.said in
     let items = c.bind_and_serve-answer.new.ends.items in
     let size : length (map (facts g) items) ≡ vec_len c.bind_and_serve-answer.new.ends = length-map items (facts g) ∙ (search rules) in
-    subst (λ (n : ℕ). IfSome (g.N.Net.ports c.bind_and_serve-answer.new.net) (λ all. (i : ℕ) → i < n → all (c.args.ports.now.port + i) ≡ out)) size
-    (out_until c.args.ports.now.port run.olds (map (facts g) items) (g.N.Net.ports c.args.net.now) (g.N.Net.ports c.bind_and_serve-answer.new.net) run.many run.bound)
+    subst (λ (n : ℕ). IfSome (g.N.Net.ports c.bind_and_serve-answer.new.net) (λ all. (i : ℕ) → i < n → all (c.args.shared.now.service.ports.port + i) ≡ out)) size
+    (out_until c.args.shared.now.service.ports.port run.olds (map (facts g) items) (g.N.Net.ports c.args.net.now) (g.N.Net.ports c.bind_and_serve-answer.new.net) run.many run.bound)
 
 pub release_all-requires-clause-tell : goal.release_all-requires-clause-tell
 release_all-requires-clause-tell g c _ _ =
     let run = c.bind_and_serve-answer.ensures.served.said in
-    tell_until c.args.ports.now.port run.olds (map (facts g) c.bind_and_serve-answer.new.ends.items) (g.N.Net.ports c.args.net.now) (g.N.Net.ports c.bind_and_serve-answer.new.net) run.many run.keeps run.bound
-
-pub returns-clause-cause : goal.returns-clause-cause
-returns-clause-cause g c =
-    let listens = c.release_streams.ensures in
-    says_then listens.faults (λ news is. listens.released ∙ (λ i. option_map (with_ports (sym is i)) (c.bind_and_serve-answer.ensures.unreleased i))) (λ (others : Others) (came : Option (Result Totals ServeFault)).
-    cause others c.args.options.now c.requires.options.partitions.0 g.J.ServerPlan.plan.origin c.args.ports.now c.bind_and_serve-answer.new.tables (net_at g c.args.net.now)
-    (net_at g c.bind_and_serve-answer.new.net) (net_at g c.release_all.new.net) (map (facts g) c.bind_and_serve-answer.new.ends.items) c.release_all.ensures came) c.bind_and_serve-answer.ensures.served
-
-pub returns-clause-kept : goal.returns-clause-kept
-returns-clause-kept g c =
-    let served = c.bind_and_serve-answer.ensures.served in
-    keeps _ c.args.options.now c.requires.options.partitions.0 g.J.ServerPlan.plan.origin c.args.ports.now c.bind_and_serve-answer.new.tables (net_at g c.args.net.now)
-    (net_at g c.bind_and_serve-answer.new.net) (net_at g c.release_all.new.net) (map (facts g) c.bind_and_serve-answer.new.ends.items) c.release_all.ensures served.came served.said
-
-pub returns-clause-heard : goal.returns-clause-heard
-returns-clause-heard g c =
-    let served = c.bind_and_serve-answer.ensures.served in
-    let news = map (of_stream g) c.bind_and_serve-answer.new.connections.items in
-    kept_released c.args.streams.now news (listens_at g c.args.listeners.now) (listens_at g c.bind_and_serve-answer.new.listeners) (listens_at g c.release_streams.new.listeners)
-    (omega (arith, ap length served.left, served.are.served.many, served.are.within)) c.bind_and_serve-answer.ensures.heard c.release_streams.ensures
-
-pub returns-clause-announced : goal.returns-clause-announced
-returns-clause-announced g c =
-    still_told c.bind_and_serve-answer.result (g.A.Announce.says c.args.ports.now c.args.streams.now) (g.A.Announce.fails c.args.ports.now c.args.streams.now)
-    (ports_at g c.args.net.now c.args.listeners.now) (ports_at g c.bind_and_serve-answer.new.net c.bind_and_serve-answer.new.listeners)
-    (ports_at g c.release_all.new.net c.release_streams.new.listeners)
-    c.args.announce.now c.bind_and_serve-answer.new.announce c.release_all.ensures.refused c.release_streams.ensures.faults c.bind_and_serve-answer.ensures.announced
+    tell_until c.args.shared.now.service.ports.port run.olds (map (facts g) c.bind_and_serve-answer.new.ends.items) (g.N.Net.ports c.args.net.now)
+    (g.N.Net.ports c.bind_and_serve-answer.new.net) run.many run.keeps run.bound
 
 pub bind_and_serve-answer-requires-clause-filled : goal.bind_and_serve-answer-requires-clause-filled
 bind_and_serve-answer-requires-clause-filled g c κs within =
-    subst (λ (o : Options). (p : ℕ) → p < o.partitions → IsHistory o (g.J.ServerPlan.plan.origin p)) (sym c.requires.named)
+    subst (λ (o : Options). (p : ℕ) → p < o.partitions → IsHistory o (g.J.ServerPlan.plan.origin p)) (sym c.requires.plan.options)
     (accepted g.J.ServerPlan.plan 0 (map (λ f. filled_view g.P.Partition.owner g.P.Partition.home f) c.args.parts.items) c.requires.of)
 
-pub returns-in_err-server-clause-kept : goal.returns-in_err-server-clause-kept
-returns-in_err-server-clause-kept g c = net_kept c.args.ports.now (net_at g c.args.net.now) c.requires.unbound
+pub returns-clause-cause : goal.returns-clause-cause
+returns-clause-cause g c =
+    let service = c.args.shared.now.service in
+    let listens = c.release_streams.ensures in
+    says_then listens.faults (λ news is. listens.released ∙ (λ i. option_map (with_ports (sym is i)) (c.bind_and_serve-answer.ensures.unreleased i))) (λ (others : Others) (came : Option (Result Totals ServeFault)).
+    cause others service.options c.requires.service.options.partitions.0 g.J.ServerPlan.plan.origin service.ports c.bind_and_serve-answer.new.tables (net_at g c.args.net.now)
+    (net_at g c.bind_and_serve-answer.new.net) (net_at g c.release_all.new.net) (map (facts g) c.bind_and_serve-answer.new.ends.items) c.release_all.ensures came) c.bind_and_serve-answer.ensures.served
 
-pub returns-in_err-server-clause-heard : goal.returns-in_err-server-clause-heard
-returns-in_err-server-clause-heard g c = kept_unheard c.args.streams.now (listens_at g c.args.listeners.now)
+pub returns-clause-leaves : goal.returns-clause-leaves
+returns-clause-leaves g c =
+    let service = c.args.shared.now.service in
+    let served = c.bind_and_serve-answer.ensures.served in
+    record {
+      kept = keeps _ service.options c.requires.service.options.partitions.0 g.J.ServerPlan.plan.origin service.ports c.bind_and_serve-answer.new.tables (net_at g c.args.net.now)
+          (net_at g c.bind_and_serve-answer.new.net) (net_at g c.release_all.new.net) (map (facts g) c.bind_and_serve-answer.new.ends.items) c.release_all.ensures served.came served.said;
+      heard = kept_released service.streams (map (of_stream g) c.bind_and_serve-answer.new.connections.items) (listens_at g c.args.listeners.now) (listens_at g c.bind_and_serve-answer.new.listeners)
+          (listens_at g c.release_streams.new.listeners) (omega (arith, ap length served.left, served.are.served.many, served.are.within)) c.bind_and_serve-answer.ensures.heard c.release_streams.ensures;
+      announced = still_told c.bind_and_serve-answer.result (g.A.Announce.says service.ports service.streams) (g.A.Announce.fails service.ports service.streams)
+          (ports_of g c.args.net.now c.args.listeners.now) (ports_of g c.bind_and_serve-answer.new.net c.bind_and_serve-answer.new.listeners) (ports_of g c.release_all.new.net c.release_streams.new.listeners)
+          c.args.announce.now c.bind_and_serve-answer.new.announce c.release_all.ensures.refused c.release_streams.ensures.faults c.bind_and_serve-answer.ensures.announced;
+    }
 
 pub returns-in_err-server-clause-cause : goal.returns-in_err-server-clause-cause
 returns-in_err-server-clause-cause g c =
     let is = err_from_is_err_and c.from_residual.result c.from_residual.ensures.1 in
-    let all = ports_at g c.args.net.now c.args.listeners.now in
-    let clocks = map g.K.Clock.last c.args.clocks.items in
-    subst (λ (r : Result Totals Stop). HasCause r c.args.options.now g.J.ServerPlan.plan.origin c.args.base c.args.ports.now c.args.streams.now clocks c.args.tables.now all all) (sym (is.1 ∙ ap Err is.2))
-    (no_memory c.args.options.now g.J.ServerPlan.plan.origin c.args.base c.args.ports.now c.args.streams.now clocks c.args.tables.now all c.requires.tables)
+    no_memory (is.1 ∙ ap Err is.2) c.requires.tables
 
-pub returns-in_err-ends-clause-kept : goal.returns-in_err-ends-clause-kept
-returns-in_err-ends-clause-kept g c = net_kept c.args.ports.now (net_at g c.args.net.now) c.requires.unbound
-
-pub returns-in_err-ends-clause-heard : goal.returns-in_err-ends-clause-heard
-returns-in_err-ends-clause-heard g c = kept_unheard c.args.streams.now (listens_at g c.args.listeners.now)
+pub returns-in_err-server-clause-leaves : goal.returns-in_err-server-clause-leaves
+returns-in_err-server-clause-leaves g c =
+    let is = err_from_is_err_and c.from_residual.result c.from_residual.ensures.1 in
+    unopened open_fault.NoMemory (is.1 ∙ ap Err is.2) c.requires.unbound
 
 pub returns-in_err-ends-clause-cause : goal.returns-in_err-ends-clause-cause
 returns-in_err-ends-clause-cause g c =
     let is = err_from_is_err_and c.from_residual-in_err-ends.result c.from_residual-in_err-ends.ensures.1 in
-    let all = ports_at g c.args.net.now c.args.listeners.now in
-    let clocks = map g.K.Clock.last c.args.clocks.items in
-    subst (λ (r : Result Totals Stop). HasCause r c.args.options.now g.J.ServerPlan.plan.origin c.args.base c.args.ports.now c.args.streams.now clocks c.args.tables.now all all) (sym (is.1 ∙ ap Err is.2))
-    (no_memory c.args.options.now g.J.ServerPlan.plan.origin c.args.base c.args.ports.now c.args.streams.now clocks c.args.tables.now all c.requires.tables)
+    no_memory (is.1 ∙ ap Err is.2) c.requires.tables
 
-pub returns-in_err-connections-clause-kept : goal.returns-in_err-connections-clause-kept
-returns-in_err-connections-clause-kept g c = net_kept c.args.ports.now (net_at g c.args.net.now) c.requires.unbound
-
-pub returns-in_err-connections-clause-heard : goal.returns-in_err-connections-clause-heard
-returns-in_err-connections-clause-heard g c = kept_unheard c.args.streams.now (listens_at g c.args.listeners.now)
+pub returns-in_err-ends-clause-leaves : goal.returns-in_err-ends-clause-leaves
+returns-in_err-ends-clause-leaves g c =
+    let is = err_from_is_err_and c.from_residual-in_err-ends.result c.from_residual-in_err-ends.ensures.1 in
+    unopened open_fault.NoMemory (is.1 ∙ ap Err is.2) c.requires.unbound
 
 pub returns-in_err-connections-clause-cause : goal.returns-in_err-connections-clause-cause
 returns-in_err-connections-clause-cause g c =
     let is = err_from_is_err_and c.from_residual-in_err-connections.result c.from_residual-in_err-connections.ensures.1 in
-    let all = ports_at g c.args.net.now c.args.listeners.now in
-    let clocks = map g.K.Clock.last c.args.clocks.items in
-    subst (λ (r : Result Totals Stop). HasCause r c.args.options.now g.J.ServerPlan.plan.origin c.args.base c.args.ports.now c.args.streams.now clocks c.args.tables.now all all) (sym (is.1 ∙ ap Err is.2))
-    (no_memory c.args.options.now g.J.ServerPlan.plan.origin c.args.base c.args.ports.now c.args.streams.now clocks c.args.tables.now all c.requires.tables)
+    no_memory (is.1 ∙ ap Err is.2) c.requires.tables
+
+pub returns-in_err-connections-clause-leaves : goal.returns-in_err-connections-clause-leaves
+returns-in_err-connections-clause-leaves g c =
+    let is = err_from_is_err_and c.from_residual-in_err-connections.result c.from_residual-in_err-connections.ensures.1 in
+    unopened open_fault.NoMemory (is.1 ∙ ap Err is.2) c.requires.unbound

@@ -20,10 +20,10 @@ use Rattle.locked_serve.proofs.server.serve_all.Given as given
 use Rattle.locked_serve.proofs.server.serve_all.Goals as goal
 
 abbrev facts : (g : given.Over) → g.row.D.Denot → EndFacts
-facts g = end_facts g.D.Datagrams.port g.D.Datagrams.traffic g.D.Datagrams.faults g.D.Datagrams.has_ended g.D.Datagrams.script
+facts g = end_facts g.D.Datagrams
 
 abbrev of_stream : (g : given.Over) → g.row.C.Denot → StreamFacts
-of_stream g = stream_facts g.C.Connections.port g.C.Connections.faults g.C.Connections.has_ended g.C.Connections.log
+of_stream g = stream_facts g.C.Connections
 
 abbrev view : (g : given.Over) → Returned g.row.P.Denot → Owned
 view g part = left_view g.P.Partition.owner g.P.Partition.home part
@@ -40,13 +40,14 @@ sum_up_beside-requires-clause-few g c =
       few_answers _ _ _ _ _ _ _ _ c.run_all-parts.ensures.ran.ran,
       length-map c.args.ends.now.items (facts g),
       c.requires.takers,
-      c.requires.few,
+      c.requires.service.few,
+      c.requires.plan.fronts,
     )
 
 pub sum_up_beside-requires-clause-small : goal.sum_up_beside-requires-clause-small
 sum_up_beside-requires-clause-small g c =
     subst (λ (l : List (Result Totals ServeFault)). (f : ℕ) (totals : Totals) → slice_get l f ≡ Some (Ok totals) → IsUpTo MAX_BATCHES totals) (sym c.as_slice-2.ensures.value)
-    (small_answers _ _ _ _ _ _ _ _ c.run_all-parts.ensures.ran.ran c.requires.batches)
+    (small_answers _ _ _ _ _ _ _ _ c.run_all-parts.ensures.ran.ran c.requires.service.ports.batches.1)
 
 pub keep_all-requires-clause-room : goal.keep_all-requires-clause-room
 keep_all-requires-clause-room g c =
@@ -56,22 +57,22 @@ keep_all-requires-clause-room g c =
       length-map (map (view g) c.run_all-parts.result.parts.items) entry,
       length-map c.run_all-parts.result.parts.items (view g),
       c.run_all-parts.ensures.ran.ran.taken.shapes.many,
-      c.requires.options.partitions.1,
+      c.requires.service.options.partitions.1,
     )
 
 pub returns-in_err-totals : goal.returns-in_err-totals
 returns-in_err-totals g c =
     let is = err_from_is_err_and c.from_residual.result c.from_residual.ensures.1 in
     let same : c.from_residual.result ≡ Err c.in_err-totals.field-0.0 = is.1 ∙ ap Err is.2 in
-    subst (λ (r : Result Totals ServeFault). ServesBeside c.args.options.now g.J.ServerPlan.plan.origin c.args.batches c.args.base (map g.K.Clock.last c.args.clocks.items) r c.args.tables.now
+    subst (λ (r : Result Totals ServeFault). ServesBeside c.args.shared.now.service.options g.J.ServerPlan.plan.origin c.args.shared.now.service.ports.batches c.args.shared.now.service.base (map g.K.Clock.last c.args.clocks.items) r c.args.tables.now
     (map (facts g) c.args.ends.now.items) (map (facts g) c.run_all-parts.new.ends.items) (map (of_stream g) c.args.connections.now.items) (map (of_stream g) c.run_all-parts.new.connections.items)) (sym same)
-    (serves_beside _ c.requires.options.partitions.0 _ _ _ _ _ _ _ _ _ _ _ c.run_all-parts.ensures.ran c.args.tables.now (Err c.in_err-totals.field-0.0)
+    (serves_beside _ c.requires.service.options.partitions.0 _ _ _ _ _ _ _ _ _ _ _ c.run_all-parts.ensures.ran c.args.tables.now (Err c.in_err-totals.field-0.0)
     (subst (λ (y : List (Result ⊤ ServeFault) × List (Result Totals ServeFault)). SumsUpBeside y.0 y.1 (Err c.in_err-totals.field-0.0))
     (λ i. (c.as_slice.ensures.value i, c.as_slice-2.ensures.value i)) c.in_err-totals.ensures) c.requires.tables)
 
 pub returns : goal.returns
 returns g c =
-    serves_beside _ c.requires.options.partitions.0 _ _ _ _ _ _ _ _ _ _ _ c.run_all-parts.ensures.ran c.keep_all.new.tables (Ok c.in_ok-totals.totals)
+    serves_beside _ c.requires.service.options.partitions.0 _ _ _ _ _ _ _ _ _ _ _ c.run_all-parts.ensures.ran c.keep_all.new.tables (Ok c.in_ok-totals.totals)
     (subst (λ (y : List (Result ⊤ ServeFault) × List (Result Totals ServeFault)). SumsUpBeside y.0 y.1 (Ok c.in_ok-totals.totals))
     (λ i. (c.as_slice.ensures.value i, c.as_slice-2.ensures.value i)) c.in_ok-totals.ensures)
     (c.keep_all.ensures ∙ ap (λ (l : List KeptSeat). l ++ map entry (map (view g) c.run_all-parts.result.parts.items)) c.requires.tables)

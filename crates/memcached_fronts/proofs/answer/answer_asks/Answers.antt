@@ -6,9 +6,11 @@ use Rattle.memcached_commands.specs.declared.asks.Asked.{Asked}
 use Rattle.memcached_commands.specs.Fit.{IsFitAsked}
 use Rattle.mica_fronts.specs.Answered.{Answered}
 use Rattle.memcached_fronts.specs.AskAnswers.{said_of}
+use Rattle.memcached_fronts.specs.Counting.{tally_after, tally_after_all}
 use Rattle.memcached_fronts.specs.Going.{AnswersAt, AnswersFirst, ask_text}
 use Rattle.memcached_fronts.proofs.AskLaws.{left_of, quiet_none}
 use Rattle.memcached_fronts.proofs.Asking.{none_yet, one_more, text_more, writes_more}
+use Rattle.memcached_fronts.proofs.Counting.{counted_more}
 use Rattle.memcached_fronts.proofs.answer.answer_asks.Given as given
 use Rattle.memcached_fronts.proofs.answer.answer_asks.Goals as goal
 use Rattle.memcached_fronts.proofs.answer.answer_asks.Goals.{After-answer_ask}
@@ -25,6 +27,7 @@ loop-count-init g c =
       few = omega arith;
       left = omega arith;
       given = omega arith;
+      counted = refl;
       options = refl;
       number = refl;
       stands = refl;
@@ -46,6 +49,12 @@ module _ (g : given.Over) (c : After-answer_ask g) where
       (subst (λ (o : Options). AnswersAt o g.F.Front.is_alone c.args.base (g.C.Clock.last c.answer_ask.new.clock) (g.F.Front.sessions c.loop-count.front) c.in-Some.asked
       (g.F.Front.sessions c.answer_ask.new.front) a) c.loop-count.invariant.options at)
 
+  counts : (a : Answered) → c.answer_ask.new.buffers.tally ≡ tally_after c.args.base c.args.partitions c.in-Some.asked a c.loop-count.buffers.tally
+      → c.answer_ask.new.buffers.tally ≡ tally_after_all c.args.base c.args.partitions asks (c.loop-count.invariant.answers ++ a ∷ []) c.args.buffers.now.tally
+  counts a one =
+      one ∙ ap (tally_after c.args.base c.args.partitions c.in-Some.asked a) c.loop-count.invariant.counted
+      ∙ sym (counted_more c.args.base c.args.partitions asks c.next_asked.new.self c.loop-count.invariant.answers c.in-Some.asked a c.args.buffers.now.tally here)
+
 pub loop-count-preserved : goal.loop-count-preserved
 loop-count-preserved g c =
     let z = (goal.at.loop-count-preserved g c).After-answer_ask in
@@ -66,6 +75,7 @@ loop-count-preserved g c =
       few = let less = c.loop-count-test.true in omega (arith, less);
       left = omega (arith, left, inv.left);
       given = omega (arith, one.3, inv.given, writes_more inv.answers one.0);
+      counted = counts g z one.0 one.4;
       options = c.answer_ask.ensures.options ∙ inv.options;
       number = c.answer_ask.ensures.number ∙ inv.number;
       stands = c.answer_ask.ensures.stands ∙ inv.stands;
@@ -76,4 +86,4 @@ returns-in_default-answer_ask-clause-answered g c =
     let z = (goal.at.returns-in_default-answer_ask-clause-answered g c).After-answer_ask in
     let one = c.answer_ask.ensures.answered in
     let more = writes_more c.loop-count.invariant.answers one.0 in
-    (c.loop-count.invariant.answers ++ one.0 ∷ [], first g z one.0 one.1, tt, omega (arith, one.3, c.loop-count.invariant.given, more))
+    (c.loop-count.invariant.answers ++ one.0 ∷ [], first g z one.0 one.1, tt, omega (arith, one.3, c.loop-count.invariant.given, more), counts g z one.0 one.4)

@@ -4,6 +4,7 @@ use Rattle.memcached_commands.specs.Answers.{unless_quiet}
 use Rattle.memcached_commands.specs.Fit.{IsFitAsked}
 use Rattle.mica_fronts.specs.Answered.{Answered, count_of_writes}
 use Rattle.memcached_fronts.specs.AskAnswers.{asks_text}
+use Rattle.memcached_fronts.specs.Counting.{tally_after_all}
 use Rattle.memcached_fronts.specs.Going.{AnswersFirst}
 use Rattle.memcached_fronts.proofs.answer.answer_asks.Given as goal
 
@@ -20,6 +21,7 @@ invariant-loop-count g l =
       few : l.count ≤ l.limits.asks;
       left : F.left l.initial.front ≤ F.left l.front + l.count;
       given : F.left l.initial.front ≤ F.left l.front + count_of_writes answers;
+      counted : l.buffers.tally ≡ tally_after_all l.base l.partitions l.initial.asks answers l.initial.buffers.tally;
       options : F.options l.front ≡ F.options l.initial.front;
       number : F.number l.front ≡ F.number l.initial.front;
       stands : F.stands l.front ≡ F.stands l.initial.front;

@@ -15,8 +15,11 @@ use Rattle.memcached_fronts.specs.Exchange.{IsOpenAt, flush_due, flush_text, is_
 use Rattle.memcached_fronts.specs.Going.{AnswersFirst, RepliesFirst, Replies}
 use Rattle.memcached_fronts.proofs.AskLaws.{none_left, some_left, few_answers}
 use Rattle.memcached_stats.specs.Stats.{stats_text}
+use Rattle.memcached_stats.specs.Tallies.{counted}
+use Rattle.memcached_fronts.specs.Counting.{tally_after_all}
 use Rattle.memcached_stats.proofs.Untold.{untold}
 use Rattle.memcached_fronts.proofs.ExchangeLaws.{of_stats, flush_goes, flush_replies, plain_goes, plain_replies, asks_go, asks_reply, is_below}
+use Rattle.memcached_fronts.proofs.Counting.{counted_flush, counted_keyed, counted_plain}
 use Rattle.memcached_fronts.proofs.answer.answer_next.Goals as goal
 
 if_ok : {T E : Type 0} (P Q : T → Type 0) (r : Result T E) → ((t : T) → P t → Q t) → IfOk r P → IfOk r Q
@@ -46,6 +49,8 @@ returns-then-is_flush_all-clause-answered g c =
           c.answer_flush.new.out.items progress (r.4 ∙ c.requires.partitions) (all.0 ∙ ap (λ n. progress_of n true) c.requires.partitions)
           (all.1 ∙ ap (λ q. c.args.out.now.items ++ unless_quiet q (flush_text true r.0)) c.style_of-style.ensures.quiet)) r.5,
       r.6,
+      c.count.ensures ∙ ap (λ k. counted k c.args.buffers.now.tally) c.counter_by.ensures
+          ∙ sym (counted_flush c.args.numbering.base c.args.numbering.partitions next done r.0 c.args.buffers.now.tally flushes),
     )
 
 pub returns-then-is_stats-clause-answered : goal.returns-then-is_stats-clause-answered
@@ -66,6 +71,8 @@ returns-then-is_stats-clause-answered g c =
           (all.1.1 ∙ ap (λ n. before ++ stats_text n all.1.0) c.requires.partitions ∙ ap (λ text. before ++ text) (sym (is.due options.partitions all.1.0)))))
           c.answer_stats.ensures.told,
       omega arith,
+      c.count.ensures ∙ ap (λ k. counted k c.args.buffers.now.tally) c.counter_by.ensures
+          ∙ sym (counted_plain c.args.numbering.base c.args.numbering.partitions next c.args.done c.args.buffers.now.tally),
     )
 
 pub returns-then-is_empty-clause-answered : goal.returns-then-is_empty-clause-answered
@@ -84,6 +91,8 @@ returns-then-is_empty-clause-answered g c =
       plain_replies options F.is_alone c.args.numbering.base next c.args.done c.requires.open old old told told keyed none untold c.args.limits c.args.out.now.items c.put_line.new.out.items
           text,
       omega arith,
+      c.count.ensures ∙ ap (λ k. counted k c.args.buffers.now.tally) c.counter_by.ensures
+          ∙ sym (counted_plain c.args.numbering.base c.args.numbering.partitions next c.args.done c.args.buffers.now.tally),
     )
 
 pub returns-in_default-clause-answered : goal.returns-in_default-clause-answered
@@ -93,8 +102,14 @@ returns-in_default-clause-answered g c =
     let old = F.sessions c.args.front.now in
     let told = g.C.Clock.last c.args.clock.now in
     let keyed : is_flush_all c.args.next ≡ false = sym c.is_flush_all.ensures ∙ c.if-is_flush_all.false in
-    let none : asks_in c.args.next ≡ [] = sym c.by-asks.ensures.asks ∙ none_left c.by-asks.result (sym c.is_empty.ensures ∙ c.if-is_empty.true) in
-    ([], plain_goes options F.is_alone c.args.numbering.base c.args.next c.args.done c.requires.open old old told told keyed none, tt, omega arith)
+    let none : asks_in c.args.next ≡ [] = sym c.by-asks.ensures.asks ∙ none_left c.by-asks.result (sym c.is_empty.ensures ∙ c.if-is_empty.true) in (
+      [],
+      plain_goes options F.is_alone c.args.numbering.base c.args.next c.args.done c.requires.open old old told told keyed none,
+      tt,
+      omega arith,
+      c.count.ensures ∙ ap (λ k. counted k c.args.buffers.now.tally) c.counter_by.ensures
+          ∙ sym (counted_plain c.args.numbering.base c.args.numbering.partitions c.args.next c.args.done c.args.buffers.now.tally),
+    )
 
 module _ (next : Next) (asks : List Asked) (same : asks ≡ asks_in next) (done : ℕ) (stands : IsOpenAt next done) (some : (length asks == 0) ≡ false) where
   some_asked : 0 < length (asks_in next)
@@ -155,6 +170,9 @@ returns-in-Ok-answer_asks-clause-answered g c =
       subst (λ (w : Bool). Replies options base next done c.args.limits r.0 before after (progress_of (done + count) w)) (sym c.is_empty-in-Ok-answer_asks.ensures)
           (asks_reply options F.is_alone base next done c.requires.open old new told tells keyed r.0 c.args.limits before after count left some first.to_asks replies),
       r.3,
+      r.4 ∙ (λ i. tally_after_all c.args.numbering.base c.args.numbering.partitions (asks_are i) r.0
+          ((c.count.ensures ∙ ap (λ k. counted k c.args.buffers.now.tally) c.counter_by.ensures) i))
+          ∙ sym (counted_keyed c.args.numbering.base c.args.numbering.partitions c.args.next c.args.done r.0 c.args.buffers.now.tally keyed),
     )
 
 pub returns-in-Err-clause-answered : goal.returns-in-Err-clause-answered
@@ -168,5 +186,12 @@ returns-in-Err-clause-answered g c =
     let keyed : is_flush_all c.args.next ≡ false = sym c.is_flush_all.ensures ∙ c.if-is_flush_all.false in
     let asks_are : c.skip.new.asks ≡ drop c.args.done (asks_in c.args.next) = c.skip.ensures ∙ ap (drop c.args.done) c.by-asks.ensures.asks in
     let r = c.answer_asks.ensures.answered in
-    let first = subst (λ (l : List Asked). AnswersFirst options F.is_alone c.args.numbering.base l old told new tells r.0) asks_are r.1 in
-    (r.0, asks_go options F.is_alone c.args.numbering.base c.args.next c.args.done c.requires.open old new told tells keyed r.0 first, tt, r.3)
+    let first = subst (λ (l : List Asked). AnswersFirst options F.is_alone c.args.numbering.base l old told new tells r.0) asks_are r.1 in (
+      r.0,
+      asks_go options F.is_alone c.args.numbering.base c.args.next c.args.done c.requires.open old new told tells keyed r.0 first,
+      tt,
+      r.3,
+      r.4 ∙ (λ i. tally_after_all c.args.numbering.base c.args.numbering.partitions (asks_are i) r.0
+          ((c.count.ensures ∙ ap (λ k. counted k c.args.buffers.now.tally) c.counter_by.ensures) i))
+          ∙ sym (counted_keyed c.args.numbering.base c.args.numbering.partitions c.args.next c.args.done r.0 c.args.buffers.now.tally keyed),
+    )

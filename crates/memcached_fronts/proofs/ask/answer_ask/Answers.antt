@@ -8,6 +8,9 @@ use Rattle.memcached_changes.specs.Numbered.{Order, becoming_by, says_by}
 use Rattle.mica_fronts.specs.Changing.{ComesTo}
 use Rattle.mica_fronts.specs.Session.{ChangesOnly}
 use Rattle.memcached_fronts.specs.AskAnswers.{order_of, said_of}
+use Rattle.memcached_stats.specs.Counted.{counter_of}
+use Rattle.memcached_stats.specs.Tallies.{counted}
+use Rattle.memcached_fronts.specs.Counting.{noted_if}
 use Rattle.memcached_fronts.specs.Going.{AnswersAt, ask_text}
 use Rattle.memcached_fronts.proofs.Looking.{IsAnsweredBy, answered_by}
 use Rattle.memcached_fronts.proofs.ask.answer_ask.Goals as goal
@@ -41,4 +44,7 @@ returns-clause-answered g c =
       on_ok_weaker c.put_said.result (λ text.
           text ∙ (λ i. c.args.out.now.items ++ ask_text c.args.style.quiet c.args.style.unique c.args.is_last (c.bytes-key.ensures i) (says i))) c.put_said.ensures.ok,
       (let left = c.change-changed.ensures.left in omega (arith, left, by.count)),
+      c.note_write.ensures ∙ (λ i. noted_if c.args.partitions (c.bytes-key.ensures i) changed.when changed.outcome changed.stamp
+          ((c.count.ensures ∙ ap (λ k. counted k c.args.buffers.now.tally) (c.counter_of.ensures ∙ ap (counter_of asked.ask) says)) i))
+          ∙ by.noted c.args.partitions (counted (counter_of asked.ask (said_of c.args.base asked by.answered)) c.args.buffers.now.tally),
     )

@@ -10,3 +10,7 @@ returns-in-Some c = ap (λ keys. nexts.Command (Get keys false None) c.in-Some.l
 pub returns-in-Some-spelled_set : goal.returns-in-Some-spelled_set
 returns-in-Some-spelled_set c =
     ap (λ command. nexts.Command command c.in-Some-spelled_set.set.len) c.command-command.ensures ∙ begins_next c.args.from.now _ c.in-Some-spelled_set.set.len c.in-Some-spelled_set.ensures
+
+pub returns-in-Some-spelled_count : goal.returns-in-Some-spelled_count
+returns-in-Some-spelled_count c =
+    ap (λ command. nexts.Command command c.in-Some-spelled_count.count.len) c.command-command-in-Some-spelled_count.ensures ∙ begins_next c.args.from.now _ c.in-Some-spelled_count.count.len c.in-Some-spelled_count.ensures

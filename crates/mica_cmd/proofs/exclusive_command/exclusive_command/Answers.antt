@@ -33,4 +33,4 @@ returns-in-Err-Write g c =
 pub returns : goal.returns
 returns g c =
     let same = c.in-Err-NoMemory.ensures.unwritten (ap Err c.in-Err-NoMemory.field-0-is) ∙ c.in-Ok.ensures.unwritten in
-    λ net kept link. unwritten_promise (exclusive_promise c.args.options.now) (settles_exclusive c.args.options.now) _ _ (ap (sink_facts g.K.Sink.taken g.K.Sink.faults) same) c.in-Ok.ensures.reads refl refl refl
+    λ net kept link. unwritten_promise (exclusive_promise c.args.options.now) (settles_exclusive c.args.options.now) _ _ (ap (sink_facts g.K.Sink) same) c.in-Ok.ensures.reads refl refl refl

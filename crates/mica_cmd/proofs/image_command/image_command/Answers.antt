@@ -15,7 +15,7 @@ returns-in-Err g c = λ net kept link.
 
 pub returns-in-Ok-image_text : goal.returns-in-Ok-image_text
 returns-in-Ok-image_text g c =
-    let facts = sink_facts g.K.Sink.taken g.K.Sink.faults in
+    let facts = sink_facts g.K.Sink in
     let is = subst (IsImageText c.args.options.now c.in-Ok.trace) (sym c.bytes.ensures) c.in-Ok-image_text.ensures in
     let written = subst (λ s. IsWritten Done c.bytes.result.now (facts s) (facts c.write_due.new.sink) c.write_due.result) c.in-Ok.ensures.unwritten c.write_due.ensures in
     λ net kept link. keeps_promise (image_promise c.args.options.now) (settles_image c.args.options.now) _ _ _
@@ -23,4 +23,4 @@ returns-in-Ok-image_text g c =
 
 pub returns : goal.returns
 returns g c = λ net kept link.
-    unwritten_promise (image_promise c.args.options.now) (settles_image c.args.options.now) _ _ (ap (sink_facts g.K.Sink.taken g.K.Sink.faults) c.in-Ok.ensures.unwritten) c.in-Ok.ensures.reads refl refl refl
+    unwritten_promise (image_promise c.args.options.now) (settles_image c.args.options.now) _ _ (ap (sink_facts g.K.Sink) c.in-Ok.ensures.unwritten) c.in-Ok.ensures.reads refl refl refl

@@ -27,7 +27,7 @@ pub returns-in-Err-read_trace : goal.returns-in-Err-read_trace
 returns-in-Err-read_trace g c =
     let fault = c.in-Err-read_trace.fault in
     let why = subst (λ bytes. (fault ≡ NoRoom) ⊎ (Refuses bytes fault × IsNoTrace bytes)) c.as_slice.ensures.value c.in-Err-read_trace.ensures.refused in
-    let facts = sink_facts g.K.Sink.taken g.K.Sink.faults in
+    let facts = sink_facts g.K.Sink in
     let refused = subst (λ s. IsRefusedWith fault (facts s) (facts c.refuse.new.sink) c.refuse.result) c.in-Ok.ensures.unwritten c.refuse.ensures in
     record {
       trace = tt;

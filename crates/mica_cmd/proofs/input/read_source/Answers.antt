@@ -8,7 +8,7 @@ use Rattle.mica_cmd.proofs.input.read_source.Given as given
 use Rattle.mica_cmd.proofs.input.read_source.Goals as goal
 
 abbrev facts : (g : given.Over) → g.row.S.Denot → SourceFacts
-facts g = source_facts g.S.Source.left g.S.Source.given g.S.Source.has_ended g.S.Source.faults
+facts g = source_facts g.S.Source
 
 pub returns-in-Ok : goal.returns-in-Ok
 returns-in-Ok g c =

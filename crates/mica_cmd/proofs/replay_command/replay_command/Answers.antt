@@ -27,4 +27,4 @@ pub returns : goal.returns
 returns g c =
     let nothing = c.in-Err-NoMemory.ensures.unwritten (ap Err c.in-Err-NoMemory.field-0-is) in
     let same = nothing.0 ∙ c.in-Ok.ensures.unwritten in
-    λ net link. unwritten_promise (replay_promise c.args.options.now) (settles_replay c.args.options.now) _ _ (ap (sink_facts g.K.Sink.taken g.K.Sink.faults) same) c.in-Ok.ensures.reads refl (inl (nothing.1 ∙ sym c.requires.tables)) refl
+    λ net link. unwritten_promise (replay_promise c.args.options.now) (settles_replay c.args.options.now) _ _ (ap (sink_facts g.K.Sink) same) c.in-Ok.ensures.reads refl (inl (nothing.1 ∙ sym c.requires.tables)) refl

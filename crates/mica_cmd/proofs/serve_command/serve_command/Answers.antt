@@ -10,7 +10,7 @@ use Rattle.mica_cmd.proofs.serve_command.serve_command.Given as given
 use Rattle.mica_cmd.proofs.serve_command.serve_command.Goals as goal
 
 abbrev net_at : (g : given.Over) → g.row.N.Denot → NetFacts
-net_at g = net_facts g.N.Net.faults g.N.Net.binds g.N.Net.first g.N.Net.refused g.N.Net.ports g.N.Net.fails
+net_at g = net_facts g.N.Net
 
 pub returns-in-Ok : goal.returns-in-Ok
 returns-in-Ok g c = λ source link. serve_done c.args.options.now c.args.ports.now c.in-Ok.totals _ _ _ c.in-Ok.ensures.cause c.in-Ok.ensures.kept refl refl c.print_totals.ensures

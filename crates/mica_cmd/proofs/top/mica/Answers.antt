@@ -21,22 +21,22 @@ serve_command-requires-clause-ports g c κs within = (subst IsValidCommand c.in-
 pub returns-in-Ok-Replay : goal.returns-in-Ok-Replay
 returns-in-Ok-Replay g c =
     given_promise _ _ _ _ _ _ c.in-Ok-Replay.ensures.0 c.in-Ok-Replay.field-0-is
-    (c.replay_command.ensures (net_facts g.N.Net.faults g.N.Net.binds g.N.Net.first g.N.Net.refused g.N.Net.ports g.N.Net.fails c.args.net.now) (link_facts g.L.Link.talk g.L.Link.has_ended g.L.Link.silence g.L.Link.faults c.args.link.now))
+    (c.replay_command.ensures (net_facts g.N.Net c.args.net.now) (link_facts g.L.Link c.args.link.now))
 
 pub returns-in-Ok-Serve : goal.returns-in-Ok-Serve
 returns-in-Ok-Serve g c =
     given_promise _ _ _ _ _ _ c.in-Ok-Serve.ensures.0 c.in-Ok-Serve.field-0-is
-    (c.serve_command.ensures (source_facts g.S.Source.left g.S.Source.given g.S.Source.has_ended g.S.Source.faults c.args.source.now) (link_facts g.L.Link.talk g.L.Link.has_ended g.L.Link.silence g.L.Link.faults c.args.link.now))
+    (c.serve_command.ensures (source_facts g.S.Source c.args.source.now) (link_facts g.L.Link c.args.link.now))
 
 pub returns-in-Ok-Gen : goal.returns-in-Ok-Gen
 returns-in-Ok-Gen g c =
     given_promise _ _ _ _ _ _ c.in-Ok-Gen.ensures.0 c.in-Ok-Gen.field-0-is
-    (c.gen_command.ensures (source_facts g.S.Source.left g.S.Source.given g.S.Source.has_ended g.S.Source.faults c.args.source.now) (net_facts g.N.Net.faults g.N.Net.binds g.N.Net.first g.N.Net.refused g.N.Net.ports g.N.Net.fails c.args.net.now) c.args.tables.now (link_facts g.L.Link.talk g.L.Link.has_ended g.L.Link.silence g.L.Link.faults c.args.link.now))
+    (c.gen_command.ensures (source_facts g.S.Source c.args.source.now) (net_facts g.N.Net c.args.net.now) c.args.tables.now (link_facts g.L.Link c.args.link.now))
 
 pub returns-in-Ok-Bench : goal.returns-in-Ok-Bench
 returns-in-Ok-Bench g c =
     given_promise _ _ _ _ _ _ c.in-Ok-Bench.ensures.0 c.in-Ok-Bench.field-0-is
-    (c.bench_command.ensures (source_facts g.S.Source.left g.S.Source.given g.S.Source.has_ended g.S.Source.faults c.args.source.now) (net_facts g.N.Net.faults g.N.Net.binds g.N.Net.first g.N.Net.refused g.N.Net.ports g.N.Net.fails c.args.net.now) (link_facts g.L.Link.talk g.L.Link.has_ended g.L.Link.silence g.L.Link.faults c.args.link.now))
+    (c.bench_command.ensures (source_facts g.S.Source c.args.source.now) (net_facts g.N.Net c.args.net.now) (link_facts g.L.Link c.args.link.now))
 
 pub check_command-requires-clause-valid : goal.check_command-requires-clause-valid
 check_command-requires-clause-valid g c = subst IsValidCommand c.in-Ok-Check.field-0-is c.in-Ok-Check.ensures.1
@@ -56,27 +56,27 @@ image_command-requires-clause-mode g c = (subst IsValidCommand c.in-Ok-Image.fie
 pub returns-in-Ok-Check : goal.returns-in-Ok-Check
 returns-in-Ok-Check g c =
     given_promise _ _ _ _ _ _ c.in-Ok-Check.ensures.0 c.in-Ok-Check.field-0-is
-    (c.check_command.ensures (net_facts g.N.Net.faults g.N.Net.binds g.N.Net.first g.N.Net.refused g.N.Net.ports g.N.Net.fails c.args.net.now) c.args.tables.now (link_facts g.L.Link.talk g.L.Link.has_ended g.L.Link.silence g.L.Link.faults c.args.link.now))
+    (c.check_command.ensures (net_facts g.N.Net c.args.net.now) c.args.tables.now (link_facts g.L.Link c.args.link.now))
 
 pub returns-in-Ok-Exclusive : goal.returns-in-Ok-Exclusive
 returns-in-Ok-Exclusive g c =
     given_promise _ _ _ _ _ _ c.in-Ok-Exclusive.ensures.0 c.in-Ok-Exclusive.field-0-is
-    (c.exclusive_command.ensures (net_facts g.N.Net.faults g.N.Net.binds g.N.Net.first g.N.Net.refused g.N.Net.ports g.N.Net.fails c.args.net.now) c.args.tables.now (link_facts g.L.Link.talk g.L.Link.has_ended g.L.Link.silence g.L.Link.faults c.args.link.now))
+    (c.exclusive_command.ensures (net_facts g.N.Net c.args.net.now) c.args.tables.now (link_facts g.L.Link c.args.link.now))
 
 pub returns-in-Ok-Ask : goal.returns-in-Ok-Ask
 returns-in-Ok-Ask g c =
     given_promise _ _ _ _ _ _ c.in-Ok-Ask.ensures.0 c.in-Ok-Ask.field-0-is
-    (c.ask_command.ensures (net_facts g.N.Net.faults g.N.Net.binds g.N.Net.first g.N.Net.refused g.N.Net.ports g.N.Net.fails c.args.net.now) c.args.tables.now)
+    (c.ask_command.ensures (net_facts g.N.Net c.args.net.now) c.args.tables.now)
 
 pub returns-in-Ok-Image : goal.returns-in-Ok-Image
 returns-in-Ok-Image g c =
     given_promise _ _ _ _ _ _ c.in-Ok-Image.ensures.0 c.in-Ok-Image.field-0-is
-    (c.image_command.ensures (net_facts g.N.Net.faults g.N.Net.binds g.N.Net.first g.N.Net.refused g.N.Net.ports g.N.Net.fails c.args.net.now) c.args.tables.now (link_facts g.L.Link.talk g.L.Link.has_ended g.L.Link.silence g.L.Link.faults c.args.link.now))
+    (c.image_command.ensures (net_facts g.N.Net c.args.net.now) c.args.tables.now (link_facts g.L.Link c.args.link.now))
 
 pub returns-in-Ok-Unpack : goal.returns-in-Ok-Unpack
 returns-in-Ok-Unpack g c =
     given_promise _ _ _ _ _ _ c.in-Ok-Unpack.ensures.0 c.in-Ok-Unpack.field-0-is
-    (c.unpack_command.ensures (net_facts g.N.Net.faults g.N.Net.binds g.N.Net.first g.N.Net.refused g.N.Net.ports g.N.Net.fails c.args.net.now) c.args.tables.now (link_facts g.L.Link.talk g.L.Link.has_ended g.L.Link.silence g.L.Link.faults c.args.link.now))
+    (c.unpack_command.ensures (net_facts g.N.Net c.args.net.now) c.args.tables.now (link_facts g.L.Link c.args.link.now))
 
 pub returns-in-Err-Usage : goal.returns-in-Err-Usage
 returns-in-Err-Usage g c =

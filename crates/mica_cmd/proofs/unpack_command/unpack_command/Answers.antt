@@ -18,7 +18,7 @@ returns-in-Err g c = λ net kept link.
 
 pub returns-in-Ok-read_image : goal.returns-in-Ok-read_image
 returns-in-Ok-read_image g c =
-    let facts = sink_facts g.K.Sink.taken g.K.Sink.faults in
+    let facts = sink_facts g.K.Sink in
     let image = c.in-Ok-read_image.image in
     let is = subst (λ (bytes : List ℕ). SpellsImage bytes image) c.as_slice.ensures.value c.in-Ok-read_image.ensures.image in
     let told = subst (λ s. IsTold Done (trace_text (put_lines image)) (facts s) (facts c.print_pairs.new.sink) c.print_pairs.result) c.in-Ok.ensures.unwritten c.print_pairs.ensures in
@@ -26,7 +26,7 @@ returns-in-Ok-read_image g c =
 
 pub returns : goal.returns
 returns g c =
-    let facts = sink_facts g.K.Sink.taken g.K.Sink.faults in
+    let facts = sink_facts g.K.Sink in
     let fault = c.in-Err-read_image.fault in
     let is = subst (λ (bytes : List ℕ). (fault ≡ NoSpace) ⊎ (first_fault bytes ≡ Some fault)) c.as_slice.ensures.value c.in-Err-read_image.ensures.fault in
     let refused = subst (λ s. IsRefusedImage fault (facts s) (facts c.refuse_image.new.sink) c.refuse_image.result) c.in-Ok.ensures.unwritten c.refuse_image.ensures in

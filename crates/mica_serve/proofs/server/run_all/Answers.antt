@@ -12,7 +12,7 @@ use Rattle.mica_serve.proofs.server.run_all.Goals.{After-pair_up, After-run_work
 use Rattle.mica_serve.proofs.server.run_all.Goals as goal
 
 abbrev facts : (g : given.Over) → g.row.D.Denot → EndFacts
-facts g = end_facts g.D.Datagrams.port g.D.Datagrams.traffic g.D.Datagrams.faults g.D.Datagrams.has_ended g.D.Datagrams.script
+facts g = end_facts g.D.Datagrams
 
 -- the owners and fronts as made, and after all of them ran
 paired : (g : given.Over) (c : After-pair_up g) → Paired g.P.Partition.owner g.P.Partition.home (facts g) c.args.options.now c.args.ports.now c.args.server.owners.items c.args.server.fronts.items c.pair_up.new.tasks.items c.args.ends.now.items

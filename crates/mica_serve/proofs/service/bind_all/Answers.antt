@@ -9,7 +9,7 @@ use Rattle.mica_serve.proofs.service.bind_all.Goals as goal
 
 pub loop-f-preserved : goal.loop-f-preserved
 loop-f-preserved g c =
-    let facts : g.row.N-End.Denot → EndFacts = end_facts g.N.End.Datagrams.port g.N.End.Datagrams.traffic g.N.End.Datagrams.faults g.N.End.Datagrams.has_ended g.N.End.Datagrams.script in
+    let facts : g.row.N-End.Denot → EndFacts = end_facts g.N.End.Datagrams in
     let end = c.in_ok-end.end in
     let items = c.loop-f.ends.items in
     let inv = c.loop-f.invariant in

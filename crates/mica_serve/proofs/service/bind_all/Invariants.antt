@@ -8,8 +8,8 @@ abbrev pub invariant-loop-f : goal.invariant-loop-f
 invariant-loop-f g l =
     (vec_len l.ends ≡ l.f)
     × (l.ports.fronts ≤ vec_capacity l.ends)
-    × AreNewEnds l.ports.port (map (end_facts g.N.End.Datagrams.port g.N.End.Datagrams.traffic g.N.End.Datagrams.faults g.N.End.Datagrams.has_ended g.N.End.Datagrams.script) l.ends.items)
-    × OnPorts (BindsEnds l.ports.port (map (end_facts g.N.End.Datagrams.port g.N.End.Datagrams.traffic g.N.End.Datagrams.faults g.N.End.Datagrams.has_ended g.N.End.Datagrams.script) l.ends.items)) (g.N.Net.ports l.initial.net) (g.N.Net.ports l.net)
+    × AreNewEnds l.ports.port (map (end_facts g.N.End.Datagrams) l.ends.items)
+    × OnPorts (BindsEnds l.ports.port (map (end_facts g.N.End.Datagrams) l.ends.items)) (g.N.Net.ports l.initial.net) (g.N.Net.ports l.net)
     × (g.N.Net.binds l.net ≡ l.f)
     × (0 < l.f → g.N.Net.first l.net ≡ l.ports.port)
     × (g.N.Net.refused l.net ≡ g.N.Net.refused l.initial.net)

@@ -16,7 +16,7 @@ use Rattle.mica_serve.proofs.service.release_all.Goals as goal
 use Rattle.mica_serve.proofs.service.release_all.Goals.{In-Some}
 
 abbrev facts : (g : given.Over) → g.row.N-End.Denot → EndFacts
-facts g = end_facts g.N.End.Datagrams.port g.N.End.Datagrams.traffic g.N.End.Datagrams.faults g.N.End.Datagrams.has_ended g.N.End.Datagrams.script
+facts g = end_facts g.N.End.Datagrams
 
 -- the end that was taken off is the last of those that were left
 module _ (g : given.Over) (c : goal.In-Some g) where

@@ -9,7 +9,7 @@ use Rattle.mica_serve.proofs.service.release_all.Given as goal
 abbrev pub invariant-loop-end : goal.invariant-loop-end
 invariant-loop-end g l =
     (l.ends.items ≡ take (length l.ends.items) l.initial.ends.items)
-    × OnPorts (Releasing l.first (map (end_facts g.N.End.Datagrams.port g.N.End.Datagrams.traffic g.N.End.Datagrams.faults g.N.End.Datagrams.has_ended g.N.End.Datagrams.script) l.initial.ends.items) (length l.ends.items)) (g.N.Net.ports l.initial.net) (g.N.Net.ports l.net)
+    × OnPorts (Releasing l.first (map (end_facts g.N.End.Datagrams) l.initial.ends.items) (length l.ends.items)) (g.N.Net.ports l.initial.net) (g.N.Net.ports l.net)
     × (g.N.Net.faults l.initial.net ≤ g.N.Net.faults l.net)
     × (g.N.Net.fails l.net ≡ g.N.Net.fails l.initial.net)
     × (g.N.Net.binds l.net ≡ g.N.Net.binds l.initial.net)
@@ -20,7 +20,7 @@ invariant-loop-end g l =
     × (is_some (g.N.Net.fails l.initial.net) ≡ true → ((i : ℕ) (e : g.row.N-End.Denot) → slice_get l.initial.ends.items i ≡ Some e → g.N.End.Datagrams.faults e ≡ 0)
     → g.N.Net.faults l.net ≡ g.N.Net.faults l.initial.net)
     × (is_some (g.N.Net.fails l.initial.net) ≡ true → min (g.N.Net.faults l.net) LAST_COUNT
-    ≡ min (g.N.Net.faults l.initial.net + sum_by (λ e. e.faults) (drop (length l.ends.items) (map (end_facts g.N.End.Datagrams.port g.N.End.Datagrams.traffic g.N.End.Datagrams.faults g.N.End.Datagrams.has_ended g.N.End.Datagrams.script) l.initial.ends.items))) LAST_COUNT)
+    ≡ min (g.N.Net.faults l.initial.net + sum_by (λ e. e.faults) (drop (length l.ends.items) (map (end_facts g.N.End.Datagrams) l.initial.ends.items))) LAST_COUNT)
 
 abbrev pub decreases-loop-end : goal.decreases-loop-end
 decreases-loop-end g l = length l.ends.items

@@ -19,7 +19,7 @@ use Rattle.mica_serve.proofs.service.serve_all.Given as given
 use Rattle.mica_serve.proofs.service.serve_all.Goals as goal
 
 abbrev facts : (g : given.Over) → g.row.D.Denot → EndFacts
-facts g = end_facts g.D.Datagrams.port g.D.Datagrams.traffic g.D.Datagrams.faults g.D.Datagrams.has_ended g.D.Datagrams.script
+facts g = end_facts g.D.Datagrams
 
 -- the seats that the owners may leave
 abbrev entry : (g : given.Over) → OwnerTask g.row.P.Denot → KeptSeat

@@ -12,10 +12,10 @@ use Rattle.mica_serve.proofs.service.serve_on.Given as given
 use Rattle.mica_serve.proofs.service.serve_on.Goals as goal
 
 abbrev facts : (g : given.Over) → g.row.N-End.Denot → EndFacts
-facts g = end_facts g.N.End.Datagrams.port g.N.End.Datagrams.traffic g.N.End.Datagrams.faults g.N.End.Datagrams.has_ended g.N.End.Datagrams.script
+facts g = end_facts g.N.End.Datagrams
 
 abbrev net_at : (g : given.Over) → g.row.N.Denot → NetFacts
-net_at g = net_facts g.N.Net.faults g.N.Net.binds g.N.Net.first g.N.Net.refused g.N.Net.ports g.N.Net.fails
+net_at g = net_facts g.N.Net
 
 pub release_all-requires-clause-ports : goal.release_all-requires-clause-ports
 release_all-requires-clause-ports g c _ _ =

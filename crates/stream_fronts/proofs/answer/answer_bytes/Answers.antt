@@ -19,7 +19,6 @@ loop-init g c =
         these_none options g.F.Front.is_alone (g.F.Front.sessions c.args.front.now) (g.F.Front.left c.args.front.now) (g.K.Clock.last c.args.clock.now),
         on_none options c.args.numbering.base (place_at c.args.bytes.now c.args.done) c.args.out.now.items,
       ),
-      c.requires.left,
       refl,
       refl,
       refl,
@@ -32,7 +31,7 @@ returns-in_err-said-clause-talk g c =
     let bytes = c.args.bytes.now in
     let len = length-drop c.loop.taken bytes in
     let spoke = spoke_on options g.F.Front.is_alone c.args.numbering.base (length bytes) (place_at bytes c.args.done) (drop c.loop.taken bytes)
-    (take (length bytes - c.loop.taken) (drop c.loop.taken bytes)) c.loop.done c.args.out.now.items c.loop.out.items (g.F.Front.options c.loop.front) (take_rest bytes c.loop.taken) inv.4
+    (take (length bytes - c.loop.taken) (drop c.loop.taken bytes)) c.loop.done c.args.out.now.items c.loop.out.items (g.F.Front.options c.loop.front) (take_rest bytes c.loop.taken) inv.3
     (omega (arith, len)) inv.2 c.in_err-said.ensures.talk in
     let is = err_from_is_err_and c.from_residual.result c.from_residual.ensures.1 in
     (spoke.0, spoke.1, match_err _ _ c.from_residual.result is.0 is.1 spoke.2)
@@ -42,7 +41,7 @@ returns-in_err-said-clause-goes g c =
     let inv = c.loop.invariant in
     let one = c.in_err-said.ensures.talk in
     let options = g.F.Front.options c.args.front.now in
-    these_goes options g.F.Front.is_alone (answers_then options g.F.Front.is_alone c.args.numbering.base inv.2.0 one.0 _ inv.4 inv.2.1 one.1)
+    these_goes options g.F.Front.is_alone (answers_then options g.F.Front.is_alone c.args.numbering.base inv.2.0 one.0 _ inv.3 inv.2.1 one.1)
 
 pub returns-in-Nothing-clause-talk : goal.returns-in-Nothing-clause-talk
 returns-in-Nothing-clause-talk g c =
@@ -55,14 +54,14 @@ returns-in-Nothing-clause-talk g c =
     (ReachesAfter options base (drop c.loop.taken bytes) c.loop.done Nothing) (StandsAs options base (length bytes) c.at.result.stand (place_in bytes c.at.result))
     (stands_in options g.F.Front.is_alone base (length bytes) bytes c.at.result Needs c.loop.taken c.loop.done 0 at.0 at.1 at.2 at.3)
     (on_said options g.F.Front.is_alone base (place_at bytes c.args.done) (drop c.loop.taken bytes) (take (length bytes - c.loop.taken) (drop c.loop.taken bytes)) c.loop.done c.args.out.now.items
-    c.loop.out.items c.answer_one.new.out.items (g.F.Front.options c.loop.front) c.in_ok-said.said Nothing (take_rest bytes c.loop.taken) inv.4 c.in-Nothing.is inv.2 c.in_ok-said.ensures.talk)
+    c.loop.out.items c.answer_one.new.out.items (g.F.Front.options c.loop.front) c.in_ok-said.said Nothing (take_rest bytes c.loop.taken) inv.3 c.in-Nothing.is inv.2 c.in_ok-said.ensures.talk)
 
 pub returns-in-Nothing-clause-goes : goal.returns-in-Nothing-clause-goes
 returns-in-Nothing-clause-goes g c =
     let inv = c.loop.invariant in
     let one = c.in_ok-said.ensures.talk in
     let options = g.F.Front.options c.args.front.now in
-    these_goes options g.F.Front.is_alone (answers_then options g.F.Front.is_alone c.args.numbering.base inv.2.0 one.0 _ inv.4 inv.2.1 one.1)
+    these_goes options g.F.Front.is_alone (answers_then options g.F.Front.is_alone c.args.numbering.base inv.2.0 one.0 _ inv.3 inv.2.1 one.1)
 
 pub returns-in-Part-clause-talk : goal.returns-in-Part-clause-talk
 returns-in-Part-clause-talk g c =
@@ -75,14 +74,14 @@ returns-in-Part-clause-talk g c =
     (ReachesAfter options base (drop c.loop.taken bytes) c.loop.done (Part c.in-Part.done)) (StandsAs options base (length bytes) c.at-in-Part.result.stand (place_in bytes c.at-in-Part.result))
     (stands_in options g.F.Front.is_alone base (length bytes) bytes c.at-in-Part.result Enough c.loop.taken c.in-Part.done 0 at.0 at.1 at.2 at.3)
     (on_said options g.F.Front.is_alone base (place_at bytes c.args.done) (drop c.loop.taken bytes) (take (length bytes - c.loop.taken) (drop c.loop.taken bytes)) c.loop.done c.args.out.now.items
-    c.loop.out.items c.answer_one.new.out.items (g.F.Front.options c.loop.front) c.in_ok-said.said (Part c.in-Part.done) (take_rest bytes c.loop.taken) inv.4 c.in-Part.is inv.2 c.in_ok-said.ensures.talk)
+    c.loop.out.items c.answer_one.new.out.items (g.F.Front.options c.loop.front) c.in_ok-said.said (Part c.in-Part.done) (take_rest bytes c.loop.taken) inv.3 c.in-Part.is inv.2 c.in_ok-said.ensures.talk)
 
 pub returns-in-Part-clause-goes : goal.returns-in-Part-clause-goes
 returns-in-Part-clause-goes g c =
     let inv = c.loop.invariant in
     let one = c.in_ok-said.ensures.talk in
     let options = g.F.Front.options c.args.front.now in
-    these_goes options g.F.Front.is_alone (answers_then options g.F.Front.is_alone c.args.numbering.base inv.2.0 one.0 _ inv.4 inv.2.1 one.1)
+    these_goes options g.F.Front.is_alone (answers_then options g.F.Front.is_alone c.args.numbering.base inv.2.0 one.0 _ inv.3 inv.2.1 one.1)
 
 pub returns-in-Last-clause-talk : goal.returns-in-Last-clause-talk
 returns-in-Last-clause-talk g c =
@@ -96,14 +95,14 @@ returns-in-Last-clause-talk g c =
     (λ received given due ends. stands_in options g.F.Front.is_alone base (length bytes) bytes c.at-in-Last.result Leaves (length bytes) 0 0 at.0 at.1 at.2 at.3 received given due
     (left_in options g.F.Front.is_alone base bytes c.loop.taken (place_at bytes 0) received given due ends))
     (on_said options g.F.Front.is_alone base (place_at bytes c.args.done) (drop c.loop.taken bytes) (take (length bytes - c.loop.taken) (drop c.loop.taken bytes)) c.loop.done c.args.out.now.items
-    c.loop.out.items c.answer_one.new.out.items (g.F.Front.options c.loop.front) c.in_ok-said.said Last (take_rest bytes c.loop.taken) inv.4 c.in-Last.is inv.2 c.in_ok-said.ensures.talk)
+    c.loop.out.items c.answer_one.new.out.items (g.F.Front.options c.loop.front) c.in_ok-said.said Last (take_rest bytes c.loop.taken) inv.3 c.in-Last.is inv.2 c.in_ok-said.ensures.talk)
 
 pub returns-in-Last-clause-goes : goal.returns-in-Last-clause-goes
 returns-in-Last-clause-goes g c =
     let inv = c.loop.invariant in
     let one = c.in_ok-said.ensures.talk in
     let options = g.F.Front.options c.args.front.now in
-    these_goes options g.F.Front.is_alone (answers_then options g.F.Front.is_alone c.args.numbering.base inv.2.0 one.0 _ inv.4 inv.2.1 one.1)
+    these_goes options g.F.Front.is_alone (answers_then options g.F.Front.is_alone c.args.numbering.base inv.2.0 one.0 _ inv.3 inv.2.1 one.1)
 
 pub returns-in-Whole-clause-talk : goal.returns-in-Whole-clause-talk
 returns-in-Whole-clause-talk g c =
@@ -115,14 +114,14 @@ returns-in-Whole-clause-talk g c =
     some_as options g.F.Front.is_alone base (place_at bytes c.args.done) c.args.out.now.items c.answer_one.new.out.items
     (ReachesAfter options base (drop c.loop.taken bytes) c.loop.done (Whole len)) _ (dropped_in options g.F.Front.is_alone base bytes (take (length bytes - c.loop.taken) (drop c.loop.taken bytes)) c.loop.taken len (take_rest bytes c.loop.taken) c.if-len-rest.true)
     (on_said options g.F.Front.is_alone base (place_at bytes c.args.done) (drop c.loop.taken bytes) (take (length bytes - c.loop.taken) (drop c.loop.taken bytes)) c.loop.done c.args.out.now.items
-    c.loop.out.items c.answer_one.new.out.items (g.F.Front.options c.loop.front) c.in_ok-said.said (Whole len) (take_rest bytes c.loop.taken) inv.4 c.in-Whole.is inv.2 c.in_ok-said.ensures.talk)
+    c.loop.out.items c.answer_one.new.out.items (g.F.Front.options c.loop.front) c.in_ok-said.said (Whole len) (take_rest bytes c.loop.taken) inv.3 c.in-Whole.is inv.2 c.in_ok-said.ensures.talk)
 
 pub returns-in-Whole-clause-goes : goal.returns-in-Whole-clause-goes
 returns-in-Whole-clause-goes g c =
     let inv = c.loop.invariant in
     let one = c.in_ok-said.ensures.talk in
     let options = g.F.Front.options c.args.front.now in
-    these_goes options g.F.Front.is_alone (answers_then options g.F.Front.is_alone c.args.numbering.base inv.2.0 one.0 _ inv.4 inv.2.1 one.1)
+    these_goes options g.F.Front.is_alone (answers_then options g.F.Front.is_alone c.args.numbering.base inv.2.0 one.0 _ inv.3 inv.2.1 one.1)
 
 pub loop-preserved : goal.loop-preserved
 loop-preserved g c =
@@ -140,11 +139,10 @@ loop-preserved g c =
           (ReachesAfter options base (drop c.loop.taken bytes) c.loop.done (Whole len)) (Reaches options base (place_at (drop (c.loop.taken + len) bytes) 0))
           (whole_in options g.F.Front.is_alone base bytes (take (length bytes - c.loop.taken) (drop c.loop.taken bytes)) c.loop.taken len (take_rest bytes c.loop.taken) come)
           (on_said options g.F.Front.is_alone base (place_at bytes c.args.done) (drop c.loop.taken bytes) (take (length bytes - c.loop.taken) (drop c.loop.taken bytes)) c.loop.done c.args.out.now.items
-          c.loop.out.items c.answer_one.new.out.items (g.F.Front.options c.loop.front) c.in_ok-said.said (Whole len) (take_rest bytes c.loop.taken) inv.4 c.in-Whole-2.is inv.2 c.in_ok-said.ensures.talk),
-      search rules,
-      c.answer_one.ensures.options ∙ inv.4,
-      c.answer_one.ensures.number ∙ inv.5,
-      c.answer_one.ensures.stands ∙ inv.6,
+          c.loop.out.items c.answer_one.new.out.items (g.F.Front.options c.loop.front) c.in_ok-said.said (Whole len) (take_rest bytes c.loop.taken) inv.3 c.in-Whole-2.is inv.2 c.in_ok-said.ensures.talk),
+      c.answer_one.ensures.options ∙ inv.3,
+      c.answer_one.ensures.number ∙ inv.4,
+      c.answer_one.ensures.stands ∙ inv.5,
     )
 
 pub returns-clause-talk : goal.returns-clause-talk

@@ -1,5 +1,5 @@
-use Rattle.std.proofs.Common.{rules, ◌≡◌, [], refl, sym, ◌∙◌, subst, arith}
-use Rattle.std.specs.Prelude.{is_none, IfSome, IfNone}
+use Rattle.std.proofs.Common.{rules, ◌≡◌, true≢false, [], refl, inl, inr, ap, sym, ◌∙◌, subst, arith}
+use Rattle.std.specs.Prelude.{is_some, is_none, IfSome, IfNone}
 use Rattle.partition_model.specs.declared.options.Options.{Options}
 use Rattle.stream_io.specs.Calls.{ReportsNext, IsOver}
 use Rattle.stream_fronts.specs.declared.desk.TheConstants.{MOST_UNSENT}
@@ -7,14 +7,14 @@ use Rattle.memcached_fronts.specs.Sweeps.{SweepsBy}
 use Rattle.stream_fronts.specs.Clients.{AreOpen}
 use Rattle.stream_fronts.specs.Going.{GoesBy}
 use Rattle.stream_fronts.specs.Open.{OnLogs}
-use Rattle.stream_fronts.specs.Serving.{ServesFromNone}
+use Rattle.stream_fronts.specs.Serving.{IsFinished, ServesFromNone}
 use Rattle.stream_fronts.proofs.Going.{by_none, by_both}
 use Rattle.stream_fronts.proofs.Opening.{tells_keeps, tells_opened}
 use Rattle.stream_fronts.proofs.Holding.{all_kept, none_held}
 use Rattle.stream_fronts.proofs.Since.{since_none, since_then, since_swept, since_serves, since_called, since_over}
 use Rattle.stream_fronts.proofs.Sweeping.{by_sweeps}
 use Rattle.stream_fronts.proofs.serve.serve_connections.Goals as goal
-use Rattle.stream_fronts.proofs.serve.serve_connections.Goals.{in-None, in-Some+then-left-least, in-Some+else-left-least+in_ok-event+in_default}
+use Rattle.stream_fronts.proofs.serve.serve_connections.Goals.{in-None, in-Some+then-writes_left-least, in-Some+else-writes_left-least+in_ok-event+in_default}
 
 pub serve_event-count-requires-clause-clients : goal.serve_event-count-requires-clause-clients
 serve_event-count-requires-clause-clients g c κs within =
@@ -38,7 +38,6 @@ loop-init g c =
       subst (λ held. AreOpen held log) (sym c.new-clients.ensures) (none_held log),
       c.requires.«open»,
       by_none options g.F.Front.is_alone (g.F.Front.sessions c.args.front.now) (g.F.Front.left c.args.front.now) (g.K.Clock.last c.args.clock.now),
-      c.requires.left,
       omega arith,
       refl,
       refl,
@@ -69,8 +68,8 @@ loop-preserved g c =
     let sweep = c.sweep.ensures in
     let reports = subst (λ got. IfSome got (λ event. IfSome before (λ l. ReportsNext l event after))) c.in-Some-2.is next.next in
     let on = subst (λ got. g.C.Connections.has_ended c.next-in-loop.new.self ≡ is_none got) c.in-Some-2.is next.ended in
-    let same = served.front.same_options ∙ inv.7 in
-    let more = subst (λ (o : Options). GoesBy o F.is_alone (F.sessions c.loop.front) (F.left c.loop.front) (last c.loop.clock) (F.sessions then.front) (F.left then.front) (last then.clock)) inv.7
+    let same = served.front.same_options ∙ inv.6 in
+    let more = subst (λ (o : Options). GoesBy o F.is_alone (F.sessions c.loop.front) (F.left c.loop.front) (last c.loop.clock) (F.sessions then.front) (F.left then.front) (last then.clock)) inv.6
     served.front.goes in
     let swept = subst (λ (o : Options). SweepsBy o F.is_alone base (F.sessions then.front) (F.left then.front) (last then.clock) (F.sessions now.front) (F.left now.front) (last now.clock)) same sweep.swept in (
       served.room,
@@ -79,16 +78,15 @@ loop-preserved g c =
       by_both options F.is_alone old (F.sessions then.front) (F.sessions now.front) left (F.left then.front) (F.left now.front) told (last then.clock) (last now.clock)
           (by_both options F.is_alone old (F.sessions c.loop.front) (F.sessions then.front) left (F.left c.loop.front) (F.left then.front) told (last c.loop.clock) (last then.clock) inv.3 more)
           (by_sweeps swept),
-      (let first = served.left in let second = sweep.left in let few = sweep.few in omega (arith, first, second, few)),
-      (let first = inv.5 in let second = next.never_fall in let third = served.port.no_fault in omega (arith, first, second, third)),
-      served.port.same_port ∙ next.port ∙ inv.6,
+      (let first = inv.4 in let second = next.never_fall in let third = served.port.no_fault in omega (arith, first, second, third)),
+      served.port.same_port ∙ next.port ∙ inv.5,
       sweep.options ∙ same,
-      sweep.number ∙ served.front.same_number ∙ inv.8,
-      sweep.stands ∙ served.front.same_stands ∙ inv.9,
-      served.port.told ∙ next.told ∙ inv.10,
+      sweep.number ∙ served.front.same_number ∙ inv.7,
+      sweep.stands ∙ served.front.same_stands ∙ inv.8,
+      served.port.told ∙ next.told ∙ inv.9,
       since_swept options F.is_alone base old left told c.args.lacked.now _ then.clients.held.items (log c.args.connections.now) (log then.connections)
           (since_then options F.is_alone base old left told c.args.lacked.now c.loop.clients.held.items then.clients.held.items c.in-Some-2.event c.loop.lacked c.serve_event-count.result _ (search rules)
-          (log c.args.connections.now) before after (log then.connections) inv.11 next.told reports (F.options c.loop.front) inv.7 served.serves) (F.options then.front) same sweep.swept,
+          (log c.args.connections.now) before after (log then.connections) inv.10 next.told reports (F.options c.loop.front) inv.6 served.serves) (F.options then.front) same sweep.swept,
     )
 
 pub returns-in_err-desk-clause-serves : goal.returns-in_err-desk-clause-serves
@@ -121,7 +119,7 @@ returns-in_err-event-clause-serves g c =
     let ended = g.C.Connections.has_ended in
     since_called (g.F.Front.options c.args.front.now) g.F.Front.is_alone c.args.numbering.base (g.F.Front.sessions c.args.front.now) (g.F.Front.left c.args.front.now) (g.K.Clock.last c.args.clock.now)
     c.args.lacked.now (ended c.args.connections.now) (ended c.next-in-loop.new.self) (g.F.Front.sessions c.loop.front) (g.F.Front.left c.loop.front) (g.K.Clock.last c.loop.clock) c.loop.lacked
-    c.loop.clients.held.items c.in_err-event.ensures.still_open (log c.args.connections.now) (log c.loop.connections) (log c.next-in-loop.new.self) c.loop.invariant.11 c.in_err-event.ensures.unmoved
+    c.loop.clients.held.items c.in_err-event.ensures.still_open (log c.args.connections.now) (log c.loop.connections) (log c.next-in-loop.new.self) c.loop.invariant.10 c.in_err-event.ensures.unmoved
 
 pub returns-clause-serves : goal.returns-clause-serves
 returns-clause-serves g c =
@@ -134,20 +132,35 @@ returns-clause-serves g c =
     let told = g.K.Clock.last c.args.clock.now in
     let inv = c.loop.invariant in
     let here = since_serves options g.F.Front.is_alone base sessions (g.F.Front.left c.args.front.now) told c.args.lacked.now opened (ended c.loop.connections) (g.F.Front.sessions c.loop.front)
-    (g.F.Front.left c.loop.front) (g.K.Clock.last c.loop.clock) c.loop.lacked c.loop.clients.held.items inv.2 (log c.args.connections.now) (log c.loop.connections) inv.11 in
+    (g.F.Front.left c.loop.front) (g.K.Clock.last c.loop.clock) c.loop.lacked c.loop.clients.held.items inv.2 (log c.args.connections.now) (log c.loop.connections) inv.10 in
     elim c.match-next.branch [
       | in-None w ↦ subst (λ x. OnLogs (ServesFromNone options g.F.Front.is_alone base MOST_UNSENT (record { sessions = sessions; left = g.F.Front.left c.args.front.now; second = told; lacked = c.args.lacked.now; has_ended = opened })
           (record { sessions = g.F.Front.sessions c.loop.front; left = g.F.Front.left c.loop.front; second = g.K.Clock.last c.loop.clock; lacked = c.loop.lacked; has_ended = ended x })) (log c.args.connections.now) (log x))
           (sym w.connections-is) here
-      | in-Some+then-left-least w ↦ subst (λ x. OnLogs (ServesFromNone options g.F.Front.is_alone base MOST_UNSENT
+      | in-Some+then-writes_left-least w ↦ subst (λ x. OnLogs (ServesFromNone options g.F.Front.is_alone base MOST_UNSENT
           (record { sessions = sessions; left = g.F.Front.left c.args.front.now; second = told; lacked = c.args.lacked.now; has_ended = opened })
           (record { sessions = g.F.Front.sessions c.loop.front; left = g.F.Front.left c.loop.front; second = g.K.Clock.last c.loop.clock; lacked = c.loop.lacked; has_ended = ended x })) (log c.args.connections.now) (log x))
           (sym w.connections-is) here
-      | in-Some+else-left-least+in_ok-event+in_default w ↦ subst (λ x. OnLogs (ServesFromNone options g.F.Front.is_alone base MOST_UNSENT
+      | in-Some+else-writes_left-least+in_ok-event+in_default w ↦ subst (λ x. OnLogs (ServesFromNone options g.F.Front.is_alone base MOST_UNSENT
           (record { sessions = sessions; left = g.F.Front.left c.args.front.now; second = told; lacked = c.args.lacked.now; has_ended = opened })
           (record { sessions = g.F.Front.sessions c.loop.front; left = g.F.Front.left c.loop.front; second = g.K.Clock.last c.loop.clock; lacked = c.loop.lacked; has_ended = ended x })) (log c.args.connections.now) (log x))
           (sym w.connections-is)
           (since_over options g.F.Front.is_alone base sessions (g.F.Front.left c.args.front.now) told c.args.lacked.now opened (ended w.next-in-loop.new.self) (g.F.Front.sessions c.loop.front)
-          (g.F.Front.left c.loop.front) (g.K.Clock.last c.loop.clock) c.loop.lacked c.loop.clients.held.items (log c.args.connections.now) (log c.loop.connections) (log w.next-in-loop.new.self) inv.11 inv.1
+          (g.F.Front.left c.loop.front) (g.K.Clock.last c.loop.clock) c.loop.lacked c.loop.clients.held.items (log c.args.connections.now) (log c.loop.connections) (log w.next-in-loop.new.self) inv.10 inv.1
           (subst (λ got. IfNone got (IfSome (log c.loop.connections) (λ l. IsOver l (log w.next-in-loop.new.self)))) w.in_default.is w.in_ok-event.ensures.end))
+    ]
+
+pub returns-clause-ends : goal.returns-clause-ends
+returns-clause-ends g c =
+    let options = g.F.Front.options c.loop.front in
+    let left = g.F.Front.left c.loop.front in
+    let ended = g.C.Connections.has_ended in
+    elim c.match-next.branch [
+      | in-None w ↦ absurd (true≢false (sym c.next.ensures.steps ∙ ap is_some w.in-None.is))
+      | in-Some+then-writes_left-least w ↦
+          let same = ap (λ (o : Options). o.partitions) c.loop.invariant.6 in
+          let few = w.if-writes_left-least.true in
+          subst (λ x. IsFinished options (ended x) left) (sym w.connections-is)
+          (inr (omega (arith, few, w.writes_left.ensures, c.from.ensures, c.requires.partitions, same)))
+      | in-Some+else-writes_left-least+in_ok-event+in_default w ↦ subst (λ x. IsFinished options (ended x) left) (sym w.connections-is) (inl (w.in_ok-event.ensures.ended ∙ ap is_none w.in_default.is))
     ]

@@ -13,7 +13,6 @@ invariant-loop g l =
     × AreOpen l.clients.held.items (g.C.Connections.log l.connections)
     × (g.C.Connections.has_ended l.connections ≡ false)
     × GoesBy (g.F.Front.options l.initial.front) g.F.Front.is_alone (g.F.Front.sessions l.initial.front) (g.F.Front.left l.initial.front) (g.K.Clock.last l.initial.clock) (g.F.Front.sessions l.front) (g.F.Front.left l.front) (g.K.Clock.last l.clock)
-    × (l.left ≤ g.F.Front.left l.front)
     × (g.C.Connections.faults l.initial.connections ≤ g.C.Connections.faults l.connections)
     × (g.C.Connections.port l.connections ≡ g.C.Connections.port l.initial.connections)
     × (g.F.Front.options l.front ≡ g.F.Front.options l.initial.front)

@@ -25,7 +25,6 @@ loop-init g c =
       refl,
       goes_none (g.F.Front.options c.args.front.now) g.F.Front.is_alone c.args.numbering.base c.args.number (g.F.Front.sessions c.args.front.now) (g.F.Front.left c.args.front.now)
           (g.K.Clock.last c.args.clock.now) c.args.client.now log,
-      c.requires.left,
       refl,
       refl,
       refl,
@@ -36,7 +35,7 @@ returns-in_err-after-clause-talks g c =
     let log = g.C.Connections.log in
     let inv = c.loop.invariant in
     let lack = goes_lack (g.F.Front.options c.args.front.now) g.F.Front.is_alone c.args.numbering.base c.args.number c.args.client.now c.loop.client (log c.args.connections.now) (log c.loop.connections)
-    (log c.visit_once.new.connections) inv.8 (g.F.Front.options c.loop.front) inv.10 c.in_err-after.ensures.talks in
+    (log c.visit_once.new.connections) inv.8 (g.F.Front.options c.loop.front) inv.9 c.in_err-after.ensures.talks in
     let is = err_from_is_err_and c.from_residual.result c.from_residual.ensures.1 in
     (lack.0, lack.1, match_err _ _ c.from_residual.result is.0 is.1 lack.2)
 
@@ -51,36 +50,36 @@ returns-in_err-after-clause-front g c =
     let inv = c.loop.invariant in
     let visit = c.visit_once.ensures in
     let lack = goes_lack (g.F.Front.options c.args.front.now) g.F.Front.is_alone c.args.numbering.base c.args.number c.args.client.now c.loop.client (log c.args.connections.now) (log c.loop.connections)
-    (log c.visit_once.new.connections) inv.8 (g.F.Front.options c.loop.front) inv.10 c.in_err-after.ensures.talks in record {
+    (log c.visit_once.new.connections) inv.8 (g.F.Front.options c.loop.front) inv.9 c.in_err-after.ensures.talks in record {
       goes = these_goes (g.F.Front.options c.args.front.now) g.F.Front.is_alone lack.1;
-      same_options = visit.options ∙ inv.10;
-      same_number = visit.number ∙ inv.11;
-      same_stands = visit.stands ∙ inv.12;
+      same_options = visit.options ∙ inv.9;
+      same_number = visit.number ∙ inv.10;
+      same_stands = visit.stands ∙ inv.11;
     }
 
-pub returns-then-ne-clause-talks : goal.returns-then-ne-clause-talks
-returns-then-ne-clause-talks g c =
+pub returns-then-is_left-clause-talks : goal.returns-then-is_left-clause-talks
+returns-then-is_left-clause-talks g c =
     let log = g.C.Connections.log in
     let inv = c.loop.invariant in
     goes_then (g.F.Front.options c.args.front.now) g.F.Front.is_alone c.args.numbering.base c.args.number c.args.client.now c.loop.client (log c.args.connections.now) (log c.loop.connections)
-    (log c.visit_once.new.connections) inv.8 (g.F.Front.options c.loop.front) inv.10 c.visit_once.new.client c.in_ok-after.after c.in_ok-after.ensures.talks
+    (log c.visit_once.new.connections) inv.8 (g.F.Front.options c.loop.front) inv.9 c.visit_once.new.client c.in_ok-after.after c.in_ok-after.ensures.talks
 
-pub returns-then-ne-clause-keeps : goal.returns-then-ne-clause-keeps
-returns-then-ne-clause-keeps g c =
+pub returns-then-is_left-clause-keeps : goal.returns-then-is_left-clause-keeps
+returns-then-is_left-clause-keeps g c =
     let log = g.C.Connections.log in
     keeps_on (log c.args.connections.now) (log c.loop.connections) (log c.visit_once.new.connections) c.loop.invariant.4 c.loop.invariant.3 c.visit_once.ensures.keeps
 
-pub returns-then-ne-clause-front : goal.returns-then-ne-clause-front
-returns-then-ne-clause-front g c =
+pub returns-then-is_left-clause-front : goal.returns-then-is_left-clause-front
+returns-then-is_left-clause-front g c =
     let log = g.C.Connections.log in
     let inv = c.loop.invariant in
     let visit = c.visit_once.ensures in
     let all = goes_then (g.F.Front.options c.args.front.now) g.F.Front.is_alone c.args.numbering.base c.args.number c.args.client.now c.loop.client (log c.args.connections.now) (log c.loop.connections)
-    (log c.visit_once.new.connections) inv.8 (g.F.Front.options c.loop.front) inv.10 c.visit_once.new.client c.in_ok-after.after c.in_ok-after.ensures.talks in record {
+    (log c.visit_once.new.connections) inv.8 (g.F.Front.options c.loop.front) inv.9 c.visit_once.new.client c.in_ok-after.after c.in_ok-after.ensures.talks in record {
       goes = these_goes (g.F.Front.options c.args.front.now) g.F.Front.is_alone all.1;
-      same_options = visit.options ∙ inv.10;
-      same_number = visit.number ∙ inv.11;
-      same_stands = visit.stands ∙ inv.12;
+      same_options = visit.options ∙ inv.9;
+      same_number = visit.number ∙ inv.10;
+      same_stands = visit.stands ∙ inv.11;
     }
 
 pub loop-preserved : goal.loop-preserved
@@ -88,7 +87,7 @@ loop-preserved g c =
     let log = g.C.Connections.log in
     let inv = c.loop.invariant in
     let visit = c.in_ok-after.ensures in
-    let again : c.in_ok-after.after ≡ Again = search rules in (
+    let again : c.in_ok-after.after ≡ Again = c.is_left.ensures.again c.if-is_left.false in (
       visit.room,
       visit.client,
       visit.«open»,
@@ -102,9 +101,8 @@ loop-preserved g c =
           (λ answers. OnLogs (OnHeld c.args.number (Visits (g.F.Front.options c.args.front.now) c.args.numbering.base c.args.client.now answers c.visit_once.new.client a)) (log c.args.connections.now)
           (log c.visit_once.new.connections))) again
           (goes_then (g.F.Front.options c.args.front.now) g.F.Front.is_alone c.args.numbering.base c.args.number c.args.client.now c.loop.client (log c.args.connections.now) (log c.loop.connections)
-          (log c.visit_once.new.connections) inv.8 (g.F.Front.options c.loop.front) inv.10 c.visit_once.new.client c.in_ok-after.after visit.talks),
-      visit.left,
-      visit.options ∙ inv.10,
-      visit.number ∙ inv.11,
-      visit.stands ∙ inv.12,
+          (log c.visit_once.new.connections) inv.8 (g.F.Front.options c.loop.front) inv.9 c.visit_once.new.client c.in_ok-after.after visit.talks),
+      visit.options ∙ inv.9,
+      visit.number ∙ inv.10,
+      visit.stands ∙ inv.11,
     )

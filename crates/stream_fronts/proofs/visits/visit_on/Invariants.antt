@@ -1,4 +1,4 @@
-use Rattle.std.proofs.Common.{◌≡◌, ◌≤◌}
+use Rattle.std.proofs.Common.{◌≡◌}
 use Rattle.std.specs.Prelude.{is_some, IfSome, vec_len}
 use Rattle.memcached_text.specs.declared.limits.TheConstants.{MAX_WAITING_LEN}
 use Rattle.stream_fronts.specs.Clients.{IsClient}
@@ -22,7 +22,6 @@ invariant-loop g l =
     × (g.C.Connections.port l.connections ≡ g.C.Connections.port l.initial.connections)
     × GoesBySome options g.F.Front.is_alone (g.F.Front.sessions l.initial.front) (g.F.Front.left l.initial.front) (g.K.Clock.last l.initial.clock) (g.F.Front.sessions l.front) (g.F.Front.left l.front) (g.K.Clock.last l.clock)
     (λ answers. OnLogs (OnHeld l.number (Visits options l.numbering.base l.initial.client answers l.client Again)) (g.C.Connections.log l.initial.connections) (g.C.Connections.log l.connections))
-    × (l.left ≤ g.F.Front.left l.front)
     × (g.F.Front.options l.front ≡ options)
     × (g.F.Front.number l.front ≡ g.F.Front.number l.initial.front)
     × (g.F.Front.stands l.front ≡ g.F.Front.stands l.initial.front)

@@ -1,5 +1,5 @@
 use Rattle.locked_fronts.specs.Parts.{LockedView, locked_view}
-use Rattle.locked_fronts.proofs.Finding.{FindsPart, finds_part, is_part, law_by_read, left_by_read, reads_at, others_at}
+use Rattle.locked_fronts.proofs.Finding.{FindsPart, finds_part, is_part, law_by_read, left_by_read, left_kept, reads_at, others_at}
 use Rattle.locked_fronts.proofs.front.LockedFrontFront.read.Given as given
 use Rattle.locked_fronts.proofs.front.LockedFrontFront.read.Goals as goal
 use Rattle.locked_fronts.proofs.front.LockedFrontFront.read.Goals.{After-index_mut}
@@ -17,7 +17,7 @@ pub read-requires-clause-own : goal.read-requires-clause-own
 read-requires-clause-own g c = is_part (finds g (goal.at.read-requires-clause-own g c).After-index_mut)
 
 pub invariant_of-self : goal.invariant_of-self
-invariant_of-self g c = (law_by_read (finds g (goal.at.invariant_of-self g c).After-index_mut) c.read.new.self c.read.ensures, c.self.invariant.1)
+invariant_of-self g c = (law_by_read (finds g (goal.at.invariant_of-self g c).After-index_mut) c.read.new.self c.read.ensures, c.self.invariant.1, left_kept (finds g (goal.at.invariant_of-self g c).After-index_mut) c.read.new.self c.read.ensures c.self.inside.left c.self.invariant.2)
 
 pub returns-clause-left : goal.returns-clause-left
 returns-clause-left g c = left_by_read (finds g (goal.at.returns-clause-left g c).After-index_mut) c.read.new.self c.read.ensures

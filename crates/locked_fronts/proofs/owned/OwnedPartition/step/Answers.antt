@@ -6,6 +6,7 @@ use Rattle.epoch_core.specs.OwnerState.{options_in}
 use Rattle.epoch_core.specs.OwnerStep.{IsOwnerStep}
 use Rattle.epoch_core.specs.Joins.{lent}
 use Rattle.mica_fronts.specs.Flushes.{flushes_in}
+use Rattle.locked_fronts.specs.Counts.{counts_after}
 use Rattle.locked_fronts.specs.Owned.{Owned, owned_as, TookTurn}
 use Rattle.locked_fronts.proofs.Turning.{keeps, takes}
 use Rattle.locked_fronts.proofs.owned.OwnedPartition.step.Goals as goal
@@ -15,10 +16,11 @@ invariant_of-self g c =
     let owner = g.P.Partition.owner in
     let was = owned_as c.self.inside.number (g.P.Partition.home c.self.inside.part) (owner c.self.inside.part) c.self.inside.book in
     let write = write_of c.args.op c.args.key.now c.args.value.now in
-    let same = sym c.note-note.ensures.same in
+    let learns = c.learn_of-learned in
+    let same = sym learns.ensures.same in
     let step = subst (λ (o : OwnerState). IsOwnerStep was.owner o write c.write_counted-outcome.result) same c.write_counted-outcome.ensures.step in
-    let stamped = c.stamp-stamp.ensures ∙ ap (λ (o : OwnerState). stamp_of (options_in o) o.history) same in (
-      keeps g.J.ServerPlan.plan was _ _ _ c.args.taker.now write _ _ c.self.invariant.0 step stamped (c.note-note.ensures.home ∙ c.write_counted-outcome.ensures.home) c.enter.ensures.book,
+    let counted = learns.ensures.counts ∙ ap (λ (o : OwnerState). counts_after (options_in o) o.history) same in (
+      keeps g.J.ServerPlan.plan was _ _ _ c.args.taker.now write _ learns.result c.self.invariant.0 step counted (learns.ensures.home ∙ c.write_counted-outcome.ensures.home) c.enter.ensures.book,
       c.write_counted-outcome.ensures.flushes ∙ ap (λ (o : OwnerState). flushes_in o.history) same,
       c.self.invariant.2,
     )
@@ -28,12 +30,13 @@ returns g c =
     let owner = g.P.Partition.owner in
     let was : Owned = owned_as c.self.inside.number (g.P.Partition.home c.self.inside.part) (owner c.self.inside.part) c.self.inside.book in
     let write = write_of c.args.op c.args.key.now c.args.value.now in
-    let same = sym c.note-note.ensures.same in
+    let learns = c.learn_of-learned in
+    let same = sym learns.ensures.same in
     let step = subst (λ (o : OwnerState). IsOwnerStep was.owner o write c.write_counted-outcome.result) same c.write_counted-outcome.ensures.step in
-    let stamped = c.stamp-stamp.ensures ∙ ap (λ (o : OwnerState). stamp_of (options_in o) o.history) same in
-    let noted = sym (c.self.invariant.2 c.note-note.result).0 ∙ (c.note-note.ensures.lent.0 ∙ ap lent same) in
-    let at_home = sym (c.self.invariant.2 c.note-note.result).1 ∙ (c.note-note.ensures.lent.1 ∙ sym c.note-note.ensures.home) in
+    let counted = learns.ensures.counts ∙ ap (λ (o : OwnerState). counts_after (options_in o) o.history) same in
+    let noted = sym (c.self.invariant.2 learns.result.note).0 ∙ (learns.ensures.lent.0 ∙ ap lent same) in
+    let at_home = sym (c.self.invariant.2 learns.result.note).1 ∙ (learns.ensures.lent.1 ∙ sym learns.ensures.home) in
     subst (λ (o : Owned). TookTurn g.J.ServerPlan.plan o.number (stamp_of g.J.ServerPlan.plan.options o.owner.history) o.owner.history c.args.taker.now c.enter.new.taker
-    (record { write = write; outcome = c.write_counted-outcome.result; stamp = c.stamp-stamp.result }) c.note-note.result) c.self.view_is
-    (takes g.J.ServerPlan.plan was _ _ _ c.args.taker.now write _ _ c.self.invariant.0 step stamped (c.note-note.ensures.home ∙ c.write_counted-outcome.ensures.home) c.enter.ensures.book
-    c.enter.new.taker c.note-note.result c.enter.ensures.taker noted at_home)
+    write c.write_counted-outcome.result learns.result) c.self.view_is
+    (takes g.J.ServerPlan.plan was _ _ _ c.args.taker.now write _ learns.result c.self.invariant.0 step counted (learns.ensures.home ∙ c.write_counted-outcome.ensures.home) c.enter.ensures.book
+    c.enter.new.taker c.enter.ensures.taker noted at_home)

@@ -1,14 +1,8 @@
-use Rattle.std.proofs.Common.{refl, sym, ◌∙◌}
-use Rattle.locked_fronts.specs.declared.part.LockedPart.{LockedPart}
-use Rattle.locked_fronts.proofs.Telling.{look_home, part_changes}
+use Rattle.locked_fronts.proofs.Looking.{still_part, changes_from}
 use Rattle.locked_fronts.proofs.part.LockedPart.change.Goals as goal
 
-pub learn-requires : goal.learn-requires
-learn-requires g c = look_home c.change_under_lock-note.ensures.1 ∙ sym c.requires.own.home
+pub change_held-requires-clause-own : goal.change_held-requires-clause-own
+change_held-requires-clause-own g c = still_part g.J.ServerPlan.plan c.args.number c.args.self.now c.look_on.new.self c.requires.own c.in-None.ensures.none
 
-pub returns : goal.returns
-returns g c =
-    let old = c.args.self.now in
-    let held : LockedPart = record old { taker = c.change_under_lock-note.new.taker } in
-    let took = c.change_under_lock-note.ensures in
-    part_changes g.J.ServerPlan.plan c.args.number c.args.second c.args.key.now _ _ old held c.learn.new.self c.change_under_lock-note.result.0 c.change_under_lock-note.new.found _ c.requires.own refl c.learn.ensures took.0 took.1
+pub returns-in-None : goal.returns-in-None
+returns-in-None g c = changes_from g.J.ServerPlan.plan c.args.number c.args.self.now c.look_on.new.self c.requires.own c.in-None.ensures.none c.change_held.new.self c.change_held.ensures

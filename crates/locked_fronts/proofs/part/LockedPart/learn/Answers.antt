@@ -1,12 +1,13 @@
 use Rattle.std.proofs.Common.{refl, ◌∙◌}
 use Rattle.locked_fronts.specs.declared.part.LockedPart.{LockedPart}
 use Rattle.partition_table.specs.Seats.{reader_state}
-use Rattle.locked_fronts.proofs.Telling.{learned}
+use Rattle.locked_fronts.proofs.Telling.{has_learned}
 use Rattle.locked_fronts.proofs.part.LockedPart.learn.Goals as goal
 
 pub returns : goal.returns
 returns g =
     let old = g.args.self.now in
-    let new : LockedPart = record { seat = g.stamp-newest.new.self; taker = old.taker; last = g.args.answered; newest = g.stamp-newest.result } in
-    learned old new (reader_state g.tell.new.self) g.args.note g.args.answered refl refl (g.stamp-newest.ensures.home ∙ g.tell.ensures.home) g.tell.ensures.event g.stamp-newest.ensures.event
+    let learned = g.args.learned in
+    let new : LockedPart = record { seat = g.stamp-newest.new.self; taker = old.taker; last = learned.counts.stamp; newest = g.stamp-newest.result; counts = learned.counts } in
+    has_learned old new (reader_state g.tell.new.self) learned refl refl refl (g.stamp-newest.ensures.home ∙ g.tell.ensures.home) g.tell.ensures.event g.stamp-newest.ensures.event
     g.tell.ensures.seen g.stamp-newest.ensures.seen g.tell.ensures.done g.stamp-newest.ensures.value

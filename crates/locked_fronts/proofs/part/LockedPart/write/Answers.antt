@@ -11,5 +11,6 @@ pub returns : goal.returns
 returns g c =
     let old = c.args.self.now in
     let held : LockedPart = record old { taker = c.write_under_lock-outcome.new.taker } in
+    let wrote = c.write_under_lock-outcome.result in
     let took = c.write_under_lock-outcome.ensures in
-    part_writes g.J.ServerPlan.plan c.args.number old held c.learn.new.self _ c.write_under_lock-outcome.result.stamp c.requires.own refl c.learn.ensures took.0 (write_of c.args.op c.args.key.now c.args.value.now) c.write_under_lock-outcome.result.outcome took.1
+    part_writes g.J.ServerPlan.plan c.args.number old held c.learn.new.self wrote.learned c.requires.own refl c.learn.ensures took.0 (write_of c.args.op c.args.key.now c.args.value.now) wrote.outcome took.1

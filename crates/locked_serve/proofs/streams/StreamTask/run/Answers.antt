@@ -1,10 +1,12 @@
 use Rattle.std.proofs.Common.{◌≡◌, ℕ, Bool, List, length, slice_get, Some, refl, sym, ap, ◌∙◌, subst, arith}
+use Rattle.std.specs.Prelude.{OnOk}
+use Rattle.mica_fronts.specs.Answered.{count_of_writes}
 use Rattle.locked_fronts.specs.declared.part.LockedPart.{LockedPart}
 use Rattle.locked_fronts.specs.Parts.{LockedView, IsLockedFront, locked_view, turns_taken, turns_left, sessions_of}
-use Rattle.stream_fronts.specs.Serving.{FrontAt}
+use Rattle.stream_fronts.specs.Serving.{FrontAt, IsFinished}
 use Rattle.locked_serve.specs.Streams.{StreamFacts, stream_facts}
 use Rattle.locked_serve.proofs.Ran.{none_taken}
-use Rattle.locked_serve.proofs.Streamed.{GoesAndServes, both_by}
+use Rattle.locked_serve.proofs.Streamed.{GoesAndServes, both_by, finishes, finished_so, stops}
 use Rattle.locked_serve.proofs.streams.StreamTask.run.Goals as goal
 
 pub new-front-requires-clause-none : goal.new-front-requires-clause-none
@@ -14,13 +16,6 @@ new-front-requires-clause-none g c =
 pub new-front-requires-clause-each : goal.new-front-requires-clause-each
 new-front-requires-clause-each g c p part at = (c.requires.ready.parts.each p part (ap (λ v. slice_get v.items p) (sym c.replace-parts.ensures.value) ∙ at)).of
 
-pub serve_connections-self-requires-clause-left : goal.serve_connections-self-requires-clause-left
-serve_connections-self-requires-clause-left g c =
-    let none = none_taken c.args.self.now.parts.items (λ p x at. (c.requires.ready.parts.each p x at).none) in
-    let same : turns_taken c.new-front.result.parts ≡ turns_taken c.args.self.now.parts.items =
-    ap (λ (v : LockedView). turns_taken v.parts) c.new-front.ensures ∙ ap (λ v. turns_taken v.items) c.replace-parts.ensures.value in
-    omega (arith, none, same)
-
 -- as a view of it, its clock, a count and its port tell it
 abbrev told_by : LockedView → ℕ → ℕ → Bool → FrontAt
 told_by view second lacked has_ended = record { sessions = sessions_of view.parts; left = turns_left view.parts; second = second; lacked = lacked; has_ended = has_ended }
@@ -29,7 +24,7 @@ pub returns : goal.returns
 returns g c =
     let plan = g.J.ServerPlan.plan in
     let last = g.K.Clock.last in
-    let facts : g.row.C.Denot → StreamFacts = stream_facts g.C.Connections.port g.C.Connections.faults g.C.Connections.has_ended g.C.Connections.log in
+    let facts : g.row.C.Denot → StreamFacts = stream_facts g.C.Connections in
     let old : LockedView = c.new-front.result in
     let new : LockedView = c.serve_connections-self.new.front in
     let served = c.serve_connections-self.ensures in
@@ -37,18 +32,22 @@ returns g c =
     let a = facts c.serve_connections-self.new.connections in
     let before : LockedView → FrontAt = λ v. told_by v (last c.args.self.now.clock) c.args.self.now.lacked b.has_ended in
     let after : LockedView → FrontAt = λ v. told_by v (last c.serve_connections-self.new.clock) c.serve_connections-self.new.lacked a.has_ended in
-    let old_is : old ≡ locked_view plan.options c.args.number c.args.self.now.parts.items = c.new-front.ensures ∙ (λ i. locked_view (c.requires.options i) c.args.number (c.replace-parts.ensures.value i).items) in
+    let old_is : old ≡ locked_view plan.options c.args.number c.args.self.now.parts.items = c.new-front.ensures ∙ (λ i. locked_view (c.requires.plan.options i) c.args.number (c.replace-parts.ensures.value i).items) in
     let new_is : new ≡ locked_view plan.options c.args.number c.into_parts.result.items =
     λ i. locked_view ((served.options ∙ ap (λ (v : LockedView). v.options) old_is) i) ((served.number ∙ ap (λ (v : LockedView). v.number) old_is) i) (sym c.into_parts.ensures.same i) in
-    let it = subst (λ (y : LockedView × LockedView). GoesAndServes y.0.options c.args.base (before y.0) (after y.1) b.log a.log) (λ i. (old_is i, new_is i))
-    (both_by old.options c.args.base (before old) (after new) b.log a.log c.requires.ready.unserved.fresh served.goes served.serves) in
+    let it = subst (λ (y : LockedView × LockedView). GoesAndServes y.0.options c.args.shared.now.service.base (before y.0) (after y.1) b.log a.log) (λ i. (old_is i, new_is i))
+    (both_by old.options c.args.shared.now.service.base (before old) (after new) b.log a.log c.requires.ready.unserved.fresh served.goes served.serves) in
+    let had = none_taken c.args.self.now.parts.items (λ p x at. (c.requires.ready.parts.each p x at).none) in
+    let ends = subst (λ (v : LockedView). OnOk c.serve_connections-self.result (IsFinished v.options a.has_ended (turns_left v.parts))) new_is served.ends in
+    let finished = finished_so c.serve_connections-self.result (finishes plan.options a.has_ended _ (count_of_writes it.answers) (let few = it.goes.few in omega (arith, few, had))) ends in
     record {
       is = subst (IsLockedFront plan) new_is c.into_parts.ensures.front;
       answered = it.answers;
       run = record {
-        serves = record { port = served.port; never_fall = served.never_fall; seconds = it.goes.seconds; ended = refl; clients = it.clients };
+        serves = record { port = served.port; never_fall = served.never_fall; seconds = it.goes.seconds; ended = refl; stopped = stops plan.options it.answers b a c.serve_connections-self.result finished served.cause (λ is. ap facts (served.none_served is).1); clients = it.clients };
         in_order = it.goes.in_order;
         few = it.goes.few;
+        finished = finished;
         cause = served.cause;
       };
     }

@@ -28,19 +28,19 @@ serve_end-self-requires-clause-left g c =
 pub returns : goal.returns
 returns g c =
     let plan = g.J.ServerPlan.plan in
-    let facts : g.row.D.Denot → EndFacts = end_facts g.D.Datagrams.port g.D.Datagrams.traffic g.D.Datagrams.faults g.D.Datagrams.has_ended g.D.Datagrams.script in
+    let facts : g.row.D.Denot → EndFacts = end_facts g.D.Datagrams in
     let old : LockedView = c.new-front.result in
     let new : LockedView = c.serve_end-self.new.front in
     let b = facts c.args.self.now.end in
     let a = facts c.serve_end-self.new.end in
     let served = c.serve_end-self.ensures in
-    let old_is : old ≡ locked_view plan.options c.args.number c.args.self.now.parts.items = c.new-front.ensures ∙ (λ i. locked_view (c.requires.options i) c.args.number (c.replace-parts.ensures.value i).items) in
+    let old_is : old ≡ locked_view plan.options c.args.number c.args.self.now.parts.items = c.new-front.ensures ∙ (λ i. locked_view (c.requires.plan.options i) c.args.number (c.replace-parts.ensures.value i).items) in
     let new_is : new ≡ locked_view plan.options c.args.number c.into_parts.result.items =
     λ i. locked_view ((served.options ∙ ap (λ (v : LockedView). v.options) old_is) i) ((served.number ∙ ap (λ (v : LockedView). v.number) old_is) i) (sym c.into_parts.ensures.same i) in
     record {
       is = subst (IsLockedFront plan) new_is c.into_parts.ensures.front;
-      run = subst (λ (y : LockedView × LockedView). RunsFront y.0.options c.args.batches (run_of y.0.parts c.serve_end-self.result y.1.parts) b a) (λ i. (old_is i, new_is i))
-          (runs_front old.options c.args.batches (run_of old.parts c.serve_end-self.result new.parts) b a
+      run = subst (λ (y : LockedView × LockedView). RunsFront y.0.options c.args.shared.now.service.ports.batches (run_of y.0.parts c.serve_end-self.result y.1.parts) b a) (λ i. (old_is i, new_is i))
+          (runs_front old.options c.args.shared.now.service.ports.batches (run_of old.parts c.serve_end-self.result new.parts) b a
           (record { port = served.port; never_fall = served.never_fall; tells = tells_still b.traffic a.traffic served.tells; scripted = served.script })
           served.served served.stopped served.wants served.cause served.small served.steady);
     }

@@ -6,7 +6,7 @@ use Rattle.mica_serve.proofs.worker.FrontTask.run.Goals as goal
 
 pub returns : goal.returns
 returns g c =
-    let facts : g.row.D.Denot → EndFacts = end_facts g.D.Datagrams.port g.D.Datagrams.traffic g.D.Datagrams.faults g.D.Datagrams.has_ended g.D.Datagrams.script in
+    let facts : g.row.D.Denot → EndFacts = end_facts g.D.Datagrams in
     let old = c.in-Some.front in
     let new = c.serve_end-self.new.front in
     let b = facts c.args.self.now.end in

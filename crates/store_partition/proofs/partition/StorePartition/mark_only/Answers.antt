@@ -8,10 +8,8 @@ use Rattle.store_partition.proofs.partition.StorePartition.mark_only.Goals as go
 steps : (g : Over) (c : Start g) → AreBytes c.args.key.now → MarkOnly (g.W.OwnerWords.owner c.args.self.now.words) c.args.self.now.index c.args.self.now.heap
     (write_of c.args.op c.args.key.now []) c.args.bucket (c.args.self.now.accepted + 1) (reply_left c.args.spot)
 steps g c bytes =
-    let s = c.args.self.now in
-    let r = c.requires in
-    marks_only (held (g.W.OwnerWords.owner s.words) r.kept s.index s.heap s.parts) c.args.key.now r.key bytes r.unworn s.accepted s.counted
-    c.args.bucket r.sought.bucket c.args.op c.args.spot r.op r.sought.found
+    marks_only (held c.requires.kept c.args.self.now.parts) c.args.key.now c.requires.key bytes c.requires.unworn c.args.self.now.accepted c.args.self.now.counted
+    c.args.bucket c.requires.sought.bucket c.args.op c.args.spot c.requires.op c.requires.sought.found
 
 pub begin_marked-requires : goal.begin_marked-requires
 begin_marked-requires g c = (steps g (goal.at.begin_marked-requires g c).Start (λ k. omega (arith, c.type_inv.key k))).opens _ refl

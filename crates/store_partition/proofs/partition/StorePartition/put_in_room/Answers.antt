@@ -1,7 +1,6 @@
 use Rattle.store_partition.proofs.Words.{AreBytes, Put, ap, arith, item_events, plays, refl, write_of, ◌+◌, ◌∙◌}
-use Rattle.store_partition.proofs.Held.{known}
 use Rattle.store_partition.proofs.Puts.{HasPut, PutInRoom, in_room}
-use Rattle.store_partition.proofs.Parts.{held}
+use Rattle.store_partition.proofs.Parts.{held, known_at}
 use Rattle.store_partition.proofs.partition.StorePartition.put_in_room.Given.{Over}
 use Rattle.store_partition.proofs.partition.StorePartition.put_in_room.Goals.{After-rewrite_item, Start}
 use Rattle.store_partition.proofs.partition.StorePartition.put_in_room.Goals as goal
@@ -12,10 +11,8 @@ steps : (g : Over) (c : Start g) → AreBytes c.args.key.now → AreBytes c.args
 steps g c key_bytes value_bytes =
     let s = c.args.self.now in
     let r = c.requires in
-    let h = held (g.W.OwnerWords.owner s.words) r.kept s.index s.heap s.parts in
-    in_room h Put tt c.args.key.now c.args.value.now (record { key = r.key; key_bytes = key_bytes; value = r.value; value_bytes = value_bytes }) r.unworn s.accepted s.counted
-    c.args.bucket r.sought.bucket tt c.args.spot (known h c.args.key.now c.args.bucket r.sought.bucket key_bytes c.args.spot r.sought.found)
-    c.args.block.offset c.args.block.room r.offset r.room r.fits
+    in_room (held r.kept s.parts) Put tt c.args.key.now c.args.value.now (record { key = r.key; key_bytes = key_bytes; value = r.value; value_bytes = value_bytes }) r.unworn s.accepted s.counted
+    c.args.bucket r.sought.bucket tt c.args.spot (known_at r.kept s.parts r.sought key_bytes) c.args.block.offset c.args.block.room r.offset r.room r.fits
 
 put : (g : Over) (c : After-rewrite_item g) → HasPut (g.W.OwnerWords.owner c.args.self.now.words) (write_of Put c.args.key.now c.args.value.now) c.args.bucket
     (c.args.self.now.accepted + 1) c.args.block.offset c.args.block.room (g.W.OwnerWords.owner c.rewrite_item.new.words)

@@ -1,4 +1,4 @@
-use Rattle.store_partition.proofs.Words.{rules, AreBytes, CanPlay, ChangesChain, FullBlock, FullSpare, Index, IsOwnerStep, IsTaken, LacksPlace}
+use Rattle.store_partition.proofs.Words.{rules, CanPlay, ChangesChain, FullBlock, FullSpare, Index, IsOwnerStep, IsTaken, LacksPlace}
 use Rattle.store_partition.proofs.Words.{MayLack, OwnerState, Stored, Write, [], ap, arith, entries_of, entry_of, hash_tag, item_events}
 use Rattle.store_partition.proofs.Words.{item_size, marked_in_bucket, plays, refl, size_of, subst, subst₂, sym, tag_of_hash, true≢false, write_of, ℕ}
 use Rattle.store_partition.proofs.Words.{◌++◌, ◌+◌, ◌∙◌, ◌∷◌, ◌≡◌}
@@ -12,7 +12,7 @@ use Rattle.store_partition.proofs.partition.StorePartition.put_new.Goals as goal
 
 module _ (g : Over) (c : Start g) where
   abbrev h : Held
-  h = held (g.W.OwnerWords.owner c.args.self.now.words) c.requires.kept c.args.self.now.index c.args.self.now.heap c.args.self.now.parts
+  h = held c.requires.kept c.args.self.now.parts
 
   abbrev w : Write
   w = write_of c.args.op c.args.key.now c.args.value.now
@@ -23,21 +23,17 @@ steps : (g : Over) (c : In-Some g) → PutNew (g.W.OwnerWords.owner c.args.self.
 steps g c =
     let s = c.args.self.now in
     let r = c.requires in
-    let o = g.W.OwnerWords.owner s.words in
-    let h = held o r.kept s.index s.heap s.parts in
-    let key_bytes : AreBytes c.args.key.now = λ k. omega (arith, c.type_inv.key k) in
-    let value_bytes : AreBytes c.args.value.now = λ k. omega (arith, c.type_inv.value k) in
-    let places : ¬ (LacksPlace s.index o c.args.bucket) = λ lacks. true≢false (c.if-not-has_place.ensures.place.1 lacks) in
+    let h = held r.kept s.parts in
+    let places : ¬ (LacksPlace s.index h.o c.args.bucket) = λ lacks. true≢false (c.if-not-has_place.ensures.place.1 lacks) in
     new h c.args.op r.op c.args.key.now c.args.value.now
-    (record { key = r.key; key_bytes = key_bytes; value = with_value c.args.op c.args.value.now r.op r.value; value_bytes = value_bytes }) r.unworn s.accepted s.counted
+    (record { key = r.key; key_bytes = λ k. omega (arith, c.type_inv.key k); value = with_value c.args.op c.args.value.now r.op r.value; value_bytes = λ k. omega (arith, c.type_inv.value k) }) r.unworn s.accepted s.counted
     c.args.bucket r.sought.bucket c.take.new.self c.in-Some.place (subst (IsTaken s.heap c.take.new.self c.in-Some.place) c.item_size-size.ensures c.in-Some.ensures.taken)
     c.take.ensures.blocks (new_needs h c.args.op r.op c.args.key.now c.args.value.now c.args.bucket r.sought.bucket r.sought.found places) r.sought.found places
 
 -- its item is put
 put : (g : Over) (c : After-write_item_hashed g) → HasPut (g.W.OwnerWords.owner c.args.self.now.words) (write_of c.args.op c.args.key.now c.args.value.now) c.args.bucket
     (c.args.self.now.accepted + 1) c.in-Some.place (item_size c.args.key.now c.args.value.now) (g.W.OwnerWords.owner c.write_item_hashed.new.words)
-put g c = c.write_item_hashed.ensures.events
-    ∙ (λ i. plays (item_events (c.from.ensures i) (c.item_size-size.ensures i) c.args.key.now c.args.value.now)
+put g c = c.write_item_hashed.ensures.events ∙ (λ i. plays (item_events (c.from.ensures i) (c.item_size-size.ensures i) c.args.key.now c.args.value.now)
     ((c.begin_marked.ensures.events ∙ ap (λ z. marked_in_bucket z c.args.bucket (write_of c.args.op c.args.key.now c.args.value.now) (c.args.self.now.accepted + 1))
     c.has_place.ensures.same) i))
 

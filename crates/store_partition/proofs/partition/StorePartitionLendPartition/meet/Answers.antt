@@ -10,7 +10,7 @@ invariant_of-self g c =
     let r = g.W.Reader.ReaderWords.reader c.args.seat in
     record {
       parts = ∣ subst (AreParts self.index self.heap) (sym is)
-          (parts_met o (met_by o r).met (met_by o r).closed self.index self.heap (whole self.index self.heap o self.parts)) ∣₁;
+          (parts_met o (met_by o r).met (met_by o r).closed self.index self.heap (whole self.parts)) ∣₁;
       counted = self.counted ∙ ap (λ (z : OwnerState). length z.history) (sym is);
       stamped = self.stamped ∙ ap (λ (z : OwnerState). stamp_of (options_in z) z.history) (sym is);
     }

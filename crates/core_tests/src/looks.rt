@@ -1,0 +1,213 @@
+//! Looks at a value that may need no hold, by two fronts that own one partition in turn.
+ghost use Rattle.std.specs.Prelude.{◌≡◌, ◌+◌, ◌<◌, ◌≤◌, map};
+ghost use Rattle.partition_model.specs.Options.{IsPossible};
+ghost use Rattle.partition_table.specs.Seats.{note_state, note_home};
+ghost use Rattle.locked_fronts.specs.Owned.{NotesAre};
+ghost use Rattle.locked_fronts.specs.Parts.{turns_left};
+ghost use Rattle.locked_serve.specs.Opening.{ArePlanned, filled_view};
+
+use crate::changes::{KEY, Room, SMALL, TIMES, count_in, count_up, front_of};
+use cache_partition::CachePartition;
+use epoch_core::LendPartition;
+use locked_fronts::ServerPlan;
+use locked_serve::{FilledPart, lend_hand, lock_parts, open_parts};
+use mica_fronts::{Changes, Decide, Front, When};
+use mica_words::{key_fits, value_fits};
+use partition_model::{Answer, Change, ItemBuf, Mode, Op, Options};
+use partition_table::{Note, OwnerSeat, ReaderSeat};
+use seated_partition::OnTable;
+use std::marker::Brand;
+use std::process::Abort;
+use std::sync::Wait;
+use std::test::Fail;
+use std::thread::{Threads, join};
+use store_partition::StorePartition;
+
+/// Leaves what it finds.
+#[derive(Clone, Copy)]
+struct Reads;
+
+impl Decide for Reads {
+    ghost use Rattle.std.specs.Prelude.{true};
+    ghost use Rattle.mica_fronts.specs.Changing.{stays};
+
+    ghost becoming = { λ _ _ _. stays };
+
+    ghost needs = { λ _. true };
+
+    fn looks(&self) -> bool {
+        true
+    }
+
+    fn only_reads(&self) -> bool {
+        true
+    }
+
+    fn decide(&self, _when: When, _found: Option<&[u8]>, _next: &mut ItemBuf) -> Change {
+        Change::Stay
+    }
+}
+
+// What a look finds, and how many writes had been accepted then, and flushed.
+fn expect_look<R: Abort + Threads + Wait + Sync, F: Changes>(
+    rt: &R,
+    front: &mut F,
+    room: &mut Room,
+    wanted: Option<&[u8]>,
+    written: u64,
+    flushed: u64,
+)
+    requires { 0 < F.left front.old }
+    ensures { F.left front.old ≤ F.left front.new }
+{
+    assert!(rt; key_fits(KEY));
+    let looked = front.change(rt, 7, KEY, &Reads, &mut room.found, &mut room.next);
+    assert!(rt; looked.outcome.is_none());
+    assert!(rt; looked.when.written == written && looked.when.flushed == flushed);
+    match wanted {
+        Some(value) => {
+            assert!(rt; looked.found == Some(Answer::Hit) && room.found.value() == value)
+        }
+        None => assert!(rt; looked.found == Some(Answer::Miss)),
+    }
+}
+
+// A write of the key, or of a flush at once.
+fn write_one<R: Abort + AllocGlobal + Threads + Wait + Sync, F: Changes>(
+    rt: &R,
+    front: &mut F,
+    op: Op,
+    key: &[u8],
+    value: &[u8],
+) -> Result<(), Fail>
+    requires { 0 < F.left front.old }
+    ensures { F.left front.old ≤ F.left front.new + 1 }
+{
+    assert!(rt;
+        key_fits(key) && value_fits(value) && (op == Op::Put || op == Op::Del && value.is_empty())
+    );
+    front.write(rt, rt.alloc(), op, key, value)?;
+    Ok(())
+}
+
+// Each front looks behind its own writes and behind the other's.
+fn look_in_turn<R: Abort + AllocGlobal + Threads + Wait + Sync, F: Changes>(
+    rt: &R,
+    one: &mut F,
+    two: &mut F,
+    room: &mut Room,
+) -> Result<(), Fail>
+    requires one { 10 ≤ F.left one.old }
+    requires two { 10 ≤ F.left two.old }
+    ensures one { F.left one.old ≤ F.left one.new + 10 }
+    ensures two { F.left two.old ≤ F.left two.new + 10 }
+{
+    expect_look(rt, one, room, None, 0, 0);
+    write_one(rt, one, Op::Put, KEY, b"one")?;
+    expect_look(rt, one, room, Some(b"one"), 1, 0);
+    expect_look(rt, two, room, Some(b"one"), 1, 0);
+    write_one(rt, two, Op::Put, KEY, b"two")?;
+    expect_look(rt, one, room, Some(b"two"), 2, 0);
+    expect_look(rt, one, room, Some(b"two"), 2, 0);
+    write_one(rt, one, Op::Del, b"\n", b"")?;
+    expect_look(rt, one, room, Some(b"two"), 3, 3);
+    expect_look(rt, two, room, Some(b"two"), 3, 3);
+    write_one(rt, two, Op::Del, KEY, b"")?;
+    expect_look(rt, two, room, None, 4, 3);
+    expect_look(rt, one, room, None, 4, 3);
+    Ok(())
+}
+
+// Looks while another counts up: the count never falls.
+fn look_often<R: Threads + Wait + Sync, F: Changes + Drop>(rt: &R, front: F, room: Room) -> bool
+    requires { TIMES ≤ F.left front }
+{
+    let mut front = front;
+    let mut room = room;
+    let mut last = 0;
+    if !key_fits(KEY) {
+        return false;
+    }
+    for _ in 0..TIMES {
+        let looked = front.change(rt, 0, KEY, &Reads, &mut room.found, &mut room.next);
+        if looked.outcome.is_some() {
+            return false;
+        }
+        let count = match looked.found {
+            Some(Answer::Hit) => count_in(Some(room.found.value())),
+            _ => 0,
+        };
+        if count < last {
+            return false;
+        }
+        last = count;
+    }
+    true
+}
+
+// Two fronts before one partition.
+fn look_by_two<
+    J: ServerPlan + Send + Sync,
+    W: Abort + AllocGlobal + Threads + Wait + Sync,
+    P: OnTable + LendPartition<Reader = ReaderSeat, Note = Note> + Drop + Send,
+>(rt: &W, options: &Options, parts: Vec<FilledPart<P>>) -> Result<(), Fail>
+    requires notes { NotesAre P.noted P.note_home note_state note_home }
+    requires valid { IsPossible options.now }
+    requires named { options.now ≡ J.plan.options }
+    requires takers { J.plan.fronts ≡ 2 }
+    requires of { ArePlanned J.plan 0 (map (λ f. filled_view P.owner P.home f) parts.items) }
+{
+    let alloc = rt.alloc();
+    let mut parts = parts;
+    let first = lend_hand::<J, P>(alloc, &mut parts, 0)?;
+    let second = lend_hand::<J, P>(alloc, &mut parts, 1)?;
+    let locks = lock_parts::<J, P>(alloc, parts)?;
+    let mut first = front_of(options, locks.as_slice(), 0, first);
+    let mut second = front_of(options, locks.as_slice(), 1, second);
+    let (one, mut two) = (Room::new(alloc)?, Room::new(alloc)?);
+    look_in_turn(rt, &mut first, &mut second, &mut two)?;
+    let (_, rose) = join(
+        rt,
+        move ||
+            requires { TIMES ≤ turns_left first.parts }
+        { count_up(rt, first, one) },
+        move ||
+            requires { TIMES ≤ turns_left second.parts }
+        { look_often(rt, second, two) },
+    );
+    assert!(rt; rose);
+    Ok(())
+}
+
+// Opens one empty partition of the options.
+fn open_and_look<P: OnTable + LendPartition<Reader = ReaderSeat, Note = Note> + Drop + Send>(
+    rt: &(impl Abort + AllocGlobal + Threads + Wait + Sync),
+    options: &Options,
+) -> Result<(), Fail>
+    requires notes { NotesAre P.noted P.note_home note_state note_home }
+    requires same { (p : P) → P.state p ≡ P.owner p }
+    requires mode { options.now.mode ≡ P.mode }
+{
+    assert!(rt; options.is_possible());
+    let opened = open_parts::<P>(rt.alloc(), options, &[]);
+    assert!(rt; opened.is_ok());
+    if let Ok(parts) = opened {
+        look_by_two::<Brand, _, P>(rt, options, parts)?;
+    }
+    Ok(())
+}
+
+#[test]
+fn looks_in_store_mode(rt: HostRuntime) -> Result<(), Fail> {
+    open_and_look::<StorePartition<OwnerSeat>>(&rt, &SMALL)
+}
+
+#[test]
+fn looks_in_cache_mode(rt: HostRuntime) -> Result<(), Fail> {
+    let options = Options {
+        mode: Mode::Cache,
+        words: 4_096,
+        ..SMALL
+    };
+    open_and_look::<CachePartition<OwnerSeat>>(&rt, &options)
+}

@@ -1,0 +1,25 @@
+//! What a server serves, and what all its fronts share.
+use memcached_stats::Board;
+use mica_fronts::PortOptions;
+use partition_model::Options;
+use std::alloc::Global;
+use stream_fronts::StreamPorts;
+
+/// The partitions, the ports of both kinds, and the unique number of the first value that a partition takes from a connection.
+#[derive(Clone, Copy)]
+pub struct Service {
+    pub options: Options,
+    pub ports: PortOptions,
+    pub streams: StreamPorts,
+    pub base: u64,
+}
+
+/// What is at hand of each front: threads, memory, what is served, where it counts what it does, and the gate that it passes before each request.
+#[derive(Drop)]
+pub struct Shared<'a, W, G> {
+    pub rt: &'a W,
+    pub alloc: Global,
+    pub service: Service,
+    pub board: &'a Board,
+    pub gate: &'a G,
+}
