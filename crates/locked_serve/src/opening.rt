@@ -82,7 +82,7 @@ pub fn open_parts<P: OnTable + LendPartition<Reader = ReaderSeat, Note = Note>>(
 impl<P: LendPartition<Reader = ReaderSeat, Note = Note>> FilledPart<P> {
     // A part for one front more.
     fn lend(&mut self) -> Result<LockedPart, NoMemory>
-        requires flushes { self.old.flushes ≡ flushes_in (P.owner self.old.part).history }
+        requires { self.old.flushes ≡ flushes_in (P.owner self.old.part).history }
         ensures { IfOk result (LendsOne (filled_view P.owner P.home self.old) (filled_view P.owner P.home self.new)) }
     {
         let seat = self.part.lend()?;
