@@ -60,9 +60,9 @@ def micad(*words, fronts=1, mode="store", memory="64M", build=MICAD):
 
 
 @contextlib.contextmanager
-def memcached(*words, threads=1, megabytes=64):
+def memcached(*words, threads=1, megabytes=64, udp=False):
     port = free_port()
-    command = ["memcached", "-l", HOST, "-p", port, "-U", 0, "-m", megabytes, "-t", threads, "-c", 4096, "-u", "root", *words]
+    command = ["memcached", "-l", HOST, "-p", port, "-U", port if udp else 0, "-m", megabytes, "-t", threads, "-c", 4096, "-u", "root", *words]
     with started(command, [port]) as running:
         yield running, range(port, port + 1)
 

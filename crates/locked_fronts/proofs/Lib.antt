@@ -1,4 +1,5 @@
 pub mod Turning
 pub mod Telling
+pub mod Looking
 pub mod Finding
 pub mod Ending

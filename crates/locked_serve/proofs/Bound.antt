@@ -1,6 +1,6 @@
 -- What a server came to once its ports were bound, by what of its fronts of connections is known.
 use Rattle.std.proofs.Common.{◌≡◌, ℕ, ◌≤◌, inl, inr, List, [], length, Option, Some, None, slice_get, refl, sym, ap, ◌∙◌, subst, arith}
-use Rattle.std.specs.Prelude.{Result, Ok, Err, OnOk}
+use Rattle.std.specs.Prelude.{Result, Ok, Err}
 use Rattle.std.proofs.lemmas.Option.{slice_get_within}
 use Rattle.mica_io.specs.Faults.{Rose}
 use Rattle.partition_model.specs.History.{History}
@@ -14,8 +14,8 @@ use Rattle.mica_serve.specs.Others.{Others, HaveAnsweredNothing}
 use Rattle.mica_serve.specs.Ends.{EndFacts, ServesFronts}
 use Rattle.locked_serve.specs.declared.service.Service.{Service}
 use Rattle.locked_serve.specs.declared.stop.Stop.{Stop}
-use Rattle.locked_serve.specs.declared.stop.Stop.TheVariants.{Unannounced, Fault}
-use Rattle.locked_serve.specs.Streams.{StreamFacts, ListenFacts, AreNewStreams, AreStreams, ServesBeside, HaveFinished, others_of}
+use Rattle.locked_serve.specs.declared.stop.Stop.TheVariants.{Fault}
+use Rattle.locked_serve.specs.Streams.{StreamFacts, ListenFacts, AreNewStreams, AreStreams, ServesBeside, others_of}
 use Rattle.locked_serve.specs.Causes.{CameTo, ComesBeside}
 use Rattle.locked_serve.proofs.Unheard.{no_answers, none_answered, as_heard, none_heard}
 
@@ -27,14 +27,23 @@ came_to_fault before after NoMemory = refl
 pub silent : (streams : StreamPorts) (olds news : List StreamFacts) → HaveAnsweredNothing (others_of (no_answers streams.fronts) olds news)
 silent streams olds news k own at = none_answered streams.fronts k own at
 
-module _ {says : Others → Option (Result Totals ServeFault) → Type 0} {leaves : List StreamFacts → Type 0} {service : Service} {clocks : List ℕ} {before after : ListenFacts} where
-  abbrev Comes : Result Totals Stop → Type 0
-  Comes answer = ComesBeside says leaves answer service clocks before after
+module _ (service : Service) (before : ListenFacts) {clocks : List ℕ} (heard : List StreamFacts) (new : AreNewStreams before.ports service.streams.port heard)
+    (within : length heard ≤ service.streams.fronts) {origin : ℕ → History} {batches : ℕ} {kept : List KeptSeat} {ends_before ends_after : List EndFacts} {news : List StreamFacts} where
+  are : length heard ≡ service.streams.fronts → {answer : Result Totals ServeFault} (b : ServesBeside service.options origin batches service.base clocks answer kept ends_before ends_after heard news)
+      → AreStreams service.options service.base service.streams before.ports clocks b.answers heard news
+  are full b = record {
+    are_new = new;
+    within = within;
+    fronts = b.many ∙ full;
+    served = b.streams;
+    unheard = λ k own at past. absurd (let low = slice_get_within b.answers k own at in omega (arith, low, past, b.many));
+  }
 
+module _ {says : Others → Option (Result Totals ServeFault) → Type 0} {leaves : List StreamFacts → Type 0} {answer : Result Totals Stop} {service : Service} {clocks : List ℕ}
+    {before after : ListenFacts} where
   -- a port of datagrams could not be bound
-  pub unbound : {answer : Result Totals Stop} → answer ≡ Err (Fault Net) → leaves [] → says (others_of (no_answers service.streams.fronts) [] []) (Some (Err Net))
-      → ComesBeside says leaves answer service clocks before after
-  unbound is left said = subst Comes (sym is) (record {
+  pub unbound : answer ≡ Err (Fault Net) → leaves [] → says (others_of (no_answers service.streams.fronts) [] []) (Some (Err Net)) → ComesBeside says leaves answer service clocks before after
+  unbound is left said = subst (λ (a : Result Totals Stop). ComesBeside says leaves a service clocks before after) (sym is) (record {
     answers = no_answers service.streams.fronts;
     olds = [];
     news = [];
@@ -48,54 +57,54 @@ module _ {says : Others → Option (Result Totals ServeFault) → Type 0} {leave
     said = said;
   })
 
-  module _ {heard : List StreamFacts} (new : AreNewStreams before.ports service.streams.port heard) (within : length heard ≤ service.streams.fronts) where
-    -- these were listened at, and nothing was served
-    unserved : (answer : Result Totals Stop) → CameTo answer before.faults after.faults None → (OnOk answer (length heard ≡ service.streams.fronts))
-        → OnOk answer (HaveFinished service.options (no_answers service.streams.fronts) heard)
-        → leaves heard → says (others_of (no_answers service.streams.fronts) heard heard) None → Comes answer
-    unserved answer came all finished left said = record {
+  module _ (heard : List StreamFacts) (new : AreNewStreams before.ports service.streams.port heard) (within : length heard ≤ service.streams.fronts) where
+    -- these were listened at, and nothing was served, whatever stopped it
+    pub unserved : (stop : Stop) → answer ≡ Err stop → CameTo (Err stop) before.faults after.faults None → leaves heard
+        → says (others_of (no_answers service.streams.fronts) heard heard) None → ComesBeside says leaves answer service clocks before after
+    unserved stop is came left said = subst (λ (a : Result Totals Stop). ComesBeside says leaves a service clocks before after) (sym is) (record {
       answers = no_answers service.streams.fronts;
       olds = heard;
       news = heard;
       are = as_heard service.options service.base service.streams before.ports clocks heard new within;
       left = left;
-      all = all;
-      finished = finished;
+      all = tt;
+      finished = tt;
       came = None;
       came_is = came;
       unserved = (refl, silent service.streams heard heard);
       said = said;
-    }
-
-    -- the next could not be
-    pub unheard : {answer : Result Totals Stop} → answer ≡ Err (Fault Net) → Rose before.faults after.faults → leaves heard
-        → says (others_of (no_answers service.streams.fronts) heard heard) None → ComesBeside says leaves answer service clocks before after
-    unheard is rose left said = subst Comes (sym is) (unserved (Err (Fault Net)) (inr (refl, rose)) tt tt left said)
-
-    -- or it could not be told
-    pub untold : {answer : Result Totals Stop} → answer ≡ Err Unannounced → leaves heard
-        → says (others_of (no_answers service.streams.fronts) heard heard) None → ComesBeside says leaves answer service clocks before after
-    untold is left said = subst Comes (sym is) (unserved (Err Unannounced) refl tt tt left said)
+    })
 
     -- all fronts were served
     module _ {origin : ℕ → History} {batches : ℕ} {kept : List KeptSeat} {ends_before ends_after : List EndFacts} {news : List StreamFacts} (full : length heard ≡ service.streams.fronts) where
-      are : {answer : Result Totals ServeFault} (b : ServesBeside service.options origin batches service.base clocks answer kept ends_before ends_after heard news)
-          → AreStreams service.options service.base service.streams before.ports clocks b.answers heard news
-      are b = record {
-        are_new = new;
-        within = within;
-        fronts = b.many ∙ full;
-        served = b.streams;
-        unheard = λ k own at past. absurd (let low = slice_get_within b.answers k own at in omega (arith, low, past, b.many));
-      }
+      pub came_ok : (totals : Totals) → answer ≡ Ok totals → (b : ServesBeside service.options origin batches service.base clocks (Ok totals) kept ends_before ends_after heard news)
+          → leaves news → says (others_of b.answers heard news) (Some (Ok totals)) → ComesBeside says leaves answer service clocks before after
+      came_ok totals is b left said = subst (λ (a : Result Totals Stop). ComesBeside says leaves a service clocks before after) (sym is) (record {
+        answers = b.answers;
+        olds = heard;
+        news = news;
+        are = are service before heard new within full b;
+        left = left;
+        all = full;
+        finished = b.finished;
+        came = Some (Ok totals);
+        came_is = refl;
+        unserved = tt;
+        said = said;
+      })
 
-      pub came_ok : (totals : Totals) (b : ServesBeside service.options origin batches service.base clocks (Ok totals) kept ends_before ends_after heard news)
-          → leaves news → says (others_of b.answers heard news) (Some (Ok totals)) → ComesBeside says leaves (Ok totals) service clocks before after
-      came_ok totals b left said =
-          record { answers = b.answers; olds = heard; news = news; are = are b; left = left; all = full; finished = b.finished; came = Some (Ok totals); came_is = refl; unserved = tt; said = said }
-
-      pub came_err : {answer : Result Totals Stop} (fault : ServeFault) → answer ≡ Err (Fault fault)
-          → (b : ServesBeside service.options origin batches service.base clocks (Err fault) kept ends_before ends_after heard news)
+      pub came_err : (fault : ServeFault) → answer ≡ Err (Fault fault) → (b : ServesBeside service.options origin batches service.base clocks (Err fault) kept ends_before ends_after heard news)
           → leaves news → says (others_of b.answers heard news) (Some (Err fault)) → ComesBeside says leaves answer service clocks before after
-      came_err fault is b left said = subst Comes (sym is)
-          (record { answers = b.answers; olds = heard; news = news; are = are b; left = left; all = tt; finished = tt; came = Some (Err fault); came_is = came_to_fault before.faults after.faults fault; unserved = tt; said = said })
+      came_err fault is b left said = subst (λ (a : Result Totals Stop). ComesBeside says leaves a service clocks before after) (sym is) (record {
+        answers = b.answers;
+        olds = heard;
+        news = news;
+        are = are service before heard new within full b;
+        left = left;
+        all = tt;
+        finished = tt;
+        came = Some (Err fault);
+        came_is = came_to_fault before.faults after.faults fault;
+        unserved = tt;
+        said = said;
+      })

@@ -99,12 +99,12 @@ no_memory {service = service} {origin = origin} {clocks = clocks} {kept = kept} 
 })
 
 -- a server that these writes filled
-pub cause_filled : (answer : Result Totals Stop) {service : Service} {writes : List Write} {clocks : List ℕ} {kept : List KeptSeat} {before after : PortFacts}
+pub cause_filled : (answer : Result Totals Stop) (writes : List Write) {service : Service} {clocks : List ℕ} {kept : List KeptSeat} {before after : PortFacts}
     → HasCause answer service (origin_of service.options writes) clocks kept before after → IsCauseOfStop answer service writes clocks kept before after
-cause_filled (Ok totals) is = is
-cause_filled (Err (Fault fault)) is = is
-cause_filled (Err Unannounced) is = is
-cause_filled (Err Refused) is = absurd is.came_is
+cause_filled (Ok totals) writes is = is
+cause_filled (Err (Fault fault)) writes is = is
+cause_filled (Err Unannounced) writes is = is
+cause_filled (Err Refused) writes is = absurd is.came_is
 
 -- a server whose partitions could not be made and filled
 pub not_opened : {answer : Result Totals Stop} (fault : OpenFault) (service : Service) (writes : List Write) (clocks : List ℕ) (kept : List KeptSeat) (all : PortFacts)

@@ -20,9 +20,9 @@ pub record IsPlanOf (service : Service) (plan : Plan) : Type 0 where
   pub options : service.options ≡ plan.options
   pub fronts : plan.fronts ≡ service.streams.fronts + service.ports.fronts
 
--- and they lie under these locks
-pub record IsLockedPlan (service : Service) (plan : Plan) (locks : ℕ) : Type 0 where
+-- and they lie under as many locks
+pub record IsLockedPlan (service : Service) (plan : Plan) (many : ℕ) : Type 0 where
   pub valid : IsPossible service.options
   pub options : service.options ≡ plan.options
-  pub locks : locks ≡ service.options.partitions
+  pub locks : many ≡ service.options.partitions
   pub few : plan.fronts ≤ MOST_FRONTS

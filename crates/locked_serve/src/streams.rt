@@ -86,7 +86,7 @@ pub(crate) fn run_streams<
         &|number, stream|
             requires { (number < J.plan.fronts) × IsLockedPlan shared.now.service J.plan (length locks.now)
                 × IsReadyStream J.plan (stream_facts C.Connections) K.last number stream.now }
-            ensures { StreamRan J.plan (stream_facts C.Connections) K.last shared.now.service.base number stream.entry.now stream.exit.now }
+            ensures { StreamRan J.plan (stream_facts C.Connections) K.last shared.entry.now.service.base number stream.entry.now stream.exit.now }
         { stream.run(shared, locks, number as u32) },
     );
 }

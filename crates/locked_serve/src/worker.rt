@@ -82,7 +82,7 @@ fn run_fronts<
         &|at, front|
             requires { (first + at < J.plan.fronts) × IsLockedPlan shared.now.service J.plan (length locks.now)
                 × IsReadyTask J.plan shared.now.service.ports.batches (end_facts D.Datagrams) (first + at) front.now }
-            ensures { TaskRan J.plan shared.now.service.ports.batches (end_facts D.Datagrams) (first + at) front.entry.now front.exit.now }
+            ensures { TaskRan J.plan shared.entry.now.service.ports.batches (end_facts D.Datagrams) (first + at) front.entry.now front.exit.now }
         { front.run(shared, locks, first + at as u32) },
     );
 }

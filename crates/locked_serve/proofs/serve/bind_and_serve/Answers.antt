@@ -5,9 +5,11 @@ use Rattle.std.proofs.lemmas.Result.{err_from_is_err_and}
 use Rattle.mica_serve.specs.Ends.{EndFacts, AreNewEnds, end_facts}
 use Rattle.mica_serve.specs.NetRun.{NetFacts, net_facts}
 use Rattle.mica_serve.proofs.Whole.{Bound, run_failed, run_left, run_served}
+use Rattle.mica_fronts.specs.declared.totals.ServeFault.TheVariants.{Net}
+use Rattle.locked_serve.specs.declared.stop.Stop.TheVariants.{Unannounced, Fault}
 use Rattle.locked_serve.specs.Streams.{StreamFacts, AreNewStreams, listen_facts, stream_facts}
 use Rattle.locked_serve.specs.Causes.{PortFacts, ports_at}
-use Rattle.locked_serve.proofs.Bound.{unbound, unheard, untold, came_ok, came_err, silent}
+use Rattle.locked_serve.proofs.Bound.{unbound, unserved, came_ok, came_err, silent}
 use Rattle.locked_serve.proofs.Heard.{kept_unheard, new_untold}
 use Rattle.locked_serve.proofs.Stopped.{lacks_port, fails_to_tell, fault_told}
 use Rattle.locked_serve.proofs.serve.bind_and_serve.Given as given
@@ -85,7 +87,7 @@ pub returns-in_err-listen_all-clause-served : goal.returns-in_err-listen_all-cla
 returns-in_err-listen_all-clause-served g c =
     let at = goal.at.returns-in_err-listen_all-clause-served g c in
     let is = err_from_is_err_and c.from_residual-in_err-listen_all.result c.from_residual-in_err-listen_all.ensures.1 in
-    unheard c.listen_all.ensures.new (heard_few g at.After-listen_all) (is.1 ∙ ap Err is.2) c.in_err-listen_all.ensures.cause refl
+    unserved (map (of_stream g) c.listen_all.new.connections.items) c.listen_all.ensures.new (heard_few g at.After-listen_all) (Fault Net) (is.1 ∙ ap Err is.2) (inr (refl, c.in_err-listen_all.ensures.cause)) refl
     (run_left (bound g at.After-bind_all) c.requires.filled c.requires.tables (ends_long g at.After-bind_all ∙ c.in_ok-bind_all.ensures.all))
 
 pub returns-in_err-listen_all-clause-announced : goal.returns-in_err-listen_all-clause-announced
@@ -101,7 +103,7 @@ pub returns-in_err-ready-clause-served : goal.returns-in_err-ready-clause-served
 returns-in_err-ready-clause-served g c =
     let at = goal.at.returns-in_err-ready-clause-served g c in
     let is = err_from_is_err_and c.from_residual-in_err-ready.result c.from_residual-in_err-ready.ensures.1 in
-    untold c.listen_all.ensures.new (heard_few g at.After-listen_all) (is.1 ∙ ap Err is.2) refl
+    unserved (map (of_stream g) c.listen_all.new.connections.items) c.listen_all.ensures.new (heard_few g at.After-listen_all) Unannounced (is.1 ∙ ap Err is.2) refl refl
     (run_left (bound g at.After-bind_all) c.requires.filled c.requires.tables (ends_long g at.After-bind_all ∙ c.in_ok-bind_all.ensures.all))
 
 pub returns-in_err-ready-clause-announced : goal.returns-in_err-ready-clause-announced
@@ -118,7 +120,7 @@ returns-in_err-totals-clause-served g c =
     let at = goal.at.returns-in_err-totals-clause-served g c in
     let fault = c.in_err-totals.field-0.0 in
     let is = err_from_is_err_and c.from_residual-in_err-totals.result c.from_residual-in_err-totals.ensures.1 in
-    came_err c.listen_all.ensures.new (heard_few g at.After-listen_all) (heard_long g at.After-listen_all ∙ c.in_ok-listen_all.ensures.all) fault (is.1 ∙ ap Err is.2) c.in_err-totals.ensures refl
+    came_err (map (of_stream g) c.listen_all.new.connections.items) c.listen_all.ensures.new (heard_few g at.After-listen_all) (heard_long g at.After-listen_all ∙ c.in_ok-listen_all.ensures.all) fault (is.1 ∙ ap Err is.2) c.in_err-totals.ensures refl
     (run_served (bound g at.After-bind_all) c.requires.filled (Err fault) (ends_long g at.After-bind_all ∙ c.in_ok-bind_all.ensures.all) c.in_ok-bind_all.ensures.steady c.in_err-totals.ensures.fronts)
 
 pub returns-in_err-totals-clause-announced : goal.returns-in_err-totals-clause-announced
@@ -134,5 +136,5 @@ returns-in_err-totals-clause-announced g c =
 pub returns-clause-served : goal.returns-clause-served
 returns-clause-served g c =
     let at = goal.at.returns-clause-served g c in
-    came_ok c.listen_all.ensures.new (heard_few g at.After-listen_all) (heard_long g at.After-listen_all ∙ c.in_ok-listen_all.ensures.all) c.in_ok-totals.totals c.in_ok-totals.ensures refl
+    came_ok (map (of_stream g) c.listen_all.new.connections.items) c.listen_all.ensures.new (heard_few g at.After-listen_all) (heard_long g at.After-listen_all ∙ c.in_ok-listen_all.ensures.all) c.in_ok-totals.totals refl c.in_ok-totals.ensures refl
     (run_served (bound g at.After-bind_all) c.requires.filled (Ok c.in_ok-totals.totals) (ends_long g at.After-bind_all ∙ c.in_ok-bind_all.ensures.all) c.in_ok-bind_all.ensures.steady c.in_ok-totals.ensures.fronts)

@@ -29,7 +29,7 @@ pub returns-clause-cause : goal.returns-clause-cause
 returns-clause-cause g c =
     let service = c.args.shared.now.service in
     let filled = subst (λ (w : List Write). AreFilled service.options w (views g c.in_ok-parts.parts.items)) c.as_slice.ensures.value c.in_ok-parts.ensures.filled in
-    cause_filled c.serve_named.result
+    cause_filled c.serve_named.result c.args.filling.items
     (subst (λ (origin : ℕ → History). HasCause c.serve_named.result service origin (map g.K.Clock.last c.args.clocks.items) c.serve_named.new.tables
     (ports_at g.N.Net g.L.Listeners c.args.net.now c.args.listeners.now) (ports_at g.N.Net g.L.Listeners c.serve_named.new.net c.serve_named.new.listeners))
     (origin_is service.options (fronts_of service) c.args.filling.items (views g c.in_ok-parts.parts.items) c.requires.service.options.partitions.0 filled) c.serve_named.ensures.cause)

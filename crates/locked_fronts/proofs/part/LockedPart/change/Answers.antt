@@ -1,4 +1,4 @@
-use Rattle.locked_fronts.proofs.Telling.{still_part, changes_from}
+use Rattle.locked_fronts.proofs.Looking.{still_part, changes_from}
 use Rattle.locked_fronts.proofs.part.LockedPart.change.Goals as goal
 
 pub change_held-requires-clause-own : goal.change_held-requires-clause-own

@@ -2,7 +2,7 @@ use Rattle.std.proofs.Common.{◌≡◌, subst}
 use Rattle.partition_model.specs.declared.change.Change.{Change}
 use Rattle.mica_fronts.specs.Looks.{Look}
 use Rattle.mica_fronts.specs.Changing.{written_by, write_by}
-use Rattle.locked_fronts.proofs.Telling.{looks_on}
+use Rattle.locked_fronts.proofs.Looking.{looks_on}
 use Rattle.locked_fronts.proofs.part.LockedPart.look_on.Goals as goal
 
 pub returns-in-Stay-clause-looked : goal.returns-in-Stay-clause-looked

@@ -2,7 +2,7 @@ use Rattle.std.proofs.Common.{refl, ap, Some, None, arith}
 use Rattle.partition_model.specs.declared.write.Answer.TheVariants.{Hit, Miss}
 use Rattle.epoch_core.specs.declared.reader.ReaderState.{ReaderState}
 use Rattle.partition_table.specs.Seats.{reader_state}
-use Rattle.locked_fronts.proofs.Telling.{as_counted}
+use Rattle.locked_fronts.proofs.Looking.{as_counted}
 use Rattle.locked_fronts.proofs.part.LockedPart.peek.Goals as goal
 
 pub returns-in-Hit-clause-answered : goal.returns-in-Hit-clause-answered

@@ -16,13 +16,6 @@ new-front-requires-clause-none g c =
 pub new-front-requires-clause-each : goal.new-front-requires-clause-each
 new-front-requires-clause-each g c p part at = (c.requires.ready.parts.each p part (ap (λ v. slice_get v.items p) (sym c.replace-parts.ensures.value) ∙ at)).of
 
-pub serve_connections-self-requires-clause-left : goal.serve_connections-self-requires-clause-left
-serve_connections-self-requires-clause-left g c =
-    let none = none_taken c.args.self.now.parts.items (λ p x at. (c.requires.ready.parts.each p x at).none) in
-    let same : turns_taken c.new-front.result.parts ≡ turns_taken c.args.self.now.parts.items =
-    ap (λ (v : LockedView). turns_taken v.parts) c.new-front.ensures ∙ ap (λ v. turns_taken v.items) c.replace-parts.ensures.value in
-    omega (arith, none, same)
-
 -- as a view of it, its clock, a count and its port tell it
 abbrev told_by : LockedView → ℕ → ℕ → Bool → FrontAt
 told_by view second lacked has_ended = record { sessions = sessions_of view.parts; left = turns_left view.parts; second = second; lacked = lacked; has_ended = has_ended }
