@@ -50,7 +50,7 @@ fn unlist(free: &mut FreeLists, blocks: &TaggedBlocks, neighbour: Option<Block>)
     block.size
 }
 
-// The first block of a rank that has as many words as are needed.
+// The first block of a list that has as many words as are needed.
 fn first_fit(blocks: &TaggedBlocks, free: &FreeLists, rank: u32, need: u32) -> Option<Block>
     requires rank { rank < 1152 }
     requires heap { IsHeap blocks.now.0 blocks.now.1 free.now }
@@ -69,7 +69,7 @@ fn first_fit(blocks: &TaggedBlocks, free: &FreeLists, rank: u32, need: u32) -> O
     None
 }
 
-// The first block of the next rank that has one.
+// The first block of the next list that has one.
 fn first_above(blocks: &TaggedBlocks, free: &FreeLists, rank: u32) -> Option<Block>
     requires rank { rank < 1152 }
     requires heap { IsHeap blocks.now.0 blocks.now.1 free.now }
@@ -100,7 +100,7 @@ fn fitting(blocks: &TaggedBlocks, free: &FreeLists, need: u32) -> Option<Block>
     first_above(blocks, free, rank)
 }
 
-// The words of the largest block of a rank.
+// The words of the largest block of a list.
 fn most_words(blocks: &TaggedBlocks, free: &FreeLists, rank: u32) -> u32
     requires rank { rank < 1152 }
     requires heap { IsHeap blocks.now.0 blocks.now.1 free.now }
