@@ -183,12 +183,7 @@ impl Request {
     fn lend(&self) -> RequestRef<'_>
         ensures { result ≡ self.now }
     {
-        RequestRef::new(
-            self.want,
-            self.ticket,
-            self.key.bytes(),
-            self.value.bytes(),
-        )
+        RequestRef::new(self.want, self.ticket, self.key.bytes(), self.value.bytes())
     }
 }
 

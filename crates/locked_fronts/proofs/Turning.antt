@@ -35,7 +35,7 @@ use Rattle.locked_fronts.specs.declared.counts.HistoryCounts.{HistoryCounts}
 use Rattle.locked_fronts.specs.declared.counts.Learned.{Learned}
 use Rattle.locked_fronts.specs.Plan.{Plan}
 use Rattle.locked_fronts.specs.Counts.{counts_after}
-use Rattle.locked_fronts.specs.Owned.{Owned, owned_as, step_of, step_by, run_step, run_in, IsOwned, IsHere, IsElsewhere, HasSeen, TookTurn, LeftAll, TookOrLeft, TookLook}
+use Rattle.locked_fronts.specs.Owned.{Owned, owned_as, step_by, run_step, run_in, IsOwned, IsHere, IsElsewhere, HasSeen, TookTurn, LeftAll, TookOrLeft, TookLook}
 
 -- the stamp by the options of a shape is that by the options
 pub plan_stamp : (options : Options) (shape : Shape) (history : History) → shape ≡ shape_of options → stamp_of (options_of shape) history ≡ stamp_of options history

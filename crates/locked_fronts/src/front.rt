@@ -170,7 +170,9 @@ impl<'a, J: ServerPlan, P: LendPartition<Reader = ReaderSeat, Note = Note> + Dro
         let number = partition_of(hash, self.options.partitions);
         let at = number as usize;
         let lock = &self.locks[at];
-        let changed = self.parts[at].change(rt, lock, number, second, key, hash, decide, found, next);
+        let changed = self.parts[at].change(
+            rt, lock, number, second, key, hash, decide, found, next,
+        );
         self.left -= count_of(changed.outcome);
         changed
     }

@@ -11,6 +11,7 @@ mod front;
 mod owned;
 mod part;
 mod returned;
+mod taking;
 
 pub use counts::{HistoryCounts, Learned};
 pub use flushes::write_counted;

@@ -10,6 +10,7 @@ ghost use Rattle.locked_fronts.specs.Parts.{IsPartOf, HasLearned, PartWrites, Pa
 
 use crate::counts::{HistoryCounts, Learned};
 use crate::owned::{OwnedPartition, ServerPlan, Step, Written, decide_of};
+use crate::taking::take;
 use epoch_core::{LendPartition, ReaderWords, WordAt};
 use mica_fronts::{Changed, Decide};
 use optimistic_get::{Got, ask_hashed, get_hashed};
@@ -55,7 +56,7 @@ fn write_under_lock<
         (write_of op key.entry.now value.entry.now) result.outcome result.learned }
 {
     for _ in rt.forever() {
-        let written = lock.lock(rt).write(taker, number, least, op, key, value);
+        let written = take(rt, lock).write(taker, number, least, op, key, value);
         match written {
             Some(written) => return written,
             None => thread::yield_now(),
@@ -88,9 +89,7 @@ fn change_under_lock<
         (D.needs decide.entry.now) (D.becoming decide.entry.now) taker.old taker.new result.0 found.new result.1 }
 {
     for _ in rt.forever() {
-        let looked = lock
-            .lock(rt)
-            .change(taker, number, least, second, key, decide, found, next);
+        let looked = take(rt, lock).change(taker, number, least, second, key, decide, found, next);
         match looked {
             Some(looked) => return looked,
             None => thread::yield_now(),

@@ -2,7 +2,7 @@
 //!
 //! Which command raises which counter is one table (`specs/Counted`), and so is what is told (`specs/Stats`). A front counts in plain numbers of its own, a `Tally`, and
 //! shows it on the `Board` from time to time; the front that is asked adds up what all have shown. So nothing is locked, and no number is exact while others go on.
-//! The layer above may rely on this: what is appended is the text of some numbers, each name once and in order.
+//! The layer above may rely on this: what is appended is the text of some numbers, each name once and in order; and each call of a tally leaves of it what its name says.
 #![tactic(auto)]
 
 mod board;

@@ -34,7 +34,6 @@ module _ (options : Options) (partitions readers tries spares : ℕ) where
   same_reply op write found = grind (arith, common_steps)
 
   module _ (same : spares ≡ options.spares) (s : store.Store) (write : Write) where
-
     allows : (outcome : Outcome) → ss.Allows with_others s write outcome → ss.Allows options s write outcome
     allows outcome h = grind (arith, common_steps)
 

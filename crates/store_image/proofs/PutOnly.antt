@@ -56,7 +56,6 @@ module _ (options : Options) (key : List ℕ) where
   PutsNot line = put_key line ≢ Some key
 
   module _ (k v : List ℕ) (h : History) (all : AllByRecursion (GivesNoValue key) h) where
-
     leaves : (op : TraceOp) (r : Line) → (key_by op k ≢ Some key) → AllByRecursion (GivesNoValue key) (history_of (cons_option (step_by (write_by op k v) r) []) ++ h)
     leaves op r not = grind (arith, common_steps)
 

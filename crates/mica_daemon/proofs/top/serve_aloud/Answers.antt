@@ -28,7 +28,7 @@ returns-in-Err-Fault g c = record {
   said = sink_at g c.serve_locked.new.announce;
   cause = c.in-Err-Fault.ensures.cause;
   leaves = leaves_by (line_at g) (sink_at g) c.requires.line c.in-Err-Fault.ensures.leaves;
-  last = written_last c.in-Err-Fault.field-0 (Fault c.in-Err-Fault.fault) (sink_at g c.serve_locked.new.announce) _ _ c.in-Err-Fault.field-0-is (rw c.in-Err-Fault.field-0-is at c.write_fault.ensures);
+  last = written_last c.in-Err-Fault.field-0 (Fault c.in-Err-Fault.fault) (sink_at g c.serve_locked.new.announce) _ _ c.in-Err-Fault.field-0-is c.write_fault.ensures;
 }
 
 pub returns-in-Err-Unannounced : goal.returns-in-Err-Unannounced
