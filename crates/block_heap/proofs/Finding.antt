@@ -6,8 +6,8 @@ use Rattle.std.proofs.lemmas.Bool.{cases_eq, cases_lt}
 use Rattle.std.proofs.lemmas.List.{get_or_default, append-nil}
 use Rattle.std.proofs.lemmas.List.Elements.{All-nil, All-cons, Contains-append_cases}
 use Rattle.std.proofs.lemmas.Grind.{common_steps}
-use Rattle.size_classes.specs.Classes.{class_of}
-use Rattle.size_classes.proofs.Rising.{rises, below_sixty_four}
+use Rattle.block_heap.specs.Ranks.{rank_of}
+use Rattle.block_heap.proofs.Ranking.{rises, few_ranks}
 use Rattle.block_heap.specs.declared.block.TheConstants.{MOST_WORDS}
 use Rattle.block_heap.specs.declared.block.Block.{Block}
 use Rattle.block_heap.specs.Blocks.{free_block, IsFree, IsLargest, free_sizes, NoneFits, MayLack, words_of}
@@ -43,7 +43,7 @@ pub record FreeSize (blocks : List Block) (block : Block) : Type 0 where
   pub some : 1 ≤ block.size
   pub limit : block.size ≤ MOST_WORDS
   pub within : block.place + block.size ≤ words_of blocks
-  pub few : class_of block.size < 64
+  pub few : rank_of block.size < 1152
 
 pub free_size : (blocks : List Block) (tags : List ℕ) (lists : Lists) (block : Block) → IsHeap blocks tags lists → Contains blocks block → FreeSize blocks block
 free_size blocks tags lists block heap among =
@@ -51,59 +51,59 @@ free_size blocks tags lists block heap among =
     let some = lies.0 in
     let within = lies.1 in
     let limit = heap.limit in
-    record { some = omega arith; limit = omega arith; within = within; few = below_sixty_four block.size }
+    record { some = omega arith; limit = omega arith; within = within; few = few_ranks block.size }
 
--- where the class of the need has none that fits and no class above has any, none fits
+-- where the rank of the need has none that fits and no rank above has any, none fits
 pub none_fits : (blocks : List Block) (tags : List ℕ) (lists : Lists) (need : ℕ) → IsHeap blocks tags lists → 1 ≤ need → need ≤ words_of blocks
-    → ((block : Block) → Contains blocks block → IsFree block → class_of block.size ≡ class_of need → block.size < need) → ((next : ℕ) → class_of need < next → next < 64 → length (list_of lists next) ≡ 0) → NoneFits blocks need
-none_fits blocks tags lists need heap some limit short above = all_free (λ size. size < need) blocks (λ block among free. by block among free (cases_lt block.size need) (cases_lt (class_of need) (class_of block.size)))
+    → ((block : Block) → Contains blocks block → IsFree block → rank_of block.size ≡ rank_of need → block.size < need) → ((next : ℕ) → rank_of need < next → next < 1152 → length (list_of lists next) ≡ 0) → NoneFits blocks need
+none_fits blocks tags lists need heap some limit short above = all_free (λ size. size < need) blocks (λ block among free. by block among free (cases_lt block.size need) (cases_lt (rank_of need) (rank_of block.size)))
   where
-    by : (block : Block) → Contains blocks block → IsFree block → (block.size < need) ⊎ (need ≤ block.size) → (class_of need < class_of block.size) ⊎ (class_of block.size ≤ class_of need) → block.size < need
+    by : (block : Block) → Contains blocks block → IsFree block → (block.size < need) ⊎ (need ≤ block.size) → (rank_of need < rank_of block.size) ⊎ (rank_of block.size ≤ rank_of need) → block.size < need
     by block among free (inl less) _ = less
     by block among free (inr le) (inl higher) =
         let size = free_size blocks tags lists block heap among in
-        let none = above (class_of block.size) higher size.few in
-        let filled = list_filled lists tags blocks block (class_of block.size) size.few refl heap.listed among free in
+        let none = above (rank_of block.size) higher size.few in
+        let filled = list_filled lists tags blocks block (rank_of block.size) size.few refl heap.listed among free in
         absurd (omega arith)
     by block among free (inr le) (inr lower) =
         let size = free_size blocks tags lists block heap among in
         let bound = size.limit in
         let rise = rises need block.size some le (omega arith) in
-        let same : class_of block.size ≡ class_of need = omega arith in
+        let same : rank_of block.size ≡ rank_of need = omega arith in
         short block among free same
 
--- of a class that was searched whole, each free block has fewer words
-pub short_blocks : (blocks : List Block) (tags : List ℕ) (lists : Lists) (class need : ℕ) → class < 64 → AreListed lists tags blocks → AreShort blocks tags (list_of lists class) need
-    → (block : Block) → Contains blocks block → IsFree block → class_of block.size ≡ class → block.size < need
-short_blocks blocks tags lists class need few listed short block among free same = short block among free (slot_listed lists tags blocks block class few same listed among free)
+-- of a rank that was searched whole, each free block has fewer words
+pub short_blocks : (blocks : List Block) (tags : List ℕ) (lists : Lists) (rank need : ℕ) → rank < 1152 → AreListed lists tags blocks → AreShort blocks tags (list_of lists rank) need
+    → (block : Block) → Contains blocks block → IsFree block → rank_of block.size ≡ rank → block.size < need
+short_blocks blocks tags lists rank need few listed short block among free same = short block among free (slot_listed lists tags blocks block rank few same listed among free)
 
 -- a need beyond all words
 pub none_fits_beyond : (blocks : List Block) (tags : List ℕ) (lists : Lists) (need : ℕ) → IsHeap blocks tags lists → words_of blocks < need → NoneFits blocks need
 none_fits_beyond blocks tags lists need heap beyond =
     all_free (λ size. size < need) blocks (λ block among free. (let size = free_size blocks tags lists block heap among in let within = size.within in omega arith))
 
--- a block of a class above that of a need is large enough
-pub enough_above : (need size : ℕ) → 1 ≤ size → need < 2 ^ 32 → class_of need < class_of size → need ≤ size
+-- a block of a rank above that of a need is large enough
+pub enough_above : (need size : ℕ) → 1 ≤ size → need < 2 ^ 32 → rank_of need < rank_of size → need ≤ size
 enough_above need size some limit above = by (cases_lt size need)
   where
     by : (size < need) ⊎ (need ≤ size) → need ≤ size
     by (inl less) = absurd (let rise = rises size need some (omega arith) limit in omega arith)
     by (inr le) = le
 
--- no free block is larger than the largest one of the last class
-pub is_largest : (blocks : List Block) (tags : List ℕ) (lists : Lists) (last most : ℕ) → IsHeap blocks tags lists → last < 64 → IsMost blocks tags (list_of lists last) most
-    → 0 < length (list_of lists last) → ((above : ℕ) → last < above → above < 64 → length (list_of lists above) ≡ 0) → IsLargest blocks most
+-- no free block is larger than the largest one of the last rank
+pub is_largest : (blocks : List Block) (tags : List ℕ) (lists : Lists) (last most : ℕ) → IsHeap blocks tags lists → last < 1152 → IsMost blocks tags (list_of lists last) most
+    → 0 < length (list_of lists last) → ((above : ℕ) → last < above → above < 1152 → length (list_of lists above) ≡ 0) → IsLargest blocks most
 is_largest blocks tags lists last most heap few is filled above = record {
-  bound = all_free (λ other. other ≤ most) blocks (λ block among free. by block among free (cases_eq (class_of block.size) last) (cases_lt last (class_of block.size)));
+  bound = all_free (λ other. other ≤ most) blocks (λ block among free. by block among free (cases_eq (rank_of block.size) last) (cases_lt last (rank_of block.size)));
   found = is.found;
 }
   where
-    by : (block : Block) → Contains blocks block → IsFree block → (class_of block.size ≡ last) ⊎ (class_of block.size ≡ last → ⊥) → (last < class_of block.size) ⊎ (class_of block.size ≤ last) → block.size ≤ most
+    by : (block : Block) → Contains blocks block → IsFree block → (rank_of block.size ≡ last) ⊎ (rank_of block.size ≡ last → ⊥) → (last < rank_of block.size) ⊎ (rank_of block.size ≤ last) → block.size ≤ most
     by block among free (inl same) _ = is.bound block among free (slot_listed lists tags blocks block last few same heap.listed among free)
     by block among free (inr other) (inl higher) =
         let size = free_size blocks tags lists block heap among in
-        let none = above (class_of block.size) higher size.few in
-        let filled = list_filled lists tags blocks block (class_of block.size) size.few refl heap.listed among free in
+        let none = above (rank_of block.size) higher size.few in
+        let filled = list_filled lists tags blocks block (rank_of block.size) size.few refl heap.listed among free in
         absurd (omega arith)
     by block among free (inr other) (inr lower) =
         let size = free_size blocks tags lists block heap among in
@@ -112,25 +112,25 @@ is_largest blocks tags lists last most heap few is filled above = record {
         let one = block_listed lists tags blocks last slot few heap.listed first in
         let its = free_size blocks tags lists one.block heap one.among in
         let enough = is.bound one.block one.among one.free (subst (Contains (list_of lists last)) (sym one.here) first) in
-        let class = one.is in
+        let rank = one.is in
         let below = enough_above block.size one.block.size its.some (let bound = size.limit in omega arith) (omega arith) in
         omega arith
 
 -- no list has one, so no block is free
-pub none_largest : (blocks : List Block) (tags : List ℕ) (lists : Lists) → IsHeap blocks tags lists → ((class : ℕ) → class < 64 → length (list_of lists class) ≡ 0) → IsLargest blocks 0
+pub none_largest : (blocks : List Block) (tags : List ℕ) (lists : Lists) → IsHeap blocks tags lists → ((rank : ℕ) → rank < 1152 → length (list_of lists rank) ≡ 0) → IsLargest blocks 0
 none_largest blocks tags lists heap none = record {
   bound = all_free (λ other. other ≤ 0) blocks (λ block among free.
       (let size = free_size blocks tags lists block heap among in
-      let empty = none (class_of block.size) size.few in
-      let filled = list_filled lists tags blocks block (class_of block.size) size.few refl heap.listed among free in
+      let empty = none (rank_of block.size) size.few in
+      let filled = list_filled lists tags blocks block (rank_of block.size) size.few refl heap.listed among free in
       absurd (omega arith)));
   found = λ more. absurd (omega arith);
 }
 
 -- a free block has each slot of a list, and the slot has its place
-pub has_free : (blocks : List Block) (tags : List ℕ) (lists : Lists) (class slot : ℕ) → IsHeap blocks tags lists → class < 64 → Contains (list_of lists class) slot → HasFreeAt blocks tags lists slot
-has_free blocks tags lists class slot heap few among =
-    let has = block_listed lists tags blocks class slot few heap.listed among in
+pub has_free : (blocks : List Block) (tags : List ℕ) (lists : Lists) (rank slot : ℕ) → IsHeap blocks tags lists → rank < 1152 → Contains (list_of lists rank) slot → HasFreeAt blocks tags lists slot
+has_free blocks tags lists rank slot heap few among =
+    let has = block_listed lists tags blocks rank slot few heap.listed among in
     record { block = has.block; among = has.among; free = has.free; here = has.here; place = ap (place_in lists) (sym has.here) ∙ heap.listed.places has.block has.among has.free }
 
 -- The block that has a slot, as its place and size are told.
@@ -145,25 +145,25 @@ module _ (blocks : List Block) (tags : List ℕ) (lists : Lists) (slot place : �
   found_at size tells =
       subst (λ (b : Block). Contains blocks b) (free_is has.block has.free ∙ ap (λ p. free_block p has.block.size) begins ∙ ap (λ n. free_block place n) (sym (tells has.block has.among begins))) has.among
 
--- A walk over the slots of a class, from the first one on.
-pub record Walk (lists : ℕ → List ℕ) (class : ℕ) (listed : Option ℕ) : Type 0 where
+-- A walk over the slots of a rank, from the first one on.
+pub record Walk (lists : ℕ → List ℕ) (rank : ℕ) (listed : Option ℕ) : Type 0 where
   pub before : List ℕ
-  pub whole : lists class ≡ before ++ left_from lists listed
+  pub whole : lists rank ≡ before ++ left_from lists listed
 
-abbrev pub walk_first : (lists : ℕ → List ℕ) (class : ℕ) (next : Option ℕ) → left_from lists next ≡ lists class → Walk lists class next
-walk_first lists class next first = record { before = []; whole = sym first }
+abbrev pub walk_first : (lists : ℕ → List ℕ) (rank : ℕ) (next : Option ℕ) → left_from lists next ≡ lists rank → Walk lists rank next
+walk_first lists rank next first = record { before = []; whole = sym first }
 
-pub walk_listed : (lists : ℕ → List ℕ) (class slot : ℕ) (listed : Option ℕ) → Walk lists class listed → listed ≡ Some slot → Contains (lists class) slot
-walk_listed lists class slot listed walk is = grind (arith, common_steps, in_middle walk.before (lists (node_of slot)) slot)
+pub walk_listed : (lists : ℕ → List ℕ) (rank slot : ℕ) (listed : Option ℕ) → Walk lists rank listed → listed ≡ Some slot → Contains (lists rank) slot
+walk_listed lists rank slot listed walk is = grind (arith, common_steps, in_middle walk.before (lists (node_of slot)) slot)
 
-abbrev pub walk_on : (lists : ℕ → List ℕ) (class slot : ℕ) (listed next : Option ℕ) → Walk lists class listed → listed ≡ Some slot → left_from lists next ≡ lists (node_of slot) → Walk lists class next
-walk_on lists class slot listed next walk is left = record {
+abbrev pub walk_on : (lists : ℕ → List ℕ) (rank slot : ℕ) (listed next : Option ℕ) → Walk lists rank listed → listed ≡ Some slot → left_from lists next ≡ lists (node_of slot) → Walk lists rank next
+walk_on lists rank slot listed next walk is left = record {
   before = walk.before ++ slot ∷ [];
   whole = walk.whole ∙ ap (λ n. walk.before ++ left_from lists n) is ∙ sym (append_assoc walk.before (slot ∷ []) (lists (node_of slot))) ∙ ap (λ xs. (walk.before ++ slot ∷ []) ++ xs) (sym left);
 }
 
-pub walk_end : (lists : ℕ → List ℕ) (class : ℕ) (next : Option ℕ) (walk : Walk lists class next) → next ≡ None → walk.before ≡ lists class
-walk_end lists class next walk end = sym (walk.whole ∙ ap (λ n. walk.before ++ left_from lists n) end ∙ append-nil walk.before)
+pub walk_end : (lists : ℕ → List ℕ) (rank : ℕ) (next : Option ℕ) (walk : Walk lists rank next) → next ≡ None → walk.before ≡ lists rank
+walk_end lists rank next walk end = sym (walk.whole ∙ ap (λ n. walk.before ++ left_from lists n) end ∙ append-nil walk.before)
 
 -- a slot among some and one more
 one_more : (xs : List ℕ) (x slot : ℕ) → Contains (xs ++ x ∷ []) slot → Contains xs slot ⊎ (slot ≡ x)

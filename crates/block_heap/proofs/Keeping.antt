@@ -2,8 +2,8 @@
 use Rattle.std.proofs.Common.{◌≡◌, ◌≢◌, ℕ, ◌+◌, ◌-◌, ◌<◌, ◌≤◌, Option, Some, None, List, [], ◌∷◌, ◌++◌, length, refl, sym, ap, ◌∙◌, subst, arith, append_assoc}
 use Rattle.std.specs.List.{Contains, sum_by}
 use Rattle.std.specs.Prelude.{IfSome}
-use Rattle.size_classes.specs.Classes.{class_of}
-use Rattle.size_classes.proofs.Rising.{below_sixty_four}
+use Rattle.block_heap.specs.Ranks.{rank_of}
+use Rattle.block_heap.proofs.Ranking.{few_ranks}
 use Rattle.block_heap.specs.declared.block.TheConstants.{MOST_WORDS}
 use Rattle.block_heap.specs.declared.block.Block.{Block}
 use Rattle.block_heap.specs.Blocks.{free_block, used_block, IsFree, Fills, IsBlockList, words_of}
@@ -24,12 +24,12 @@ heap_with blocks now tags told lists new heap list listed same =
     let all = words_of-list (words_of blocks) now list in
     record { list = subst (λ n. IsBlockList n now) (sym all) list; listed = listed; same = same ∙ heap.same ∙ sym all; limit = subst (λ n. n ≤ MOST_WORDS) (sym all) heap.limit }
 
--- A free block that may be added to the list of its class.
+-- A free block that may be added to the list of its rank.
 pub record IsAddable (words : ℕ) (lists : Lists) (block : Block) : Type 0 where
   pub some : 1 ≤ block.size
   pub within : block.place + block.size ≤ words
   pub limit : block.place + block.size ≤ MOST_WORDS
-  pub room : length (list_of lists (class_of block.size)) < words
+  pub room : length (list_of lists (rank_of block.size)) < words
   pub spare : count_of lists < most_slots words
 
 pub addable : (words : ℕ) (lists : Lists) (tags : List ℕ) (now before after : List Block) (block : Block) → words ≤ MOST_WORDS → IsBlockList words now → now ≡ before ++ block ∷ after → IsFree block → AreListed lists tags (before ++ after)
@@ -43,7 +43,7 @@ addable words lists tags now before after block limit list is free listed =
       some = omega arith;
       within = within;
       limit = omega arith;
-      room = may_lie lists tags before after block words (below_sixty_four block.size) free own.fills listed;
+      room = may_lie lists tags before after block words (few_ranks block.size) free own.fills listed;
       spare = omega (arith, few_frees words (before ++ block ∷ after) own, frees_beside before after block free, listed.count);
     }
 
@@ -66,11 +66,11 @@ pub record Taken (blocks now : List Block) (mid : Lists) (told : List ℕ) (bloc
   pub list : IsBlockList (words_of blocks) now
 
 pub taken_block : (blocks now : List Block) (tags told : List ℕ) (lists mid : Lists) (block : Block) (need : ℕ) → IsHeap blocks tags lists → 1 ≤ need → need ≤ block.size → Contains blocks block → IsFree block
-    → (class : ℕ) → class ≡ class_of block.size → IsWithout (list_of lists class) (list_of mid class) (slot_of tags block) → ((other : ℕ) → other < 64 → other ≢ class → list_of mid other ≡ list_of lists other)
+    → (rank : ℕ) → rank ≡ rank_of block.size → IsWithout (list_of lists rank) (list_of mid rank) (slot_of tags block) → ((other : ℕ) → other < 1152 → other ≢ rank → list_of mid other ≡ list_of lists other)
     → ((slot : ℕ) → place_in mid slot ≡ place_in lists slot) → count_of mid + 1 ≡ count_of lists
     → ((before after : List Block) → blocks ≡ before ++ block ∷ after → now ≡ before ++ used_block block.place need ∷ (rest_of (block.place + need) (block.size - need) ++ after))
     → Rewrites tags told block.place (block.place + block.size) → Taken blocks now mid told block need
-taken_block blocks now tags told lists mid block need heap some enough among free class is removed others stay count cut writes =
+taken_block blocks now tags told lists mid block need heap some enough among free rank is removed others stay count cut writes =
     let parts = parted blocks block among in
     let taken : IsTaken blocks now block.place need =
     record { before = parts.0; after = parts.1; size = block.size; enough = enough; was = parts.2 ∙ ap (λ b. parts.0 ++ b ∷ parts.1) (free_is block free); now = cut parts.0 parts.1 parts.2 } in
@@ -114,21 +114,21 @@ taken_part blocks now mid told block need part taken =
 
 -- A free block's slot is added, and all free blocks are listed.
 pub heap_added : (blocks now : List Block) (tags told put : List ℕ) (lists mid new : Lists) (before after : List Block) (block : Block) → IsHeap blocks tags lists → IsBlockList (words_of blocks) now → now ≡ before ++ block ∷ after → IsFree block
-    → AreListed mid told (before ++ after) → (class slot : ℕ) → class ≡ class_of block.size → list_of new class ≡ list_of mid class ++ slot ∷ [] → ((other : ℕ) → other < 64 → other ≢ class → list_of new other ≡ list_of mid other)
+    → AreListed mid told (before ++ after) → (rank slot : ℕ) → rank ≡ rank_of block.size → list_of new rank ≡ list_of mid rank ++ slot ∷ [] → ((other : ℕ) → other < 1152 → other ≢ rank → list_of new other ≡ list_of mid other)
     → place_in new slot ≡ block.place → ((other : ℕ) → IsListed (list_of mid) other → place_in new other ≡ place_in mid other) → count_of new ≡ count_of mid + 1 → slot_of put block ≡ slot
     → Rewrites told put block.place (block.place + block.size) → new.0 ≡ lists.0 → IsHeap now put new
-heap_added blocks now tags told put lists mid new before after block heap list is free listed class slot of added others here stay count own writes same =
+heap_added blocks now tags told put lists mid new before after block heap list is free listed rank slot of added others here stay count own writes same =
     heap_with blocks now tags put lists new heap list
     (subst (AreListed new put) (sym is)
     (listed_added mid new told put before after block free
-    (subst (λ s. list_of new (class_of block.size) ≡ list_of mid (class_of block.size) ++ s ∷ []) (sym own) (subst (λ c. list_of new c ≡ list_of mid c ++ slot ∷ []) of added)) (λ other few ne. others other few (λ e. ne (e ∙ of)))
+    (subst (λ s. list_of new (rank_of block.size) ≡ list_of mid (rank_of block.size) ++ s ∷ []) (sym own) (subst (λ c. list_of new c ≡ list_of mid c ++ slot ∷ []) of added)) (λ other few ne. others other few (λ e. ne (e ∙ of)))
     (beside_stay (words_of blocks) told put now before after block list is writes) (ap (place_in new) own ∙ here) stay count listed)) same
 
 -- a neighbour leaves its list
-pub neighbour_left : (lists new : Lists) (tags : List ℕ) (neighbour : Option Block) (block : Block) → neighbour ≡ Some block → IsListable lists tags neighbour → (class : ℕ) → class ≡ class_of block.size
-    → IsWithout (list_of lists class) (list_of new class) (slot_of tags block) → ((other : ℕ) → other < 64 → other ≢ class → list_of new other ≡ list_of lists other)
+pub neighbour_left : (lists new : Lists) (tags : List ℕ) (neighbour : Option Block) (block : Block) → neighbour ≡ Some block → IsListable lists tags neighbour → (rank : ℕ) → rank ≡ rank_of block.size
+    → IsWithout (list_of lists rank) (list_of new rank) (slot_of tags block) → ((other : ℕ) → other < 1152 → other ≢ rank → list_of new other ≡ list_of lists other)
     → ((slot : ℕ) → place_in new slot ≡ place_in lists slot) → count_of new + 1 ≡ count_of lists → (before after : List Block) → AreListed lists tags (before ++ (blocks_in neighbour ++ after)) → AreListed new tags (before ++ after)
-neighbour_left lists new tags neighbour block some listable class is removed others stay count before after listed =
+neighbour_left lists new tags neighbour block some listable rank is removed others stay count before after listed =
     listed_removed lists new tags before after block (subst (IsListable lists tags) some listable).0 (subst (λ c. IsWithout (list_of lists c) (list_of new c) (slot_of tags block)) is removed)
     (λ other few ne. others other few (λ e. ne (e ∙ is))) stay count (subst (λ n. AreListed lists tags (before ++ (blocks_in n ++ after))) some listed)
 
@@ -144,22 +144,22 @@ listable blocks tags lists mid (Some block) front back before after heap is list
       free,
       omega arith,
       omega arith,
-      slot_listed mid tags (before ++ block ∷ after) block (class_of block.size) (below_sixty_four block.size) refl listed (in_middle before after block) free,
+      slot_listed mid tags (before ++ block ∷ after) block (rank_of block.size) (few_ranks block.size) refl listed (in_middle before after block) free,
       omega (arith, listed.count, frees_beside before after block free),
     )
 
 -- one free block of all words, which is listed
-pub heap_new : (words : ℕ) (blocks : List Block) (told : List ℕ) (lists new : Lists) → blocks ≡ free_block 0 words ∷ [] → 1 ≤ words → words ≤ MOST_WORDS → new.0 ≡ words → ((class : ℕ) → class < 64 → list_of lists class ≡ [])
-    → count_of lists ≡ 0 → (class slot : ℕ) → class ≡ class_of words → list_of new class ≡ list_of lists class ++ slot ∷ [] → ((other : ℕ) → other < 64 → other ≢ class → list_of new other ≡ list_of lists other)
+pub heap_new : (words : ℕ) (blocks : List Block) (told : List ℕ) (lists new : Lists) → blocks ≡ free_block 0 words ∷ [] → 1 ≤ words → words ≤ MOST_WORDS → new.0 ≡ words → ((rank : ℕ) → rank < 1152 → list_of lists rank ≡ [])
+    → count_of lists ≡ 0 → (rank slot : ℕ) → rank ≡ rank_of words → list_of new rank ≡ list_of lists rank ++ slot ∷ [] → ((other : ℕ) → other < 1152 → other ≢ rank → list_of new other ≡ list_of lists other)
     → place_in new slot ≡ 0 → ((other : ℕ) → IsListed (list_of lists) other → place_in new other ≡ place_in lists other) → count_of new ≡ count_of lists + 1 → slot_of told (free_block 0 words) ≡ slot → IsHeap blocks told new
-heap_new words blocks told lists new is some limit same none zero_count class slot of added others here stay count own =
+heap_new words blocks told lists new is some limit same none zero_count rank slot of added others here stay count own =
     let block = free_block 0 words in
     let all : words_of (block ∷ []) ≡ words = omega (arith, words_of-cons block []) in
     subst (λ (bs : List Block). IsHeap bs told new) (sym is) (record {
       list = record { fills = (refl, omega arith, omega (arith, all)); merged = (λ both. both.1, tt) };
       listed =
           listed_added lists new told told [] [] block refl
-          (subst (λ s. list_of new (class_of words) ≡ list_of lists (class_of words) ++ s ∷ []) (sym own) (subst (λ c. list_of new c ≡ list_of lists c ++ slot ∷ []) of added)) (λ other few ne. others other few (λ e. ne (e ∙ of)))
+          (subst (λ s. list_of new (rank_of words) ≡ list_of lists (rank_of words) ++ s ∷ []) (sym own) (subst (λ c. list_of new c ≡ list_of lists c ++ slot ∷ []) of added)) (λ other few ne. others other few (λ e. ne (e ∙ of)))
           (λ b among. refl) (ap (place_in new) own ∙ here) stay count
           (record { sums = λ c few weight. ap (sum_by weight) (none c few); places = λ b among free. absurd (let lt = among.1 in omega arith); count = zero_count });
       same = same ∙ sym all;

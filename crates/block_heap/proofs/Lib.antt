@@ -12,4 +12,5 @@ pub mod Listing
 pub mod Keeping
 pub mod Giving
 pub mod Finding
-pub mod Bounding
+pub mod Ranking
+pub mod Marking

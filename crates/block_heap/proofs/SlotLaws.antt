@@ -48,20 +48,20 @@ apart_less (y ∷ xs) x apart = by (apart_less xs x apart.1)
     by rest = (((λ there. apart.0 (Contains-append_left xs (x ∷ []) y there)), rest.0), none rest.1)
 
 -- a slot of a list has a node
-pub listed_node : (words : ℕ) (links : List Link) (filled class slot : ℕ) → KeepsLists words links filled → class < 64 → Contains (slots_after links words class) slot → node_of slot < length links
-listed_node words links filled class slot h few among =
-    let at = once links class slot (slots_after links words class) few (h.rings class few) among in
-    (leads_to links class at.before at.after slot class at.leads).1
+pub listed_node : (words : ℕ) (links : List Link) (filled : List ℕ) (rank slot : ℕ) → KeepsLists words links filled → rank < 1152 → Contains (slots_after links words rank) slot → node_of slot < length links
+listed_node words links filled rank slot h few among =
+    let at = once links rank slot (slots_after links words rank) few (h.rings rank few) among in
+    (leads_to links rank at.before at.after slot rank at.leads).1
 
 -- The slot that a place gets is in no list.
-module _ (words : ℕ) (links reached : List Link) (room filled : ℕ) (spares left : List ℕ) (spare_room slot place : ℕ) (h : KeepsLists words links filled) (k : KeepsSlots words links room spares spare_room)
+module _ (words : ℕ) (links reached : List Link) (room : ℕ) (filled spares left : List ℕ) (spare_room slot place : ℕ) (h : KeepsLists words links filled) (k : KeepsSlots words links room spares spare_room)
     (got : IsSlotFor links reached spares left slot place) where
   pub got_unlisted : IsUnlisted (slots_after links words) slot
   got_unlisted = by got.from
     where
       by : IsReused links reached spares left slot ⊎ IsNew links reached spares left slot → IsUnlisted (slots_after links words) slot
       by (inl again) = k.unlisted slot (last_among spares left slot again.was)
-      by (inr fresh) = λ class few among. (let within = listed_node words links filled class slot h few among in let at = fresh.here in absurd (omega arith))
+      by (inr fresh) = λ rank few among. (let within = listed_node words links filled rank slot h few among in let at = fresh.here in absurd (omega arith))
 
   pub got_longer : length links ≤ length reached
   got_longer = by got.from
@@ -70,33 +70,33 @@ module _ (words : ℕ) (links reached : List Link) (room filled : ℕ) (spares l
       by (inl again) = (let e = again.len in omega arith)
       by (inr fresh) = (let e = fresh.len in omega arith)
 
-  pub got_within : length links - 64 - length spares < most_slots words → length reached ≤ most_slots words + 64
+  pub got_within : length links - 1152 - length spares < most_slots words → length reached ≤ most_slots words + 1152
   got_within more = by got.from
     where
-      by : IsReused links reached spares left slot ⊎ IsNew links reached spares left slot → length reached ≤ most_slots words + 64
+      by : IsReused links reached spares left slot ⊎ IsNew links reached spares left slot → length reached ≤ most_slots words + 1152
       by (inl again) = omega (arith, again.len, k.within)
       by (inr fresh) = omega (arith, fresh.len, more, ap length fresh.were_none, k.few)
 
   -- how many slots are in lists, with this one
-  pub got_count : length reached - 64 - length left ≡ length links - 64 - length spares + 1
+  pub got_count : length reached - 1152 - length left ≡ length links - 1152 - length spares + 1
   got_count = by got.from
     where
-      by : IsReused links reached spares left slot ⊎ IsNew links reached spares left slot → length reached - 64 - length left ≡ length links - 64 - length spares + 1
+      by : IsReused links reached spares left slot ⊎ IsNew links reached spares left slot → length reached - 1152 - length left ≡ length links - 1152 - length spares + 1
       by (inl again) = omega (arith, again.len, ap length again.was, length-append left (slot ∷ []), k.few)
       by (inr fresh) = omega (arith, fresh.len, ap length fresh.were_none, ap length fresh.none, k.few)
 
   -- the other spares are kept, once the slot is in a list
-  pub got_kept : (new : List Link) (new_room new_spare_room class : ℕ) → length new ≡ length reached → room ≤ new_room → spare_room ≤ new_spare_room → length links - 64 - length spares < most_slots words
-      → slots_after new words class ≡ slots_after links words class ++ slot ∷ [] → ((other : ℕ) → other < 64 → other ≢ class → slots_after new words other ≡ slots_after links words other)
+  pub got_kept : (new : List Link) (new_room new_spare_room rank : ℕ) → length new ≡ length reached → room ≤ new_room → spare_room ≤ new_spare_room → length links - 1152 - length spares < most_slots words
+      → slots_after new words rank ≡ slots_after links words rank ++ slot ∷ [] → ((other : ℕ) → other < 1152 → other ≢ rank → slots_after new words other ≡ slots_after links words other)
       → KeepsSlots words new new_room left new_spare_room
-  got_kept new new_room new_spare_room class len enough spare_enough more own others = by got.from
+  got_kept new new_room new_spare_room rank len enough spare_enough more own others = by got.from
     where
       -- a slot that is left is in no list
-      free : (s : ℕ) → IsUnlisted (slots_after links words) s → (s ≡ slot → ⊥) → (c : ℕ) → c < 64 → (c ≡ class) ⊎ (c ≡ class → ⊥) → Contains (slots_after new words c) s → ⊥
-      free s none ne c few (inl e) among = cases (Contains-append_cases (slots_after links words class) (slot ∷ []) s (subst (λ (xs : List ℕ). Contains xs s) (ap (slots_after new words) e ∙ own) among))
+      free : (s : ℕ) → IsUnlisted (slots_after links words) s → (s ≡ slot → ⊥) → (c : ℕ) → c < 1152 → (c ≡ rank) ⊎ (c ≡ rank → ⊥) → Contains (slots_after new words c) s → ⊥
+      free s none ne c few (inl e) among = cases (Contains-append_cases (slots_after links words rank) (slot ∷ []) s (subst (λ (xs : List ℕ). Contains xs s) (ap (slots_after new words) e ∙ own) among))
         where
-          cases : Contains (slots_after links words class) s ⊎ Contains (slot ∷ []) s → ⊥
-          cases (inl there) = none class (subst (λ n. n < 64) e few) there
+          cases : Contains (slots_after links words rank) s ⊎ Contains (slot ∷ []) s → ⊥
+          cases (inl there) = none rank (subst (λ n. n < 1152) e few) there
           cases (inr (zero, lt, is)) = ne (sym is)
           cases (inr (suc j, lt, is)) = absurd (omega arith)
       free s none ne c few (inr other) among = none c few (subst (λ (xs : List ℕ). Contains xs s) (others c few other) among)
@@ -112,7 +112,7 @@ module _ (words : ℕ) (links reached : List Link) (room filled : ℕ) (spares l
             few = omega (arith, len, again.len, ap length again.was, length-append left (slot ∷ []), k.few);
             apart = less.0;
             nodes = λ s there. (let node = k.nodes s (among s there) in omega (arith, len, again.len));
-            unlisted = λ s there c few. free s (k.unlisted s (among s there)) (λ e. less.1 (subst (Contains left) e there)) c few (cases_eq c class);
+            unlisted = λ s there c few. free s (k.unlisted s (among s there)) (λ e. less.1 (subst (Contains left) e there)) c few (cases_eq c rank);
           }
       by (inr fresh) = record {
         within = omega (arith, len, got_within more);
@@ -125,34 +125,34 @@ module _ (words : ℕ) (links reached : List Link) (room filled : ℕ) (spares l
       }
 
 -- A slot that has left its list is spare.
-pub spare_more : (words : ℕ) (links new : List Link) (room new_room filled : ℕ) (spares now : List ℕ) (spare_room new_spare_room class slot bits : ℕ) → KeepsLists words links filled → KeepsSlots words links room spares spare_room → class < 64
-    → Contains (slots_after links words class) slot → Left words links new bits class slot → length new ≡ length links → now ≡ spares ++ slot ∷ [] → room ≤ new_room → spare_room ≤ new_spare_room
-    → 0 < length links - 64 - length spares → KeepsSlots words new new_room now new_spare_room
-spare_more words links new room new_room filled spares now spare_room new_spare_room class slot bits h k few listed left len is enough spare_enough some = subst (λ xs. KeepsSlots words new new_room xs new_spare_room) (sym is) (record {
+pub spare_more : (words : ℕ) (links new : List Link) (room new_room : ℕ) (filled spares now : List ℕ) (spare_room new_spare_room rank slot : ℕ) (marks : List ℕ) → KeepsLists words links filled → KeepsSlots words links room spares spare_room → rank < 1152
+    → Contains (slots_after links words rank) slot → Left words links new marks rank slot → length new ≡ length links → now ≡ spares ++ slot ∷ [] → room ≤ new_room → spare_room ≤ new_spare_room
+    → 0 < length links - 1152 - length spares → KeepsSlots words new new_room now new_spare_room
+spare_more words links new room new_room filled spares now spare_room new_spare_room rank slot marks h k few listed left len is enough spare_enough some = subst (λ xs. KeepsSlots words new new_room xs new_spare_room) (sym is) (record {
   within = omega (arith, len, k.within);
   enough = omega (arith, enough, k.enough);
   spare_enough = omega (arith, spare_enough, k.spare_enough);
   few = omega (arith, len, k.few, length-append spares (slot ∷ []));
-  apart = apart_more spares slot k.apart (λ among. k.unlisted slot among class few listed);
+  apart = apart_more spares slot k.apart (λ among. k.unlisted slot among rank few listed);
   nodes = λ s among. nodes s (Contains-append_cases spares (slot ∷ []) s among);
-  unlisted = λ s among c less. unlisted s (Contains-append_cases spares (slot ∷ []) s among) c less (cases_eq c class);
+  unlisted = λ s among c less. unlisted s (Contains-append_cases spares (slot ∷ []) s among) c less (cases_eq c rank);
 })
   where
     nodes : (s : ℕ) → Contains spares s ⊎ Contains (slot ∷ []) s → node_of s < length new
     nodes s (inl there) = (let node = k.nodes s there in omega (arith, len))
-    nodes s (inr (zero, lt, e)) = (let node = listed_node words links filled class slot h few listed in omega (arith, len, e))
+    nodes s (inr (zero, lt, e)) = (let node = listed_node words links filled rank slot h few listed in omega (arith, len, e))
     nodes s (inr (suc j, lt, e)) = absurd (omega arith)
 
     -- what is in the list now was in it
-    was_in : (s : ℕ) → Contains (slots_after new words class) s → Contains (slots_after links words class) s
+    was_in : (s : ℕ) → Contains (slots_after new words rank) s → Contains (slots_after links words rank) s
     was_in s among = still left.without.before left.without.after left.without.was (Contains-append_cases left.without.before left.without.after s (subst (λ (xs : List ℕ). Contains xs s) left.without.now among))
       where
-        still : (before after : List ℕ) → slots_after links words class ≡ before ++ slot ∷ after → Contains before s ⊎ Contains after s → Contains (slots_after links words class) s
+        still : (before after : List ℕ) → slots_after links words rank ≡ before ++ slot ∷ after → Contains before s ⊎ Contains after s → Contains (slots_after links words rank) s
         still before after was (inl first) = subst (λ (xs : List ℕ). Contains xs s) (sym was) (Contains-append_left before (slot ∷ after) s first)
         still before after was (inr later) = subst (λ (xs : List ℕ). Contains xs s) (sym was) (Contains-append_right before (slot ∷ after) s (suc later.0, (let lt = later.1 in omega arith), later.2))
 
-    unlisted : (s : ℕ) → Contains spares s ⊎ Contains (slot ∷ []) s → (c : ℕ) → c < 64 → (c ≡ class) ⊎ (c ≡ class → ⊥) → Contains (slots_after new words c) s → ⊥
-    unlisted s (inl there) c less (inl e) among = k.unlisted s there class few (was_in s (subst (λ n. Contains (slots_after new words n) s) e among))
+    unlisted : (s : ℕ) → Contains spares s ⊎ Contains (slot ∷ []) s → (c : ℕ) → c < 1152 → (c ≡ rank) ⊎ (c ≡ rank → ⊥) → Contains (slots_after new words c) s → ⊥
+    unlisted s (inl there) c less (inl e) among = k.unlisted s there rank few (was_in s (subst (λ n. Contains (slots_after new words n) s) e among))
     unlisted s (inl there) c less (inr ne) among = k.unlisted s there c less (subst (λ (xs : List ℕ). Contains xs s) (left.all.others c less ne) among)
     unlisted s (inr (suc j, lt, e)) c less _ among = absurd (omega arith)
     unlisted s (inr (zero, lt, e)) c less _ among = left.gone c less (subst (Contains (slots_after new words c)) (sym e) among)

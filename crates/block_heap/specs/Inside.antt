@@ -1,10 +1,9 @@
 -- What the heap keeps.
 use Rattle.std.specs.Prelude.{◌≡◌, ℕ, ◌+◌, ◌≤◌, Option, Some, None, List, [], ◌∷◌, Contains, IfSome, ◌<◌}
-use Rattle.size_classes.specs.Classes.{class_of}
+use Rattle.block_heap.specs.Ranks.{rank_of}
 use Rattle.block_heap.specs.declared.block.TheConstants.{MOST_WORDS}
 use Rattle.block_heap.specs.declared.block.Block.{Block}
 use Rattle.block_heap.specs.Blocks.{IsFree, IsBlockList, free_sizes, words_of}
-use Rattle.block_heap.specs.Bounds.{AreBounded}
 use Rattle.block_heap.specs.Lists.{Lists, AreListed, list_of, place_in, count_of}
 use Rattle.block_heap.specs.Tags.{slot_of}
 
@@ -14,11 +13,6 @@ pub record IsHeap (blocks : List Block) (tags : List ℕ) (lists : Lists) : Type
   pub listed : AreListed lists tags blocks
   pub same : lists.0 ≡ words_of blocks
   pub limit : words_of blocks ≤ MOST_WORDS
-
--- and a bound for the free blocks of each class
-pub record IsBoundedHeap (blocks : List Block) (tags : List ℕ) (lists : Lists) (bounds : List ℕ) : Type 0 where
-  pub heap : IsHeap blocks tags lists
-  pub bounded : AreBounded bounds blocks
 
 -- there is room for a tag of each word
 pub record KeepsRow (words room : ℕ) : Type 0 where
@@ -35,10 +29,10 @@ abbrev pub words_in : Option Block → ℕ
 words_in None = 0
 words_in (Some block) = block.size
 
--- a neighbour is free, and stands in the list of its class
+-- a neighbour is free, and stands in the list of its rank
 abbrev pub IsListable : Lists → List ℕ → Option Block → Type 0
 IsListable lists tags neighbour =
-    IfSome neighbour (λ block. IsFree block × (1 ≤ block.size) × (block.place + block.size ≤ MOST_WORDS) × Contains (list_of lists (class_of block.size)) (slot_of tags block) × (0 < count_of lists))
+    IfSome neighbour (λ block. IsFree block × (1 ≤ block.size) × (block.place + block.size ≤ MOST_WORDS) × Contains (list_of lists (rank_of block.size)) (slot_of tags block) × (0 < count_of lists))
 
 -- a free block has the slot
 pub record HasFreeAt (blocks : List Block) (tags : List ℕ) (lists : Lists) (slot : ℕ) : Type 0 where

@@ -5,4 +5,5 @@ pub mod Links
 pub mod Slots
 pub mod Lists
 pub mod Inside
-pub mod Bounds
+pub mod Ranks
+pub mod Marks

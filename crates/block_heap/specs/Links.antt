@@ -1,10 +1,10 @@
--- Lists of slots, told by links from node to node. The first 64 nodes are the heads of the lists, and each slot has one of the
+-- Lists of slots, told by links from node to node. The first 1152 nodes are the heads of the lists, and each slot has one of the
 -- nodes behind them, which knows a place too.
 use Rattle.std.specs.Prelude.{◌≡◌, ◌≢◌, ℕ, zero, suc, ◌+◌, ◌-◌, ◌<◌, nat_lt, if◌then◌else◌, List, [], ◌∷◌, length, slice_index_or}
 use Rattle.block_heap.specs.declared.links.Link.{Link}
 
 abbrev pub node_of : ℕ → ℕ
-node_of slot = slot + 64
+node_of slot = slot + 1152
 
 -- the link of a node
 abbrev pub link_of : List Link → ℕ → Link
@@ -24,8 +24,8 @@ place_of links slot = (link_of links (node_of slot)).place
 unfoldable pub slots_after : List Link → ℕ → ℕ → List ℕ
 slots_after links zero node = []
 slots_after links (suc most) node =
-    if nat_lt (next_of links node) 64 then []
-    else (next_of links node - 64) ∷ slots_after links most (next_of links node)
+    if nat_lt (next_of links node) 1152 then []
+    else (next_of links node - 1152) ∷ slots_after links most (next_of links node)
 
 -- from a node on the links lead over these slots to the end, and back
 abbrev pub LeadOver : List Link → ℕ → List ℕ → ℕ → Type 0

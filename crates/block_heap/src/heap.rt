@@ -6,39 +6,33 @@ ghost use Rattle.block_heap.specs.Blocks.{free_block, IsBlockList, HasUsed, None
 ghost use Rattle.block_heap.specs.Changes.{IsTaken, IsGiven};
 ghost use Rattle.block_heap.specs.Lists.{AreListed, list_of};
 ghost use Rattle.block_heap.specs.Inside.{IsHeap, IsListable, blocks_in, words_in, AreShort, IsMost};
-ghost use Rattle.block_heap.specs.Bounds.{AreBounded};
-ghost use Rattle.size_classes.specs.Classes.{class_of};
+ghost use Rattle.block_heap.specs.Ranks.{rank_of};
 
 use crate::block::Block;
-use crate::bounds::Bounds;
 use crate::lists::FreeLists;
+use crate::ranks::rank_of;
 use crate::tagged::TaggedBlocks;
 use mica_io::NoMemory;
-use size_classes::class_of;
 use std::alloc::Global;
 use std::marker::Model;
-
-// How many blocks of the own class are looked at before one of a class above is taken.
-const FEW: u32 = 8;
 
 /// Words that are given out in blocks, and come back.
 #[derive(Drop)]
 pub struct Heap {
     blocks: TaggedBlocks,
     free: FreeLists,
-    bounds: Bounds,
 }
 
 impl Model for Heap {
     ghost use Rattle.std.specs.Prelude.{List};
     ghost use Rattle.block_heap.specs.declared.block.Block.{Block};
-    ghost use Rattle.block_heap.specs.Inside.{IsBoundedHeap};
+    ghost use Rattle.block_heap.specs.Inside.{IsHeap};
 
     ghost Value = { List Block };
 
     ghost view = { λ s. s.blocks.0 };
 
-    ghost invariant = { λ s. IsBoundedHeap s.blocks.0 s.blocks.1 s.free s.bounds };
+    ghost invariant = { λ s. IsHeap s.blocks.0 s.blocks.1 s.free };
 }
 
 // Takes a free neighbour out of its list, and tells how many words it has.
@@ -52,18 +46,18 @@ fn unlist(free: &mut FreeLists, blocks: &TaggedBlocks, neighbour: Option<Block>)
         return 0;
     };
     let slot = blocks.slot_at(block);
-    free.remove(class_of(block.size), slot);
+    free.remove(rank_of(block.size), slot);
     block.size
 }
 
-// The first block of a class that has as many words as are needed.
-fn first_fit(blocks: &TaggedBlocks, free: &FreeLists, class: u32, need: u32) -> Option<Block>
-    requires class { class < 64 }
+// The first block of a list that has as many words as are needed.
+fn first_fit(blocks: &TaggedBlocks, free: &FreeLists, rank: u32, need: u32) -> Option<Block>
+    requires rank { rank < 1152 }
     requires heap { IsHeap blocks.now.0 blocks.now.1 free.now }
-    ensures none { IfNone result (AreShort blocks.now.0 blocks.now.1 (list_of free.now class) need) }
+    ensures none { IfNone result (AreShort blocks.now.0 blocks.now.1 (list_of free.now rank) need) }
     ensures some { IfSome result (λ block. Contains blocks.now.0 block × IsFree block × (need ≤ block.size)) }
 {
-    let mut listed = free.first(class);
+    let mut listed = free.first(rank);
     while let Some(slot) = listed {
         let place = free.place(slot);
         let size = blocks.size_at(place);
@@ -75,77 +69,45 @@ fn first_fit(blocks: &TaggedBlocks, free: &FreeLists, class: u32, need: u32) -> 
     None
 }
 
-// A block of a class that has as many words as are needed, where one of its first few has.
-fn early_fit(blocks: &TaggedBlocks, free: &FreeLists, class: u32, need: u32) -> Option<Block>
-    requires class { class < 64 }
+// The first block of the next list that has one.
+fn first_above(blocks: &TaggedBlocks, free: &FreeLists, rank: u32) -> Option<Block>
+    requires rank { rank < 1152 }
     requires heap { IsHeap blocks.now.0 blocks.now.1 free.now }
-    ensures some { IfSome result (λ block. Contains blocks.now.0 block × IsFree block × (need ≤ block.size)) }
+    ensures none { IfNone result ((next : ℕ) → rank < next → next < 1152 → length (list_of free.now next) ≡ 0) }
+    ensures some { IfSome result (λ block. Contains blocks.now.0 block × IsFree block × (rank < rank_of block.size)) }
 {
-    let mut listed = free.first(class);
-    for _step in 0..FEW {
-        let slot = listed?;
-        let place = free.place(slot);
-        let size = blocks.size_at(place);
-        if need <= size {
-            return Some(Block::free(place, size));
-        }
-        listed = free.after(slot);
-    }
-    None
-}
-
-// The first block of the next class that has one.
-fn first_above(blocks: &TaggedBlocks, free: &FreeLists, class: u32) -> Option<Block>
-    requires class { class < 64 }
-    requires heap { IsHeap blocks.now.0 blocks.now.1 free.now }
-    ensures none { IfNone result ((next : ℕ) → class < next → next < 64 → length (list_of free.now next) ≡ 0) }
-    ensures some { IfSome result (λ block. Contains blocks.now.0 block × IsFree block × (class < class_of block.size)) }
-{
-    let next = free.next_above(class)?;
+    let next = free.next_above(rank)?;
     let slot = free.first(next)?;
     let place = free.place(slot);
     Some(Block::free(place, blocks.size_at(place)))
 }
 
-// A free block of as many words as are needed: one of the first few of the need's own class, else the first of the next
-// class that has one, else any of the own class. Where none of them has as many, the class has a lower bound from then
-// on, so that the next refusal looks at the few alone.
-fn fitting(blocks: &TaggedBlocks, free: &FreeLists, bounds: &mut Bounds, need: u32) -> Option<Block>
+// A free block of as many words as are needed: the first of the need's own list that has as many, else the first of the next list
+// that has one.
+fn fitting(blocks: &TaggedBlocks, free: &FreeLists, need: u32) -> Option<Block>
     requires some { 1 ≤ need }
     requires heap { IsHeap blocks.now.0 blocks.now.1 free.now }
-    requires bounded { AreBounded bounds.old blocks.now.0 }
     ensures none { IfNone result (NoneFits blocks.now.0 need) }
     ensures some { IfSome result (λ block. Contains blocks.now.0 block × IsFree block × (need ≤ block.size)) }
-    ensures bounded { AreBounded bounds.new blocks.now.0 }
 {
     if need > blocks.words() {
         return None;
     }
-    let class = class_of(need);
-    if let Some(block) = early_fit(blocks, free, class, need) {
+    let rank = rank_of(need);
+    if let Some(block) = first_fit(blocks, free, rank, need) {
         return Some(block);
     }
-    if let Some(block) = first_above(blocks, free, class) {
-        return Some(block);
-    }
-    if bounds.of(class) <= need {
-        return None;
-    }
-    if let Some(block) = first_fit(blocks, free, class, need) {
-        return Some(block);
-    }
-    bounds.lower(class, need);
-    None
+    first_above(blocks, free, rank)
 }
 
-// The words of the largest block of a class.
-fn most_words(blocks: &TaggedBlocks, free: &FreeLists, class: u32) -> u32
-    requires class { class < 64 }
+// The words of the largest block of a list.
+fn most_words(blocks: &TaggedBlocks, free: &FreeLists, rank: u32) -> u32
+    requires rank { rank < 1152 }
     requires heap { IsHeap blocks.now.0 blocks.now.1 free.now }
-    ensures { IsMost blocks.now.0 blocks.now.1 (list_of free.now class) result }
+    ensures { IsMost blocks.now.0 blocks.now.1 (list_of free.now rank) result }
 {
     let mut most = 0;
-    let mut listed = free.first(class);
+    let mut listed = free.first(rank);
     while let Some(slot) = listed {
         let place = free.place(slot);
         most = most.max(blocks.size_at(place));
@@ -163,17 +125,11 @@ impl Heap {
     {
         let mut blocks = TaggedBlocks::new(alloc, words)?;
         let mut free = FreeLists::new(alloc, words)?;
-        let mut bounds = Bounds::new(alloc)?;
-        let class = class_of(words);
-        let slot = free.add(class, 0);
+        let rank = rank_of(words);
+        let slot = free.add(rank, 0);
         let block = Block::free(0, words);
         blocks.put_slot(block, slot);
-        bounds.raise(class, words);
-        Ok(Heap {
-            blocks,
-            free,
-            bounds,
-        })
+        Ok(Heap { blocks, free })
     }
 
     /// The place of a block of as many words as are needed. Which free block it is cut from is left open.
@@ -185,16 +141,15 @@ impl Heap {
         ensures taken { IfSome result (λ place. IsTaken self.old self.new place need) }
         ensures blocks { IsBlockList (words_of self.old) self.new }
     {
-        let block = fitting(&self.blocks, &self.free, &mut self.bounds, need)?;
+        let block = fitting(&self.blocks, &self.free, need)?;
         let slot = self.blocks.slot_at(block);
-        self.free.remove(class_of(block.size), slot);
+        self.free.remove(rank_of(block.size), slot);
         self.blocks.cut(block, need);
         if need < block.size {
             let rest = Block::free(block.place + need, block.size - need);
-            let class = class_of(rest.size);
-            let slot = self.free.add(class, rest.place);
+            let rank = rank_of(rest.size);
+            let slot = self.free.add(rank, rest.place);
             self.blocks.put_slot(rest, slot);
-            self.bounds.raise(class, rest.size);
         }
         Some(block.place)
     }
@@ -212,10 +167,9 @@ impl Heap {
         let after = unlist(&mut self.free, &self.blocks, right);
         let block = Block::free(place - before, before + size + after);
         self.blocks.replace(block);
-        let class = class_of(block.size);
-        let slot = self.free.add(class, block.place);
+        let rank = rank_of(block.size);
+        let slot = self.free.add(rank, block.place);
         self.blocks.put_slot(block, slot);
-        self.bounds.raise(class, block.size);
     }
 
     /// The size of the largest free block, or 0 where there is none.

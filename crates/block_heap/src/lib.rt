@@ -6,10 +6,11 @@
 #![tactic(auto)]
 
 mod block;
-mod bounds;
 mod heap;
 mod links;
 mod lists;
+mod marks;
+mod ranks;
 mod row;
 mod tagged;
 

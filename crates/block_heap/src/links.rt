@@ -3,7 +3,7 @@ ghost use Rattle.std.specs.Prelude.{◌≡◌, ◌<◌, ◌≤◌, ℕ, Contains
 ghost use Rattle.block_heap.specs.Links.{AreJoined, node_of};
 ghost use Rattle.block_heap.specs.Slots.{IsPlaced, IsSlotFor};
 
-use size_classes::CLASSES;
+use crate::ranks::LISTS;
 
 // A node of a ring: its neighbours, and the place of its slot's block.
 #[derive(Clone, Copy)]
@@ -34,7 +34,7 @@ fn put_place(links: &mut Vec<Link>, node: u32, place: u32)
 
 // A slot for a place: one that came back, or else a new one.
 pub fn slot_for(links: &mut Vec<Link>, spares: &mut Vec<u32>, place: u32) -> u32
-    requires heads { 64 ≤ length links.old.items }
+    requires heads { 1152 ≤ length links.old.items }
     requires limit { length links.old.items ≤ 4294967295 }
     requires within { (slot : ℕ) → Contains spares.old.items slot → node_of slot < length links.old.items }
     requires room { length spares.old.items ≡ 0 → length links.old.items < vec_capacity links.old }
@@ -43,10 +43,10 @@ pub fn slot_for(links: &mut Vec<Link>, spares: &mut Vec<u32>, place: u32) -> u32
     ensures spare_capacity { vec_capacity spares.new ≡ vec_capacity spares.old }
 {
     if let Some(slot) = spares.pop() {
-        put_place(links, slot + CLASSES, place);
+        put_place(links, slot + LISTS, place);
         return slot;
     }
-    let slot = links.len() as u32 - CLASSES;
+    let slot = links.len() as u32 - LISTS;
     links.push_reserved(Link {
         next: 0,
         prev: 0,

@@ -1,18 +1,18 @@
-//! The slots of free blocks, in lists by class.
+//! The slots of free blocks, in lists by rank.
 ghost use Rattle.std.specs.Prelude.{◌≡◌, ◌≢◌, ◌+◌, ◌*◌, ◌<◌, ◌≤◌, ℕ, Bool, [], ◌∷◌, ◌++◌, List, length, IfOk, IfSome, IfNone, Contains, if◌then◌else◌};
-ghost use Rattle.std.specs.Int.{bit_at};
 ghost use Rattle.block_heap.specs.declared.block.TheConstants.{MOST_WORDS};
 ghost use Rattle.block_heap.specs.Links.{node_of};
 ghost use Rattle.block_heap.specs.Slots.{most_slots};
 ghost use Rattle.block_heap.specs.Lists.{list_of, place_in, count_of, IsListed, IsWithout, left_from};
 
 use crate::links::{Link, join, slot_for};
+use crate::marks::Marks;
+use crate::ranks::LISTS;
 use mica_io::NoMemory;
-use size_classes::CLASSES;
 use std::alloc::Global;
 use std::marker::Model;
 
-const HEADS: usize = CLASSES as usize;
+const HEADS: usize = LISTS as usize;
 
 // The lists are rings of links, each with a node for its head, so that any slot can leave its list. A slot has its node
 // behind those of the heads. Slots that came back are used before one more gets a node.
@@ -21,7 +21,7 @@ pub struct FreeLists {
     words: u32,
     links: Vec<Link>,
     spares: Vec<u32>,
-    filled: u64,
+    filled: Marks,
 }
 
 impl Model for FreeLists {
@@ -36,31 +36,22 @@ impl Model for FreeLists {
     ghost invariant = { λ s. KeepsAll s.words s.links.items (vec_capacity s.links) s.spares.items (vec_capacity s.spares) s.filled };
 }
 
-// The bits with one of them on or off.
-fn with_bit(bits: u64, at: u32, on: bool) -> u64
-    requires { at < 64 }
-    ensures here { bit_at result at ≡ (if on then 1 else 0) }
-    ensures others { (i : ℕ) → i < 64 → i ≢ at → bit_at result i ≡ bit_at bits i }
-{
-    let bit = 1u64 << at;
-    if on { bits | bit } else { bits & !bit }
-}
-
 impl FreeLists {
-    // One empty list for each class.
+    // One empty list for each rank.
     pub fn new(alloc: Global, words: u32) -> Result<Self, NoMemory>
         requires { words ≤ MOST_WORDS }
         ensures words { IfOk result (λ lists. lists.0 ≡ words) }
-        ensures empty { IfOk result (λ lists. (class : ℕ) → class < 64 → list_of lists class ≡ []) }
+        ensures empty { IfOk result (λ lists. (rank : ℕ) → rank < 1152 → list_of lists rank ≡ []) }
         ensures count { IfOk result (λ lists. count_of lists ≡ 0) }
     {
         let most = words.div_ceil(2) as usize;
         let spares = Vec::with_capacity(alloc, most)?;
+        let filled = Marks::new(alloc)?;
         let mut links = Vec::with_capacity(alloc, most + HEADS)?;
-        for class in 0..CLASSES {
+        for rank in 0..LISTS {
             links.push_reserved(Link {
-                next: class,
-                prev: class,
+                next: rank,
+                prev: rank,
                 place: 0,
             });
         }
@@ -68,16 +59,16 @@ impl FreeLists {
             words,
             links,
             spares,
-            filled: 0,
+            filled,
         })
     }
 
-    // The first slot of a class.
-    pub fn first(&self, class: u32) -> Option<u32>
-        requires { class < 64 }
-        ensures { left_from (list_of self.now) result ≡ list_of self.now class }
+    // The first slot of a rank.
+    pub fn first(&self, rank: u32) -> Option<u32>
+        requires { rank < 1152 }
+        ensures { left_from (list_of self.now) result ≡ list_of self.now rank }
     {
-        self.links[class as usize].next.checked_sub(CLASSES)
+        self.links[rank as usize].next.checked_sub(LISTS)
     }
 
     // The slot behind this one in its list.
@@ -85,32 +76,25 @@ impl FreeLists {
         requires { IsListed (list_of self.now) slot }
         ensures { left_from (list_of self.now) result ≡ list_of self.now (node_of slot) }
     {
-        self.links[slot as usize + HEADS].next.checked_sub(CLASSES)
+        self.links[slot as usize + HEADS].next.checked_sub(LISTS)
     }
 
-    // The next class above that has a slot.
-    pub fn next_above(&self, class: u32) -> Option<u32>
-        requires { class < 64 }
-        ensures some { IfSome result (λ next. (class < next) × (next < 64) × (0 < length (list_of self.now next))) }
-        ensures none { IfNone result ((next : ℕ) → class < next → next < 64 → length (list_of self.now next) ≡ 0) }
+    // The next rank above that has a slot.
+    pub fn next_above(&self, rank: u32) -> Option<u32>
+        requires { rank < 1152 }
+        ensures some { IfSome result (λ next. (rank < next) × (next < 1152) × (0 < length (list_of self.now next))) }
+        ensures none { IfNone result ((next : ℕ) → rank < next → next < 1152 → length (list_of self.now next) ≡ 0) }
     {
-        let later = (self.filled >> class) >> 1;
-        if later == 0 {
-            return None;
-        }
-        Some(class + 1 + later.trailing_zeros())
+        self.filled.next_above(rank)
     }
 
-    // The last class that has a slot.
+    // The last rank that has a slot.
     pub fn last(&self) -> Option<u32>
-        ensures some { IfSome result (λ last. (last < 64) × (0 < length (list_of self.now last))
-            × ((above : ℕ) → last < above → above < 64 → length (list_of self.now above) ≡ 0)) }
-        ensures none { IfNone result ((class : ℕ) → class < 64 → length (list_of self.now class) ≡ 0) }
+        ensures some { IfSome result (λ last. (last < 1152) × (0 < length (list_of self.now last))
+            × ((above : ℕ) → last < above → above < 1152 → length (list_of self.now above) ≡ 0)) }
+        ensures none { IfNone result ((rank : ℕ) → rank < 1152 → length (list_of self.now rank) ≡ 0) }
     {
-        if self.filled == 0 {
-            return None;
-        }
-        Some(63 - self.filled.leading_zeros())
+        self.filled.last()
     }
 
     // The place that a slot has.
@@ -121,43 +105,43 @@ impl FreeLists {
         self.links[slot as usize + HEADS].place
     }
 
-    // Adds a slot for a place at the end of the list of a class.
-    pub fn add(&mut self, class: u32, place: u32) -> u32
-        requires class { class < 64 }
-        requires room { length (list_of self.old class) < self.old.0 }
+    // Adds a slot for a place at the end of the list of a rank.
+    pub fn add(&mut self, rank: u32, place: u32) -> u32
+        requires rank { rank < 1152 }
+        requires room { length (list_of self.old rank) < self.old.0 }
         requires spare { count_of self.old < most_slots self.old.0 }
         ensures words { self.new.0 ≡ self.old.0 }
-        ensures added { list_of self.new class ≡ list_of self.old class ++ result ∷ [] }
-        ensures others { (other : ℕ) → other < 64 → other ≢ class → list_of self.new other ≡ list_of self.old other }
+        ensures added { list_of self.new rank ≡ list_of self.old rank ++ result ∷ [] }
+        ensures others { (other : ℕ) → other < 1152 → other ≢ rank → list_of self.new other ≡ list_of self.old other }
         ensures count { count_of self.new ≡ count_of self.old + 1 }
         ensures here { place_in self.new result ≡ place }
         ensures stay { (slot : ℕ) → IsListed (list_of self.old) slot → place_in self.new slot ≡ place_in self.old slot }
         ensures few { 2 * result < MOST_WORDS }
     {
-        let last = self.links[class as usize].prev;
+        let last = self.links[rank as usize].prev;
         let slot = slot_for(&mut self.links, &mut self.spares, place);
-        let node = slot + CLASSES;
+        let node = slot + LISTS;
         join(&mut self.links, last, node);
-        join(&mut self.links, node, class);
-        self.filled = with_bit(self.filled, class, true);
+        join(&mut self.links, node, rank);
+        self.filled.set(rank, true);
         slot
     }
 
-    // Takes a slot out of the list of its class.
-    pub fn remove(&mut self, class: u32, slot: u32)
-        requires class { class < 64 }
-        requires listed { Contains (list_of self.old class) slot }
+    // Takes a slot out of the list of its rank.
+    pub fn remove(&mut self, rank: u32, slot: u32)
+        requires rank { rank < 1152 }
+        requires listed { Contains (list_of self.old rank) slot }
         requires some { 0 < count_of self.old }
         ensures words { self.new.0 ≡ self.old.0 }
-        ensures removed { IsWithout (list_of self.old class) (list_of self.new class) slot }
-        ensures others { (other : ℕ) → other < 64 → other ≢ class → list_of self.new other ≡ list_of self.old other }
+        ensures removed { IsWithout (list_of self.old rank) (list_of self.new rank) slot }
+        ensures others { (other : ℕ) → other < 1152 → other ≢ rank → list_of self.new other ≡ list_of self.old other }
         ensures count { count_of self.new + 1 ≡ count_of self.old }
         ensures stay { (other : ℕ) → place_in self.new other ≡ place_in self.old other }
     {
         let link = self.links[slot as usize + HEADS];
         join(&mut self.links, link.prev, link.next);
-        let some = self.links[class as usize].next >= CLASSES;
-        self.filled = with_bit(self.filled, class, some);
+        let some = self.links[rank as usize].next >= LISTS;
+        self.filled.set(rank, some);
         self.spares.push_reserved(slot);
     }
 }

@@ -1,5 +1,5 @@
 -- The faults of fronts of connections, looked for one after another.
-use Rattle.std.proofs.Common.{◌≡◌, ℕ, ◌+◌, ◌<◌, ◌⊎◌, inl, inr, Bool, true, false, List, length, Some, refl, sym, ap, ◌∙◌, slice_get, arith}
+use Rattle.std.proofs.Common.{◌≡◌, ℕ, ◌+◌, ◌<◌, inl, inr, Bool, true, false, List, length, Some, refl, sym, ap, ◌∙◌, slice_get, arith}
 use Rattle.std.specs.Prelude.{◌≢◌, ⊤, Result, Ok, Err}
 use Rattle.std.proofs.lemmas.Bool.{cases_lt, true≢false}
 use Rattle.std.proofs.lemmas.Option.{slice_get_within}

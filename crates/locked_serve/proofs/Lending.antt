@@ -1,6 +1,6 @@
 -- Parts that the fronts have of partitions, and one front more.
-use Rattle.std.proofs.Common.{◌≡◌, ℕ, ◌+◌, ◌<◌, List, [], ◌∷◌, ◌++◌, length, map, Some, slice_get, slice_set, refl, sym, ap, ◌∙◌, subst, inl, inr, arith}
-use Rattle.std.proofs.lemmas.List.{length-map, length_push, map-set}
+use Rattle.std.proofs.Common.{◌≡◌, ℕ, ◌+◌, List, [], ◌∷◌, ◌++◌, length, Some, slice_get, slice_set, sym, ap, ◌∙◌, subst, inl, inr, arith}
+use Rattle.std.proofs.lemmas.List.{length_push}
 use Rattle.std.proofs.lemmas.Option.{slice_get_within}
 use Rattle.list_laws.proofs.Places.{element_at}
 use Rattle.mica_serve.proofs.Binding.{at_snoc}
@@ -11,7 +11,6 @@ use Rattle.epoch_core.specs.declared.state.Phase.{Phase}
 use Rattle.epoch_core.specs.Joins.{ended_in}
 use Rattle.epoch_core.proofs.Prefixes.{prefix_same}
 use Rattle.partition_model.specs.History.{IsPrefix, stamp_of}
-use Rattle.partition_table.specs.Seats.{reader_state}
 use Rattle.mica_fronts.proofs.SoloSteps.{same_stamp}
 use Rattle.turn_book.specs.Entries.{BookView, TakerView, book_view}
 use Rattle.locked_fronts.specs.declared.owned.Step.{Step}
@@ -19,7 +18,6 @@ use Rattle.locked_fronts.specs.declared.part.LockedPart.{LockedPart}
 use Rattle.locked_fronts.specs.Plan.{Plan}
 use Rattle.locked_fronts.specs.Returned.{IsNew}
 use Rattle.locked_fronts.proofs.Turning.{plan_counts}
-use Rattle.locked_serve.specs.Filled.{IsFilledOwner}
 use Rattle.locked_serve.specs.Opening.{FilledView, IsPlanned, ArePlanned, LendsOne, IsNewPart, AreNewParts}
 
 -- a partition with one taker more

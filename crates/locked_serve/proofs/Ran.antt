@@ -1,5 +1,5 @@
 -- What fronts and partitions came to, once the partitions were taken back.
-use Rattle.std.proofs.Common.{◌≡◌, ℕ, zero, suc, ◌+◌, ◌<◌, ◌≤◌, List, [], ◌∷◌, ◌++◌, length, map, Option, Some, None, refl, sym, ap, ◌∙◌, subst, slice_get, append-nil, arith}
+use Rattle.std.proofs.Common.{◌≡◌, ℕ, suc, ◌<◌, ◌≤◌, List, [], ◌∷◌, ◌++◌, length, map, Option, Some, None, refl, sym, ap, ◌∙◌, subst, slice_get, append-nil, arith}
 use Rattle.std.specs.Prelude.{Result, sum_by}
 use Rattle.std.specs.List.{All}
 use Rattle.std.proofs.lemmas.List.{length-map}
@@ -7,9 +7,8 @@ use Rattle.std.proofs.lemmas.List.Sums.{sum_by-cons}
 use Rattle.std.proofs.lemmas.List.Elements.{All-from_recursion}
 use Rattle.std.proofs.lemmas.Option.{slice_get_within, same_Some}
 use Rattle.list_laws.proofs.Places.{from_map, element_at}
-use Rattle.partition_model.specs.declared.options.Options.{Options}
-use Rattle.partition_model.specs.History.{History, IsHistory, IsPrefix}
-use Rattle.partition_model.specs.Run.{RunStep, IsRunFrom, history_of}
+use Rattle.partition_model.specs.History.{IsHistory, IsPrefix}
+use Rattle.partition_model.specs.Run.{IsRunFrom, history_of}
 use Rattle.epoch_core.specs.declared.state.Phase.TheVariants.{Idle}
 use Rattle.partition_table.specs.declared.tables.KeptSeat.{KeptSeat}
 use Rattle.partition_table.specs.Tabled.{kept_seat_in}

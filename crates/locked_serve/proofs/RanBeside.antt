@@ -1,6 +1,6 @@
 -- What fronts of connections and fronts of datagrams came to beside each other is what is known of fronts beside each other.
-use Rattle.std.proofs.Common.{◌≡◌, ℕ, ◌+◌, ◌<◌, ◌≤◌, inl, inr, List, [], ◌++◌, length, map, Option, Some, None, refl, sym, ap, ◌∙◌, subst, slice_get, arith, length-append}
-use Rattle.std.specs.Prelude.{◌≢◌, Result, Ok, Err, sum, sum_by}
+use Rattle.std.proofs.Common.{◌≡◌, ℕ, ◌+◌, ◌<◌, ◌≤◌, inl, inr, List, ◌++◌, length, map, Option, Some, None, refl, sym, ap, ◌∙◌, subst, slice_get, arith, length-append}
+use Rattle.std.specs.Prelude.{◌≢◌, Err, sum, sum_by}
 use Rattle.std.specs.List.{AllZip}
 use Rattle.std.proofs.lemmas.List.{length-map}
 use Rattle.std.proofs.lemmas.List.Sums.{sum-map, sum_by-append}
@@ -8,31 +8,28 @@ use Rattle.std.proofs.lemmas.Simd.{map-map}
 use Rattle.std.proofs.lemmas.Option.{slice_get_within, same_Some, get_or_from_slice_get}
 use Rattle.list_laws.proofs.AllElements.{all_zipped}
 use Rattle.list_laws.proofs.Places.{at_map, from_map, element_at}
-use Rattle.mica_io.specs.Faults.{Rose}
 use Rattle.mica_fronts.specs.Answered.{Answered, gets_of}
-use Rattle.mica_fronts.specs.declared.totals.Totals.{Totals}
 use Rattle.mica_fronts.specs.declared.totals.ServeFault.{ServeFault}
-use Rattle.mica_fronts.specs.declared.totals.ServeFault.TheVariants.{Net, NoMemory}
+use Rattle.mica_fronts.specs.declared.totals.ServeFault.TheVariants.{Net}
 use Rattle.mica_fronts.specs.declared.totals.TheConstants.{MAX_BATCHES}
-use Rattle.partition_table.specs.declared.tables.KeptSeat.{KeptSeat}
 use Rattle.locked_fronts.specs.declared.part.LockedPart.{LockedPart}
 use Rattle.locked_fronts.specs.Plan.{Plan}
 use Rattle.locked_fronts.specs.Owned.{Owned}
 use Rattle.locked_fronts.specs.Parts.{IsLockedFront, locked_view, session_or_none, sessions_of}
 use Rattle.mica_serve.specs.Beside.{AnsweredBeside, AreAnsweredBeside, RunsPartitions, closed_of, gets_answered}
 use Rattle.mica_serve.specs.Ends.{EndFacts, AreOpen}
-use Rattle.mica_serve.specs.FrontRuns.{FrontRun, RunsFront, RunFronts, IsTakenIn, AreTakenIn, closed_in}
+use Rattle.mica_serve.specs.FrontRuns.{FrontRun, RunsFront, RunFronts, IsTakenIn, closed_in}
 use Rattle.mica_serve.proofs.Gathered.{chosen}
 use Rattle.mica_serve.proofs.MadeOf.{made_of, made_map, made_long, made_at}
 use Rattle.mica_serve.proofs.ServedBeside.{closed_gets}
 use Rattle.locked_serve.specs.declared.streams.StreamTask.{StreamTask}
 use Rattle.locked_serve.specs.declared.worker.FrontTask.{FrontTask}
 use Rattle.locked_serve.specs.Opening.{AreNewParts, AreNewHands}
-use Rattle.locked_serve.specs.Streams.{StreamFacts, HasFinished, ServesStream, AreServed, AreUnserved, StopsStream, others_of}
+use Rattle.locked_serve.specs.Streams.{StreamFacts, HasFinished, ServesStream, AreServed, AreUnserved, StopsStream}
 use Rattle.locked_serve.specs.Running.{run_of, front_facts, IsReadyTask, AreReadyTasks, TaskRan, TasksRan, IsReadyStream, AreReadyStreams, StreamRan, StreamsRan, RunsStream, RanBeside}
 use Rattle.locked_serve.proofs.Joined.{at_left, at_right, at_either, same_sums}
 use Rattle.locked_serve.specs.Taking.{AreHands}
-use Rattle.locked_serve.proofs.Ran.{HaveRan, HandAt, hand_at, taken_hand, placed, kept, runs_all, shapes, histories, closes}
+use Rattle.locked_serve.proofs.Ran.{HaveRan, hand_at, taken_hand, placed, kept, runs_all, shapes, histories, closes}
 use Rattle.locked_serve.proofs.Streamed.{finished_at}
 use Rattle.locked_serve.proofs.Taken.{closed_by, closed_at}
 

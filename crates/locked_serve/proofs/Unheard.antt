@@ -1,5 +1,5 @@
 -- Fronts of connections that were not served.
-use Rattle.std.proofs.Common.{◌≡◌, ℕ, zero, suc, ◌≤◌, inl, inr, List, [], ◌∷◌, length, false, true≢false, Option, None, Some, slice_get, replicate, refl, sym, ap, ◌∙◌, subst, arith}
+use Rattle.std.proofs.Common.{◌≡◌, ℕ, zero, suc, ◌≤◌, inl, inr, List, [], length, false, true≢false, Option, None, Some, slice_get, replicate, refl, sym, ap, ◌∙◌, subst, arith}
 use Rattle.std.specs.Prelude.{IfSome}
 use Rattle.std.proofs.lemmas.Option.{slice_get_within, same_Some}
 use Rattle.stream_io.specs.State.{Entry}
@@ -12,7 +12,7 @@ use Rattle.stream_fronts.specs.Open.{OnLogs}
 use Rattle.stream_fronts.specs.Serving.{FrontAt}
 use Rattle.stream_fronts.specs.declared.desk.TheConstants.{MOST_UNSENT}
 use Rattle.stream_fronts.specs.Moments.{TalksThrough}
-use Rattle.locked_serve.specs.Streams.{StreamFacts, IsUnserved, AreNewStreams, ServesClients, ServesStream, AreServed, AreStreams}
+use Rattle.locked_serve.specs.Streams.{StreamFacts, IsUnserved, AreNewStreams, ServesClients, ServesStream, AreStreams}
 
 -- each of so many answered nothing
 abbrev pub no_answers : ℕ → List (List Answered)

@@ -94,12 +94,12 @@ fn refuses_what_they_cannot(rt: HostRuntime) -> Result<(), Fail> {
     Ok(())
 }
 
-// A partition of one bucket and 256 words has 4,496 bytes, and a start takes 2,192 more. With enough of them it comes to its port.
+// A partition of one bucket and 256 words has 17,440 bytes, and a start takes 2,192 more. With enough of them it comes to its port.
 #[test]
 fn ends_where_too_little_is_free(rt: HostRuntime) -> Result<(), Fail> {
     let words = "--partitions 1 --buckets 1 --spares 0 --words 256";
-    expect_end(&rt, words, 6_687, Status::NoMemory, b"")?;
-    expect_end(&rt, words, 6_688, Status::NetFault, b"net fault\n")
+    expect_end(&rt, words, 19_631, Status::NoMemory, b"")?;
+    expect_end(&rt, words, 19_632, Status::NetFault, b"net fault\n")
 }
 
 /// What the system says: of the machine, and of a control group of version 2 and of one of version 1 what it bounds its processes to,

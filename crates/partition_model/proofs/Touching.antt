@@ -1,9 +1,8 @@
 -- A touch in cache mode changes no value.
-use Rattle.std.proofs.Common.{is_some, ◌≡◌, ℕ, ◌+◌, ◌≤◌, ◌⊎◌, inl, inr, List, [], ◌∷◌, ◌++◌, length, Option, Some, None, Bool, true, false, cond, not, refl, sym, ap, ◌∙◌, subst, arith, ◌≢◌, ◌&&◌, eqb, rules, length-append}
-use Rattle.std.specs.List.{find, filter, count_by}
+use Rattle.std.proofs.Common.{is_some, ◌≡◌, ℕ, ◌+◌, ◌≤◌, ◌⊎◌, inl, inr, List, [], ◌∷◌, ◌++◌, length, Option, Some, None, Bool, true, false, cond, not, refl, sym, ap, ◌∙◌, subst, arith, ◌≢◌, ◌&&◌, eqb, length-append}
+use Rattle.std.specs.List.{find, count_by}
 use Rattle.std.specs.Prelude.{option_map, bytes_eq}
-use Rattle.std.proofs.lemmas.Option.{same_Some}
-use Rattle.std.proofs.lemmas.Bool.{leb-true, le-leb, ne_eqb, true≢false}
+use Rattle.std.proofs.lemmas.Bool.{le-leb, ne_eqb, true≢false}
 use Rattle.std.proofs.lemmas.List.Sums.{sum_by_push}
 use Rattle.std.proofs.lemmas.Grind.{common_steps}
 use Rattle.std.proofs.lemmas.Slice.Eq.{bytes_eq-Decides}
@@ -20,14 +19,14 @@ use Rattle.partition_model.specs.CacheStep as cs
 use Rattle.partition_model.specs.CacheStep.{others, new_record}
 use Rattle.partition_model.proofs.Found as found
 use Rattle.partition_model.proofs.Laid as laid
-use Rattle.partition_model.proofs.CacheKept.{IsKept, IsWritten, after_write_is, here_of, left_of, live_of, others_lack, tail_past}
+use Rattle.partition_model.proofs.CacheKept.{IsKept, after_write_is, here_of, left_of, live_of, tail_past}
 use Rattle.partition_model.proofs.CacheLaws.{kept_in, window_kept, fits_kept, written_same, appended_own}
 use Rattle.partition_model.proofs.FateLaws.{cache_of, state_is_cache, fate_snoc}
 use Rattle.partition_model.proofs.Histories.{state_snoc}
 use Rattle.partition_model.specs.declared.options.Mode.TheVariants.{Cache as CacheMode}
 use Rattle.partition_model.specs.declared.fate.Fate.{Fate}
 use Rattle.partition_model.specs.declared.fate.Fate.TheVariants.{Held, Deleted, Displaced, Passed}
-use Rattle.partition_model.specs.Fate.{fate_of, fate_after, has_record}
+use Rattle.partition_model.specs.Fate.{fate_of}
 use Rattle.partition_model.specs.History.{History, State, cache_state, state_of, answer_of}
 use Rattle.partition_model.specs.History as histories
 use Rattle.partition_model.specs.Touches.{touched, KeepsOrPasses, TouchKeeps, TouchesKeep}

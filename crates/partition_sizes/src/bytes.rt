@@ -11,8 +11,8 @@ use partition_model::{Mode, Options};
 /// for them unless more than one word in 16 begins a free block. That can't be where each block in use has 15 words or more.
 pub const HEAP_BYTES: u64 = 5;
 
-/// The bytes of the heads and the bounds of a heap's lists.
-pub const LISTS_BYTES: u64 = 1024;
+/// The bytes of the heads and the marks of a heap's lists.
+pub const LISTS_BYTES: u64 = 13_968;
 
 /// The bytes that an index has for each of its spares.
 pub const SPARE_BYTES: u64 = 4;

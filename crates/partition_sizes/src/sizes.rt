@@ -23,8 +23,8 @@ pub const PROGRAM_BYTES: u64 = 16_777_216;
 /// value, and two of what may stand before it, as flags and a unique number.
 pub const ITEM_WORDS: u64 = 14;
 
-/// The bytes of the index for an item, where each bucket has five.
-pub const INDEX_BYTES: u64 = 31;
+/// The bytes of the index for an item, where each bucket has five, and its share of the heap's lists.
+pub const INDEX_BYTES: u64 = 32;
 
 /// How many partitions there are, and how many main buckets, spare buckets and words each of them has.
 #[derive(Clone, Copy, Debug, PartialEq, Eq)]

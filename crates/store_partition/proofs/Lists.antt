@@ -5,7 +5,7 @@ use Rattle.store_partition.proofs.Words.{AddsBlock, Block, Contains, Contains-pe
 use Rattle.store_partition.proofs.Words.{IsPermutation-middle, IsPermutation-remove, IsPermutation-swap_remove, IsPermutation-sym}
 use Rattle.store_partition.proofs.Words.{List, [], ap, arith, at, back_fills, drop, get_or_default, length, list_remove, refl, set_split, slice_set}
 use Rattle.store_partition.proofs.Words.{subst, subst₂, suc, swap_remove, sym, take, used_block, used_blocks, used_blocks-given}
-use Rattle.store_partition.proofs.Words.{same_or_apart, words_of, words_of-fills, ℕ, ◌++◌, ◌+◌, ◌-◌, ◌<◌, ◌∙◌, ◌∷◌, ◌≡◌, ◌≤◌}
+use Rattle.store_partition.proofs.Words.{same_or_apart, words_of, words_of-fills, ℕ, ◌++◌, ◌-◌, ◌<◌, ◌∙◌, ◌∷◌, ◌≡◌, ◌≤◌}
 
 pub once_by : (xs : List ℕ) → ((i j : ℕ) → i < length xs → j < length xs → at xs i ≡ at xs j → i ≡ j) → AllDiffer xs
 once_by xs places i j d less m same = grind (arith, places i j, get_or_default xs i 0 d, get_or_default xs j d 0)

@@ -1,16 +1,15 @@
 -- Writes that give no value: a delete of a key that has an item, which gives its block back, and a write that has its events alone.
 use Rattle.std.proofs.lemmas.Grind.{common_steps}
-use Rattle.partition_model.specs.StoreStep as ss
-use Rattle.store_partition.proofs.Words.{Absent, AcceptedWrite, Add, Allows, AreBytes, Block, ChangesChain}
+use Rattle.store_partition.proofs.Words.{Absent, AcceptedWrite, Allows, AreBytes, Block, ChangesChain}
 use Rattle.store_partition.proofs.Words.{Contains, Del, Deleted, Has}
 use Rattle.store_partition.proofs.Words.{HasNoSpot, HasUsed, Index, IsIndexOf, IsMain, IsPermutation}
 use Rattle.store_partition.proofs.Words.{IsPermutation-refl, IsPermutation-remove, IsSome, IsUsed}
-use Rattle.store_partition.proofs.Words.{GivesValue, HasValueOf, Keeps, Kept, KeyFits, IsSpotOf, List, MatchOption, None, Op, Option, Outcome, OwnerState, Put, Some, Spells}
+use Rattle.store_partition.proofs.Words.{GivesValue, HasValueOf, Keeps, Kept, KeyFits, IsSpotOf, List, MatchOption, None, Op, Option, Outcome, OwnerState, Some, Spells}
 use Rattle.store_partition.proofs.Words.{Spot, Touch, Touched, Write, [], ap, arith, at, bucket_in}
 use Rattle.store_partition.proofs.Words.{entries_of, entry_offset}
 use Rattle.store_partition.proofs.Words.{get, is_accepted, item_in}
 use Rattle.store_partition.proofs.Words.{length, list_remove}
-use Rattle.store_partition.proofs.Words.{marked, marked_in, marked_in_bucket, marked_item, place_in_chain, options_in}
+use Rattle.store_partition.proofs.Words.{marked_in, marked_in_bucket, marked_item, place_in_chain, options_in}
 use Rattle.store_partition.proofs.Words.{refl, room_of, room_same}
 use Rattle.store_partition.proofs.Words.{spells_on, spot_entry, store_state, subst, subst₂, swap_remove, sym}
 use Rattle.store_partition.proofs.Words.{true, used_block, used_blocks, words_of, write_of, written, ℕ}
@@ -19,7 +18,6 @@ use Rattle.store_partition.proofs.Lists.{Gave, Heap, heap_gives, heap_kept, noth
 use Rattle.store_partition.proofs.Lists.{swap_moved}
 use Rattle.store_partition.proofs.Cells.{left, none_left, one_or_none}
 use Rattle.store_partition.proofs.Held.{Held, Known, Split, has_none, known, m, not_worn, split_none}
-use Rattle.store_partition.proofs.Held.{used}
 use Rattle.store_partition.proofs.Events.{Closes, Opens, accepts, main, marked_at, marked_base, may_open, now, number_in, number_is}
 use Rattle.store_partition.proofs.Events.{finished, later, same_chain}
 use Rattle.store_partition.proofs.Puts.{freed_one}

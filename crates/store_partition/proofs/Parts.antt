@@ -7,7 +7,7 @@ use Rattle.store_partition.proofs.Words.{IsIndexOf, IsMain, IsPossibleShape, Kep
 use Rattle.store_partition.proofs.Words.{arith, as_made, cells_of, chained, cond, dense_on, dite, empty, entry_offset, flat_map, free_block}
 use Rattle.store_partition.proofs.Words.{get-empty, if◌then◌else◌, is_member-Decides, kept_as_made, keys_in, len, len-empty, length, link_in, listed}
 use Rattle.store_partition.proofs.Words.{nat_cmp, no_keys, no_rooms, not, props, refl, room_in, rooms, slice_cmp, slice_index, start, subst, suc, sym}
-use Rattle.store_partition.proofs.Words.{used_block, used_blocks, zero, ℕ, ℕ_discrete, ∥∥₁_elim, ◌&&◌, ◌+◌, ◌<◌, ◌==◌, ◌∙◌, ◌∷◌, ◌≡◌}
+use Rattle.store_partition.proofs.Words.{used_block, used_blocks, zero, ℕ, ℕ_discrete, ∥∥₁_elim, ◌&&◌, ◌<◌, ◌==◌, ◌∙◌, ◌∷◌, ◌≡◌}
 use Rattle.store_partition.proofs.Words.{AreBytes, IsOwnerStep, Some, Spot, Write, coalesced_once, fills_once, worn_step, ◌≤◌}
 use Rattle.store_partition.proofs.Held.{Held, Known, known}
 use Rattle.partition_model.specs.declared.write.Outcome.TheVariants.{Worn}

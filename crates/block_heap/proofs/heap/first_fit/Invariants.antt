@@ -6,7 +6,7 @@ use Rattle.block_heap.proofs.heap.first_fit.Given as goal
 
 abbrev pub invariant-loop-listed : goal.invariant-loop-listed
 invariant-loop-listed l = record {
-  walk : Walk (list_of l.free) l.class l.listed;
+  walk : Walk (list_of l.free) l.rank l.listed;
   short : AreShort l.blocks.0 l.blocks.1 walk.before l.need;
 }
 

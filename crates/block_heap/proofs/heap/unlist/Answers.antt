@@ -5,6 +5,6 @@ use Rattle.block_heap.proofs.heap.unlist.Goals as goal
 
 pub returns-clause-listed : goal.returns-clause-listed
 returns-clause-listed c = λ before after listed.
-    neighbour_left c.args.free.now c.remove.new.self c.args.blocks.now.1 c.args.neighbour c.in-Some.block c.in-Some.is c.requires c.class_of.result c.class_of.ensures.formula
-    (subst (IsWithout (list_of c.args.free.now c.class_of.result) (list_of c.remove.new.self c.class_of.result)) c.slot_at-slot.ensures c.remove.ensures.removed)
+    neighbour_left c.args.free.now c.remove.new.self c.args.blocks.now.1 c.args.neighbour c.in-Some.block c.in-Some.is c.requires c.rank_of.result c.rank_of.ensures.formula
+    (subst (IsWithout (list_of c.args.free.now c.rank_of.result) (list_of c.remove.new.self c.rank_of.result)) c.slot_at-slot.ensures c.remove.ensures.removed)
     c.remove.ensures.others c.remove.ensures.stay c.remove.ensures.count before after listed

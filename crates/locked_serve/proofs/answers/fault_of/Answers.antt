@@ -1,7 +1,6 @@
-use Rattle.std.proofs.Common.{◌≡◌, ◌+◌, ◌<◌, ℕ, Bool, true, false, length, get_or, sym, ap, ◌∙◌, subst, arith, Some, slice_get}
-use Rattle.std.specs.Prelude.{Ok, Err, Result, ⊤}
+use Rattle.std.proofs.Common.{◌≡◌, ◌+◌, ◌<◌, Bool, length, get_or, sym, ap, ◌∙◌, subst, arith, Some}
+use Rattle.std.specs.Prelude.{Ok, Err}
 use Rattle.std.proofs.lemmas.Option.{slice_get-get_or}
-use Rattle.mica_fronts.specs.declared.totals.ServeFault.{ServeFault}
 use Rattle.mica_fronts.specs.declared.totals.ServeFault.TheVariants.{Net}
 use Rattle.locked_serve.proofs.Faults.{FaultTo, none_seen, no_fault_more, fault_more, fault_in, no_fault}
 use Rattle.locked_serve.proofs.answers.fault_of.Goals as goal

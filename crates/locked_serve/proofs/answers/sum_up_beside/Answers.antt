@@ -1,5 +1,5 @@
-use Rattle.std.proofs.Common.{◌≡◌, inl, subst}
-use Rattle.std.specs.Prelude.{⊤, Result, Ok, Err}
+use Rattle.std.proofs.Common.{inl, subst}
+use Rattle.std.specs.Prelude.{Result, Err}
 use Rattle.mica_fronts.specs.declared.totals.Totals.{Totals}
 use Rattle.mica_fronts.specs.declared.totals.ServeFault.{ServeFault}
 use Rattle.mica_serve.specs.FrontRuns.{SumsUp}

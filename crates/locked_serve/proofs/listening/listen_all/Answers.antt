@@ -1,11 +1,11 @@
-use Rattle.std.proofs.Common.{rules, ◌≡◌, ◌+◌, ◌++◌, ◌∷◌, [], ℕ, List, Some, length, slice_get, vec_len, map, refl, sym, ap, ◌∙◌, subst, arith}
-use Rattle.std.specs.Prelude.{⊤, Option, IfSome, option_map, Result, OnErr}
+use Rattle.std.proofs.Common.{rules, ◌≡◌, ◌+◌, ◌++◌, ◌∷◌, [], ℕ, length, vec_len, map, refl, sym, ap, ◌∙◌, subst, arith}
+use Rattle.std.specs.Prelude.{⊤, IfSome, option_map, Result, OnErr}
 use Rattle.std.proofs.lemmas.Result.{err_from_is_err_and}
 use Rattle.mica_io.specs.declared.fault.Failed.{Failed}
 use Rattle.std.proofs.lemmas.List.{length-map, map-append}
 use Rattle.std.proofs.lemmas.Option.{slice_get_within}
 use Rattle.mica_io.specs.Faults.{Rose}
-use Rattle.stream_io.specs.PortLogs.{PortLogs, without_port}
+use Rattle.stream_io.specs.PortLogs.{without_port}
 use Rattle.locked_serve.specs.Streams.{StreamFacts, ListenFacts, AreNewStreams, LeavesOthers, listen_facts, stream_facts}
 use Rattle.locked_serve.proofs.Heard.{waits_still, leaves_none, leaves_more, leaves_few, streams_more}
 use Rattle.locked_serve.proofs.listening.listen_all.Given as given

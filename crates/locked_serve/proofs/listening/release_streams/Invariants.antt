@@ -1,4 +1,4 @@
-use Rattle.std.proofs.Common.{◌≡◌, map}
+use Rattle.std.proofs.Common.{map}
 use Rattle.locked_serve.specs.Streams.{ReleasesStreams, listen_facts, stream_facts}
 use Rattle.locked_serve.proofs.listening.release_streams.Given as goal
 

@@ -1,7 +1,6 @@
-use Rattle.std.proofs.Common.{◌≡◌, ◌+◌, ℕ, suc, List, length, map, slice_get, Some, refl, sym, ap, ◌∙◌, subst, arith}
+use Rattle.std.proofs.Common.{ℕ, suc, length, map, slice_get, sym, ap, ◌∙◌, subst, arith}
 use Rattle.std.specs.Vec.Iter.{into_iter_items}
 use Rattle.std.proofs.lemmas.List.{length-map, length_push}
-use Rattle.epoch_core.specs.declared.state.OwnerState.{OwnerState}
 use Rattle.locked_serve.specs.declared.opening.FilledPart.{FilledPart}
 use Rattle.locked_serve.specs.Opening.{FilledView, IsPlanned, filled_view}
 use Rattle.locked_serve.proofs.Lending.{new_desk, first_planned}

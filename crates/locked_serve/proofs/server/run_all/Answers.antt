@@ -1,4 +1,4 @@
-use Rattle.std.proofs.Common.{rules, ◌≡◌, ◌<◌, ◌≤◌, ◌+◌, ◌++◌, ℕ, List, length, map, vec_len, vec_capacity, sym, ap, ◌∙◌, subst, arith, length-append}
+use Rattle.std.proofs.Common.{◌≡◌, ◌<◌, ◌≤◌, ◌++◌, ℕ, List, length, map, vec_len, vec_capacity, sym, ap, ◌∙◌, subst, arith, length-append}
 use Rattle.std.specs.Prelude.{Result, ⊤}
 use Rattle.std.proofs.lemmas.List.{length-map}
 use Rattle.std.proofs.lemmas.Simd.{map-map}
@@ -8,10 +8,9 @@ use Rattle.partition_table.specs.Tabled.{kept_seat_in}
 use Rattle.mica_fronts.specs.declared.totals.Totals.{Totals}
 use Rattle.mica_fronts.specs.declared.totals.ServeFault.{ServeFault}
 use Rattle.locked_fronts.specs.declared.returned.Returned.{Returned}
-use Rattle.locked_fronts.specs.declared.part.LockedPart.{LockedPart}
 use Rattle.locked_fronts.specs.Plan.{Plan}
 use Rattle.locked_fronts.specs.Owned.{Owned}
-use Rattle.mica_serve.specs.Ends.{EndFacts, AreOpen, end_facts}
+use Rattle.mica_serve.specs.Ends.{EndFacts, end_facts}
 use Rattle.locked_serve.specs.declared.worker.FrontTask.{FrontTask}
 use Rattle.locked_serve.specs.declared.streams.StreamTask.{StreamTask}
 use Rattle.locked_serve.specs.Opening.{AreNewHands}

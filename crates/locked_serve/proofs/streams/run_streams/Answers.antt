@@ -1,8 +1,8 @@
-use Rattle.std.proofs.Common.{rules, ◌≡◌, ◌<◌, ◌++◌, ℕ, List, length, take, drop, get_or, sym, ap, ◌∙◌, subst, arith}
+use Rattle.std.proofs.Common.{rules, ◌≡◌, ◌<◌, ◌++◌, List, length, take, drop, get_or, sym, ap, ◌∙◌, subst, arith}
 use Rattle.std.proofs.iter.Serving.{serving}
 use Rattle.std.proofs.lemmas.List.{append-nil, drop_all, take_all}
 use Rattle.locked_serve.specs.declared.streams.StreamTask.{StreamTask}
-use Rattle.locked_serve.specs.Streams.{StreamFacts, stream_facts}
+use Rattle.locked_serve.specs.Streams.{stream_facts}
 use Rattle.locked_serve.specs.Running.{IsReadyStream, StreamRan}
 use Rattle.locked_serve.proofs.streams.run_streams.Goals as goal
 

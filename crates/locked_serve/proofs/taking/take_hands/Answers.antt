@@ -1,9 +1,8 @@
-use Rattle.std.proofs.Common.{◌≡◌, ◌∷◌, [], ℕ, suc, List, length, map, slice_get, Some, refl, sym, ap, ◌∙◌, subst, arith}
+use Rattle.std.proofs.Common.{suc, map, slice_get, refl, sym, ap, ◌∙◌, subst, arith}
 use Rattle.std.specs.Vec.Iter.{into_iter_items}
 use Rattle.locked_fronts.specs.declared.returned.Returned.{Returned}
-use Rattle.locked_fronts.specs.declared.part.LockedPart.{LockedPart}
 use Rattle.locked_fronts.specs.Owned.{Owned}
-use Rattle.locked_serve.specs.Taking.{MayTakeHand, MayTakeHands, TakesHands, left_view}
+use Rattle.locked_serve.specs.Taking.{MayTakeHands, TakesHands, left_view}
 use Rattle.mica_serve.proofs.Opened.{nil_of}
 use Rattle.locked_serve.proofs.Taken.{may_still}
 use Rattle.locked_serve.proofs.taking.take_hands.Given as given

@@ -1,5 +1,5 @@
 use Rattle.std.proofs.Common.{◌≡◌, ◌+◌, ℕ, sym, ap, ◌∙◌}
-use Rattle.std.specs.Prelude.{min, max, Option, Some}
+use Rattle.std.specs.Prelude.{min, max, Option}
 use Rattle.mica_io.specs.Faults.{LAST_COUNT}
 use Rattle.mica_words.specs.Hash.{hash_partition, partition_of}
 use Rattle.mica_words.proofs.Hashes.{partition_of_hash}

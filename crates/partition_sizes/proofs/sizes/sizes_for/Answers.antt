@@ -11,7 +11,7 @@ overflow_sub-bytes-2 c =
     let shared : c.from.result ≡ partitions_for memory = search rules in
     let worded = c.word_bytes-word.ensures in
     let buckets : c.buckets_for-buckets.result ≡ buckets_for (items_for mode (share_of memory)) =
-    c.buckets_for-buckets.ensures ∙ (λ i. buckets_for ((memory - 16777216) / shared i / (14 * worded i + 31))) in
+    c.buckets_for-buckets.ensures ∙ (λ i. buckets_for ((memory - 16777216) / shared i / (14 * worded i + 32))) in
     let spares : c.spares_for-spares.result ≡ spares_for mode (buckets_for (items_for mode (share_of memory))) = c.spares_for-spares.ensures ∙ ap (spares_for mode) buckets in
     let empty = c.partition_bytes-empty.ensures.bytes ∙ (λ i. partition_bytes (without_words mode (buckets i) (spares i))) in
     subst (λ n. n ≤ (memory - 16777216) / c.from.result) (sym empty)

@@ -6,10 +6,10 @@ use Rattle.block_heap.proofs.heap.Heap.largest.Goals as goal
 
 pub returns-in_default : goal.returns-in_default
 returns-in_default c =
-    subst (λ (bs : List Block). IsLargest bs 0) c.self.view_is (none_largest c.self.inside.blocks.0 c.self.inside.blocks.1 c.self.inside.free c.self.invariant.heap c.in_default.ensures.none)
+    subst (λ (bs : List Block). IsLargest bs 0) c.self.view_is (none_largest c.self.inside.blocks.0 c.self.inside.blocks.1 c.self.inside.free c.self.invariant c.in_default.ensures.none)
 
 pub returns : goal.returns
 returns c =
     let some = c.in-Some.ensures.some in
     subst (λ (bs : List Block). IsLargest bs c.most_words.result) c.self.view_is
-    (is_largest c.self.inside.blocks.0 c.self.inside.blocks.1 c.self.inside.free c.in-Some.last c.most_words.result c.self.invariant.heap some.0 c.most_words.ensures some.1 some.2)
+    (is_largest c.self.inside.blocks.0 c.self.inside.blocks.1 c.self.inside.free c.in-Some.last c.most_words.result c.self.invariant some.0 c.most_words.ensures some.1 some.2)

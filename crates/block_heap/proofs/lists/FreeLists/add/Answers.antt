@@ -6,14 +6,14 @@ use Rattle.block_heap.specs.Lists.{list_of, count_of, place_in, IsListed, IsUnli
 use Rattle.block_heap.proofs.ListLaws.{Changed, last_node, adds_last, added, head_link}
 use Rattle.block_heap.proofs.SlotLaws.{got_unlisted, got_longer, got_within, got_count, got_kept}
 use Rattle.block_heap.proofs.lists.FreeLists.add.Goals as goal
-use Rattle.block_heap.proofs.lists.FreeLists.add.Goals.{After-slot_for-slot, After-with_bit-self-inside}
+use Rattle.block_heap.proofs.lists.FreeLists.add.Goals.{After-slot_for-slot, After-set}
 
-abbrev within : (c : After-slot_for-slot) → length c.slot_for-slot.new.links.items ≤ most_slots c.self.inside.words + 64
+abbrev within : (c : After-slot_for-slot) → length c.slot_for-slot.new.links.items ≤ most_slots c.self.inside.words + 1152
 within c = got_within c.self.inside.words c.self.inside.links.items c.slot_for-slot.new.links.items _ c.self.inside.filled c.self.inside.spares.items c.slot_for-slot.new.spares.items _
     c.slot_for-slot.result c.args.place c.self.invariant.lists c.self.invariant.slots c.slot_for-slot.ensures.slot
     (subst (λ v. count_of v < most_slots v.0) (sym c.self.view_is) c.requires.spare)
 
-abbrev unlisted : (c : After-with_bit-self-inside) → IsUnlisted (list_of (c.self.inside.words, c.self.inside.links.items, c.self.inside.spares.items)) c.slot_for-slot.result
+abbrev unlisted : (c : After-set) → IsUnlisted (list_of (c.self.inside.words, c.self.inside.links.items, c.self.inside.spares.items)) c.slot_for-slot.result
 unlisted c = got_unlisted c.self.inside.words c.self.inside.links.items c.slot_for-slot.new.links.items _ c.self.inside.filled c.self.inside.spares.items c.slot_for-slot.new.spares.items _
     c.slot_for-slot.result c.args.place c.self.invariant.lists c.self.invariant.slots c.slot_for-slot.ensures.slot
 
@@ -33,40 +33,40 @@ slot_for-slot-requires-clause-room c = λ none. (let more = subst (λ v. count_o
 
 pub join-requires-clause-node : goal.join-requires-clause-node
 join-requires-clause-node c =
-    let last = ap (λ (l : Link). l.prev) (head_link c.self.inside.words c.self.inside.links.items c.self.inside.filled c.self.invariant.lists c.args.class c.requires.class c.index.result.now c.index.ensures) in
-    let within = (last_node c.self.inside.words c.self.inside.links.items c.self.inside.filled c.self.invariant.lists c.args.class c.requires.class).1 in
+    let last = ap (λ (l : Link). l.prev) (head_link c.self.inside.words c.self.inside.links.items c.self.inside.filled c.self.invariant.lists c.args.rank c.requires.rank c.index.result.now c.index.ensures) in
+    let within = (last_node c.self.inside.words c.self.inside.links.items c.self.inside.filled c.self.invariant.lists c.args.rank c.requires.rank).1 in
     let longer = got_longer c.self.inside.words c.self.inside.links.items c.slot_for-slot.new.links.items _ c.self.inside.filled c.self.inside.spares.items c.slot_for-slot.new.spares.items _
     c.slot_for-slot.result c.args.place c.self.invariant.lists c.self.invariant.slots c.slot_for-slot.ensures.slot in
     omega arith
 
-abbrev now : (c : After-with_bit-self-inside) → Changed c.self.inside.words c.self.inside.links.items c.join-2.new.links.items c.with_bit-self-inside.result c.args.class
-    (list_of (c.self.inside.words, c.self.inside.links.items, c.self.inside.spares.items) c.args.class ++ c.slot_for-slot.result ∷ [])
+abbrev now : (c : After-set) → Changed c.self.inside.words c.self.inside.links.items c.join-2.new.links.items c.set.new.self c.args.rank
+    (list_of (c.self.inside.words, c.self.inside.links.items, c.self.inside.spares.items) c.args.rank ++ c.slot_for-slot.result ∷ [])
 now c =
-    let room = subst (λ v. length (list_of v c.args.class) < v.0) (sym c.self.view_is) c.requires.room in
+    let room = subst (λ v. length (list_of v c.args.rank) < v.0) (sym c.self.view_is) c.requires.room in
     let unlisted = unlisted c in
     let got = c.slot_for-slot.ensures.slot in
-    added c.self.inside.words c.self.inside.links.items c.self.inside.filled c.self.invariant.lists c.args.class c.requires.class c.join-2.new.links.items c.slot_for-slot.result c.with_bit-self-inside.result unlisted room
-    (adds_last c.self.inside.words c.self.inside.links.items c.self.inside.filled c.self.invariant.lists c.args.class c.requires.class c.slot_for-slot.new.links.items c.join.new.links.items c.join-2.new.links.items c.slot_for-slot.result
+    added c.self.inside.words c.self.inside.links.items c.self.inside.filled c.self.invariant.lists c.args.rank c.requires.rank c.join-2.new.links.items c.slot_for-slot.result c.set.new.self unlisted room
+    (adds_last c.self.inside.words c.self.inside.links.items c.self.inside.filled c.self.invariant.lists c.args.rank c.requires.rank c.slot_for-slot.new.links.items c.join.new.links.items c.join-2.new.links.items c.slot_for-slot.result
     c.index.result.now unlisted got.within (got_longer c.self.inside.words c.self.inside.links.items c.slot_for-slot.new.links.items _ c.self.inside.filled c.self.inside.spares.items c.slot_for-slot.new.spares.items _ c.slot_for-slot.result c.args.place c.self.invariant.lists c.self.invariant.slots c.slot_for-slot.ensures.slot) got.next got.prev c.index.ensures c.join.ensures.joined c.join-2.ensures.joined)
-    (omega arith) c.with_bit-self-inside.ensures.here c.with_bit-self-inside.ensures.others
+    c.set.ensures.here c.set.ensures.others
 
 pub invariant_of-self : goal.invariant_of-self
 invariant_of-self c =
-    let at = (goal.at.invariant_of-self c).After-with_bit-self-inside in
+    let at = (goal.at.invariant_of-self c).After-set in
     let now = now at in
     record {
       lists = now.keeps;
       slots = got_kept c.self.inside.words c.self.inside.links.items c.slot_for-slot.new.links.items _ c.self.inside.filled c.self.inside.spares.items c.slot_for-slot.new.spares.items _
-          c.slot_for-slot.result c.args.place c.self.invariant.lists c.self.invariant.slots c.slot_for-slot.ensures.slot c.join-2.new.links.items _ _ c.args.class
+          c.slot_for-slot.result c.args.place c.self.invariant.lists c.self.invariant.slots c.slot_for-slot.ensures.slot c.join-2.new.links.items _ _ c.args.rank
           (c.join-2.ensures.joined.len ∙ c.join.ensures.joined.len) (omega (arith, c.slot_for-slot.ensures.capacity, c.join.ensures.capacity, c.join-2.ensures.capacity)) (omega (arith, c.slot_for-slot.ensures.spare_capacity))
           (subst (λ v. count_of v < most_slots v.0) (sym c.self.view_is) c.requires.spare) now.own now.others;
     }
 
 pub returns-clause-added : goal.returns-clause-added
-returns-clause-added c = (now (goal.at.returns-clause-added c).After-with_bit-self-inside).own ∙ ap (λ v. list_of v c.args.class ++ c.slot_for-slot.result ∷ []) c.self.view_is
+returns-clause-added c = (now (goal.at.returns-clause-added c).After-set).own ∙ ap (λ v. list_of v c.args.rank ++ c.slot_for-slot.result ∷ []) c.self.view_is
 
 pub returns-clause-others : goal.returns-clause-others
-returns-clause-others c = λ other less ne. (now (goal.at.returns-clause-others c).After-with_bit-self-inside).others other less ne ∙ ap (λ v. list_of v other) c.self.view_is
+returns-clause-others c = λ other less ne. (now (goal.at.returns-clause-others c).After-set).others other less ne ∙ ap (λ v. list_of v other) c.self.view_is
 
 pub returns-clause-count : goal.returns-clause-count
 returns-clause-count c =
@@ -80,6 +80,6 @@ returns-clause-here c = c.join-2.ensures.joined.places c.slot_for-slot.result �
 pub returns-clause-stay : goal.returns-clause-stay
 returns-clause-stay c = λ slot listed.
     let there = subst (λ v. IsListed (list_of v) slot) (sym c.self.view_is) listed in
-    let none = unlisted (goal.at.returns-clause-stay c).After-with_bit-self-inside in
-    let ne : slot ≡ c.slot_for-slot.result → ⊥ = λ e. none there.class there.few (subst (Contains (list_of (c.self.inside.words, c.self.inside.links.items, c.self.inside.spares.items) there.class)) e there.among) in
+    let none = unlisted (goal.at.returns-clause-stay c).After-set in
+    let ne : slot ≡ c.slot_for-slot.result → ⊥ = λ e. none there.rank there.few (subst (Contains (list_of (c.self.inside.words, c.self.inside.links.items, c.self.inside.spares.items) there.rank)) e there.among) in
     c.join-2.ensures.joined.places slot ∙ c.join.ensures.joined.places slot ∙ c.slot_for-slot.ensures.slot.others slot ne ∙ ap (λ v. place_in v slot) c.self.view_is

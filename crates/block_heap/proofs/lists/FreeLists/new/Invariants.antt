@@ -4,9 +4,9 @@ use Rattle.block_heap.specs.Links.{next_of, prev_of}
 use Rattle.block_heap.specs.Slots.{most_slots}
 use Rattle.block_heap.proofs.lists.FreeLists.new.Given as goal
 
-abbrev pub invariant-loop-class : goal.invariant-loop-class
-invariant-loop-class l = record {
-  count : length l.links.items ≡ l.class;
-  room : vec_capacity l.links ≡ most_slots l.words + 64;
-  rings : (class : ℕ) → class < l.class → (next_of l.links.items class ≡ class) × (prev_of l.links.items class ≡ class);
+abbrev pub invariant-loop-rank : goal.invariant-loop-rank
+invariant-loop-rank l = record {
+  count : length l.links.items ≡ l.rank;
+  room : vec_capacity l.links ≡ most_slots l.words + 1152;
+  rings : (rank : ℕ) → rank < l.rank → (next_of l.links.items rank ≡ rank) × (prev_of l.links.items rank ≡ rank);
 }

@@ -1,7 +1,6 @@
-use Rattle.std.proofs.Common.{◌≡◌, ℕ, Bool, List, length, slice_get, Some, refl, sym, ap, ◌∙◌, subst, arith}
+use Rattle.std.proofs.Common.{◌≡◌, ℕ, Bool, slice_get, refl, sym, ap, ◌∙◌, subst, arith}
 use Rattle.std.specs.Prelude.{OnOk}
 use Rattle.mica_fronts.specs.Answered.{count_of_writes}
-use Rattle.locked_fronts.specs.declared.part.LockedPart.{LockedPart}
 use Rattle.locked_fronts.specs.Parts.{LockedView, IsLockedFront, locked_view, turns_taken, turns_left, sessions_of}
 use Rattle.stream_fronts.specs.Serving.{FrontAt, IsFinished}
 use Rattle.locked_serve.specs.Streams.{StreamFacts, stream_facts}

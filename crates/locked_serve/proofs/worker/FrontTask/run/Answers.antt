@@ -1,7 +1,4 @@
-use Rattle.std.proofs.Common.{◌≡◌, ℕ, length, List, slice_get, Some, refl, sym, ap, ◌∙◌, subst, arith}
-use Rattle.mica_fronts.specs.declared.totals.Totals.{Totals}
-use Rattle.partition_model.specs.declared.options.Options.{Options}
-use Rattle.locked_fronts.specs.declared.part.LockedPart.{LockedPart}
+use Rattle.std.proofs.Common.{◌≡◌, slice_get, sym, ap, ◌∙◌, subst, arith}
 use Rattle.locked_fronts.specs.Parts.{LockedView, IsLockedFront, locked_view, turns_taken}
 use Rattle.mica_serve.specs.Ends.{EndFacts, end_facts}
 use Rattle.mica_serve.specs.FrontRuns.{RunsFront}

@@ -1,4 +1,4 @@
-use Rattle.store_partition.proofs.Words.{Add, Exists, IsOwnerStep, IsSpotOf, HasNoSpot, Kept, MatchOption, Option, Spot, arith, subst, sym, write_of}
+use Rattle.store_partition.proofs.Words.{Add, Exists, IsOwnerStep, Kept, arith, subst, sym, write_of}
 use Rattle.store_partition.specs.Sought.{IsSought}
 use Rattle.store_partition.proofs.Held.{already, not_reached}
 use Rattle.store_partition.proofs.Parts.{held, known_at, whole, worn}

@@ -1,6 +1,6 @@
 use Rattle.std.specs.Int.{w64}
 use Rattle.std.proofs.lemmas.Nat.Bits.{bit_at_set_same, bit_at_set_other, bit_at_clear_same, bit_at_clear_other}
-use Rattle.block_heap.proofs.lists.with_bit.Goals as goal
+use Rattle.block_heap.proofs.marks.with_bit.Goals as goal
 
 pub returns-then-on-clause-here : goal.returns-then-on-clause-here
 returns-then-on-clause-here c = rw c.if-on.true (bit_at_set_same w64 c.args.bits c.args.at c.requires)
