@@ -94,9 +94,8 @@ def resident(process):
 
 
 def processor_seconds(process):
-    """How long it has run on processors."""
-    fields = pathlib.Path(f"/proc/{process.pid}/stat").read_text().rsplit(")", 1)[1].split()
-    return (int(fields[11]) + int(fields[12])) / os.sysconf("SC_CLK_TCK")
+    """How long its threads have run on processors."""
+    return sum(int((thread / "schedstat").read_text().split()[0]) for thread in pathlib.Path(f"/proc/{process.pid}/task").iterdir()) / 1e9
 
 
 class Line:

@@ -227,6 +227,9 @@ fn fill(port: u16, mix: &Mix) -> io::Result<()> {
         let mut due = (last - first) as usize;
         while due > 0 {
             let count = stream.read(&mut room)?;
+            if count == 0 {
+                return Err(ErrorKind::UnexpectedEof.into());
+            }
             due -= room[..count].iter().filter(|&&byte| byte == b'\n').count();
         }
     }
