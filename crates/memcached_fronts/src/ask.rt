@@ -21,6 +21,7 @@ use std::sync::Wait;
 use std::thread::Threads;
 
 // Appends the text that is due to one ask. When out of memory, nothing is appended.
+#[inline(always)]
 fn put_said(
     out: &mut Vec<u8>,
     style: Style,

@@ -158,6 +158,7 @@ fn front_line(from: &[u8]) -> Next
     }
 }
 
+#[inline(always)]
 fn front_of(from: &[u8]) -> Next
     ensures { result ≡ next_of from.now }
 {
@@ -183,6 +184,7 @@ fn front_of(from: &[u8]) -> Next
 }
 
 /// What the bytes begin with. It stays so whatever bytes follow, unless it is `More`.
+#[inline(always)]
 pub fn next_command(from: &[u8]) -> Next
     ensures next { result ≡ next_of from.now }
     ensures waits { result ≡ Next.More → length from.now < MAX_WAITING_LEN }
