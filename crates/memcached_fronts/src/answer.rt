@@ -75,7 +75,7 @@ fn answer_stats<C: Clock>(
         × ((told : Told) × (out.new.items ≡ out.old.items ++ stats_text partitions told))) }
     ensures err { OnErr result (out.new.items ≡ out.old.items) }
 {
-    buffers.show();
+    buffers.show_all();
     buffers.board.put_stats(clock.present(), partitions, out)?;
     Ok(Progress {
         done,
@@ -156,6 +156,7 @@ fn answer_flush<R: Threads + Wait + Sync, F: Changes, C: Clock>(
 }
 
 // Leaves so many out.
+#[inline(always)]
 fn skip(asks: &mut Asks, count: usize)
     requires { count ≤ length asks.old }
     ensures { asks.new ≡ drop count asks.old }
@@ -203,6 +204,9 @@ fn answer_asks<'a, R: Threads + Wait + Sync, F: Changes, C: Clock>(
             return Err(NoMemory);
         };
         count += 1;
+        if is_last {
+            return Ok(count);
+        }
     }
     Ok(count)
 }

@@ -21,6 +21,7 @@ use std::sync::Wait;
 use std::thread::Threads;
 
 // Appends the text that is due to one ask. When out of memory, nothing is appended.
+#[inline(always)]
 fn put_said(
     out: &mut Vec<u8>,
     style: Style,
@@ -59,6 +60,7 @@ fn count_of_accepted(outcome: Outcome) -> u64
 }
 
 // Notes what a write left of its partition, where one was made, and what it leaves for the next sweep.
+#[inline(always)]
 fn note_write(
     tally: &mut Tally,
     noted: &mut Noted,
