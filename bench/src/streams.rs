@@ -1,10 +1,10 @@
 //! A server of memcached's protocol over connections, in plain Rust: fronts over epoll that take turns at owning a partition, by a lock.
-//! It keeps of an item what `micad` keeps, reads the clock for each command, answers what is over as absent, and counts hits, misses and
+//! It keeps of an item what `micad` keeps, reads the clock for each key, answers what is over as absent, and counts hits, misses and
 //! sets. It takes away nothing that is over.
 
-use crate::commands::{Command, HEADER, end_of, read_command, words_of};
+use crate::commands::{Asked, Command, HEADER, end_of, read_commands};
 use crate::epoll::Poll;
-use crate::hash::{key_hash, partition_of};
+use crate::hash::partition_of;
 use crate::locked::{CACHED_WORDS, load_ahead};
 use crate::machine::{Options, Outcome};
 use crate::number_of;
@@ -111,9 +111,9 @@ struct Front<'a> {
 }
 
 impl Front<'_> {
-    fn get(&mut self, key: &[u8], now: u64, tells_unique: bool, out: &mut Vec<u8>) {
-        let hash = key_hash(key);
+    fn get(&mut self, key: &[u8], hash: u64, tells_unique: bool, out: &mut Vec<u8>) {
         let part = &self.parts[partition_of(hash, self.parts.len())];
+        let now = second();
         self.value.clear();
         part.table.get(hash, key, &mut self.value);
         let found = self.value.split_first_chunk().map(|(head, data)| (Head::of(*head), data));
@@ -137,8 +137,7 @@ impl Front<'_> {
         out.extend_from_slice(b"\r\n");
     }
 
-    fn set(&mut self, key: &[u8], flags: u32, end: u32, data: &[u8], out: &mut Vec<u8>) {
-        let hash = key_hash(key);
+    fn set(&mut self, key: &[u8], hash: u64, flags: u32, end: u32, data: &[u8], out: &mut Vec<u8>) {
         let part = &self.parts[partition_of(hash, self.parts.len())];
         let mut held = part.owner.lock().unwrap_or_else(|poisoned| poisoned.into_inner());
         held.unique += 1;
@@ -153,13 +152,10 @@ impl Front<'_> {
 
     fn answer(&mut self, command: &Command<'_>, out: &mut Vec<u8>) {
         match *command {
-            Command::Get { keys, tells_unique } => {
-                let now = second();
-                words_of(keys).for_each(|key| self.get(key, now, tells_unique, out));
-                out.extend_from_slice(b"END\r\n");
-            }
-            Command::Set { key, flags, time, data } => match end_of(time, second()) {
-                Some(end) => self.set(key, flags, end, data, out),
+            Command::Get { key, hash, tells_unique } => self.get(key, hash, tells_unique, out),
+            Command::End => out.extend_from_slice(b"END\r\n"),
+            Command::Set { key, hash, flags, time, data } => match end_of(time, second()) {
+                Some(end) => self.set(key, hash, flags, end, data, out),
                 None => out.extend_from_slice(b"CLIENT_ERROR bad command line format\r\n"),
             },
             Command::Stats => put_stats(self.counts, out),
@@ -167,37 +163,27 @@ impl Front<'_> {
         }
     }
 
-    /// Loads what the commands will look at, where tables are larger than the caches.
-    fn look_ahead(&mut self, mut bytes: &[u8]) {
-        self.hashes.clear();
-        while let Some((command, len)) = read_command(bytes) {
-            match command {
-                Command::Get { keys, .. } => self.hashes.extend(words_of(keys).map(key_hash)),
-                Command::Set { key, .. } => self.hashes.push(key_hash(key)),
-                _ => {}
-            }
-            bytes = &bytes[len..];
-        }
-        load_ahead(|hash| self.parts[partition_of(hash, self.parts.len())].table, &self.hashes);
-    }
-
     /// Answers what has come whole, as long as the peer takes the replies. How many bytes were answered, and whether all replies were
     /// taken; None where the connection broke.
     fn answer_all(&mut self, client: &mut Client, bytes: &[u8]) -> Option<(usize, bool)> {
-        let mut at = 0;
-        while client.send()? {
-            let before = at;
-            while client.unsent.len() < MOST_UNSENT
-                && let Some((command, len)) = read_command(&bytes[at..])
-            {
-                self.answer(&command, &mut client.unsent);
-                at += len;
-            }
-            if at == before {
-                return Some((at, true));
-            }
+        let (all, len) = read_commands(bytes);
+        if self.is_ahead {
+            self.hashes.clear();
+            self.hashes.extend(all.iter().filter_map(|asked| match asked.command {
+                Command::Get { hash, .. } | Command::Set { hash, .. } => Some(hash),
+                _ => None,
+            }));
+            load_ahead(|hash| self.parts[partition_of(hash, self.parts.len())].table, &self.hashes);
         }
-        Some((at, false))
+        let mut begun = None;
+        for Asked { command, at } in &all {
+            if begun != Some(at) && client.unsent.len() >= MOST_UNSENT && !client.send()? {
+                return Some((*at, false));
+            }
+            begun = Some(at);
+            self.answer(command, &mut client.unsent);
+        }
+        Some((len, client.send()?))
     }
 
     /// Reads and answers until nothing more comes, or the peer takes no more. None where the connection is over.
@@ -206,9 +192,6 @@ impl Front<'_> {
         room[..len].copy_from_slice(&client.kept);
         client.kept.clear();
         loop {
-            if self.is_ahead {
-                self.look_ahead(&room[..len]);
-            }
             let (at, is_sent) = self.answer_all(client, &room[..len])?;
             room.copy_within(at..len, 0);
             len -= at;
