@@ -156,6 +156,7 @@ fn answer_flush<R: Threads + Wait + Sync, F: Changes, C: Clock>(
 }
 
 // Leaves so many out.
+#[inline(always)]
 fn skip(asks: &mut Asks, count: usize)
     requires { count ≤ length asks.old }
     ensures { asks.new ≡ drop count asks.old }

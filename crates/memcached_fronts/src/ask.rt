@@ -60,6 +60,7 @@ fn count_of_accepted(outcome: Outcome) -> u64
 }
 
 // Notes what a write left of its partition, where one was made, and what it leaves for the next sweep.
+#[inline(always)]
 fn note_write(
     tally: &mut Tally,
     noted: &mut Noted,

@@ -89,7 +89,7 @@ fn is_spelled(digits: &[u8]) -> bool
 }
 
 // The number at the front of a text, and what stands behind it.
-#[inline]
+#[inline(always)]
 fn leading_number(text: &[u8]) -> Option<(u32, &[u8])>
     ensures { IfSome result (λ found. (found.0 ≤ 4294967295) × (text.now ≡ decimal found.0 ++ found.1.now)) }
 {
@@ -111,7 +111,7 @@ fn leading_number(text: &[u8]) -> Option<(u32, &[u8])>
 }
 
 // The number that leads a text, where a space is behind it, and what stands behind that.
-#[inline]
+#[inline(always)]
 fn number_word(text: &[u8]) -> Option<(u32, &[u8])>
     ensures { IfSome result (λ found. (found.0 ≤ 4294967295) × (text.now ≡ decimal found.0 ++ 32 ∷ found.1.now)) }
 {
@@ -186,7 +186,7 @@ pub fn spelled_set(from: &[u8]) -> Option<SpelledSet>
 
 impl<'a> SpelledSet<'a> {
     /// The command that stores the item, whatever is there.
-    #[inline]
+    #[inline(always)]
     pub fn command(self) -> Command<'a>
         ensures { result ≡ Command.Store Wants.Whatever self.entry.key.now self.entry.flags self.entry.lifetime self.entry.value.now self.entry.quiet }
     {
