@@ -75,7 +75,7 @@ fn answer_stats<C: Clock>(
         × ((told : Told) × (out.new.items ≡ out.old.items ++ stats_text partitions told))) }
     ensures err { OnErr result (out.new.items ≡ out.old.items) }
 {
-    buffers.show();
+    buffers.show_all();
     buffers.board.put_stats(clock.present(), partitions, out)?;
     Ok(Progress {
         done,
