@@ -162,6 +162,9 @@ fn front_line(from: &[u8]) -> Next
 fn front_of(from: &[u8]) -> Next
     ensures { result ≡ next_of from.now }
 {
+    if from.is_empty() {
+        return Next::More;
+    }
     if let Some((key, len)) = spelled_get(from) {
         let command = Command::Get {
             keys: Words::one(key),
