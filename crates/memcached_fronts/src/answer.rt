@@ -204,6 +204,9 @@ fn answer_asks<'a, R: Threads + Wait + Sync, F: Changes, C: Clock>(
             return Err(NoMemory);
         };
         count += 1;
+        if is_last {
+            return Ok(count);
+        }
     }
     Ok(count)
 }

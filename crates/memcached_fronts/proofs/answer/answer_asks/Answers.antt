@@ -1,4 +1,4 @@
-use Rattle.std.proofs.Common.{◌≡◌, ◌∷◌, ◌++◌, ◌+◌, List, [], length, drop, refl, sym, ap, ◌∙◌, subst, arith, length-append}
+use Rattle.std.proofs.Common.{◌≡◌, ◌∷◌, ◌++◌, ◌+◌, List, [], length, drop, refl, sym, ap, ◌∙◌, subst, arith, length-append, inl}
 use Rattle.std.specs.List.{AllByRecursion}
 use Rattle.std.proofs.lemmas.List.{append-nil, drop-drop}
 use Rattle.partition_model.specs.declared.options.Options.{Options}
@@ -8,7 +8,7 @@ use Rattle.mica_fronts.specs.Answered.{Answered}
 use Rattle.memcached_fronts.specs.AskAnswers.{said_of}
 use Rattle.memcached_fronts.specs.Counting.{tally_after, tally_after_all}
 use Rattle.memcached_fronts.specs.Going.{AnswersAt, AnswersFirst, ask_text}
-use Rattle.memcached_fronts.proofs.AskLaws.{left_of, quiet_none}
+use Rattle.memcached_fronts.proofs.AskLaws.{left_of, none_left, quiet_none}
 use Rattle.memcached_fronts.proofs.Asking.{none_yet, one_more, text_more, writes_more}
 use Rattle.memcached_fronts.proofs.Counting.{counted_more}
 use Rattle.memcached_fronts.proofs.answer.answer_asks.Given as given
@@ -55,6 +55,12 @@ module _ (g : given.Over) (c : After-answer_ask g) where
       one ∙ ap (tally_after c.args.base c.args.partitions c.in-Some.asked a) c.loop-count.invariant.counted
       ∙ sym (counted_more c.args.base c.args.partitions asks c.next_asked.new.self c.loop-count.invariant.answers c.in-Some.asked a c.args.buffers.now.tally here)
 
+  many : (a : Answered) → c.loop-count.count + 1 ≡ length (c.loop-count.invariant.answers ++ a ∷ [])
+  many a = ap (λ n. n + 1) c.loop-count.invariant.many ∙ sym (length-append c.loop-count.invariant.answers (a ∷ []))
+
+  left_is : c.next_asked.new.self ≡ drop (c.loop-count.count + 1) asks
+  left_is = left_of c.loop-count.asks c.next_asked.new.self c.next_asked.result c.next_asked.ensures ∙ ap (drop 1) c.loop-count.invariant.left_is ∙ drop-drop 1 c.loop-count.count asks
+
 pub loop-count-preserved : goal.loop-count-preserved
 loop-count-preserved g c =
     let z = (goal.at.loop-count-preserved g c).After-answer_ask in
@@ -67,8 +73,8 @@ loop-count-preserved g c =
     let text = one.2 ∙ ap (λ t. c.loop-count.out.items ++ ask_text c.args.style.quiet c.args.style.unique t c.in-Some.asked.key said) c.is_empty-is_last.ensures in record {
       answers = inv.answers ++ one.0 ∷ [];
       first = first g z one.0 one.1;
-      many = ap (λ n. n + 1) inv.many ∙ sym (length-append inv.answers (one.0 ∷ []));
-      left_is = left_of c.loop-count.asks c.next_asked.new.self c.next_asked.result c.next_asked.ensures ∙ ap (drop 1) inv.left_is ∙ drop-drop 1 c.loop-count.count c.args.asks.now;
+      many = many g z one.0;
+      left_is = left_is g z;
       fit = fit.1;
       text = text_more c.args.base c.args.style.quiet c.args.style.unique c.args.asks.now c.next_asked.new.self inv.answers c.in-Some.asked one.0 c.args.out.now.items
           c.loop-count.out.items c.answer_ask.new.out.items (here g z) inv.text text;
@@ -87,3 +93,23 @@ returns-in_default-answer_ask-clause-answered g c =
     let one = c.answer_ask.ensures.answered in
     let more = writes_more c.loop-count.invariant.answers one.0 in
     (c.loop-count.invariant.answers ++ one.0 ∷ [], first g z one.0 one.1, tt, omega (arith, one.3, c.loop-count.invariant.given, more), counts g z one.0 one.4)
+
+pub returns-then-is_last-clause-answered : goal.returns-then-is_last-clause-answered
+returns-then-is_last-clause-answered g c =
+    let z = (goal.at.returns-then-is_last-clause-answered g c).After-answer_ask in
+    let inv = c.loop-count.invariant in
+    let one = c.in-Ok.ensures.answered in
+    let said = said_of c.args.base c.in-Some.asked one.0 in
+    let text = one.2 ∙ ap (λ t. c.loop-count.out.items ++ ask_text c.args.style.quiet c.args.style.unique t c.in-Some.asked.key said) c.is_empty-is_last.ensures in (
+      inv.answers ++ one.0 ∷ [],
+      first g z one.0 one.1,
+      record {
+        many = many g z one.0;
+        left_is = left_is g z;
+        text = text_more c.args.base c.args.style.quiet c.args.style.unique c.args.asks.now c.next_asked.new.self inv.answers c.in-Some.asked one.0 c.args.out.now.items
+            c.loop-count.out.items c.answer_ask.new.out.items (here g z) inv.text text;
+        stops = inl (none_left c.next_asked.new.self (sym c.is_empty-is_last.ensures ∙ c.if-is_last.true));
+      },
+      omega (arith, one.3, inv.given, writes_more inv.answers one.0),
+      counts g z one.0 one.4,
+    )
