@@ -3,6 +3,7 @@ use Rattle.std.proofs.Common.{◌≡◌, ◌<◌, ◌≤◌, ◌+◌, ◌-◌, �
 use Rattle.std.proofs.Math.Dec.{eqb-suc-zero}
 use Rattle.std.proofs.lemmas.List.{append-nil, length-drop}
 use Rattle.std.proofs.lemmas.Bool.{eqb-true, eq-eqb, ltb-true, ltb-false}
+use Rattle.mica_clock.specs.Seconds.{ClockView}
 use Rattle.partition_model.specs.declared.options.Options.{Options}
 use Rattle.memcached_text.specs.declared.command.Command.{Command}
 use Rattle.memcached_text.specs.declared.command.Command.TheVariants as commands
@@ -207,7 +208,7 @@ pub at_first : (next : Next) (done : ℕ) → IsOpenAt next done → asks_in nex
 at_first next done stands none =
     elim stands as (λ _. done ≡ 0) [ inl first ↦ first | inr less ↦ let many : length (asks_in next) ≡ 0 = ap length none in absurd (omega (arith, less, many)) ]
 
-module _ (options : Options) (is_alone : Bool) (base : ℕ) (next : Next) (done : ℕ) (stands : IsOpenAt next done) (old new : Sessions) (told tells : ℕ) where
+module _ (options : Options) (is_alone : Bool) (base : ℕ) (next : Next) (done : ℕ) (stands : IsOpenAt next done) (old new : Sessions) (told tells : ClockView) where
   -- A flush
 
   module _ (flushes : is_flush_all next ≡ true) (answers : List Answered) (is : (second : ℕ) × FlushesFrom options (flush_at second (flush_due next)) 0 answers) where
@@ -217,7 +218,7 @@ module _ (options : Options) (is_alone : Bool) (base : ℕ) (next : Next) (done 
     here : (e : Exchange) → StandsAt options base next done e → StandsAt options base next 0 e
     here e at = subst (λ n. StandsAt options base next n e) first at
 
-    pub flush_goes : AnswersInOrder options is_alone old answers new → ToldFrom told (seconds_of answers) tells → GoesOn options is_alone base next done old told new tells answers
+    pub flush_goes : AnswersInOrder options is_alone old answers new → ToldFrom told (seconds_of options answers) tells → GoesOn options is_alone base next done old told new tells answers
     flush_goes in_order seconds = record {
       in_order = in_order;
       seconds = seconds;
