@@ -233,9 +233,9 @@ returns-clause-ran g c =
     sym (map-map (of_stream g) (λ (t : StreamTask g.row.C.Denot g.row.K.Denot). t.port) stream_olds) ∙ ap (map (of_stream g)) (own_streams g at.After-pair_up) in
     let left : map (λ (t : StreamTask g.row.C.Denot g.row.K.Denot). of_stream g t.port) streams ≡ map (of_stream g) c.part_streams.new.ports.items =
     sym (map-map (of_stream g) (λ (t : StreamTask g.row.C.Denot g.row.K.Denot). t.port) streams) ∙ ap (map (of_stream g)) (sym c.part_streams.ensures.ports) in
-    subst (λ (y : Options × List ℕ × List (Result ⊤ ServeFault) × List (Result Totals ServeFault) × List EndFacts × List EndFacts × List StreamFacts × List StreamFacts).
-    RanBeside y.0 plan.origin c.args.shared.now.service.ports.batches c.args.shared.now.service.base y.1 kept y.2 y.3 y.4 y.5 y.6 y.7)
-    (λ i. (sym c.requires.plan.options i, clocks i, sym c.part_streams.ensures.answers i, sym c.part_fronts.ensures.answers i, before i, after i, ports i, left i)) it
+    subst (λ (y : Options × List ℕ × List (Result ⊤ ServeFault) × List (Result Totals ServeFault) × List EndFacts × List EndFacts × List StreamFacts × List StreamFacts × ℕ).
+    RanBeside y.0 plan.origin c.args.shared.now.service.ports.batches c.args.shared.now.service.base y.1 kept y.8 y.2 y.3 y.4 y.5 y.6 y.7)
+    (λ i. (sym c.requires.plan.options i, clocks i, sym c.part_streams.ensures.answers i, sym c.part_fronts.ensures.answers i, before i, after i, ports i, left i, sym c.part_streams.ensures.lacked i)) it
 
 pub returns-clause-idle : goal.returns-clause-idle
 returns-clause-idle g c =
