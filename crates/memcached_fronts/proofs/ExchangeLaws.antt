@@ -10,6 +10,8 @@ use Rattle.memcached_text.specs.declared.command.Command.TheVariants as commands
 use Rattle.memcached_text.specs.declared.command.Topic.TheVariants.{Server, NoPart}
 use Rattle.memcached_text.specs.declared.next.Next.{Next}
 use Rattle.memcached_text.specs.declared.next.Next.TheVariants as nexts
+use Rattle.memcached_text.specs.Fit.{IsFit, IsFitNext}
+use Rattle.memcached_text.specs.Lifetimes.{IsDue}
 use Rattle.memcached_commands.specs.declared.asks.Asked.{Asked}
 use Rattle.memcached_commands.specs.Asks.{asks_in, asks_of}
 use Rattle.memcached_commands.specs.Answers.{unless_quiet}
@@ -136,6 +138,27 @@ no_asks (nexts.Command command len) is = go command is
 no_asks (nexts.Refused fault stale quiet len) is = absurd (true≢false (sym is))
 no_asks nexts.More is = refl
 no_asks nexts.LongLine is = refl
+
+-- the second of a flush is one that a word may say
+pub fit_due : (next : Next) → IsFitNext next → IsDue (flush_due next)
+fit_due (nexts.Command command len) fit = go command fit
+  where
+    go : (command : Command) → IsFit command → IsDue (flush_due (nexts.Command command len))
+    go (commands.Get keys unique lifetime) fit = tt
+    go (commands.Store wants key flags lifetime value quiet) fit = tt
+    go (commands.Join side key value quiet) fit = tt
+    go (commands.Count direction key delta quiet) fit = tt
+    go (commands.Delete key quiet) fit = tt
+    go (commands.Touch key lifetime quiet) fit = tt
+    go (commands.Flush due quiet) fit = fit
+    go (commands.Stats topic) fit = tt
+    go commands.Version fit = tt
+    go (commands.Verbosity quiet) fit = tt
+    go commands.Noop fit = tt
+    go commands.Quit fit = tt
+fit_due (nexts.Refused fault stale quiet len) fit = tt
+fit_due nexts.More fit = tt
+fit_due nexts.LongLine fit = tt
 
 -- how many bytes are due before a flush, and after it
 module _ (options : Options) (base : ℕ) (next : Next) (flushes : is_flush_all next ≡ true) (e : Exchange) (at : StandsAt options base next 0 e) (told : Told) (answers : List Answered) where

@@ -5,6 +5,7 @@ use Rattle.std.specs.declared.result.Result.TheVariants.{Ok, Err}
 use Rattle.std.proofs.lemmas.List.{length-drop}
 use Rattle.mica_fronts.specs.Answered.{Answered}
 use Rattle.memcached_text.specs.declared.next.Next.{Next}
+use Rattle.memcached_text.specs.Lifetimes.{IsDue}
 use Rattle.memcached_commands.specs.declared.asks.Asked.{Asked}
 use Rattle.memcached_commands.specs.Asks.{asks_in}
 use Rattle.memcached_commands.specs.Answers.{unless_quiet}
@@ -18,7 +19,7 @@ use Rattle.memcached_stats.specs.Stats.{stats_text}
 use Rattle.memcached_stats.specs.Tallies.{counted}
 use Rattle.memcached_fronts.specs.Counting.{tally_after_all}
 use Rattle.memcached_stats.proofs.Untold.{untold}
-use Rattle.memcached_fronts.proofs.ExchangeLaws.{of_stats, flush_goes, flush_replies, plain_goes, plain_replies, asks_go, asks_reply, is_below}
+use Rattle.memcached_fronts.proofs.ExchangeLaws.{of_stats, fit_due, flush_goes, flush_replies, plain_goes, plain_replies, asks_go, asks_reply, is_below}
 use Rattle.memcached_fronts.proofs.Counting.{counted_flush, counted_keyed, counted_plain}
 use Rattle.memcached_fronts.proofs.answer.answer_next.Goals as goal
 
@@ -28,6 +29,9 @@ if_ok P Q (Err e) then is = is
 
 abbrev progress_of : ℕ → Bool → Progress
 progress_of done whole = record { done = done; is_whole = whole }
+
+pub answer_flush-requires-clause-due : goal.answer_flush-requires-clause-due
+answer_flush-requires-clause-due g c = subst IsDue (sym c.flush_due.ensures) (fit_due c.args.next c.requires.fit)
 
 pub returns-then-is_flush_all-clause-answered : goal.returns-then-is_flush_all-clause-answered
 returns-then-is_flush_all-clause-answered g c =

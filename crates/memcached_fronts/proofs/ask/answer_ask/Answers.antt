@@ -1,4 +1,4 @@
-use Rattle.std.proofs.Common.{◌≡◌, ◌++◌, ℕ, List, sym, ap, ◌∙◌, subst, arith}
+use Rattle.std.proofs.Common.{◌≡◌, ◌∷◌, ◌++◌, ℕ, List, [], sym, ap, ◌∙◌, subst, arith}
 use Rattle.std.specs.Prelude.{option_copied}
 use Rattle.std.proofs.lemmas.Result.{on_ok_weaker}
 use Rattle.mica_clock.specs.Seconds.{ClockView}
@@ -13,8 +13,15 @@ use Rattle.memcached_stats.specs.Counted.{counter_of}
 use Rattle.memcached_stats.specs.Tallies.{counted}
 use Rattle.memcached_fronts.specs.Counting.{noted_if}
 use Rattle.memcached_fronts.specs.Going.{AnswersAt, ask_text}
+use Rattle.memcached_fronts.specs.Seconds.{ToldFrom}
 use Rattle.memcached_fronts.proofs.Looking.{IsAnsweredBy, answered_by}
 use Rattle.memcached_fronts.proofs.ask.answer_ask.Goals as goal
+
+pub returns-clause-read : goal.returns-clause-read
+returns-clause-read g c =
+    let view = g.C.Clock.view in
+    let one = c.second-second.ensures in
+    subst (λ (s : ℕ). ToldFrom (view c.args.clock.now) (s ∷ []) (view c.second-second.new.self)) (sym (ap (λ (v : ClockView). v.last) one.once)) (one.told, one.once)
 
 pub returns-clause-answered : goal.returns-clause-answered
 returns-clause-answered g c =
