@@ -1,12 +1,11 @@
 -- Each kind of step keeps the table's rule. An owner's step is proved against one reader's view at a time, a reader's against its own alone.
-use Rattle.std.proofs.Common.{◌≡◌, ◌≢◌, ℕ, zero, suc, replicate, ◌+◌, ◌*◌, ◌^◌, ◌%◌, ◌≤◌, List, [], ◌∷◌, ◌++◌, ◌⊎◌, ⊎_elim, Bool, true, false, get_or, set, refl, sym, ap, ◌∙◌, subst, arith, Option, Some, None}
+use Rattle.std.proofs.Common.{◌≡◌, ◌≢◌, ℕ, zero, suc, replicate, ◌+◌, ◌*◌, ◌^◌, ◌%◌, ◌≤◌, List, [], ◌∷◌, ◌⊎◌, ⊎_elim, Bool, true, false, get_or, set, refl, sym, ap, ◌∙◌, subst, arith, Option, Some, None}
 use mathlib.Core.Option.{Option as MOption, some, none, some-injective}
 use lib.ListN.{get_elem?}
 use lib.Seq.{set-get_or}
 use Rattle.atomic_table.specs.Table.{State, step, keeps, stepped, opening, Allows, Splits, Joins}
 use Rattle.atomic_table.proofs.Lists.{at_set, at_snoc, set_again, set_else, at_longer}
 use Rattle.std.proofs.Math.Nat.{mod-eq_of_lt}
-use Rattle.std.proofs.lemmas.List.Sums.{sum_by-append}
 use Rattle.partition_model.specs.History.{History, IsPrefix, stamp_of, writes_to_bucket}
 use Rattle.epoch_core.specs.declared.shape.Shape.{Shape}
 use Rattle.epoch_core.specs.declared.event.Event.{Event}
@@ -15,9 +14,7 @@ use Rattle.epoch_core.specs.declared.reader.Try.{Try}
 use Rattle.epoch_core.specs.declared.reader.ReaderState.{ReaderState}
 use Rattle.epoch_core.specs.Shape.{options_of, IsPossibleShape, IsMain, IsBucket, IsSpare}
 use Rattle.epoch_core.specs.Layout.{epoch_at, link_at, word_count}
-use Rattle.epoch_core.specs.declared.state.Phase.{Phase}
-use Rattle.epoch_core.specs.declared.state.Phase.TheVariants.{Idle, Begun, Marked}
-use Rattle.epoch_core.specs.OwnerState.{as_made, epoch_in, options_in, begun_in, marked_in}
+use Rattle.epoch_core.specs.OwnerState.{as_made, epoch_in}
 use Rattle.epoch_core.specs.Events.{IsAllowed, place_of, word_after, after}
 use Rattle.epoch_core.specs.Kept.{Kept}
 use Rattle.epoch_core.specs.Grows.{Grows}
@@ -28,7 +25,6 @@ use Rattle.epoch_core.specs.Joins.{lent, met_by, known, told}
 use Rattle.epoch_core.proofs.Made.{kept_as_made}
 use Rattle.epoch_core.proofs.Inside.{epoch_small}
 use Rattle.epoch_core.proofs.Keeps.{kept_after}
-use Rattle.epoch_core.proofs.Marked.{bit_le}
 use Rattle.epoch_core.proofs.Growing.{grows, reader_grows}
 use Rattle.epoch_core.proofs.Prefixes.{prefix_then}
 use Rattle.epoch_core.proofs.Failing.{in_head, in_tail}
@@ -37,7 +33,7 @@ use Rattle.epoch_core.proofs.JoinKeeps.{lends, notes, meet_grows, meets, tells_o
 use Rattle.partition_table.specs.declared.rule.View.{View}
 use Rattle.partition_table.specs.declared.rule.View.TheVariants.{Owns, Reads, Spent}
 use Rattle.partition_table.specs.Rule.{Seated, ViewKept, IsLawful, is_owner, owner_in, is_reader, reader_in, view_lent, view_met}
-use Rattle.partition_table.specs.Plays.{tells_word, happened, opens, looks, follows, stamps, tallies, shuts}
+use Rattle.partition_table.specs.Plays.{tells_word, happened, opens, looks, follows, stamps, shuts}
 
 owner_is : (v : View) → is_owner v ≡ true → v ≡ Owns (owner_in v)
 owner_is (Owns o) e = refl
@@ -161,20 +157,6 @@ module _ (slots id : ℕ) (me : Seated) (owns : is_owner me.0 ≡ true) where
       subst (λ (z : ℕ). (get_or o.words z 0 + 1) % 2 ^ 64 ≡ word_after e (get_or o.words z 0)) (sym is)
       (mod-eq_of_lt (epoch_small o kept b main) ∙ sym (value (epoch_in o b)))))
 
--- an epoch, by how many writes the bucket had
-epoch_tells : (phase : Phase) (b epoch writes : ℕ) → epoch + marked_in phase b ≡ 2 * writes + begun_in phase b → 2 * writes ≤ epoch + 1
-epoch_tells Idle b epoch writes is = omega arith
-epoch_tells (Begun c) b epoch writes is = omega arith
-epoch_tells (Marked c write before) b epoch writes is = let one = bit_le c b in omega arith
-
--- what a reader has seen of them
-most_seen : (o : OwnerState) (r : ReaderState) → Kept o → ReaderKept o r → (b : ℕ) → IsMain r.shape b → 2 * writes_to_bucket (options_of r.shape) r.seen b ≤ epoch_in o b + 1
-most_seen o r s k b main =
-    let all = epoch_tells o.phase b (epoch_in o b) (writes_to_bucket (options_in o) o.history b) (s.epochs b (subst (λ (z : Shape). IsMain z b) k.shape main)) in
-    let same = ap (λ (h : History). writes_to_bucket (options_in o) h b) k.seen.1 in
-    let both : writes_to_bucket (options_in o) (r.seen ++ k.seen.0) b ≡ writes_to_bucket (options_in o) r.seen b + writes_to_bucket (options_in o) k.seen.0 b = sum_by-append _ r.seen k.seen.0 in
-    subst (λ (z : Shape). 2 * writes_to_bucket (options_of z) r.seen b ≤ epoch_in o b + 1) (sym k.shape) (omega (arith, all, same, both))
-
 module _ (slots id : ℕ) (me : Seated) (reader : is_reader me.0 ≡ true) where
   abbrev r : ReaderState
   r = reader_in me.0
@@ -246,20 +228,6 @@ module _ (slots id : ℕ) (me : Seated) (reader : is_reader me.0 ≡ true) where
           f.met,
         ),
       )
-
-  pub tallies_at : (i : ℕ) → Allows IsLawful slots id me i (λ n. n) (tallies (step slots i 0 0 none) me)
-  tallies_at i s k _ at _ = (
-    Reads (loaded i (get_or s.words i 0) r),
-    keeps,
-    tt,
-    becomes i s k at (loaded i (get_or s.words i 0) r) (λ f. subst (λ (z : ℕ). ReaderKept k.owner (loaded i z r)) (word_now s k i) (loads_keep k.owner k.kept r f i)),
-    (
-      refl,
-      λ b main is.
-          subst (λ (z : ℕ). 2 * writes_to_bucket (options_of r.shape) r.seen b ≤ z + 1) (ap (λ (z : ℕ). get_or k.owner.words z 0) (sym is) ∙ word_now s k i)
-          (most_seen k.owner r k.kept (reader_fits s k id me.0 reader at) b main),
-    ),
-  )
 
   shuts_at : (b : ℕ) → ((t : Try) → r.current ≡ Some t → t.bucket ≡ b) → Allows IsLawful slots id me (epoch_at b) (λ n. n) (shuts (step slots (epoch_at b) 0 0 none) me)
   shuts_at b is s k _ at _ =

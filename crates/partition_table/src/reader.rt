@@ -1,16 +1,16 @@
 //! A seat that reads, a note of what one has seen, and what one has set aside.
-ghost use Rattle.std.specs.Prelude.{◌≡◌, ◌+◌, ◌*◌, ◌^◌, ◌<◌, ◌≤◌, true, [], Some, None};
+ghost use Rattle.std.specs.Prelude.{◌≡◌, ◌+◌, ◌^◌, ◌<◌, true, [], Some, None};
 ghost use Rattle.std.specs.Arc.{arc_value};
-ghost use Rattle.partition_model.specs.History.{IsPrefix, writes_to_bucket};
+ghost use Rattle.partition_model.specs.History.{IsPrefix};
 ghost use Rattle.epoch_core.specs.declared.reader.Try.{Try};
-ghost use Rattle.epoch_core.specs.Shape.{options_of, is_in_range, IsMain};
-ghost use Rattle.epoch_core.specs.Layout.{word_count, epoch_at, IsInside};
-ghost use Rattle.epoch_core.specs.ReaderState.{loaded, stamped, loaded_items};
+ghost use Rattle.epoch_core.specs.Shape.{is_in_range, IsMain};
+ghost use Rattle.epoch_core.specs.Layout.{word_count, IsInside};
+ghost use Rattle.epoch_core.specs.ReaderState.{stamped, loaded_items};
 ghost use Rattle.epoch_core.specs.Joins.{note_of, told};
 ghost use Rattle.partition_table.specs.Rule.{is_reader, reader_in};
 
 use crate::places::Places;
-use crate::plays::{Follows, Lends, Looks, Meets, Opens, Shuts, Stamps, Tallies};
+use crate::plays::{Follows, Lends, Looks, Meets, Opens, Shuts, Stamps};
 use crate::rule::{PartitionTable, View};
 use atomic_table::Seat;
 use epoch_core::{ReaderWords, Shape, WordAt};
@@ -72,18 +72,6 @@ impl ReaderSeat {
         requires { IsInside (reader_state self.now).shape at }
     {
         self.table.shared.peek(self.places.shape.place(at))
-    }
-
-    /// The epoch of a main bucket, outside every try. Of the writes that the seat has seen at most half of it are to the bucket, and one more where it
-    /// is odd.
-    pub fn epoch(&mut self, bucket: u32) -> u64
-        requires { IsMain (reader_state self.old).shape bucket }
-        ensures event { reader_state self.new ≡ loaded (epoch_at bucket) result (reader_state self.old) }
-        ensures most { 2 * writes_to_bucket (options_of (reader_state self.old).shape) (reader_state self.old).seen bucket ≤ result + 1 }
-        ensures home { reader_home self.new ≡ reader_home self.old }
-    {
-        let place = self.places.of(WordAt::Epoch(bucket));
-        self.table.shared.load::<Tallies>(&mut self.seat, place)
     }
 
     // Eight item words that go round the end of the words.
