@@ -25,7 +25,7 @@ use Rattle.mica_serve.proofs.ServedBeside.{closed_gets}
 use Rattle.locked_serve.specs.declared.streams.StreamTask.{StreamTask}
 use Rattle.locked_serve.specs.declared.worker.FrontTask.{FrontTask}
 use Rattle.locked_serve.specs.Opening.{AreNewParts, AreNewHands}
-use Rattle.locked_serve.specs.Streams.{StreamFacts, HasFinished, ServesStream, AreServed, AreUnserved, StopsStream}
+use Rattle.locked_serve.specs.Streams.{StreamFacts, HasFinished, ServesStream, AreServed, AreUnserved, StopsStream, counted_by_all}
 use Rattle.locked_serve.specs.Running.{run_of, front_facts, IsReadyTask, AreReadyTasks, TaskRan, TasksRan, IsReadyStream, AreReadyStreams, StreamRan, StreamsRan, RunsStream, RanBeside}
 use Rattle.locked_serve.proofs.Joined.{at_left, at_right, at_either, same_sums}
 use Rattle.locked_serve.specs.Taking.{AreHands}
@@ -63,7 +63,7 @@ module _ {C K : Type 0} (plan : Plan) (facts : C → StreamFacts) (last : K → 
     pub was : slice_get olds k ≡ Some old
     pub is : slice_get news k ≡ Some new
     pub front : IsLockedFront plan (locked_view plan.options k new.parts.items)
-    pub run : RunsStream plan.options base (front_facts facts last old) (front_facts facts last new) own new.answer (facts old.port) (facts new.port)
+    pub run : RunsStream plan.options base (front_facts facts last 0 old) (front_facts facts last new.lacked new) own new.answer (facts old.port) (facts new.port)
 
   pub stream_at : (k : ℕ) → k < length olds → (own : List Answered) × StreamAt k own
   stream_at k low =
@@ -89,19 +89,26 @@ module _ {C K : Type 0} (plan : Plan) (facts : C → StreamFacts) (last : K → 
       let same : s.1.new ≡ n.0 = same_Some _ _ (sym s.1.is ∙ n.1) in
       subst (λ (l : List LockedPart). IsLockedFront plan (locked_view plan.options k l)) (ap stream_hand same ∙ n.2) s.1.front
 
-  pub served : AreServed plan.options base (map last_of olds) answers (map port_of olds) (map port_of news)
+  abbrev pub count_of : StreamTask C K → ℕ
+  count_of task = task.lacked
+
+  pub served : AreServed plan.options base (map last_of olds) (map count_of news) answers (map port_of olds) (map port_of news)
   served = record {
     many = length-map news port_of ∙ ran.0 ∙ sym (length-map olds port_of);
-    each = λ k told own b a told_at own_at b_at a_at.
+    counted = length-map news count_of ∙ ran.0 ∙ sym (length-map olds port_of);
+    each = λ k told lacked own b a told_at count_at own_at b_at a_at.
         let s = all_at.2 k own own_at in
         let one : last s.old.clock ≡ told = same_Some _ _ (sym (at_map last_of olds k s.old s.was) ∙ told_at) in
         let two : facts s.old.port ≡ b = same_Some _ _ (sym (at_map port_of olds k s.old s.was) ∙ b_at) in
-        let three : facts s.new.port ≡ a = same_Some _ _ (sym (at_map port_of news k s.new s.is) ∙ a_at) in (
-          front_facts facts last s.old,
-          front_facts facts last s.new,
-          one,
-          subst (λ (y : StreamFacts × StreamFacts). ServesStream plan.options base (front_facts facts last s.old) (front_facts facts last s.new) own y.0 y.1) (λ i. (two i, three i)) s.run.serves,
-        );
+        let three : facts s.new.port ≡ a = same_Some _ _ (sym (at_map port_of news k s.new s.is) ∙ a_at) in record {
+          old = front_facts facts last 0 s.old;
+          new = front_facts facts last s.new.lacked s.new;
+          told_is = one;
+          uncounted = refl;
+          lacked_is = same_Some _ _ (sym (at_map count_of news k s.new s.is) ∙ count_at);
+          serves = subst (λ (y : StreamFacts × StreamFacts). ServesStream plan.options base (front_facts facts last 0 s.old) (front_facts facts last s.new.lacked s.new) own y.0 y.1)
+              (λ i. (two i, three i)) s.run.serves;
+        };
   }
 
   pub finished : (k : ℕ) (own : List Answered) (after : StreamFacts) → ((fault : ServeFault) → slice_get (map (λ (t : StreamTask C K). t.answer) news) k ≢ Some (Err fault))
@@ -273,13 +280,15 @@ module _ {C K D : Type 0} (plan : Plan) (some : 1 ≤ plan.options.partitions) (
   fronts_long =
       omega (arith, all.opened.many, length-append (map stream_hand stream_olds) (map hand_of olds), length-map stream_olds stream_hand, length-map olds hand_of)
 
-  pub ran_beside : RanBeside plan.options plan.origin batches base (map (λ (t : StreamTask C K). last t.clock) stream_olds) (kept all) (map (λ (t : StreamTask C K). t.answer) stream_news)
+  pub ran_beside : RanBeside plan.options plan.origin batches base (map (λ (t : StreamTask C K). last t.clock) stream_olds) (kept all) (counted_by_all (map (λ (t : StreamTask C K). t.lacked) stream_news)) (map (λ (t : StreamTask C K). t.answer) stream_news)
       (map (λ (t : FrontTask D). t.answer) news) (map (λ (t : FrontTask D). facts t.end) olds) (map (λ (t : FrontTask D). facts t.end) news)
       (map (λ (t : StreamTask C K). stream_facts t.port) stream_olds) (map (λ (t : StreamTask C K). stream_facts t.port) stream_news)
   ran_beside = record {
     answers = own;
+    counts = map (λ (t : StreamTask C K). t.lacked) stream_news;
     many = own_many ∙ sym (length-map stream_olds (λ (t : StreamTask C K). stream_facts t.port));
     served = served plan stream_facts last base stream_olds stream_news streams;
+    lacked_is = refl;
     finished = finished plan stream_facts last base stream_olds stream_news streams;
     stopped = stopped plan stream_facts last base stream_olds stream_news streams;
     ran = record {

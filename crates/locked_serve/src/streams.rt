@@ -1,7 +1,7 @@
 //! The fronts of connections side by side, each in a thread of its own.
 ghost use Rattle.std.specs.Prelude.{◌≡◌, ◌<◌, ◌≤◌, [], length, map, vec_len, vec_capacity};
 ghost use Rattle.locked_serve.specs.Service.{IsLockedPlan};
-ghost use Rattle.locked_serve.specs.Streams.{stream_facts};
+ghost use Rattle.locked_serve.specs.Streams.{counted_by_all, stream_facts};
 ghost use Rattle.locked_serve.specs.Running.{IsReadyStream, StreamRan, AreReadyStreams, StreamsRan};
 
 use crate::service::Shared;
@@ -30,7 +30,7 @@ pub struct StreamTask<C, K> {
 }
 
 impl<C: Connections, K: Clock> StreamTask<C, K> {
-    // Serves the port, as the front of this number, which has taken no turn.
+    // Serves the port, as the front of this number, which has taken no turn, and counts from 0.
     fn run<
         W: Threads + Wait + Sync,
         J: ServerPlan,
@@ -49,6 +49,7 @@ impl<C: Connections, K: Clock> StreamTask<C, K> {
             partitions: options.partitions,
             base: shared.service.base,
         };
+        self.lacked = 0;
         self.answer = serve_connections(
             shared.rt,
             shared.alloc,
@@ -125,13 +126,14 @@ pub(crate) fn pair_streams<C: Drop, K: Drop>(
     }
 }
 
-/// The ports, the hands and the answers of the fronts, in order.
+/// The ports, the hands and the answers of the fronts, in order; and for how many connections there was no memory.
+#[tactic(auto, using(crate::proofs::Counted::counted_next))]
 pub(crate) fn part_streams<C: Drop, K: Drop>(
     streams: Vec<StreamTask<C, K>>,
     ports: &mut Vec<C>,
     hands: &mut Vec<Vec<LockedPart>>,
     answers: &mut Vec<Result<(), ServeFault>>,
-)
+) -> u64
     requires none { (ports.old.items ≡ []) × (hands.old.items ≡ []) × (answers.old.items ≡ []) }
     requires ports { vec_len streams ≤ vec_capacity ports.old }
     requires hands { vec_len streams ≤ vec_capacity hands.old }
@@ -139,10 +141,14 @@ pub(crate) fn part_streams<C: Drop, K: Drop>(
     ensures ports { ports.new.items ≡ map (λ t. t.port) streams.items }
     ensures hands { hands.new.items ≡ map (λ t. t.parts) streams.items }
     ensures answers { answers.new.items ≡ map (λ t. t.answer) streams.items }
+    ensures lacked { result ≡ counted_by_all (map (λ t. t.lacked) streams.items) }
 {
+    let mut lacked = 0u64;
     for stream in streams {
         ports.push_reserved(stream.port);
         hands.push_reserved(stream.parts);
         answers.push_reserved(stream.answer);
+        lacked = lacked.saturating_add(stream.lacked);
     }
+    lacked
 }

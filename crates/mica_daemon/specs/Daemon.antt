@@ -42,15 +42,16 @@ Says line old new = Appends old.taken new.taken line
 abbrev pub FailsToSay : List ℕ → SinkFacts → SinkFacts → Type 0
 FailsToSay line old new = Rose old.faults new.faults × ((n : ℕ) × (n < length line) × Appends old.taken new.taken (take n line))
 
--- all that a run touches, but files
+-- all that a run touches, but files; and for how many connections there was no memory
 pub record DaemonOutside : Type 0 where
   pub sink : SinkFacts
   pub ports : PortFacts
   pub tables : List KeptSeat
+  pub lacked : ℕ
 
 -- of its parts
-abbrev pub daemon_outside : SinkFacts → PortFacts → List KeptSeat → DaemonOutside
-daemon_outside sink ports tables = record { sink = sink; ports = ports; tables = tables }
+abbrev pub daemon_outside : SinkFacts → PortFacts → List KeptSeat → ℕ → DaemonOutside
+daemon_outside sink ports tables lacked = record { sink = sink; ports = ports; tables = tables; lacked = lacked }
 
 -- what is written last, by what the server came to, and the status
 abbrev pub WritesLast : Result Totals Stop → SinkFacts → SinkFacts → Status → Type 0
@@ -65,14 +66,15 @@ WritesLast (Err Unannounced) old new status = (status ≡ WriteFault) × (new �
 pub record ServesAloud (service : LockedService) (seconds : List ℕ) (writes : List Write) (old new : DaemonOutside) (status : Status) : Type 0 where
   pub answer : Result Totals Stop
   pub said : SinkFacts
-  pub cause : IsCauseOfStop answer service writes seconds new.tables old.ports new.ports
+  pub cause : IsCauseOfStop answer service writes seconds new.tables new.lacked old.ports new.ports
   pub leaves : Leaves (λ ports streams. Says (ready_text ports streams)) (λ ports streams. FailsToSay (ready_text ports streams)) answer service old.ports new.ports old.sink said
   pub last : WritesLast answer said new.sink status
 
--- no port was had, and no table is kept
+-- no port was had, no table is kept, and no connection was closed
 pub record BindsNothing (old new : DaemonOutside) : Type 0 where
   pub ports : new.ports ≡ old.ports
   pub tables : new.tables ≡ old.tables
+  pub lacked : new.lacked ≡ old.lacked
 
 -- where words have ports of connections listened at
 abbrev pub place_of : StreamOptions → Place

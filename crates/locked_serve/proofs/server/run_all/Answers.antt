@@ -125,19 +125,19 @@ run_workers-requires-clause-ready g c κs within =
     (ready (plan_of g) c.args.shared.now.service.ports.batches (facts g) c.requires.service.ports.batches.1 (length c.args.connections.now.items) (length c.args.ends.now.items) c.args.ends.now.items c.pair_up.new.tasks.items
     (opened g z) (own g z) c.requires.unserved)
 
-pub part_streams-requires-clause-ports : goal.part_streams-requires-clause-ports
-part_streams-requires-clause-ports g c =
-    let z = (goal.at.part_streams-requires-clause-ports g c).After-pair_up in
+pub part_streams-lacked-requires-clause-ports : goal.part_streams-lacked-requires-clause-ports
+part_streams-lacked-requires-clause-ports g c =
+    let z = (goal.at.part_streams-lacked-requires-clause-ports g c).After-pair_up in
     omega (arith, streams_many g z, c.run_workers.ensures.streams.0, c.run_workers.new.streams.ok, c.requires.server.has_room.ports.1, ap vec_capacity c.replace-ports_before.ensures.after)
 
-pub part_streams-requires-clause-hands : goal.part_streams-requires-clause-hands
-part_streams-requires-clause-hands g c =
-    let z = (goal.at.part_streams-requires-clause-hands g c).After-pair_up in
+pub part_streams-lacked-requires-clause-hands : goal.part_streams-lacked-requires-clause-hands
+part_streams-lacked-requires-clause-hands g c =
+    let z = (goal.at.part_streams-lacked-requires-clause-hands g c).After-pair_up in
     omega (arith, streams_many g z, c.run_workers.ensures.streams.0, c.run_workers.new.streams.ok, c.requires.server.has_room.streams_row.hands.1)
 
-pub part_streams-requires-clause-answers : goal.part_streams-requires-clause-answers
-part_streams-requires-clause-answers g c =
-    let z = (goal.at.part_streams-requires-clause-answers g c).After-pair_up in
+pub part_streams-lacked-requires-clause-answers : goal.part_streams-lacked-requires-clause-answers
+part_streams-lacked-requires-clause-answers g c =
+    let z = (goal.at.part_streams-lacked-requires-clause-answers g c).After-pair_up in
     omega (arith, streams_many g z, c.run_workers.ensures.streams.0, c.run_workers.new.streams.ok, c.requires.server.has_room.streams_row.answers.1)
 
 pub part_fronts-requires-clause-ends : goal.part_fronts-requires-clause-ends
@@ -173,9 +173,9 @@ module _ (g : given.Over) (c : After-part_fronts g) where
       c.pair_up.new.tasks.items c.run_workers.new.fronts.items c.run_workers.ensures.streams ran_fronts
 
   -- what is in hand then
-  news : map (λ own. own.items) c.part_streams.new.hands.items ++ map (λ own. own.items) c.part_fronts.new.hands.items
+  news : map (λ own. own.items) c.part_streams-lacked.new.hands.items ++ map (λ own. own.items) c.part_fronts.new.hands.items
       ≡ map stream_hand c.run_workers.new.streams.items ++ map hand_of c.run_workers.new.fronts.items
-  news = λ i. (ap (map (λ own. own.items)) c.part_streams.ensures.hands ∙ map-map (λ own. own.items) (λ (t : StreamTask g.row.C.Denot g.row.K.Denot). t.parts) c.run_workers.new.streams.items) i
+  news = λ i. (ap (map (λ own. own.items)) c.part_streams-lacked.ensures.hands ∙ map-map (λ own. own.items) (λ (t : StreamTask g.row.C.Denot g.row.K.Denot). t.parts) c.run_workers.new.streams.items) i
       ++ (ap (map (λ own. own.items)) c.part_fronts.ensures.hands ∙ map-map (λ own. own.items) (λ (t : FrontTask g.row.D.Denot). t.parts) c.run_workers.new.fronts.items) i
 
 pub take_in_all-requires-clause-hands : goal.take_in_all-requires-clause-hands
@@ -186,7 +186,7 @@ take_in_all-requires-clause-hands g c =
 module _ (g : given.Over) (c : After-take_in_all g) (open_streams : AreNewHands (plan_of g) 0 (length c.args.connections.now.items) (map stream_hand c.pair_streams.new.tasks.items))
     (open_fronts : AreNewHands (plan_of g) (length c.args.connections.now.items) (length c.args.ends.now.items) (map hand_of c.pair_up.new.tasks.items))
     (hands_are : AreHands (plan_of g) (map stream_hand c.run_workers.new.streams.items ++ map hand_of c.run_workers.new.fronts.items))
-    (news_are : map (λ own. own.items) c.part_streams.new.hands.items ++ map (λ own. own.items) c.part_fronts.new.hands.items
+    (news_are : map (λ own. own.items) c.part_streams-lacked.new.hands.items ++ map (λ own. own.items) c.part_fronts.new.hands.items
     ≡ map stream_hand c.run_workers.new.streams.items ++ map hand_of c.run_workers.new.fronts.items) where
   opens : AreNewHands (plan_of g) 0 (plan_of g).fronts (map stream_hand c.pair_streams.new.tasks.items ++ map hand_of c.pair_up.new.tasks.items)
   opens =
@@ -231,11 +231,11 @@ returns-clause-ran g c =
     sym (map-map (facts g) (λ (t : FrontTask g.row.D.Denot). t.end) c.run_workers.new.fronts.items) ∙ ap (map (facts g)) (sym c.part_fronts.ensures.ends) in
     let ports : map (λ (t : StreamTask g.row.C.Denot g.row.K.Denot). of_stream g t.port) stream_olds ≡ map (of_stream g) c.args.connections.now.items =
     sym (map-map (of_stream g) (λ (t : StreamTask g.row.C.Denot g.row.K.Denot). t.port) stream_olds) ∙ ap (map (of_stream g)) (own_streams g at.After-pair_up) in
-    let left : map (λ (t : StreamTask g.row.C.Denot g.row.K.Denot). of_stream g t.port) streams ≡ map (of_stream g) c.part_streams.new.ports.items =
-    sym (map-map (of_stream g) (λ (t : StreamTask g.row.C.Denot g.row.K.Denot). t.port) streams) ∙ ap (map (of_stream g)) (sym c.part_streams.ensures.ports) in
-    subst (λ (y : Options × List ℕ × List (Result ⊤ ServeFault) × List (Result Totals ServeFault) × List EndFacts × List EndFacts × List StreamFacts × List StreamFacts).
-    RanBeside y.0 plan.origin c.args.shared.now.service.ports.batches c.args.shared.now.service.base y.1 kept y.2 y.3 y.4 y.5 y.6 y.7)
-    (λ i. (sym c.requires.plan.options i, clocks i, sym c.part_streams.ensures.answers i, sym c.part_fronts.ensures.answers i, before i, after i, ports i, left i)) it
+    let left : map (λ (t : StreamTask g.row.C.Denot g.row.K.Denot). of_stream g t.port) streams ≡ map (of_stream g) c.part_streams-lacked.new.ports.items =
+    sym (map-map (of_stream g) (λ (t : StreamTask g.row.C.Denot g.row.K.Denot). t.port) streams) ∙ ap (map (of_stream g)) (sym c.part_streams-lacked.ensures.ports) in
+    subst (λ (y : Options × List ℕ × List (Result ⊤ ServeFault) × List (Result Totals ServeFault) × List EndFacts × List EndFacts × List StreamFacts × List StreamFacts × ℕ).
+    RanBeside y.0 plan.origin c.args.shared.now.service.ports.batches c.args.shared.now.service.base y.1 kept y.8 y.2 y.3 y.4 y.5 y.6 y.7)
+    (λ i. (sym c.requires.plan.options i, clocks i, sym c.part_streams-lacked.ensures.answers i, sym c.part_fronts.ensures.answers i, before i, after i, ports i, left i, sym c.part_streams-lacked.ensures.lacked i)) it
 
 pub returns-clause-idle : goal.returns-clause-idle
 returns-clause-idle g c =
