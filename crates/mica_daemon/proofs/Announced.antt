@@ -1,6 +1,7 @@
 -- What a server that stays up has written, by what it came to.
 use Rattle.std.proofs.Common.{◌≡◌, ℕ, ◌⊎◌, inl, inr, List, take, Option, Some, None, refl, sym, ap, subst, arith}
 use Rattle.std.specs.Prelude.{Result, Ok, Err}
+use Rattle.mica_clock.specs.Seconds.{ClockView}
 use Rattle.partition_model.specs.declared.options.Options.{Options}
 use Rattle.partition_model.specs.declared.write.Write.{Write}
 use Rattle.mica_fronts.specs.declared.totals.Totals.{Totals}
@@ -71,7 +72,7 @@ kept_files None files = refl
 kept_files (Some name) files = omega arith
 
 -- where there was no memory before it began, the words do not matter
-pub unwritten : (given : Option Service) (seconds : List ℕ) (base : ℕ) (files : FilesFacts) (old new : DaemonOutside) (status : Status) → IsUnwritten old.sink new.sink status → BindsNothing old new
-    → KeepsUp given seconds base files files old new status
-unwritten None seconds base files old new status none same = (inl none, same, refl)
-unwritten (Some service) seconds base files old new status none same = (inr (inl none, same), kept_files service.image files)
+pub unwritten : (given : Option Service) (clocks : List ClockView) (base : ℕ) (files : FilesFacts) (old new : DaemonOutside) (status : Status) → IsUnwritten old.sink new.sink status → BindsNothing old new
+    → KeepsUp given clocks base files files old new status
+unwritten None clocks base files old new status none same = (inl none, same, refl)
+unwritten (Some service) clocks base files old new status none same = (inr (inl none, same), kept_files service.image files)

@@ -115,7 +115,7 @@ run_workers-requires-clause-many g c κs within =
 pub run_workers-requires-clause-ready_streams : goal.run_workers-requires-clause-ready_streams
 run_workers-requires-clause-ready_streams g c κs within =
     let z = (goal.at.run_workers-requires-clause-ready_streams g c).After-pair_up in
-    ready_streams (plan_of g) (of_stream g) g.K.Clock.last (length c.args.connections.now.items) c.args.connections.now.items c.pair_streams.new.tasks.items (opened_streams g z) (own_streams g z)
+    ready_streams (plan_of g) (of_stream g) g.K.Clock.view (length c.args.connections.now.items) c.args.connections.now.items c.pair_streams.new.tasks.items (opened_streams g z) (own_streams g z)
     c.requires.fresh
 
 pub run_workers-requires-clause-ready : goal.run_workers-requires-clause-ready
@@ -169,7 +169,7 @@ module _ (g : given.Over) (c : After-part_fronts g) where
       (omega (arith, c.len-first.ensures, c.pair_streams.new.tasks.ok)) c.run_workers.ensures.fronts
 
   are : AreHands (plan_of g) (map stream_hand c.run_workers.new.streams.items ++ map hand_of c.run_workers.new.fronts.items)
-  are = both_are (plan_of g) (of_stream g) g.K.Clock.last c.args.shared.now.service.base c.pair_streams.new.tasks.items c.run_workers.new.streams.items c.args.shared.now.service.ports.batches (facts g)
+  are = both_are (plan_of g) (of_stream g) g.K.Clock.view c.args.shared.now.service.base c.pair_streams.new.tasks.items c.run_workers.new.streams.items c.args.shared.now.service.ports.batches (facts g)
       c.pair_up.new.tasks.items c.run_workers.new.fronts.items c.run_workers.ensures.streams ran_fronts
 
   -- what is in hand then
@@ -219,12 +219,12 @@ returns-clause-ran g c =
     let streams = c.run_workers.new.streams.items in
     let stream_olds = c.pair_streams.new.tasks.items in
     let some = subst (λ (o : Options). 1 ≤ o.partitions) c.requires.plan.options c.requires.service.options.partitions.0 in
-    let it = ran_beside plan some (of_stream g) g.K.Clock.last c.args.shared.now.service.base stream_olds streams c.args.shared.now.service.ports.batches (facts g) c.pair_up.new.tasks.items c.run_workers.new.fronts.items c.run_workers.ensures.streams
+    let it = ran_beside plan some (of_stream g) g.K.Clock.view c.args.shared.now.service.base stream_olds streams c.args.shared.now.service.ports.batches (facts g) c.pair_up.new.tasks.items c.run_workers.new.fronts.items c.run_workers.ensures.streams
     (ran_fronts g at.After-part_fronts)
     (all g at.After-take_in_all (opened_streams g at.After-pair_up) (opened g at.After-pair_up) (are g at.After-part_fronts) (news g at.After-part_fronts)) in
     let kept = map (λ (left : Owned). kept_seat_in left.owner) (map (view g) c.take_in_all.new.parts.items) in
-    let clocks : map (λ (t : StreamTask g.row.C.Denot g.row.K.Denot). g.K.Clock.last t.clock) stream_olds ≡ map g.K.Clock.last c.args.clocks.items =
-    sym (map-map g.K.Clock.last (λ (t : StreamTask g.row.C.Denot g.row.K.Denot). t.clock) stream_olds) ∙ ap (map g.K.Clock.last) c.pair_streams.ensures.clocks in
+    let clocks : map (λ (t : StreamTask g.row.C.Denot g.row.K.Denot). g.K.Clock.view t.clock) stream_olds ≡ map g.K.Clock.view c.args.clocks.items =
+    sym (map-map g.K.Clock.view (λ (t : StreamTask g.row.C.Denot g.row.K.Denot). t.clock) stream_olds) ∙ ap (map g.K.Clock.view) c.pair_streams.ensures.clocks in
     let before : map (λ (t : FrontTask g.row.D.Denot). facts g t.end) c.pair_up.new.tasks.items ≡ map (facts g) c.args.ends.now.items =
     sym (map-map (facts g) (λ (t : FrontTask g.row.D.Denot). t.end) c.pair_up.new.tasks.items) ∙ ap (map (facts g)) (own g at.After-pair_up) in
     let after : map (λ (t : FrontTask g.row.D.Denot). facts g t.end) c.run_workers.new.fronts.items ≡ map (facts g) c.part_fronts.new.ends.items =
