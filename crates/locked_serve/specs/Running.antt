@@ -61,7 +61,7 @@ pub record RunsStream (options : Options) (base : ℕ) (old new : FrontAt) (answ
   pub cause : IsErrOf answer Net → Rose before.faults after.faults
 
 -- as what it has in hand, its clock, what it counted and its port tell it
-abbrev pub front_facts : {C K : Type 0} → (C → StreamFacts) → (K → ℕ) → ℕ → StreamTask C K → FrontAt
+abbrev pub front_facts : {C K : Type 0} → (C → StreamFacts) → (K → ClockView) → ℕ → StreamTask C K → FrontAt
 front_facts facts view lacked task = record {
   sessions = sessions_of task.parts.items;
   left = turns_left task.parts.items;

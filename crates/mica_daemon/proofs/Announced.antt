@@ -59,12 +59,12 @@ pub written_last : (stop cause : Stop) (old new : SinkFacts) (status : Status) �
 written_last stop cause old new status is last = subst (λ (s : Stop). WritesLast (Err s) old new status) (sym is) last
 
 -- a server whose listeners had been told where to listen, with the clocks that it took
-pub serves_placed : {options : Options} {ports : PortOptions} {streams : StreamOptions} (all : List ℕ) {taken : List ℕ} {base : ℕ} {writes : List Write} (old : DaemonOutside) {told new : DaemonOutside}
+pub serves_placed : {options : Options} {ports : PortOptions} {streams : StreamOptions} (all : List ClockView) {taken : List ClockView} {base : ℕ} {writes : List Write} (old : DaemonOutside) {told new : DaemonOutside}
     {status : Status} → take streams.ports.fronts all ≡ taken → told ≡ placed (place_of streams) old
     → ServesAloud (record { options = options; ports = ports; streams = streams.ports; base = base }) taken writes told new status
     → ServesPlaced options ports streams all base writes old new status
 serves_placed {options} {ports} {streams} all {base = base} {writes = writes} old {new = new} {status = status} same is served =
-    subst (λ (y : List ℕ × DaemonOutside). ServesAloud (record { options = options; ports = ports; streams = streams.ports; base = base }) y.0 writes y.1 new status)
+    subst (λ (y : List ClockView × DaemonOutside). ServesAloud (record { options = options; ports = ports; streams = streams.ports; base = base }) y.0 writes y.1 new status)
     (λ i. (sym same i, is i)) served
 
 kept_files : (image : Option Text) (files : FilesFacts) → KeepsFiles image files files

@@ -100,13 +100,13 @@ abbrev pub HasMemory : FilesFacts → Options → Type 0
 HasMemory files options = IfSome files.free (λ free. start_bytes options ≤ free)
 
 -- It served with partitions that there is memory for, and that were filled as it was asked; or it wrote why there is nothing to fill them with, or had no memory, before it began.
-abbrev pub FillsAndServes : Service → List ℕ → ℕ → FilesFacts → FilesFacts → DaemonOutside → DaemonOutside → Status → Type 0
+abbrev pub FillsAndServes : Service → List ClockView → ℕ → FilesFacts → FilesFacts → DaemonOutside → DaemonOutside → Status → Type 0
 FillsAndServes service clocks base before after old new status =
     ((writes : List Write) × HasMemory before service.options × Fills before service.image writes
     × ServesPlaced service.options service.ports service.streams clocks base writes old new status)
     ⊎ (WritesDue (IsDueOfFile before after service.image) old.sink new.sink status × BindsNothing old new)
 
 -- What a run promises by its words: it served as they ask, or said that they are none of its own.
-abbrev pub KeepsUp : Option Service → List ℕ → ℕ → FilesFacts → FilesFacts → DaemonOutside → DaemonOutside → Status → Type 0
+abbrev pub KeepsUp : Option Service → List ClockView → ℕ → FilesFacts → FilesFacts → DaemonOutside → DaemonOutside → Status → Type 0
 KeepsUp (Some service) clocks base before after old new status = FillsAndServes service clocks base before after old new status × KeepsFiles service.image before after
 KeepsUp None clocks base before after old new status = IsTold Usage (with_line_feed (codes "usage")) old.sink new.sink status × BindsNothing old new × KeepsFiles None before after

@@ -2,6 +2,7 @@ use Rattle.std.proofs.Common.{◌≡◌, ◌<◌, ◌≤◌, ◌++◌, ℕ, List
 use Rattle.std.specs.Prelude.{Result, ⊤}
 use Rattle.std.proofs.lemmas.List.{length-map}
 use Rattle.std.proofs.lemmas.Simd.{map-map}
+use Rattle.mica_clock.specs.Seconds.{ClockView}
 use Rattle.partition_model.specs.declared.options.Options.{Options}
 use Rattle.partition_model.specs.History.{IsHistory}
 use Rattle.partition_table.specs.Tabled.{kept_seat_in}
@@ -233,7 +234,7 @@ returns-clause-ran g c =
     sym (map-map (of_stream g) (λ (t : StreamTask g.row.C.Denot g.row.K.Denot). t.port) stream_olds) ∙ ap (map (of_stream g)) (own_streams g at.After-pair_up) in
     let left : map (λ (t : StreamTask g.row.C.Denot g.row.K.Denot). of_stream g t.port) streams ≡ map (of_stream g) c.part_streams-lacked.new.ports.items =
     sym (map-map (of_stream g) (λ (t : StreamTask g.row.C.Denot g.row.K.Denot). t.port) streams) ∙ ap (map (of_stream g)) (sym c.part_streams-lacked.ensures.ports) in
-    subst (λ (y : Options × List ℕ × List (Result ⊤ ServeFault) × List (Result Totals ServeFault) × List EndFacts × List EndFacts × List StreamFacts × List StreamFacts × ℕ).
+    subst (λ (y : Options × List ClockView × List (Result ⊤ ServeFault) × List (Result Totals ServeFault) × List EndFacts × List EndFacts × List StreamFacts × List StreamFacts × ℕ).
     RanBeside y.0 plan.origin c.args.shared.now.service.ports.batches c.args.shared.now.service.base y.1 kept y.8 y.2 y.3 y.4 y.5 y.6 y.7)
     (λ i. (sym c.requires.plan.options i, clocks i, sym c.part_streams-lacked.ensures.answers i, sym c.part_fronts.ensures.answers i, before i, after i, ports i, left i, sym c.part_streams-lacked.ensures.lacked i)) it
 
