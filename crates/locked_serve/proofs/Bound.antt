@@ -2,6 +2,7 @@
 use Rattle.std.proofs.Common.{◌≡◌, ℕ, ◌≤◌, inl, List, [], length, Option, Some, None, refl, sym, ◌∙◌, subst, arith}
 use Rattle.std.specs.Prelude.{Result, Ok, Err}
 use Rattle.std.proofs.lemmas.Option.{slice_get_within}
+use Rattle.mica_clock.specs.Seconds.{ClockView}
 use Rattle.partition_model.specs.History.{History}
 use Rattle.partition_table.specs.declared.tables.KeptSeat.{KeptSeat}
 use Rattle.mica_fronts.specs.declared.totals.Totals.{Totals}
@@ -25,7 +26,7 @@ came_to_fault before after NoMemory = refl
 pub silent : (streams : StreamPorts) (olds news : List StreamFacts) → HaveAnsweredNothing (others_of (no_answers streams.fronts) olds news)
 silent streams olds news k own at = none_answered streams.fronts k own at
 
-module _ (service : Service) (before : ListenFacts) {clocks : List ℕ} (heard : List StreamFacts) (new : AreNewStreams before.ports service.streams.port heard)
+module _ (service : Service) (before : ListenFacts) {clocks : List ClockView} (heard : List StreamFacts) (new : AreNewStreams before.ports service.streams.port heard)
     (within : length heard ≤ service.streams.fronts) {origin : ℕ → History} {batches : ℕ} {kept : List KeptSeat} {lacked : ℕ} {ends_before ends_after : List EndFacts} {news : List StreamFacts} where
   are : length heard ≡ service.streams.fronts → {answer : Result Totals ServeFault} (b : ServesBeside service.options origin batches service.base clocks answer kept lacked ends_before ends_after heard news)
       → AreStreams service.options service.base service.streams before.ports clocks b.counts b.answers heard news
@@ -37,7 +38,7 @@ module _ (service : Service) (before : ListenFacts) {clocks : List ℕ} (heard :
     unheard = λ k own at past. absurd (let low = slice_get_within b.answers k own at in omega (arith, low, past, b.many));
   }
 
-module _ {says : Others → Option (Result Totals ServeFault) → Type 0} {leaves : List StreamFacts → Type 0} {answer : Result Totals Stop} {service : Service} {clocks : List ℕ}
+module _ {says : Others → Option (Result Totals ServeFault) → Type 0} {leaves : List StreamFacts → Type 0} {answer : Result Totals Stop} {service : Service} {clocks : List ClockView}
     {lacked : ℕ} {before after : ListenFacts} where
   -- a port of datagrams could not be bound
   pub unbound : answer ≡ Err (Fault Net) → lacked ≡ 0 → leaves [] → says (others_of (no_answers service.streams.fronts) [] []) (Some (Err Net))

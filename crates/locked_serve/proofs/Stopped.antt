@@ -1,6 +1,7 @@
 -- What a server has told, and why it stopped, where it was filled and where it was not.
 use Rattle.std.proofs.Common.{◌≡◌, ℕ, ◌⊎◌, inl, inr, List, [], Option, Some, refl, sym, ◌∙◌, subst, arith}
 use Rattle.std.specs.Prelude.{Result, Ok, Err}
+use Rattle.mica_clock.specs.Seconds.{ClockView}
 use Rattle.mica_io.specs.Faults.{Rose}
 use Rattle.partition_model.specs.declared.write.Write.{Write}
 use Rattle.partition_model.specs.History.{History}
@@ -64,7 +65,7 @@ still_told (Err (Fault NoMemory)) says fails before mid after old new refused fa
 
 -- what is said of the fronts of datagrams and of the ports that are left, said otherwise once these were let go
 pub says_then : {P Q : Others → Option (Result Totals ServeFault) → Type 0} {A B : List StreamFacts → Type 0} {answer : Result Totals Stop} {service : Service}
-    {clocks : List ℕ} {lacked : ℕ} {before between after : ListenFacts} → after.faults ≡ between.faults → ((news : List StreamFacts) → A news → B news)
+    {clocks : List ClockView} {lacked : ℕ} {before between after : ListenFacts} → after.faults ≡ between.faults → ((news : List StreamFacts) → A news → B news)
     → ((others : Others) (came : Option (Result Totals ServeFault)) → P others came → Q others came)
     → ComesBeside P A answer service clocks lacked before between → ComesBeside Q B answer service clocks lacked before after
 says_then {answer = answer} {before = before} same gone then it = record {
@@ -84,7 +85,7 @@ says_then {answer = answer} {before = before} same gone then it = record {
 }
 
 -- there was no memory before any port was bound
-pub no_memory : {answer : Result Totals Stop} {service : Service} {origin : ℕ → History} {clocks : List ℕ} {kept : List KeptSeat} {lacked : ℕ} {all : PortFacts} → answer ≡ Err (Fault NoMemory) → kept ≡ []
+pub no_memory : {answer : Result Totals Stop} {service : Service} {origin : ℕ → History} {clocks : List ClockView} {kept : List KeptSeat} {lacked : ℕ} {all : PortFacts} → answer ≡ Err (Fault NoMemory) → kept ≡ []
     → lacked ≡ 0 → HasCause answer service origin clocks kept lacked all all
 no_memory {service = service} {origin = origin} {clocks = clocks} {kept = kept} {lacked = lacked} {all = all} is none uncounted =
     subst (λ (r : Result Totals Stop). HasCause r service origin clocks kept lacked all all) (sym is) (record {
@@ -104,7 +105,7 @@ no_memory {service = service} {origin = origin} {clocks = clocks} {kept = kept} 
     })
 
 -- a server that these writes filled
-pub cause_filled : (answer : Result Totals Stop) (writes : List Write) {service : Service} {clocks : List ℕ} {kept : List KeptSeat} {lacked : ℕ} {before after : PortFacts}
+pub cause_filled : (answer : Result Totals Stop) (writes : List Write) {service : Service} {clocks : List ClockView} {kept : List KeptSeat} {lacked : ℕ} {before after : PortFacts}
     → HasCause answer service (origin_of service.options writes) clocks kept lacked before after → IsCauseOfStop answer service writes clocks kept lacked before after
 cause_filled (Ok totals) writes is = is
 cause_filled (Err (Fault fault)) writes is = is
@@ -112,7 +113,7 @@ cause_filled (Err Unannounced) writes is = is
 cause_filled (Err Refused) writes is = absurd is.came_is
 
 -- a server whose partitions could not be made and filled
-pub not_opened : {answer : Result Totals Stop} (fault : OpenFault) (service : Service) (writes : List Write) (clocks : List ℕ) (kept : List KeptSeat) (lacked : ℕ) (all : PortFacts)
+pub not_opened : {answer : Result Totals Stop} (fault : OpenFault) (service : Service) (writes : List Write) (clocks : List ClockView) (kept : List KeptSeat) (lacked : ℕ) (all : PortFacts)
     → answer ≡ Err (stop_of fault) → kept ≡ [] → lacked ≡ 0 → (fault ≡ open_fault.Refused → RefusesFilling service.options writes)
     → IsCauseOfStop answer service writes clocks kept lacked all all
 not_opened fault service writes clocks kept lacked all is none uncounted why = subst (λ (r : Result Totals Stop). IsCauseOfStop r service writes clocks kept lacked all all) (sym is) (at fault why)

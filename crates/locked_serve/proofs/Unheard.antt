@@ -3,6 +3,7 @@ use Rattle.std.proofs.Common.{◌≡◌, ℕ, zero, suc, ◌≤◌, inl, inr, Li
 use Rattle.std.proofs.lemmas.List.{length-replicate}
 use Rattle.std.specs.Prelude.{IfSome}
 use Rattle.std.proofs.lemmas.Option.{slice_get_within, same_Some}
+use Rattle.mica_clock.specs.Seconds.{ClockView}
 use Rattle.stream_io.specs.State.{Entry}
 use Rattle.stream_io.specs.Log.{Log}
 use Rattle.stream_io.specs.PortLogs.{PortLogs}
@@ -35,12 +36,12 @@ each_same a (suc n) (suc k) own at = each_same a n k own at
 pub none_answered : (n k : ℕ) (own : List Answered) → slice_get (no_answers n) k ≡ Some own → own ≡ []
 none_answered = each_same []
 
--- a front that was told this second, and did nothing
-abbrev unmoved : ℕ → FrontAt
-unmoved told = record { sessions = λ q. record { seen = []; done = []; last = 0; told = None }; left = 0; second = told; lacked = 0; has_ended = false }
+-- a front whose clock was seen so, and that did nothing
+abbrev unmoved : ClockView → FrontAt
+unmoved told = record { sessions = λ q. record { seen = []; done = []; last = 0; told = None }; left = 0; clock = told; lacked = 0; has_ended = false }
 
 module _ (options : Options) (base : ℕ) where
-  none_told : (told : ℕ) (log : Option Log) → IfSome log (λ l. l.entries ≡ []) → OnLogs (ServesClients options base (unmoved told) (unmoved told) []) log log
+  none_told : (told : ClockView) (log : Option Log) → IfSome log (λ l. l.entries ≡ []) → OnLogs (ServesClients options base (unmoved told) (unmoved told) []) log log
   none_told told None fresh = tt
   none_told told (Some log) fresh = (
     record {
@@ -62,7 +63,7 @@ module _ (options : Options) (base : ℕ) where
     refl,
   )
 
-  serves_none : (told lacked : ℕ) (own : List Answered) (b a : StreamFacts) → IsUnserved b → lacked ≡ 0 → own ≡ [] → a ≡ b → ServesFrom options base told lacked own b a
+  serves_none : (told : ClockView) (lacked : ℕ) (own : List Answered) (b a : StreamFacts) → IsUnserved b → lacked ≡ 0 → own ≡ [] → a ≡ b → ServesFrom options base told lacked own b a
   serves_none told lacked own b a unserved uncounted none same = subst (λ (y : ℕ × List Answered × StreamFacts). ServesFrom options base told y.0 y.1 b y.2)
       (λ i. (sym uncounted i, sym none i, sym same i)) (record {
         old = unmoved told;
@@ -74,7 +75,7 @@ module _ (options : Options) (base : ℕ) where
       })
 
   -- the ports that were listened at are as they were
-  pub as_heard : (streams : StreamPorts) (waited : Option PortLogs) (clocks : List ℕ) (heard : List StreamFacts) → AreNewStreams waited streams.port heard → length heard ≤ streams.fronts
+  pub as_heard : (streams : StreamPorts) (waited : Option PortLogs) (clocks : List ClockView) (heard : List StreamFacts) → AreNewStreams waited streams.port heard → length heard ≤ streams.fronts
       → AreStreams options base streams waited clocks (no_counts (length heard)) (no_answers streams.fronts) heard heard
   as_heard streams waited clocks heard new within = record {
     are_new = new;
@@ -92,5 +93,5 @@ module _ (options : Options) (base : ℕ) where
   }
 
   -- there are none
-  pub none_heard : (streams : StreamPorts) (waited : Option PortLogs) (clocks : List ℕ) → AreStreams options base streams waited clocks [] (no_answers streams.fronts) [] []
+  pub none_heard : (streams : StreamPorts) (waited : Option PortLogs) (clocks : List ClockView) → AreStreams options base streams waited clocks [] (no_answers streams.fronts) [] []
   none_heard streams waited clocks = as_heard streams waited clocks [] (λ k s at. absurd (let low = slice_get_within [] k s at in omega arith)) (omega arith)

@@ -1,5 +1,6 @@
 -- The ports of connections, as contracts see them, and what their fronts make of them.
 use Rattle.std.specs.Prelude.{◌≡◌, ◌≢◌, ◌⊎◌, ◌+◌, ◌-◌, ◌<◌, ◌≤◌, ⊤, ℕ, Bool, false, List, [], ◌∷◌, length, min, sum, slice_get, Option, None, Some, IfSome, option_map, Result, OnOk}
+use Rattle.mica_clock.specs.Seconds.{ClockView}
 use Rattle.mica_io.specs.Faults.{Rose, LAST_COUNT}
 use Rattle.stream_io.specs.Log.{Log}
 use Rattle.stream_io.specs.declared.connections.Connections.{Ghosts as StreamTells}
@@ -103,29 +104,29 @@ HasFinished options answers after = IsFinished options after.has_ended (most_tur
 abbrev pub HasStopped : Options → List Answered → StreamFacts → StreamFacts → Type 0
 HasStopped options answers before after = HasFinished options answers after ⊎ (Rose before.faults after.faults ⊎ (after ≡ before))
 
--- A front answered so, behind its port: its clock told the seconds of these answers one after another. It knows whether the end came.
+-- A front answered so, behind its port: the readings of its clock gave the seconds of these answers, one after another, and no others. It knows whether the end came.
 pub record ServesStream (options : Options) (base : ℕ) (old new : FrontAt) (answers : List Answered) (before after : StreamFacts) : Type 0 where
   pub port : after.port ≡ before.port
   pub never_fall : before.faults ≤ after.faults
-  pub seconds : ToldFrom old.second (seconds_of answers) new.second
+  pub seconds : ToldFrom old.clock (seconds_of options answers) new.clock
   pub ended : new.has_ended ≡ after.has_ended
   pub stopped : HasStopped options answers before after
   pub clients : OnLogs (ServesClients options base old new answers) before.log after.log
 
--- A front whose clock had told this second answered so, behind its port, and counted so many connections that there was no memory for.
-pub record ServesFrom (options : Options) (base told lacked : ℕ) (answers : List Answered) (before after : StreamFacts) : Type 0 where
+-- A front whose clock was seen so answered this, behind its port, and counted so many connections that there was no memory for.
+pub record ServesFrom (options : Options) (base : ℕ) (told : ClockView) (lacked : ℕ) (answers : List Answered) (before after : StreamFacts) : Type 0 where
   pub old : FrontAt
   pub new : FrontAt
-  pub told_is : old.second ≡ told
+  pub told_is : old.clock ≡ told
   pub uncounted : old.lacked ≡ 0
   pub lacked_is : new.lacked ≡ lacked
   pub serves : ServesStream options base old new answers before after
 
 -- Each front was served behind the port of its place, by its own clock, and counted for itself. The first unique number of a value is that of the base.
-pub record AreServed (options : Options) (base : ℕ) (clocks counts : List ℕ) (answers : List (List Answered)) (olds news : List StreamFacts) : Type 0 where
+pub record AreServed (options : Options) (base : ℕ) (clocks : List ClockView) (counts : List ℕ) (answers : List (List Answered)) (olds news : List StreamFacts) : Type 0 where
   pub many : length news ≡ length olds
   pub counted : length counts ≡ length olds
-  pub each : (k told lacked : ℕ) (own : List Answered) (b a : StreamFacts) → slice_get clocks k ≡ Some told → slice_get counts k ≡ Some lacked
+  pub each : (k : ℕ) (told : ClockView) (lacked : ℕ) (own : List Answered) (b a : StreamFacts) → slice_get clocks k ≡ Some told → slice_get counts k ≡ Some lacked
       → slice_get answers k ≡ Some own → slice_get olds k ≡ Some b → slice_get news k ≡ Some a → ServesFrom options base told lacked own b a
 
 -- what all fronts counted together, and no more than the last count
@@ -133,7 +134,7 @@ abbrev pub counted_by_all : List ℕ → ℕ
 counted_by_all counts = min (sum counts) LAST_COUNT
 
 -- The ports that were listened at, before and after, and what each front answered and counted. One that has no port answered nothing.
-pub record AreStreams (options : Options) (base : ℕ) (streams : StreamPorts) (waited : Option PortLogs) (clocks counts : List ℕ) (answers : List (List Answered))
+pub record AreStreams (options : Options) (base : ℕ) (streams : StreamPorts) (waited : Option PortLogs) (clocks : List ClockView) (counts : List ℕ) (answers : List (List Answered))
     (olds news : List StreamFacts) : Type 0 where
   pub are_new : AreNewStreams waited streams.port olds
   pub within : length olds ≤ streams.fronts
@@ -165,7 +166,7 @@ LeavesStreams None answers lacked olds news = (news ≡ olds) × HaveAnsweredNot
 LeavesStreams (Some came) answers lacked olds news = ⊤
 
 -- Each front was served, those of connections beside those of datagrams, which came to this all together. For so many connections there was no memory.
-pub record ServesBeside (options : Options) (origin : ℕ → History) (batches base : ℕ) (clocks : List ℕ) (answer : Result Totals ServeFault) (kept : List KeptSeat) (lacked : ℕ)
+pub record ServesBeside (options : Options) (origin : ℕ → History) (batches base : ℕ) (clocks : List ClockView) (answer : Result Totals ServeFault) (kept : List KeptSeat) (lacked : ℕ)
     (before after : List EndFacts) (olds news : List StreamFacts) : Type 0 where
   pub answers : List (List Answered)
   pub counts : List ℕ

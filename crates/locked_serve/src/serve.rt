@@ -76,7 +76,7 @@ fn bind_and_serve<
     requires room_of_streams { shared.now.service.streams.fronts ≤ vec_capacity connections.old }
     ensures served { ComesBeside (λ others came. BindsAndServes others shared.now.service.options J.plan.origin shared.now.service.ports came tables.new
         (net_facts N.Net net.old) (net_facts N.Net net.new) (map (end_facts N.End.Datagrams) ends.new.items))
-        (λ news. news ≡ map (stream_facts L.Port.Connections) connections.new.items) result shared.now.service (map K.last clocks.items) lacked.new
+        (λ news. news ≡ map (stream_facts L.Port.Connections) connections.new.items) result shared.now.service (map K.view clocks.items) lacked.new
         (listen_facts L.Listeners listeners.old) (listen_facts L.Listeners listeners.new) }
     ensures unreleased { L.released listeners.new ≡ L.released listeners.old }
     ensures heard { KeepsListeners shared.now.service.streams (listen_facts L.Listeners listeners.old) (listen_facts L.Listeners listeners.new) }
@@ -121,7 +121,7 @@ fn serve_named<
     requires unbound { N.binds net.old ≡ 0 }
     requires tables { tables.old ≡ [] }
     requires uncounted { lacked.old ≡ 0 }
-    ensures cause { HasCause result shared.now.service J.plan.origin (map K.last clocks.items) tables.new lacked.new
+    ensures cause { HasCause result shared.now.service J.plan.origin (map K.view clocks.items) tables.new lacked.new
         (ports_at N.Net L.Listeners net.old listeners.old) (ports_at N.Net L.Listeners net.new listeners.new) }
     ensures leaves { Leaves A.says A.fails result shared.now.service
         (ports_at N.Net L.Listeners net.old listeners.old) (ports_at N.Net L.Listeners net.new listeners.new) announce.old announce.new }
@@ -175,7 +175,7 @@ fn serve_on<
     requires unbound { N.binds net.old ≡ 0 }
     requires tables { tables.old ≡ [] }
     requires uncounted { lacked.old ≡ 0 }
-    ensures cause { IsCauseOfStop result shared.now.service filling.items (map K.last clocks.items) tables.new lacked.new
+    ensures cause { IsCauseOfStop result shared.now.service filling.items (map K.view clocks.items) tables.new lacked.new
         (ports_at N.Net L.Listeners net.old listeners.old) (ports_at N.Net L.Listeners net.new listeners.new) }
     ensures leaves { Leaves A.says A.fails result shared.now.service
         (ports_at N.Net L.Listeners net.old listeners.old) (ports_at N.Net L.Listeners net.new listeners.new) announce.old announce.new }
@@ -221,7 +221,7 @@ pub fn serve_locked<
     requires tables { tables.old ≡ [] }
     requires uncounted { lacked.old ≡ 0 }
 
-    ensures cause { IsCauseOfStop result shared.now.service filling.items (map K.last clocks.items) tables.new lacked.new
+    ensures cause { IsCauseOfStop result shared.now.service filling.items (map K.view clocks.items) tables.new lacked.new
         (ports_at N.Net L.Listeners net.old listeners.old) (ports_at N.Net L.Listeners net.new listeners.new) }
     ensures leaves { Leaves A.says A.fails result shared.now.service
         (ports_at N.Net L.Listeners net.old listeners.old) (ports_at N.Net L.Listeners net.new listeners.new) announce.old announce.new }

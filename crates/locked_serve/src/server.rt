@@ -179,7 +179,7 @@ fn run_all<
         server.stream_hands.items server.hands.items server.room }
     requires unserved { AreOpen (map (end_facts D.Datagrams) ends.old.items) }
     requires fresh { AreUnserved (map (stream_facts C.Connections) connections.old.items) }
-    ensures ran { RanBeside shared.now.service.options J.plan.origin shared.now.service.ports.batches shared.now.service.base (map K.last clocks.items)
+    ensures ran { RanBeside shared.now.service.options J.plan.origin shared.now.service.ports.batches shared.now.service.base (map K.view clocks.items)
         (map (λ left. kept_seat_in left.owner) (map (λ part. left_view P.owner P.home part) result.parts.items)) result.lacked result.streams.items result.fronts.items
         (map (end_facts D.Datagrams) ends.old.items) (map (end_facts D.Datagrams) ends.new.items)
         (map (stream_facts C.Connections) connections.old.items) (map (stream_facts C.Connections) connections.new.items) }
@@ -257,7 +257,7 @@ pub(crate) fn serve_all<
     requires tables { tables.old ≡ [] }
     requires unserved { AreOpen (map (end_facts D.Datagrams) ends.old.items) }
     requires fresh { AreUnserved (map (stream_facts C.Connections) connections.old.items) }
-    ensures { ServesBeside shared.now.service.options J.plan.origin shared.now.service.ports.batches shared.now.service.base (map K.last clocks.items) result tables.new lacked.new
+    ensures { ServesBeside shared.now.service.options J.plan.origin shared.now.service.ports.batches shared.now.service.base (map K.view clocks.items) result tables.new lacked.new
         (map (end_facts D.Datagrams) ends.old.items) (map (end_facts D.Datagrams) ends.new.items)
         (map (stream_facts C.Connections) connections.old.items) (map (stream_facts C.Connections) connections.new.items) }
 {

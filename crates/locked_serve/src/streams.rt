@@ -39,8 +39,8 @@ impl<C: Connections, K: Clock> StreamTask<C, K> {
     >(&mut self, shared: &Shared<W, G>, locks: &[Mutex<OwnedPartition<J, P>>], number: u32)
         requires plan { IsLockedPlan shared.now.service J.plan (length locks.now) }
         requires low { number < J.plan.fronts }
-        requires ready { IsReadyStream J.plan (stream_facts C.Connections) K.last number self.old }
-        ensures { StreamRan J.plan (stream_facts C.Connections) K.last shared.now.service.base number self.old self.new }
+        requires ready { IsReadyStream J.plan (stream_facts C.Connections) K.view number self.old }
+        ensures { StreamRan J.plan (stream_facts C.Connections) K.view shared.now.service.base number self.old self.new }
     {
         let options = &shared.service.options;
         let parts = mem::replace(&mut self.parts, Vec::new(shared.alloc));
@@ -76,8 +76,8 @@ pub(crate) fn run_streams<
 >(shared: &Shared<W, G>, locks: &[Mutex<OwnedPartition<J, P>>], streams: &mut Vec<StreamTask<C, K>>)
     requires plan { IsLockedPlan shared.now.service J.plan (length locks.now) }
     requires many { length streams.old.items ≤ J.plan.fronts }
-    requires ready { AreReadyStreams J.plan (stream_facts C.Connections) K.last streams.old.items }
-    ensures { StreamsRan J.plan (stream_facts C.Connections) K.last shared.now.service.base streams.old.items streams.new.items }
+    requires ready { AreReadyStreams J.plan (stream_facts C.Connections) K.view streams.old.items }
+    ensures { StreamsRan J.plan (stream_facts C.Connections) K.view shared.now.service.base streams.old.items streams.new.items }
 {
     let threads = streams.len().max(1);
     for_each_mut(
@@ -86,8 +86,8 @@ pub(crate) fn run_streams<
         threads,
         &|number, stream|
             requires { (number < J.plan.fronts) × IsLockedPlan shared.now.service J.plan (length locks.now)
-                × IsReadyStream J.plan (stream_facts C.Connections) K.last number stream.now }
-            ensures { StreamRan J.plan (stream_facts C.Connections) K.last shared.entry.now.service.base number stream.entry.now stream.exit.now }
+                × IsReadyStream J.plan (stream_facts C.Connections) K.view number stream.now }
+            ensures { StreamRan J.plan (stream_facts C.Connections) K.view shared.entry.now.service.base number stream.entry.now stream.exit.now }
         { stream.run(shared, locks, number as u32) },
     );
 }

@@ -65,7 +65,7 @@ fn serve_aloud<
     requires unbound { N.binds net.old ≡ 0 }
     requires tables { tables.old ≡ [] }
     requires uncounted { lacked.old ≡ 0 }
-    ensures { ServesAloud shared.now.service (map C.last clocks.items) filling.items
+    ensures { ServesAloud shared.now.service (map C.view clocks.items) filling.items
         (daemon_outside (sink_facts K.Sink speaker.old.sink) (ports_at N.Net L.Listeners net.old listeners.old) tables.old lacked.old)
         (daemon_outside (sink_facts K.Sink speaker.new.sink) (ports_at N.Net L.Listeners net.new listeners.new) tables.new lacked.new) result }
 {
@@ -111,7 +111,7 @@ fn stay_up<
     requires unbound { N.binds net.old ≡ 0 }
     requires tables { tables.old ≡ [] }
     requires uncounted { lacked.old ≡ 0 }
-    ensures { ServesOrNot options.now ports.now streams.now (map C.last clocks.items) base filling.items
+    ensures { ServesOrNot options.now ports.now streams.now (map C.view clocks.items) base filling.items
         (daemon_outside (sink_facts K.Sink speaker.old.sink) (ports_at N.Net L.Listeners net.old listeners.old) tables.old lacked.old)
         (daemon_outside (sink_facts K.Sink speaker.new.sink) (ports_at N.Net L.Listeners net.new listeners.new) tables.new lacked.new) result }
 {
@@ -194,7 +194,7 @@ pub fn daemon<
     requires clocks { MOST_FRONTS ≤ length clocks.items }
     requires tables { tables.old ≡ [] }
     requires uncounted { lacked.old ≡ 0 }
-    ensures { KeepsUp (daemon_of (map string_bytes words.now)) (map C.last clocks.items) base (files_facts F.file F.free F.faults files.old) (files_facts F.file F.free F.faults files.new)
+    ensures { KeepsUp (daemon_of (map string_bytes words.now)) (map C.view clocks.items) base (files_facts F.file F.free F.faults files.old) (files_facts F.file F.free F.faults files.new)
         (daemon_outside (sink_facts K.Sink speaker.old.sink) (ports_at N.Net L.Listeners net.old listeners.old) tables.old lacked.old)
         (daemon_outside (sink_facts K.Sink speaker.new.sink) (ports_at N.Net L.Listeners net.new listeners.new) tables.new lacked.new) result }
 {
