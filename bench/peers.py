@@ -7,6 +7,7 @@ import subprocess
 import time
 
 from formats import HOST, TOP
+from sizes import shape_for
 
 PLAIN = TOP / "bench/target/release/mica_bench"
 MICAD = pathlib.Path(os.environ.get("MICAD", TOP / "crates/micad/out/micad"))
@@ -75,12 +76,12 @@ def redis(*words):
 
 
 @contextlib.contextmanager
-def plain_rust(fronts=1, mode="store"):
-    """Plain Rust of the same form: partitions under locks, and fronts over epoll. It knows get and set alone."""
+def plain_rust(fronts=1, mode="store", memory="64M"):
+    """Plain Rust of the same form: partitions under locks, of the sizes that micad makes for so much memory, and fronts over epoll. It knows get, gets, set and stats alone, keeps flags, end and
+    unique number of an item, reads the clock for each command, answers what is over as absent, and counts. It takes away nothing that is over."""
     port = free_port(fronts)
     ports = range(port, port + fronts)
-    shape = ["--words", 262_144, "--buckets", 1_024]
-    with started([PLAIN, "streams", "--mode", mode, *shape, "--port", port, "--fronts", fronts], ports) as running:
+    with started([PLAIN, "streams", "--mode", mode, *shape_for(mode, memory), "--port", port, "--fronts", fronts], ports) as running:
         yield running, ports
 
 
@@ -93,9 +94,8 @@ def resident(process):
 
 
 def processor_seconds(process):
-    """How long it has run on processors."""
-    fields = pathlib.Path(f"/proc/{process.pid}/stat").read_text().rsplit(")", 1)[1].split()
-    return (int(fields[11]) + int(fields[12])) / os.sysconf("SC_CLK_TCK")
+    """How long its threads have run on processors."""
+    return sum(int((thread / "schedstat").read_text().split()[0]) for thread in pathlib.Path(f"/proc/{process.pid}/task").iterdir()) / 1e9
 
 
 class Line:

@@ -227,20 +227,20 @@ fn fill(port: u16, mix: &Mix) -> io::Result<()> {
         let mut due = (last - first) as usize;
         while due > 0 {
             let count = stream.read(&mut room)?;
+            if count == 0 {
+                return Err(ErrorKind::UnexpectedEof.into());
+            }
             due -= room[..count].iter().filter(|&&byte| byte == b'\n').count();
         }
     }
     Ok(())
 }
 
-fn run(ports: &[u16], connections: usize, mix: &Mix, seed: u64, end: Instant) -> io::Result<Done> {
+fn run(mut all: Vec<Connection>, mix: &Mix, seed: u64, end: Instant) -> io::Result<Done> {
     let mut poll = Poll::new()?;
     let mut draws = Pcg::new(seed);
-    let mut all = Vec::new();
-    for number in 0..connections {
-        let connection = Connection::open(ports[number % ports.len()])?;
-        poll.add(&connection.stream, number as u64)?;
-        all.push(connection);
+    for (number, connection) in (0..).zip(&all) {
+        poll.add(&connection.stream, number)?;
     }
     let mut done = Done::default();
     let mut room = vec![0; 1 << 16];
@@ -274,15 +274,17 @@ pub fn load(words: &HashMap<&str, &str>) -> Result<Vec<u8>, Box<dyn Error>> {
     if number("fill", 1)? > 0 {
         fill(port, &mix)?;
     }
+    let open = |thread: usize| -> io::Result<Vec<Connection>> {
+        let many = (connections + threads - 1 - thread) / threads;
+        (0..many).map(|number| Connection::open(ports[number % ports.len()])).collect()
+    };
+    let opened: Vec<Vec<Connection>> = (0..threads).map(open).collect::<io::Result<_>>()?;
     let begin = Instant::now();
     let end = begin + Duration::from_millis(number("milliseconds", 1_000)?);
     let parts: Vec<io::Result<Done>> = thread::scope(|scope| {
-        let start = |thread: usize| {
-            let (ports, mix) = (&ports, &mix);
-            let many = (connections + threads - 1 - thread) / threads;
-            scope.spawn(move || run(ports, many, mix, thread as u64 + 1, end))
-        };
-        let running: Vec<_> = (0..threads).map(start).collect();
+        let mix = &mix;
+        let start = |(seed, all)| scope.spawn(move || run(all, mix, seed, end));
+        let running: Vec<_> = (1..).zip(opened).map(start).collect();
         let ended = running.into_iter().map(|one| one.join().unwrap_or_else(|_| Err(ErrorKind::Other.into())));
         ended.collect()
     });

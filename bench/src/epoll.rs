@@ -53,7 +53,7 @@ impl Poll {
     pub fn wait(&mut self, milliseconds: i32) -> impl Iterator<Item = u64> + use<> {
         // SAFETY: there is room for so many events.
         let count = unsafe { epoll_wait(self.epoll.as_raw_fd(), self.events.as_mut_ptr(), MOST as i32, milliseconds) };
-        let events = self.events;
-        (0..count.max(0) as usize).map(move |at| events[at].data)
+        let numbers: Vec<u64> = self.events[..count.max(0) as usize].iter().map(|event| event.data).collect();
+        numbers.into_iter()
     }
 }

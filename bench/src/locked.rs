@@ -13,7 +13,7 @@ use std::sync::Mutex;
 use std::thread;
 
 /// Tables of more words than this, 16 MiB, are larger than the caches.
-const CACHED_WORDS: usize = 1 << 21;
+pub const CACHED_WORDS: usize = 1 << 21;
 
 /// What a front has of each partition.
 struct Part<'a> {
@@ -21,12 +21,10 @@ struct Part<'a> {
     owner: &'a Mutex<Owner<'a>>,
 }
 
-/// Loads what the gets of a batch will look at, so that they miss the caches beside each other.
-fn load_ahead(parts: &[Part<'_>], requests: &[(u32, Request<'_>)]) {
-    let hashes: Vec<u64> = requests.iter().map(|(_, request)| key_hash(request.key())).collect();
-    let part_of = |hash| parts[partition_of(hash, parts.len())].table;
-    let loaded = hashes.iter().fold(0, |all, &hash| all ^ part_of(hash).bucket_ahead(hash));
-    std::hint::black_box(hashes.iter().fold(loaded, |all, &hash| all ^ part_of(hash).item_ahead(hash)));
+/// Loads what is found by these hashes, so that the misses of the caches lie beside each other.
+pub fn load_ahead<'a>(table_of: impl Fn(u64) -> &'a Table, hashes: &[u64]) {
+    let loaded = hashes.iter().fold(0, |all, &hash| all ^ table_of(hash).bucket_ahead(hash));
+    std::hint::black_box(hashes.iter().fold(loaded, |all, &hash| all ^ table_of(hash).item_ahead(hash)));
 }
 
 fn replies_to(parts: &[Part<'_>], is_ahead: bool, datagram: &[u8], value: &mut Vec<u8>) -> Replies {
@@ -36,7 +34,8 @@ fn replies_to(parts: &[Part<'_>], is_ahead: bool, datagram: &[u8], value: &mut V
         return replies;
     };
     if is_ahead {
-        load_ahead(parts, &requests);
+        let hashes: Vec<u64> = requests.iter().map(|(_, request)| key_hash(request.key())).collect();
+        load_ahead(|hash| parts[partition_of(hash, parts.len())].table, &hashes);
     }
     for (ticket, request) in requests {
         let (Request::Get { key } | Request::Put { key, .. } | Request::Del { key }) = request;

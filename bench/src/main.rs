@@ -5,6 +5,7 @@
 //! partitions in turn by a lock, `load` sends them, `streams` serves memcached's protocol over connections, and `connect` loads such a server.
 
 mod cache;
+mod commands;
 mod connections;
 mod epoll;
 mod fronts;

@@ -16,10 +16,11 @@ pub struct Table {
     table: Vec<AtomicU64>,
 }
 
-fn word_of(bytes: &[u8]) -> u64 {
-    let mut word = [0; 8];
-    word[..bytes.len()].copy_from_slice(bytes);
-    u64::from_le_bytes(word)
+/// Bytes as words, of which the last one is filled up by zeros.
+fn words_of(bytes: &[u8]) -> impl Iterator<Item = u64> {
+    let (whole, rest) = bytes.as_chunks();
+    let last = (!rest.is_empty()).then(|| rest.iter().rev().fold(0, |word, &byte| word << 8 | u64::from(byte)));
+    whole.iter().map(|bytes| u64::from_le_bytes(*bytes)).chain(last)
 }
 
 impl Table {
@@ -63,8 +64,31 @@ impl Table {
         self.entry_at(bucket, SLOTS)
     }
 
-    fn item_at(&self, offset: u64) -> usize {
-        self.items + if offset < self.words { offset } else { offset % self.words } as usize
+    /// The place of an offset among the words of items.
+    fn place_of(&self, offset: u64) -> usize {
+        if offset < self.words { offset as usize } else { (offset % self.words) as usize }
+    }
+
+    /// So many words from an offset on, in two parts: a log goes on at its begin.
+    fn parts(&self, offset: u64, count: usize) -> [&[AtomicU64]; 2] {
+        let (begin, from) = self.table[self.items..].split_at(self.place_of(offset));
+        let first = count.min(from.len());
+        [&from[..first], &begin[..(count - first).min(begin.len())]]
+    }
+
+    fn item_words(&self, offset: u64, count: usize) -> impl Iterator<Item = &AtomicU64> {
+        let [first, second] = self.parts(offset, count);
+        first.iter().chain(second)
+    }
+
+    fn item_word(&self, offset: u64) -> u64 {
+        self.load(self.items + self.place_of(offset))
+    }
+
+    /// The entries of a bucket.
+    fn entries(&self, bucket: usize) -> impl Iterator<Item = u64> {
+        let at = self.entry_at(bucket, 0);
+        self.table[at..at + SLOTS].iter().map(|entry| entry.load(SeqCst))
     }
 
     pub fn stamp(&self) -> u64 {
@@ -84,9 +108,8 @@ impl Table {
     /// The same of the first item whose entry has the tag of the hash.
     pub fn item_ahead(&self, hash: u64) -> u64 {
         let (main, tag) = (bucket_of(hash, self.buckets), tag_of(hash));
-        let entries = (0..SLOTS).map(|slot| self.load(self.entry_at(main, slot)));
-        match entries.map(|entry| (entry >> 48 == tag).then_some(entry & OFFSET)).find_map(|offset| offset) {
-            Some(offset) => self.load(self.item_at(offset)) ^ self.load(self.item_at(offset + 8)),
+        match self.entries(main).find(|entry| entry >> 48 == tag) {
+            Some(entry) => self.item_word(entry & OFFSET) ^ self.item_word((entry & OFFSET) + 8),
             None => 0,
         }
     }
@@ -96,29 +119,22 @@ impl Table {
         if self.mode == Mode::Store && offset >= self.words {
             return None;
         }
-        let header = self.load(self.item_at(offset));
+        let mut words = self.item_words(offset, 2 + key.len().div_ceil(8)).map(|word| word.load(SeqCst));
+        let header = words.next()?;
         let len = (header >> 32) as usize;
-        let is_key = (header >> 16) as usize & 0xffff == key.len()
-            && len <= LONGEST_VALUE
-            && self.load(self.item_at(offset + 1)) == hash
-            && (2..).zip(key.chunks(8)).all(|(at, part)| self.load(self.item_at(offset + at)) == word_of(part));
+        let is_key = (header >> 16) as usize & 0xffff == key.len() && len <= LONGEST_VALUE && words.next() == Some(hash) && words.eq(words_of(key));
         is_key.then_some(len)
     }
 
-    /// Puts the value behind `out`, eight words at a time, as `mica` does.
+    /// Puts the value behind `out`.
     fn put_value(&self, offset: u64, len: usize, out: &mut Vec<u8>) {
         let end = out.len() + len;
-        let words = len.div_ceil(8) as u64;
-        let blocks = words / 8;
-        for block in 0..blocks {
-            let mut bytes = [0; 64];
-            for (at, part) in (8 * block..).zip(bytes.chunks_exact_mut(8)) {
-                part.copy_from_slice(&self.load(self.item_at(offset + at)).to_le_bytes());
+        for part in self.parts(offset, len.div_ceil(8)) {
+            let begin = out.len();
+            out.resize(begin + 8 * part.len(), 0);
+            for (bytes, word) in out[begin..].as_chunks_mut().0.iter_mut().zip(part) {
+                *bytes = word.load(SeqCst).to_le_bytes();
             }
-            out.extend_from_slice(&bytes);
-        }
-        for at in 8 * blocks..words {
-            out.extend_from_slice(&self.load(self.item_at(offset + at)).to_le_bytes());
         }
         out.truncate(end);
     }
@@ -134,8 +150,7 @@ impl Table {
         let mut best: Option<u64> = None;
         let mut bucket = main;
         for _ in 0..=(self.items - 1 - 17 * self.buckets) / 16 {
-            for slot in 0..SLOTS {
-                let entry = self.load(self.entry_at(bucket, slot));
+            for entry in self.entries(bucket) {
                 let offset = entry & OFFSET;
                 if entry >> 48 == tag
                     && best.is_none_or(|best| best < offset)
@@ -233,15 +248,13 @@ impl<'a> Owner<'a> {
         let (tag, stamp) = (tag_of(hash), self.table.stamp());
         let mut bucket = bucket_of(hash, self.options.buckets);
         loop {
-            for slot in 0..SLOTS {
-                let at = self.table.entry_at(bucket, slot);
-                let entry = self.table.load(at);
+            for (slot, entry) in self.table.entries(bucket).enumerate() {
                 let offset = entry & OFFSET;
                 if entry >> 48 == tag
                     && self.table.is_live(offset, stamp)
                     && self.table.value_len(offset, hash, key).is_some()
                 {
-                    return Some((at, offset));
+                    return Some((self.table.entry_at(bucket, slot), offset));
                 }
             }
             if self.options.mode == Mode::Cache {
@@ -271,15 +284,14 @@ impl<'a> Owner<'a> {
 
     fn write_item(&self, offset: u64, room: usize, hash: u64, key: &[u8], value: &[u8]) {
         let header = room as u64 | (key.len() as u64) << 16 | (value.len() as u64) << 32;
-        let item = [header, hash].into_iter();
-        let words = item.chain(key.chunks(8).map(word_of)).chain(value.chunks(8).map(word_of));
-        for (at, word) in (0..).zip(words) {
-            self.table.store(self.table.item_at(offset + at), word);
+        let item = [header, hash].into_iter().chain(words_of(key)).chain(words_of(value));
+        for (place, word) in self.table.item_words(offset, item_size(key, value)).zip(item) {
+            place.store(word, SeqCst);
         }
     }
 
     fn room_of(&self, offset: u64) -> usize {
-        self.table.load(self.table.item_at(offset)) as usize & 0xffff
+        self.table.item_word(offset) as usize & 0xffff
     }
 
     /// A write: begin, mark, the stores of `change`, end.

@@ -2,6 +2,7 @@
 use Rattle.std.proofs.Common.{◌≡◌, ℕ, ◌≤◌, inl, List, [], length, Option, Some, None, refl, sym, ◌∙◌, subst, arith}
 use Rattle.std.specs.Prelude.{Result, Ok, Err}
 use Rattle.std.proofs.lemmas.Option.{slice_get_within}
+use Rattle.mica_clock.specs.Seconds.{ClockView}
 use Rattle.partition_model.specs.History.{History}
 use Rattle.partition_table.specs.declared.tables.KeptSeat.{KeptSeat}
 use Rattle.mica_fronts.specs.declared.totals.Totals.{Totals}
@@ -15,7 +16,7 @@ use Rattle.locked_serve.specs.declared.stop.Stop.{Stop}
 use Rattle.locked_serve.specs.declared.stop.Stop.TheVariants.{Fault}
 use Rattle.locked_serve.specs.Streams.{StreamFacts, ListenFacts, AreNewStreams, AreStreams, ServesBeside, others_of}
 use Rattle.locked_serve.specs.Causes.{CameTo, ComesBeside}
-use Rattle.locked_serve.proofs.Unheard.{no_answers, none_answered, as_heard, none_heard}
+use Rattle.locked_serve.proofs.Unheard.{no_answers, no_counts, none_answered, none_counted, as_heard, none_heard}
 
 came_to_fault : (before after : ℕ) (fault : ServeFault) → CameTo (Err (Fault fault)) before after (Some (Err fault))
 came_to_fault before after Net = inl refl
@@ -25,10 +26,10 @@ came_to_fault before after NoMemory = refl
 pub silent : (streams : StreamPorts) (olds news : List StreamFacts) → HaveAnsweredNothing (others_of (no_answers streams.fronts) olds news)
 silent streams olds news k own at = none_answered streams.fronts k own at
 
-module _ (service : Service) (before : ListenFacts) {clocks : List ℕ} (heard : List StreamFacts) (new : AreNewStreams before.ports service.streams.port heard)
-    (within : length heard ≤ service.streams.fronts) {origin : ℕ → History} {batches : ℕ} {kept : List KeptSeat} {ends_before ends_after : List EndFacts} {news : List StreamFacts} where
-  are : length heard ≡ service.streams.fronts → {answer : Result Totals ServeFault} (b : ServesBeside service.options origin batches service.base clocks answer kept ends_before ends_after heard news)
-      → AreStreams service.options service.base service.streams before.ports clocks b.answers heard news
+module _ (service : Service) (before : ListenFacts) {clocks : List ClockView} (heard : List StreamFacts) (new : AreNewStreams before.ports service.streams.port heard)
+    (within : length heard ≤ service.streams.fronts) {origin : ℕ → History} {batches : ℕ} {kept : List KeptSeat} {lacked : ℕ} {ends_before ends_after : List EndFacts} {news : List StreamFacts} where
+  are : length heard ≡ service.streams.fronts → {answer : Result Totals ServeFault} (b : ServesBeside service.options origin batches service.base clocks answer kept lacked ends_before ends_after heard news)
+      → AreStreams service.options service.base service.streams before.ports clocks b.counts b.answers heard news
   are full b = record {
     are_new = new;
     within = within;
@@ -37,15 +38,18 @@ module _ (service : Service) (before : ListenFacts) {clocks : List ℕ} (heard :
     unheard = λ k own at past. absurd (let low = slice_get_within b.answers k own at in omega (arith, low, past, b.many));
   }
 
-module _ {says : Others → Option (Result Totals ServeFault) → Type 0} {leaves : List StreamFacts → Type 0} {answer : Result Totals Stop} {service : Service} {clocks : List ℕ}
-    {before after : ListenFacts} where
+module _ {says : Others → Option (Result Totals ServeFault) → Type 0} {leaves : List StreamFacts → Type 0} {answer : Result Totals Stop} {service : Service} {clocks : List ClockView}
+    {lacked : ℕ} {before after : ListenFacts} where
   -- a port of datagrams could not be bound
-  pub unbound : answer ≡ Err (Fault Net) → leaves [] → says (others_of (no_answers service.streams.fronts) [] []) (Some (Err Net)) → ComesBeside says leaves answer service clocks before after
-  unbound is left said = subst (λ (a : Result Totals Stop). ComesBeside says leaves a service clocks before after) (sym is) (record {
+  pub unbound : answer ≡ Err (Fault Net) → lacked ≡ 0 → leaves [] → says (others_of (no_answers service.streams.fronts) [] []) (Some (Err Net))
+      → ComesBeside says leaves answer service clocks lacked before after
+  unbound is uncounted left said = subst (λ (a : Result Totals Stop). ComesBeside says leaves a service clocks lacked before after) (sym is) (record {
     answers = no_answers service.streams.fronts;
+    counts = [];
     olds = [];
     news = [];
     are = none_heard service.options service.base service.streams before.ports clocks;
+    lacked_is = uncounted;
     left = left;
     all = tt;
     finished = tt;
@@ -57,31 +61,35 @@ module _ {says : Others → Option (Result Totals ServeFault) → Type 0} {leave
 
   module _ (heard : List StreamFacts) (new : AreNewStreams before.ports service.streams.port heard) (within : length heard ≤ service.streams.fronts) where
     -- these were listened at, and nothing was served, whatever stopped it
-    pub unserved : (stop : Stop) → answer ≡ Err stop → CameTo (Err stop) before.faults after.faults None → leaves heard
-        → says (others_of (no_answers service.streams.fronts) heard heard) None → ComesBeside says leaves answer service clocks before after
-    unserved stop is came left said = subst (λ (a : Result Totals Stop). ComesBeside says leaves a service clocks before after) (sym is) (record {
+    pub unserved : (stop : Stop) → answer ≡ Err stop → lacked ≡ 0 → CameTo (Err stop) before.faults after.faults None → leaves heard
+        → says (others_of (no_answers service.streams.fronts) heard heard) None → ComesBeside says leaves answer service clocks lacked before after
+    unserved stop is uncounted came left said = subst (λ (a : Result Totals Stop). ComesBeside says leaves a service clocks lacked before after) (sym is) (record {
       answers = no_answers service.streams.fronts;
+      counts = no_counts (length heard);
       olds = heard;
       news = heard;
       are = as_heard service.options service.base service.streams before.ports clocks heard new within;
+      lacked_is = uncounted ∙ none_counted (length heard);
       left = left;
       all = tt;
       finished = tt;
       came = None;
       came_is = came;
-      unserved = (refl, silent service.streams heard heard);
+      unserved = (refl, silent service.streams heard heard, uncounted);
       said = said;
     })
 
     -- all fronts were served
     module _ {origin : ℕ → History} {batches : ℕ} {kept : List KeptSeat} {ends_before ends_after : List EndFacts} {news : List StreamFacts} (full : length heard ≡ service.streams.fronts) where
-      pub came_ok : (totals : Totals) → answer ≡ Ok totals → (b : ServesBeside service.options origin batches service.base clocks (Ok totals) kept ends_before ends_after heard news)
-          → leaves news → says (others_of b.answers heard news) (Some (Ok totals)) → ComesBeside says leaves answer service clocks before after
-      came_ok totals is b left said = subst (λ (a : Result Totals Stop). ComesBeside says leaves a service clocks before after) (sym is) (record {
+      pub came_ok : (totals : Totals) → answer ≡ Ok totals → (b : ServesBeside service.options origin batches service.base clocks (Ok totals) kept lacked ends_before ends_after heard news)
+          → leaves news → says (others_of b.answers heard news) (Some (Ok totals)) → ComesBeside says leaves answer service clocks lacked before after
+      came_ok totals is b left said = subst (λ (a : Result Totals Stop). ComesBeside says leaves a service clocks lacked before after) (sym is) (record {
         answers = b.answers;
+        counts = b.counts;
         olds = heard;
         news = news;
         are = are service before heard new within full b;
+        lacked_is = b.lacked_is;
         left = left;
         all = full;
         finished = b.finished;
@@ -91,13 +99,15 @@ module _ {says : Others → Option (Result Totals ServeFault) → Type 0} {leave
         said = said;
       })
 
-      pub came_err : (fault : ServeFault) → answer ≡ Err (Fault fault) → (b : ServesBeside service.options origin batches service.base clocks (Err fault) kept ends_before ends_after heard news)
-          → leaves news → says (others_of b.answers heard news) (Some (Err fault)) → ComesBeside says leaves answer service clocks before after
-      came_err fault is b left said = subst (λ (a : Result Totals Stop). ComesBeside says leaves a service clocks before after) (sym is) (record {
+      pub came_err : (fault : ServeFault) → answer ≡ Err (Fault fault) → (b : ServesBeside service.options origin batches service.base clocks (Err fault) kept lacked ends_before ends_after heard news)
+          → leaves news → says (others_of b.answers heard news) (Some (Err fault)) → ComesBeside says leaves answer service clocks lacked before after
+      came_err fault is b left said = subst (λ (a : Result Totals Stop). ComesBeside says leaves a service clocks lacked before after) (sym is) (record {
         answers = b.answers;
+        counts = b.counts;
         olds = heard;
         news = news;
         are = are service before heard new within full b;
+        lacked_is = b.lacked_is;
         left = left;
         all = tt;
         finished = tt;

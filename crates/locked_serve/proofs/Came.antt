@@ -1,6 +1,7 @@
 -- What all fronts came to together, where each came to its own.
 use Rattle.std.proofs.Common.{◌≡◌, ℕ, ◌≤◌, ◌⊎◌, inl, inr, List, Some, slice_get}
 use Rattle.std.specs.Prelude.{⊤, Result, Ok, Err, OnOk}
+use Rattle.mica_clock.specs.Seconds.{ClockView}
 use Rattle.partition_model.specs.declared.options.Options.{Options}
 use Rattle.partition_model.specs.History.{History}
 use Rattle.partition_table.specs.declared.tables.KeptSeat.{KeptSeat}
@@ -13,9 +14,9 @@ use Rattle.mica_serve.proofs.Gathered.{all_ran, KeepsOf}
 use Rattle.locked_serve.specs.Streams.{StreamFacts, HaveFinished, StopsStream, ServesBeside, others_of}
 use Rattle.locked_serve.specs.Running.{RanBeside, SumsUpBeside}
 
-module _ (options : Options) (some : 1 ≤ options.partitions) (origin : ℕ → History) (batches base : ℕ) (clocks : List ℕ) (left : List KeptSeat) (streams : List (Result ⊤ ServeFault))
+module _ (options : Options) (some : 1 ≤ options.partitions) (origin : ℕ → History) (batches base : ℕ) (clocks : List ClockView) (left : List KeptSeat) (lacked : ℕ) (streams : List (Result ⊤ ServeFault))
     (fronts : List (Result Totals ServeFault)) (before after : List EndFacts) (olds news : List StreamFacts)
-    (ran : RanBeside options origin batches base clocks left streams fronts before after olds news) where
+    (ran : RanBeside options origin batches base clocks left lacked streams fronts before after olds news) where
   comes : (answer : Result Totals ServeFault) → SumsUpBeside streams fronts answer → ComesTo (others_of ran.answers olds news) fronts answer
   comes (Ok totals) sums = sums.1
   comes (Err Net) sums = (
@@ -29,11 +30,13 @@ module _ (options : Options) (some : 1 ≤ options.partitions) (origin : ℕ →
   finished (Err fault) sums = tt
 
   pub serves_beside : (kept : List KeptSeat) (answer : Result Totals ServeFault) → SumsUpBeside streams fronts answer
-      → KeepsOf (others_of ran.answers olds news) options origin batches answer left kept → ServesBeside options origin batches base clocks answer kept before after olds news
+      → KeepsOf (others_of ran.answers olds news) options origin batches answer left kept → ServesBeside options origin batches base clocks answer kept lacked before after olds news
   serves_beside kept answer sums keeps = record {
     answers = ran.answers;
+    counts = ran.counts;
     many = ran.many;
     streams = ran.served;
+    lacked_is = ran.lacked_is;
     finished = finished answer sums;
     fronts = all_ran (others_of ran.answers olds news) options origin batches some left kept fronts before after ran.ran answer (comes answer sums) keeps;
   }

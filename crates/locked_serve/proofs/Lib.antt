@@ -2,6 +2,7 @@ mod Fills
 pub mod Named
 pub mod Lending
 mod Joined
+pub mod Counted
 pub mod Taken
 mod Heard
 mod Released

@@ -1,6 +1,7 @@
 -- What a server has told, and why it stopped, where it was filled and where it was not.
 use Rattle.std.proofs.Common.{◌≡◌, ℕ, ◌⊎◌, inl, inr, List, [], Option, Some, refl, sym, ◌∙◌, subst, arith}
 use Rattle.std.specs.Prelude.{Result, Ok, Err}
+use Rattle.mica_clock.specs.Seconds.{ClockView}
 use Rattle.mica_io.specs.Faults.{Rose}
 use Rattle.partition_model.specs.declared.write.Write.{Write}
 use Rattle.partition_model.specs.History.{History}
@@ -64,14 +65,16 @@ still_told (Err (Fault NoMemory)) says fails before mid after old new refused fa
 
 -- what is said of the fronts of datagrams and of the ports that are left, said otherwise once these were let go
 pub says_then : {P Q : Others → Option (Result Totals ServeFault) → Type 0} {A B : List StreamFacts → Type 0} {answer : Result Totals Stop} {service : Service}
-    {clocks : List ℕ} {before between after : ListenFacts} → after.faults ≡ between.faults → ((news : List StreamFacts) → A news → B news)
+    {clocks : List ClockView} {lacked : ℕ} {before between after : ListenFacts} → after.faults ≡ between.faults → ((news : List StreamFacts) → A news → B news)
     → ((others : Others) (came : Option (Result Totals ServeFault)) → P others came → Q others came)
-    → ComesBeside P A answer service clocks before between → ComesBeside Q B answer service clocks before after
+    → ComesBeside P A answer service clocks lacked before between → ComesBeside Q B answer service clocks lacked before after
 says_then {answer = answer} {before = before} same gone then it = record {
   answers = it.answers;
+  counts = it.counts;
   olds = it.olds;
   news = it.news;
   are = it.are;
+  lacked_is = it.lacked_is;
   left = gone it.news it.left;
   all = it.all;
   finished = it.finished;
@@ -82,38 +85,42 @@ says_then {answer = answer} {before = before} same gone then it = record {
 }
 
 -- there was no memory before any port was bound
-pub no_memory : {answer : Result Totals Stop} {service : Service} {origin : ℕ → History} {clocks : List ℕ} {kept : List KeptSeat} {all : PortFacts} → answer ≡ Err (Fault NoMemory) → kept ≡ []
-    → HasCause answer service origin clocks kept all all
-no_memory {service = service} {origin = origin} {clocks = clocks} {kept = kept} {all = all} is none = subst (λ (r : Result Totals Stop). HasCause r service origin clocks kept all all) (sym is) (record {
-  answers = no_answers service.streams.fronts;
-  olds = [];
-  news = [];
-  are = none_heard service.options service.base service.streams all.listens.ports clocks;
-  left = none_released all.listens.released;
-  all = tt;
-  finished = tt;
-  came = Some (Err NoMemory);
-  came_is = refl;
-  unserved = tt;
-  said = none;
-})
+pub no_memory : {answer : Result Totals Stop} {service : Service} {origin : ℕ → History} {clocks : List ClockView} {kept : List KeptSeat} {lacked : ℕ} {all : PortFacts} → answer ≡ Err (Fault NoMemory) → kept ≡ []
+    → lacked ≡ 0 → HasCause answer service origin clocks kept lacked all all
+no_memory {service = service} {origin = origin} {clocks = clocks} {kept = kept} {lacked = lacked} {all = all} is none uncounted =
+    subst (λ (r : Result Totals Stop). HasCause r service origin clocks kept lacked all all) (sym is) (record {
+      answers = no_answers service.streams.fronts;
+      counts = [];
+      olds = [];
+      news = [];
+      are = none_heard service.options service.base service.streams all.listens.ports clocks;
+      lacked_is = uncounted;
+      left = none_released all.listens.released;
+      all = tt;
+      finished = tt;
+      came = Some (Err NoMemory);
+      came_is = refl;
+      unserved = tt;
+      said = none;
+    })
 
 -- a server that these writes filled
-pub cause_filled : (answer : Result Totals Stop) (writes : List Write) {service : Service} {clocks : List ℕ} {kept : List KeptSeat} {before after : PortFacts}
-    → HasCause answer service (origin_of service.options writes) clocks kept before after → IsCauseOfStop answer service writes clocks kept before after
+pub cause_filled : (answer : Result Totals Stop) (writes : List Write) {service : Service} {clocks : List ClockView} {kept : List KeptSeat} {lacked : ℕ} {before after : PortFacts}
+    → HasCause answer service (origin_of service.options writes) clocks kept lacked before after → IsCauseOfStop answer service writes clocks kept lacked before after
 cause_filled (Ok totals) writes is = is
 cause_filled (Err (Fault fault)) writes is = is
 cause_filled (Err Unannounced) writes is = is
 cause_filled (Err Refused) writes is = absurd is.came_is
 
 -- a server whose partitions could not be made and filled
-pub not_opened : {answer : Result Totals Stop} (fault : OpenFault) (service : Service) (writes : List Write) (clocks : List ℕ) (kept : List KeptSeat) (all : PortFacts)
-    → answer ≡ Err (stop_of fault) → kept ≡ [] → (fault ≡ open_fault.Refused → RefusesFilling service.options writes) → IsCauseOfStop answer service writes clocks kept all all
-not_opened fault service writes clocks kept all is none why = subst (λ (r : Result Totals Stop). IsCauseOfStop r service writes clocks kept all all) (sym is) (at fault why)
+pub not_opened : {answer : Result Totals Stop} (fault : OpenFault) (service : Service) (writes : List Write) (clocks : List ClockView) (kept : List KeptSeat) (lacked : ℕ) (all : PortFacts)
+    → answer ≡ Err (stop_of fault) → kept ≡ [] → lacked ≡ 0 → (fault ≡ open_fault.Refused → RefusesFilling service.options writes)
+    → IsCauseOfStop answer service writes clocks kept lacked all all
+not_opened fault service writes clocks kept lacked all is none uncounted why = subst (λ (r : Result Totals Stop). IsCauseOfStop r service writes clocks kept lacked all all) (sym is) (at fault why)
   where
-    at : (f : OpenFault) → (f ≡ open_fault.Refused → RefusesFilling service.options writes) → IsCauseOfStop (Err (stop_of f)) service writes clocks kept all all
-    at open_fault.Refused because = (none, refl, because refl)
-    at open_fault.NoMemory because = no_memory refl none
+    at : (f : OpenFault) → (f ≡ open_fault.Refused → RefusesFilling service.options writes) → IsCauseOfStop (Err (stop_of f)) service writes clocks kept lacked all all
+    at open_fault.Refused because = (none, uncounted, refl, because refl)
+    at open_fault.NoMemory because = no_memory refl none uncounted
 
 -- which leaves all ports as they were, and tells nothing
 pub unopened : {A : Type 0} {says fails : PortOptions → StreamPorts → A → A → Type 0} {answer : Result Totals Stop} {service : Service} {all : PortFacts} {a : A} (fault : OpenFault)

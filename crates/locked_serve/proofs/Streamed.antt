@@ -17,11 +17,11 @@ use Rattle.locked_serve.specs.Streams.{StreamFacts, HasFinished, HasStopped, Ser
 -- it went on by these answers, and served its clients by them
 pub record GoesAndServes (options : Options) (base : ℕ) (old new : FrontAt) (before after : Option Log) : Type 0 where
   pub answers : List Answered
-  pub goes : GoesByThese options false old.sessions old.left old.second answers new.sessions new.left new.second
+  pub goes : GoesByThese options false old.sessions old.left old.clock answers new.sessions new.left new.clock
   pub clients : OnLogs (ServesClients options base old new answers) before after
 
 pub both_by : (options : Options) (base : ℕ) (old new : FrontAt) (before after : Option Log) → IfSome before (λ l. l.entries ≡ [])
-    → GoesBy options false old.sessions old.left old.second new.sessions new.left new.second → OnLogs (ServesFromNone options false base MOST_UNSENT old new) before after
+    → GoesBy options false old.sessions old.left old.clock new.sessions new.left new.clock → OnLogs (ServesFromNone options false base MOST_UNSENT old new) before after
     → GoesAndServes options base old new before after
 both_by options base old new None after fresh goes serves =
     record { answers = goes.answers; goes = record { in_order = goes.in_order; seconds = goes.seconds; few = goes.few }; clients = tt }

@@ -1,5 +1,6 @@
 -- What each answer of a server says that was filled, and that tells once it listens at its ports.
 use Rattle.std.specs.Prelude.{◌≡◌, ◌⊎◌, ◌<◌, ℕ, List, [], length, Option, Some, None, option_map, Result, Ok, Err, OnOk}
+use Rattle.mica_clock.specs.Seconds.{ClockView}
 use Rattle.mica_io.specs.Faults.{Rose}
 use Rattle.mica_io.specs.declared.net.Net.{Ghosts as NetTells}
 use Rattle.stream_io.specs.declared.listeners.Listeners.{Ghosts as ListenersTell}
@@ -20,7 +21,7 @@ use Rattle.locked_serve.specs.declared.filling.OpenFault.TheVariants as open_fau
 use Rattle.locked_serve.specs.declared.stop.Stop.{Stop}
 use Rattle.locked_serve.specs.declared.stop.Stop.TheVariants.{Refused, Unannounced, Fault}
 use Rattle.locked_serve.specs.Filled.{origin_of, RefusesFilling}
-use Rattle.locked_serve.specs.Streams.{StreamFacts, ListenFacts, HaveFinished, KeepsListeners, AreStreams, LeavesStreams, listen_facts, others_of, with_ports}
+use Rattle.locked_serve.specs.Streams.{StreamFacts, ListenFacts, HaveFinished, KeepsListeners, AreStreams, LeavesStreams, counted_by_all, listen_facts, others_of, with_ports}
 
 -- what contracts see of all ports at one moment: those of datagrams, and what listens at those of connections
 pub record PortFacts : Type 0 where
@@ -40,31 +41,33 @@ CameTo (Err Unannounced) before after came = came ≡ None
 CameTo (Err Refused) before after came = ⊥
 
 -- The fronts of connections answered this and left this of their ports, and those of datagrams came to what is said of them, beside each other. Where they came to
--- totals, each of them all had its port, and has finished.
+-- totals, each of them all had its port, and has finished. For so many connections there was no memory.
 pub record ComesBeside (says : Others → Option (Result Totals ServeFault) → Type 0) (leaves : List StreamFacts → Type 0) (answer : Result Totals Stop) (service : Service)
-    (clocks : List ℕ) (before after : ListenFacts) : Type 0 where
+    (clocks : List ClockView) (lacked : ℕ) (before after : ListenFacts) : Type 0 where
   pub answers : List (List Answered)
+  pub counts : List ℕ
   pub olds : List StreamFacts
   pub news : List StreamFacts
-  pub are : AreStreams service.options service.base service.streams before.ports clocks answers olds news
+  pub are : AreStreams service.options service.base service.streams before.ports clocks counts answers olds news
+  pub lacked_is : lacked ≡ counted_by_all counts
   pub left : leaves news
   pub all : OnOk answer (length olds ≡ service.streams.fronts)
   pub finished : OnOk answer (HaveFinished service.options answers news)
   pub came : Option (Result Totals ServeFault)
   pub came_is : CameTo answer before.faults after.faults came
-  pub unserved : LeavesStreams came answers olds news
+  pub unserved : LeavesStreams came answers lacked olds news
   pub said : says (others_of answers olds news) came
 
-abbrev pub HasCause : Result Totals Stop → Service → (ℕ → History) → List ℕ → List KeptSeat → PortFacts → PortFacts → Type 0
-HasCause answer service origin clocks kept before after =
+abbrev pub HasCause : Result Totals Stop → Service → (ℕ → History) → List ClockView → List KeptSeat → ℕ → PortFacts → PortFacts → Type 0
+HasCause answer service origin clocks kept lacked before after =
     ComesBeside (λ others came. IsCauseOnceBound others came service.options origin service.ports kept before.net after.net)
-    (λ news. after.listens.released ≡ option_map (with_ports news) before.listens.released) answer service clocks before.listens after.listens
+    (λ news. after.listens.released ≡ option_map (with_ports news) before.listens.released) answer service clocks lacked before.listens after.listens
 
 -- What each answer says of a server that these writes fill. Where one of them was refused, there is no port. One that could not tell that it listens has
 -- received nothing.
-abbrev pub IsCauseOfStop : Result Totals Stop → Service → List Write → List ℕ → List KeptSeat → PortFacts → PortFacts → Type 0
-IsCauseOfStop (Err Refused) service writes clocks kept before after = (kept ≡ []) × (after ≡ before) × RefusesFilling service.options writes
-IsCauseOfStop answer service writes clocks kept before after = HasCause answer service (origin_of service.options writes) clocks kept before after
+abbrev pub IsCauseOfStop : Result Totals Stop → Service → List Write → List ClockView → List KeptSeat → ℕ → PortFacts → PortFacts → Type 0
+IsCauseOfStop (Err Refused) service writes clocks kept lacked before after = (kept ≡ []) × (lacked ≡ 0) × (after ≡ before) × RefusesFilling service.options writes
+IsCauseOfStop answer service writes clocks kept lacked before after = HasCause answer service (origin_of service.options writes) clocks kept lacked before after
 
 -- the answer where the partitions could not be made and filled
 abbrev pub stop_of : OpenFault → Stop

@@ -1,5 +1,6 @@
 -- What each front makes of the port of its place, and what is left of the partitions then.
 use Rattle.std.specs.Prelude.{◌≡◌, ◌≢◌, ◌+◌, ◌<◌, ◌≤◌, ◌⊎◌, ⊤, ℕ, false, List, length, slice_get, slice_index_or, Some, IfSome, Result, Ok, Err, IsErrOf, OnOk}
+use Rattle.mica_clock.specs.Seconds.{ClockView}
 use Rattle.mica_io.specs.Faults.{Rose}
 use Rattle.mica_io.specs.Traffic.{new_traffic}
 use Rattle.partition_model.specs.declared.options.Options.{Options}
@@ -20,7 +21,7 @@ use Rattle.mica_serve.specs.FrontRuns.{FrontRun, RunsFront, RanAll, SumsUp}
 use Rattle.locked_serve.specs.declared.worker.FrontTask.{FrontTask}
 use Rattle.locked_serve.specs.declared.streams.StreamTask.{StreamTask}
 use Rattle.locked_serve.specs.Opening.{AreNewParts}
-use Rattle.locked_serve.specs.Streams.{StreamFacts, HasFinished, IsUnserved, ServesStream, AreServed, StopsStream, others_of}
+use Rattle.locked_serve.specs.Streams.{StreamFacts, HasFinished, IsUnserved, ServesStream, AreServed, StopsStream, counted_by_all, others_of}
 
 -- Fronts of datagrams
 
@@ -59,17 +60,17 @@ pub record RunsStream (options : Options) (base : ℕ) (old new : FrontAt) (answ
   pub finished : OnOk answer (HasFinished options answered after)
   pub cause : IsErrOf answer Net → Rose before.faults after.faults
 
--- as what it has in hand, its clock and its port tell it
-abbrev pub front_facts : {C K : Type 0} → (C → StreamFacts) → (K → ℕ) → StreamTask C K → FrontAt
-front_facts facts last task = record {
+-- as what it has in hand, its clock, what it counted and its port tell it
+abbrev pub front_facts : {C K : Type 0} → (C → StreamFacts) → (K → ClockView) → ℕ → StreamTask C K → FrontAt
+front_facts facts view lacked task = record {
   sessions = sessions_of task.parts.items;
   left = turns_left task.parts.items;
-  second = last task.clock;
-  lacked = task.lacked;
+  clock = view task.clock;
+  lacked = lacked;
   has_ended = (facts task.port).has_ended;
 }
 
-module _ {C K : Type 0} (plan : Plan) (facts : C → StreamFacts) (last : K → ℕ) where
+module _ {C K : Type 0} (plan : Plan) (facts : C → StreamFacts) (view : K → ClockView) where
   -- new parts, and a port with which nothing was done
   pub record IsReadyStream (k : ℕ) (task : StreamTask C K) : Type 0 where
     pub parts : AreNewParts plan k task.parts.items
@@ -79,11 +80,11 @@ module _ {C K : Type 0} (plan : Plan) (facts : C → StreamFacts) (last : K → 
   AreReadyStreams tasks = (k : ℕ) (d : StreamTask C K) → k < length tasks → IsReadyStream k (slice_index_or tasks k d)
 
   module _ (base : ℕ) where
-    -- the front was served behind its port, and has its parts still
+    -- the front was served behind its port, where it had counted nothing, and has its parts still
     pub record StreamRan (k : ℕ) (old new : StreamTask C K) : Type 0 where
       pub is : IsLockedFront plan (locked_view plan.options k new.parts.items)
       pub answered : List Answered
-      pub run : RunsStream plan.options base (front_facts facts last old) (front_facts facts last new) answered new.answer (facts old.port) (facts new.port)
+      pub run : RunsStream plan.options base (front_facts facts view 0 old) (front_facts facts view new.lacked new) answered new.answer (facts old.port) (facts new.port)
 
     abbrev pub StreamsRan : List (StreamTask C K) → List (StreamTask C K) → Type 0
     StreamsRan olds news =
@@ -91,12 +92,14 @@ module _ {C K : Type 0} (plan : Plan) (facts : C → StreamFacts) (last : K → 
 
 -- All fronts
 
--- All ran beside each other and came to these answers, and these are the seats that the partitions may leave.
-pub record RanBeside (options : Options) (origin : ℕ → History) (batches base : ℕ) (clocks : List ℕ) (kept : List KeptSeat) (streams : List (Result ⊤ ServeFault))
+-- All ran beside each other and came to these answers, and these are the seats that the partitions may leave. For so many connections there was no memory.
+pub record RanBeside (options : Options) (origin : ℕ → History) (batches base : ℕ) (clocks : List ClockView) (kept : List KeptSeat) (lacked : ℕ) (streams : List (Result ⊤ ServeFault))
     (fronts : List (Result Totals ServeFault)) (before after : List EndFacts) (olds news : List StreamFacts) : Type 0 where
   pub answers : List (List Answered)
+  pub counts : List ℕ
   pub many : length answers ≡ length olds
-  pub served : AreServed options base clocks answers olds news
+  pub served : AreServed options base clocks counts answers olds news
+  pub lacked_is : lacked ≡ counted_by_all counts
   pub finished : (k : ℕ) (own : List Answered) (after : StreamFacts) → ((fault : ServeFault) → slice_get streams k ≢ Some (Err fault))
       → slice_get answers k ≡ Some own → slice_get news k ≡ Some after → HasFinished options own after
   pub stopped : (k : ℕ) → slice_get streams k ≡ Some (Err Net) → StopsStream olds news

@@ -1,6 +1,7 @@
 -- The ports of connections, as contracts see them, and what their fronts make of them.
-use Rattle.std.specs.Prelude.{◌≡◌, ◌≢◌, ◌⊎◌, ◌+◌, ◌-◌, ◌<◌, ◌≤◌, ⊤, ℕ, Bool, false, List, [], ◌∷◌, length, slice_get, Option, None, Some, IfSome, option_map, Result, OnOk}
-use Rattle.mica_io.specs.Faults.{Rose}
+use Rattle.std.specs.Prelude.{◌≡◌, ◌≢◌, ◌⊎◌, ◌+◌, ◌-◌, ◌<◌, ◌≤◌, ⊤, ℕ, Bool, false, List, [], ◌∷◌, length, min, sum, slice_get, Option, None, Some, IfSome, option_map, Result, OnOk}
+use Rattle.mica_clock.specs.Seconds.{ClockView}
+use Rattle.mica_io.specs.Faults.{Rose, LAST_COUNT}
 use Rattle.stream_io.specs.Log.{Log}
 use Rattle.stream_io.specs.declared.connections.Connections.{Ghosts as StreamTells}
 use Rattle.stream_io.specs.declared.listeners.Listeners.{Ghosts as ListenersTell}
@@ -103,28 +104,42 @@ HasFinished options answers after = IsFinished options after.has_ended (most_tur
 abbrev pub HasStopped : Options → List Answered → StreamFacts → StreamFacts → Type 0
 HasStopped options answers before after = HasFinished options answers after ⊎ (Rose before.faults after.faults ⊎ (after ≡ before))
 
--- A front answered so, behind its port: its clock told the seconds of these answers one after another. It knows whether the end came.
+-- A front answered so, behind its port: the readings of its clock gave the seconds of these answers, one after another, and no others. It knows whether the end came.
 pub record ServesStream (options : Options) (base : ℕ) (old new : FrontAt) (answers : List Answered) (before after : StreamFacts) : Type 0 where
   pub port : after.port ≡ before.port
   pub never_fall : before.faults ≤ after.faults
-  pub seconds : ToldFrom old.second (seconds_of answers) new.second
+  pub seconds : ToldFrom old.clock (seconds_of options answers) new.clock
   pub ended : new.has_ended ≡ after.has_ended
   pub stopped : HasStopped options answers before after
   pub clients : OnLogs (ServesClients options base old new answers) before.log after.log
 
--- Each front was served behind the port of its place, where its clock had told this second. The first unique number of a value is that of the base.
-pub record AreServed (options : Options) (base : ℕ) (clocks : List ℕ) (answers : List (List Answered)) (olds news : List StreamFacts) : Type 0 where
-  pub many : length news ≡ length olds
-  pub each : (k told : ℕ) (own : List Answered) (b a : StreamFacts) → slice_get clocks k ≡ Some told → slice_get answers k ≡ Some own
-      → slice_get olds k ≡ Some b → slice_get news k ≡ Some a → (old new : FrontAt) × (old.second ≡ told) × ServesStream options base old new own b a
+-- A front whose clock was seen so answered this, behind its port, and counted so many connections that there was no memory for.
+pub record ServesFrom (options : Options) (base : ℕ) (told : ClockView) (lacked : ℕ) (answers : List Answered) (before after : StreamFacts) : Type 0 where
+  pub old : FrontAt
+  pub new : FrontAt
+  pub told_is : old.clock ≡ told
+  pub uncounted : old.lacked ≡ 0
+  pub lacked_is : new.lacked ≡ lacked
+  pub serves : ServesStream options base old new answers before after
 
--- The ports that were listened at, before and after, and what each front answered. One that has no port answered nothing.
-pub record AreStreams (options : Options) (base : ℕ) (streams : StreamPorts) (waited : Option PortLogs) (clocks : List ℕ) (answers : List (List Answered))
+-- Each front was served behind the port of its place, by its own clock, and counted for itself. The first unique number of a value is that of the base.
+pub record AreServed (options : Options) (base : ℕ) (clocks : List ClockView) (counts : List ℕ) (answers : List (List Answered)) (olds news : List StreamFacts) : Type 0 where
+  pub many : length news ≡ length olds
+  pub counted : length counts ≡ length olds
+  pub each : (k : ℕ) (told : ClockView) (lacked : ℕ) (own : List Answered) (b a : StreamFacts) → slice_get clocks k ≡ Some told → slice_get counts k ≡ Some lacked
+      → slice_get answers k ≡ Some own → slice_get olds k ≡ Some b → slice_get news k ≡ Some a → ServesFrom options base told lacked own b a
+
+-- what all fronts counted together, and no more than the last count
+abbrev pub counted_by_all : List ℕ → ℕ
+counted_by_all counts = min (sum counts) LAST_COUNT
+
+-- The ports that were listened at, before and after, and what each front answered and counted. One that has no port answered nothing.
+pub record AreStreams (options : Options) (base : ℕ) (streams : StreamPorts) (waited : Option PortLogs) (clocks : List ClockView) (counts : List ℕ) (answers : List (List Answered))
     (olds news : List StreamFacts) : Type 0 where
   pub are_new : AreNewStreams waited streams.port olds
   pub within : length olds ≤ streams.fronts
   pub fronts : length answers ≡ streams.fronts
-  pub served : AreServed options base clocks answers olds news
+  pub served : AreServed options base clocks counts answers olds news
   pub unheard : (k : ℕ) (own : List Answered) → slice_get answers k ≡ Some own → length olds ≤ k → own ≡ []
 
 -- each has
@@ -145,16 +160,18 @@ pub record StopsStream (olds news : List StreamFacts) : Type 0 where
 abbrev pub others_of : List (List Answered) → List StreamFacts → List StreamFacts → Others
 others_of answers olds news = record { answers = answers; stopped = StopsStream olds news }
 
--- where no front was served, those of connections answered nothing, and their ports are as they were
-abbrev pub LeavesStreams : Option (Result Totals ServeFault) → List (List Answered) → List StreamFacts → List StreamFacts → Type 0
-LeavesStreams None answers olds news = (news ≡ olds) × HaveAnsweredNothing (others_of answers olds news)
-LeavesStreams (Some came) answers olds news = ⊤
+-- where no front was served, those of connections answered nothing and counted nothing, and their ports are as they were
+abbrev pub LeavesStreams : Option (Result Totals ServeFault) → List (List Answered) → ℕ → List StreamFacts → List StreamFacts → Type 0
+LeavesStreams None answers lacked olds news = (news ≡ olds) × HaveAnsweredNothing (others_of answers olds news) × (lacked ≡ 0)
+LeavesStreams (Some came) answers lacked olds news = ⊤
 
--- Each front was served, those of connections beside those of datagrams, which came to this all together.
-pub record ServesBeside (options : Options) (origin : ℕ → History) (batches base : ℕ) (clocks : List ℕ) (answer : Result Totals ServeFault) (kept : List KeptSeat)
+-- Each front was served, those of connections beside those of datagrams, which came to this all together. For so many connections there was no memory.
+pub record ServesBeside (options : Options) (origin : ℕ → History) (batches base : ℕ) (clocks : List ClockView) (answer : Result Totals ServeFault) (kept : List KeptSeat) (lacked : ℕ)
     (before after : List EndFacts) (olds news : List StreamFacts) : Type 0 where
   pub answers : List (List Answered)
+  pub counts : List ℕ
   pub many : length answers ≡ length olds
-  pub streams : AreServed options base clocks answers olds news
+  pub streams : AreServed options base clocks counts answers olds news
+  pub lacked_is : lacked ≡ counted_by_all counts
   pub finished : OnOk answer (HaveFinished options answers news)
   pub fronts : ServesFronts (others_of answers olds news) options origin batches answer kept before after

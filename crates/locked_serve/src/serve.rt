@@ -57,6 +57,7 @@ fn bind_and_serve<
     connections: &mut Vec<L::Port>,
     clocks: Vec<K>,
     tables: &mut Tables,
+    lacked: &mut u64,
     announce: &mut A,
 ) -> Result<Totals, Stop>
     requires same { (p : P) → P.state p ≡ P.owner p }
@@ -67,6 +68,7 @@ fn bind_and_serve<
     requires server { IsLockedServer J.plan shared.now.service.streams.fronts shared.now.service.ports.fronts (length server.locks.items)
         server.stream_hands.items server.hands.items server.room }
     requires tables { tables.old ≡ [] }
+    requires uncounted { lacked.old ≡ 0 }
     requires unbound { N.binds net.old ≡ 0 }
     requires none { ends.old.items ≡ [] }
     requires room { shared.now.service.ports.fronts ≤ vec_capacity ends.old }
@@ -74,7 +76,7 @@ fn bind_and_serve<
     requires room_of_streams { shared.now.service.streams.fronts ≤ vec_capacity connections.old }
     ensures served { ComesBeside (λ others came. BindsAndServes others shared.now.service.options J.plan.origin shared.now.service.ports came tables.new
         (net_facts N.Net net.old) (net_facts N.Net net.new) (map (end_facts N.End.Datagrams) ends.new.items))
-        (λ news. news ≡ map (stream_facts L.Port.Connections) connections.new.items) result shared.now.service (map K.last clocks.items)
+        (λ news. news ≡ map (stream_facts L.Port.Connections) connections.new.items) result shared.now.service (map K.view clocks.items) lacked.new
         (listen_facts L.Listeners listeners.old) (listen_facts L.Listeners listeners.new) }
     ensures unreleased { L.released listeners.new ≡ L.released listeners.old }
     ensures heard { KeepsListeners shared.now.service.streams (listen_facts L.Listeners listeners.old) (listen_facts L.Listeners listeners.new) }
@@ -86,7 +88,7 @@ fn bind_and_serve<
     bind_all(net, ports, ends)?;
     listen_all(listeners, streams, connections)?;
     announce.ready(ports, streams, ends.as_slice(), connections.as_slice())?;
-    let totals = serve_all(shared, server, ends, connections, clocks, tables)?;
+    let totals = serve_all(shared, server, ends, connections, clocks, tables, lacked)?;
     Ok(totals)
 }
 
@@ -107,6 +109,7 @@ fn serve_named<
     listeners: &mut L,
     clocks: Vec<K>,
     tables: &mut Tables,
+    lacked: &mut u64,
     announce: &mut A,
 ) -> Result<Totals, Stop>
     requires notes { NotesAre P.noted P.note_home note_state note_home }
@@ -117,7 +120,8 @@ fn serve_named<
     requires clocks { length clocks.items ≡ shared.now.service.streams.fronts }
     requires unbound { N.binds net.old ≡ 0 }
     requires tables { tables.old ≡ [] }
-    ensures cause { HasCause result shared.now.service J.plan.origin (map K.last clocks.items) tables.new
+    requires uncounted { lacked.old ≡ 0 }
+    ensures cause { HasCause result shared.now.service J.plan.origin (map K.view clocks.items) tables.new lacked.new
         (ports_at N.Net L.Listeners net.old listeners.old) (ports_at N.Net L.Listeners net.new listeners.new) }
     ensures leaves { Leaves A.says A.fails result shared.now.service
         (ports_at N.Net L.Listeners net.old listeners.old) (ports_at N.Net L.Listeners net.new listeners.new) announce.old announce.new }
@@ -135,6 +139,7 @@ fn serve_named<
         &mut connections,
         clocks,
         tables,
+        lacked,
         announce,
     );
     release_all(net, ends, service.ports.port);
@@ -158,6 +163,7 @@ fn serve_on<
     listeners: &mut L,
     clocks: Vec<K>,
     tables: &mut Tables,
+    lacked: &mut u64,
     announce: &mut A,
 ) -> Result<Totals, Stop>
     requires notes { NotesAre P.noted P.note_home note_state note_home }
@@ -168,7 +174,8 @@ fn serve_on<
     requires filling { All IsWrite filling.items }
     requires unbound { N.binds net.old ≡ 0 }
     requires tables { tables.old ≡ [] }
-    ensures cause { IsCauseOfStop result shared.now.service filling.items (map K.last clocks.items) tables.new
+    requires uncounted { lacked.old ≡ 0 }
+    ensures cause { IsCauseOfStop result shared.now.service filling.items (map K.view clocks.items) tables.new lacked.new
         (ports_at N.Net L.Listeners net.old listeners.old) (ports_at N.Net L.Listeners net.new listeners.new) }
     ensures leaves { Leaves A.says A.fails result shared.now.service
         (ports_at N.Net L.Listeners net.old listeners.old) (ports_at N.Net L.Listeners net.new listeners.new) announce.old announce.new }
@@ -182,13 +189,14 @@ fn serve_on<
     let parts = open_parts::<P>(shared.alloc, &service.options, filling.as_slice())?;
     drop(filling);
     serve_named::<Brand, W, P, N, L, K, G, A>(
-        shared, parts, net, listeners, clocks, tables, announce,
+        shared, parts, net, listeners, clocks, tables, lacked, announce,
     )
 }
 
 /// Fills the partitions by these writes, binds a port for each front of datagrams and listens at one for each front of connections, in order, and tells
 /// so. Then all fronts run side by side, each in a thread of its own, and each is the owner of a partition for as long as one write takes. A front of
-/// connections has a clock of its own. All ends are released. The owners' seats are kept, in the order of the partitions, where no front failed.
+/// connections has a clock of its own. All ends are released. The owners' seats are kept, in the order of the partitions, where no front failed. Whatever
+/// the answer, `lacked` says how many connections were closed since there was no memory for them.
 pub fn serve_locked<
     W: Threads + Wait + Sync,
     N: Net,
@@ -203,6 +211,7 @@ pub fn serve_locked<
     listeners: &mut L,
     clocks: Vec<K>,
     tables: &mut Tables,
+    lacked: &mut u64,
     announce: &mut A,
 ) -> Result<Totals, Stop>
     requires service { IsPossibleService shared.now.service }
@@ -210,18 +219,19 @@ pub fn serve_locked<
     requires filling { All IsWrite filling.items }
     requires unbound { N.binds net.old ≡ 0 }
     requires tables { tables.old ≡ [] }
+    requires uncounted { lacked.old ≡ 0 }
 
-    ensures cause { IsCauseOfStop result shared.now.service filling.items (map K.last clocks.items) tables.new
+    ensures cause { IsCauseOfStop result shared.now.service filling.items (map K.view clocks.items) tables.new lacked.new
         (ports_at N.Net L.Listeners net.old listeners.old) (ports_at N.Net L.Listeners net.new listeners.new) }
     ensures leaves { Leaves A.says A.fails result shared.now.service
         (ports_at N.Net L.Listeners net.old listeners.old) (ports_at N.Net L.Listeners net.new listeners.new) announce.old announce.new }
 {
     match shared.service.options.mode {
         Mode::Cache => serve_on::<W, CachePartition<OwnerSeat>, N, L, K, G, A>(
-            shared, filling, net, listeners, clocks, tables, announce,
+            shared, filling, net, listeners, clocks, tables, lacked, announce,
         ),
         Mode::Store => serve_on::<W, StorePartition<OwnerSeat>, N, L, K, G, A>(
-            shared, filling, net, listeners, clocks, tables, announce,
+            shared, filling, net, listeners, clocks, tables, lacked, announce,
         ),
     }
 }

@@ -145,12 +145,13 @@ impl<
     }
 }
 
-/// The partitions, and what the fronts of each kind came to.
+/// The partitions, what the fronts of each kind came to, and for how many connections there was no memory.
 #[derive(Drop)]
 pub struct Came<P: LendPartition<Reader = ReaderSeat, Note = Note> + Drop> {
     pub parts: Vec<Returned<P>>,
     pub streams: Vec<Result<(), ServeFault>>,
     pub fronts: Vec<Result<Totals, ServeFault>>,
+    pub lacked: u64,
 }
 
 // Runs all fronts side by side, each in a thread of its own, and then the partitions take in what the fronts have in hand. It takes no memory.
@@ -178,8 +179,8 @@ fn run_all<
         server.stream_hands.items server.hands.items server.room }
     requires unserved { AreOpen (map (end_facts D.Datagrams) ends.old.items) }
     requires fresh { AreUnserved (map (stream_facts C.Connections) connections.old.items) }
-    ensures ran { RanBeside shared.now.service.options J.plan.origin shared.now.service.ports.batches shared.now.service.base (map K.last clocks.items)
-        (map (λ left. kept_seat_in left.owner) (map (λ part. left_view P.owner P.home part) result.parts.items)) result.streams.items result.fronts.items
+    ensures ran { RanBeside shared.now.service.options J.plan.origin shared.now.service.ports.batches shared.now.service.base (map K.view clocks.items)
+        (map (λ left. kept_seat_in left.owner) (map (λ part. left_view P.owner P.home part) result.parts.items)) result.lacked result.streams.items result.fronts.items
         (map (end_facts D.Datagrams) ends.old.items) (map (end_facts D.Datagrams) ends.new.items)
         (map (stream_facts C.Connections) connections.old.items) (map (stream_facts C.Connections) connections.new.items) }
     ensures idle { (p : ℕ) (left : Owned) → slice_get (map (λ part. left_view P.owner P.home part) result.parts.items) p ≡ Some left → left.owner.phase ≡ Idle }
@@ -211,7 +212,7 @@ fn run_all<
         &mut stream_tasks,
         &mut tasks,
     );
-    part_streams(
+    let lacked = part_streams(
         stream_tasks,
         connections,
         &mut streams.hands,
@@ -223,10 +224,11 @@ fn run_all<
         parts,
         streams: streams.answers,
         fronts: fronts.answers,
+        lacked,
     }
 }
 
-/// Serves all ports side by side, and keeps the owners' seats where no front failed.
+/// Serves all ports side by side, and keeps the owners' seats where no front failed. Says for how many connections there was no memory, whatever the answer.
 pub(crate) fn serve_all<
     W: Threads + Wait + Sync,
     J: ServerPlan + Send + Sync,
@@ -242,6 +244,7 @@ pub(crate) fn serve_all<
     connections: &mut Vec<C>,
     clocks: Vec<K>,
     tables: &mut Tables,
+    lacked: &mut u64,
 ) -> Result<Totals, ServeFault>
     requires same { (p : P) → P.state p ≡ P.owner p }
     requires service { IsPossibleService shared.now.service }
@@ -254,7 +257,7 @@ pub(crate) fn serve_all<
     requires tables { tables.old ≡ [] }
     requires unserved { AreOpen (map (end_facts D.Datagrams) ends.old.items) }
     requires fresh { AreUnserved (map (stream_facts C.Connections) connections.old.items) }
-    ensures { ServesBeside shared.now.service.options J.plan.origin shared.now.service.ports.batches shared.now.service.base (map K.last clocks.items) result tables.new
+    ensures { ServesBeside shared.now.service.options J.plan.origin shared.now.service.ports.batches shared.now.service.base (map K.view clocks.items) result tables.new lacked.new
         (map (end_facts D.Datagrams) ends.old.items) (map (end_facts D.Datagrams) ends.new.items)
         (map (stream_facts C.Connections) connections.old.items) (map (stream_facts C.Connections) connections.new.items) }
 {
@@ -262,7 +265,9 @@ pub(crate) fn serve_all<
         parts,
         streams,
         fronts,
+        lacked: count,
     } = run_all(shared, server, ends, connections, clocks);
+    *lacked = count;
     let totals = sum_up_beside(streams.as_slice(), fronts.as_slice())?;
     keep_all(parts, tables);
     Ok(totals)

@@ -1,7 +1,7 @@
 //! The fronts of connections side by side, each in a thread of its own.
 ghost use Rattle.std.specs.Prelude.{◌≡◌, ◌<◌, ◌≤◌, [], length, map, vec_len, vec_capacity};
 ghost use Rattle.locked_serve.specs.Service.{IsLockedPlan};
-ghost use Rattle.locked_serve.specs.Streams.{stream_facts};
+ghost use Rattle.locked_serve.specs.Streams.{counted_by_all, stream_facts};
 ghost use Rattle.locked_serve.specs.Running.{IsReadyStream, StreamRan, AreReadyStreams, StreamsRan};
 
 use crate::service::Shared;
@@ -30,7 +30,7 @@ pub struct StreamTask<C, K> {
 }
 
 impl<C: Connections, K: Clock> StreamTask<C, K> {
-    // Serves the port, as the front of this number, which has taken no turn.
+    // Serves the port, as the front of this number, which has taken no turn, and counts from 0.
     fn run<
         W: Threads + Wait + Sync,
         J: ServerPlan,
@@ -39,8 +39,8 @@ impl<C: Connections, K: Clock> StreamTask<C, K> {
     >(&mut self, shared: &Shared<W, G>, locks: &[Mutex<OwnedPartition<J, P>>], number: u32)
         requires plan { IsLockedPlan shared.now.service J.plan (length locks.now) }
         requires low { number < J.plan.fronts }
-        requires ready { IsReadyStream J.plan (stream_facts C.Connections) K.last number self.old }
-        ensures { StreamRan J.plan (stream_facts C.Connections) K.last shared.now.service.base number self.old self.new }
+        requires ready { IsReadyStream J.plan (stream_facts C.Connections) K.view number self.old }
+        ensures { StreamRan J.plan (stream_facts C.Connections) K.view shared.now.service.base number self.old self.new }
     {
         let options = &shared.service.options;
         let parts = mem::replace(&mut self.parts, Vec::new(shared.alloc));
@@ -49,6 +49,7 @@ impl<C: Connections, K: Clock> StreamTask<C, K> {
             partitions: options.partitions,
             base: shared.service.base,
         };
+        self.lacked = 0;
         self.answer = serve_connections(
             shared.rt,
             shared.alloc,
@@ -75,8 +76,8 @@ pub(crate) fn run_streams<
 >(shared: &Shared<W, G>, locks: &[Mutex<OwnedPartition<J, P>>], streams: &mut Vec<StreamTask<C, K>>)
     requires plan { IsLockedPlan shared.now.service J.plan (length locks.now) }
     requires many { length streams.old.items ≤ J.plan.fronts }
-    requires ready { AreReadyStreams J.plan (stream_facts C.Connections) K.last streams.old.items }
-    ensures { StreamsRan J.plan (stream_facts C.Connections) K.last shared.now.service.base streams.old.items streams.new.items }
+    requires ready { AreReadyStreams J.plan (stream_facts C.Connections) K.view streams.old.items }
+    ensures { StreamsRan J.plan (stream_facts C.Connections) K.view shared.now.service.base streams.old.items streams.new.items }
 {
     let threads = streams.len().max(1);
     for_each_mut(
@@ -85,8 +86,8 @@ pub(crate) fn run_streams<
         threads,
         &|number, stream|
             requires { (number < J.plan.fronts) × IsLockedPlan shared.now.service J.plan (length locks.now)
-                × IsReadyStream J.plan (stream_facts C.Connections) K.last number stream.now }
-            ensures { StreamRan J.plan (stream_facts C.Connections) K.last shared.entry.now.service.base number stream.entry.now stream.exit.now }
+                × IsReadyStream J.plan (stream_facts C.Connections) K.view number stream.now }
+            ensures { StreamRan J.plan (stream_facts C.Connections) K.view shared.entry.now.service.base number stream.entry.now stream.exit.now }
         { stream.run(shared, locks, number as u32) },
     );
 }
@@ -125,13 +126,14 @@ pub(crate) fn pair_streams<C: Drop, K: Drop>(
     }
 }
 
-/// The ports, the hands and the answers of the fronts, in order.
+/// The ports, the hands and the answers of the fronts, in order; and for how many connections there was no memory.
+#[tactic(auto, using(crate::proofs::Counted::counted_next))]
 pub(crate) fn part_streams<C: Drop, K: Drop>(
     streams: Vec<StreamTask<C, K>>,
     ports: &mut Vec<C>,
     hands: &mut Vec<Vec<LockedPart>>,
     answers: &mut Vec<Result<(), ServeFault>>,
-)
+) -> u64
     requires none { (ports.old.items ≡ []) × (hands.old.items ≡ []) × (answers.old.items ≡ []) }
     requires ports { vec_len streams ≤ vec_capacity ports.old }
     requires hands { vec_len streams ≤ vec_capacity hands.old }
@@ -139,10 +141,14 @@ pub(crate) fn part_streams<C: Drop, K: Drop>(
     ensures ports { ports.new.items ≡ map (λ t. t.port) streams.items }
     ensures hands { hands.new.items ≡ map (λ t. t.parts) streams.items }
     ensures answers { answers.new.items ≡ map (λ t. t.answer) streams.items }
+    ensures lacked { result ≡ counted_by_all (map (λ t. t.lacked) streams.items) }
 {
+    let mut lacked = 0u64;
     for stream in streams {
         ports.push_reserved(stream.port);
         hands.push_reserved(stream.parts);
         answers.push_reserved(stream.answer);
+        lacked = lacked.saturating_add(stream.lacked);
     }
+    lacked
 }

@@ -106,16 +106,16 @@ pub(crate) fn run_workers<
     requires plan { IsLockedPlan shared.now.service J.plan (length locks.now) }
     requires first { length streams.old.items ≤ first }
     requires many { first + length fronts.old.items ≡ J.plan.fronts }
-    requires ready_streams { AreReadyStreams J.plan (stream_facts C.Connections) K.last streams.old.items }
+    requires ready_streams { AreReadyStreams J.plan (stream_facts C.Connections) K.view streams.old.items }
     requires ready { AreReadyTasks J.plan shared.now.service.ports.batches (end_facts D.Datagrams) first fronts.old.items }
-    ensures streams { StreamsRan J.plan (stream_facts C.Connections) K.last shared.now.service.base streams.old.items streams.new.items }
+    ensures streams { StreamsRan J.plan (stream_facts C.Connections) K.view shared.now.service.base streams.old.items streams.new.items }
     ensures fronts { TasksRan J.plan shared.now.service.ports.batches (end_facts D.Datagrams) first fronts.old.items fronts.new.items }
 {
     join_mut(
         shared.rt,
         &mut ||
             requires { IsSync W.row × IsSync J.row × IsSync G.row × IsLockedPlan shared.now.service J.plan (length locks.now)
-                × (length streams.now.items ≤ J.plan.fronts) × AreReadyStreams J.plan (stream_facts C.Connections) K.last streams.now.items }
+                × (length streams.now.items ≤ J.plan.fronts) × AreReadyStreams J.plan (stream_facts C.Connections) K.view streams.now.items }
         { run_streams(shared, locks, streams) },
         &mut ||
             requires { IsSync W.row × IsSync J.row × IsSync G.row × IsLockedPlan shared.now.service J.plan (length locks.now)

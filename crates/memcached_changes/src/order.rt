@@ -70,6 +70,7 @@ impl<'a> CommandOrder<'a> {
     }
 
     /// What is answered, by what was stored when it was carried out, and by the outcome of the write that was decided then.
+    #[inline(always)]
     pub fn says<'b>(
         &self,
         when: When,

@@ -15,6 +15,7 @@ fn number_of(unique: bool, item: &Item) -> Option<u64>
 }
 
 /// Appends the item that a get of this key shows, if it shows one. When out of memory, nothing is appended.
+#[inline(always)]
 pub fn put_part(out: &mut Vec<u8>, unique: bool, key: &[u8], says: &Says) -> Result<(), NoMemory>
     ensures ok { OnOk result (out.new.items ≡ out.old.items ++ flat_map part_text (parts_of unique key.now says.now)) }
     ensures err { OnErr result (out.new.items ≡ out.old.items) }
@@ -54,6 +55,7 @@ fn put_last(out: &mut Vec<u8>, says: &Says) -> Result<(), NoMemory>
 
 /// Appends all that is replied to a command of one key, which for a get is the item that it shows, if it shows one, and its end. When out of memory, nothing is
 /// appended.
+#[inline(always)]
 pub fn put_whole(out: &mut Vec<u8>, unique: bool, key: &[u8], says: &Says) -> Result<(), NoMemory>
     ensures ok { OnOk result (out.new.items ≡ out.old.items ++ (flat_map part_text (parts_of unique key.now says.now) ++ last_text (last_of says.now))) }
     ensures err { OnErr result (out.new.items ≡ out.old.items) }

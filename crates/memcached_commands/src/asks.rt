@@ -44,6 +44,7 @@ fn get_ask<'a>(lifetime: Option<Lifetime>) -> Ask<'a>
 }
 
 impl<'a> Asks<'a> {
+    #[inline(always)]
     fn none() -> Asks<'a>
         ensures { result ≡ [] }
     {
@@ -55,6 +56,7 @@ impl<'a> Asks<'a> {
     }
 
     /// This alone.
+    #[inline(always)]
     pub fn one(key: Text<'a>, ask: Ask<'a>) -> Asks<'a>
         ensures { result ≡ asked ask.entry key.entry ∷ [] }
     {
@@ -66,6 +68,7 @@ impl<'a> Asks<'a> {
     }
 
     /// What a command asks. A command that has no key asks nothing.
+    #[inline(always)]
     pub fn of(command: Command<'a>) -> Asks<'a>
         ensures asks { result ≡ asks_of command.entry }
         ensures fit { IsFit command.entry → AllByRecursion IsFitAsked result }
@@ -111,6 +114,7 @@ impl<'a> Asks<'a> {
     }
 
     /// What is asked by what a client's bytes begin with.
+    #[inline(always)]
     pub fn by(next: Next<'a>) -> Asks<'a>
         ensures asks { result ≡ asks_in next.entry }
         ensures fit { IsFitNext next.entry → AllByRecursion IsFitAsked result }
@@ -126,6 +130,7 @@ impl<'a> Asks<'a> {
     }
 
     /// Whether nothing is still to be asked.
+    #[inline(always)]
     pub fn is_empty(&self) -> bool
         ensures { result ≡ (length self.now == 0) }
     {
@@ -133,6 +138,7 @@ impl<'a> Asks<'a> {
     }
 
     /// Takes the next.
+    #[inline(always)]
     pub fn next_asked(&mut self) -> Option<Asked<'a>>
         ensures { MatchOption result ((self.old ≡ []) × (self.new ≡ [])) (λ asked. self.old ≡ asked ∷ self.new) }
     {

@@ -13,6 +13,7 @@ use memcached_text::{Direction, Item, Lifetime, MAX_TEXT_LEN, Side, Wants};
 use partition_model::{Change, ItemBuf};
 
 // An item that is kept until its end, or goes if that is now. It ends with a flush that waits at the latest.
+#[inline(always)]
 fn keep_until(at: &Moment, end: Option<u32>, item: &Item, next: &mut ItemBuf) -> Change
     requires { length item.now.value ≤ MAX_TEXT_LEN }
     ensures { IsChange (ends_with_flush at.now (kept_until end item.now)) result next.new }
@@ -26,6 +27,7 @@ fn keep_until(at: &Moment, end: Option<u32>, item: &Item, next: &mut ItemBuf) ->
 }
 
 // A new item.
+#[inline(always)]
 fn store(at: &Moment, flags: u32, lifetime: Lifetime, value: &[u8], next: &mut ItemBuf) -> Change
     requires { length value.now ≤ MAX_TEXT_LEN }
     ensures { IsChange (ends_with_flush at.now (stored at.now flags lifetime value.now).becoming) result next.new }
@@ -113,6 +115,7 @@ fn count(
 }
 
 // What becomes of the item that a command finds.
+#[inline(always)]
 #[tactic(auto, unfolding(crate::specs::Decide::decide))]
 fn change_found(at: &Moment, ask: &Ask, found: Option<&Item>, next: &mut ItemBuf) -> Change
     requires ask { IsFitAsk ask.now }
@@ -159,6 +162,7 @@ pub fn looks(ask: &Ask) -> bool
 }
 
 /// What becomes of what is stored, where the buffer gets what is to be stored. It takes no memory.
+#[inline(always)]
 pub fn change_stored(at: &Moment, ask: &Ask, stored: Option<&[u8]>, next: &mut ItemBuf) -> Change
     requires ask { IsFitAsk ask.now }
     requires stored { IsFitStored (option_copied stored) }

@@ -10,6 +10,7 @@ use partition_model::ItemBuf;
 const SPACES: usize = 64;
 
 // Begins an item: whatever value is put behind is that of an item with these numbers.
+#[inline(always)]
 #[tactic(auto, unfolding(memcached_text::specs::Item::item_text))]
 pub fn begin_item(next: &mut ItemBuf, flags: u32, expires: u32, unique: u64)
     ensures text { (value : List ℕ) → next.new ++ value ≡ item_text (record { flags = flags; expires = expires; unique = unique; value = value }) }

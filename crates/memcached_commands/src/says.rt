@@ -69,6 +69,7 @@ fn says_done<'a>(done: Reply, found: Option<&Item>) -> Says<'a>
 }
 
 /// What is answered to a command that finds this item, at whatever moment.
+#[inline(always)]
 #[tactic(auto, unfolding(crate::specs::Decide::decide))]
 pub fn says_of<'a>(ask: &Ask, found: Option<Item<'a>>) -> Says<'a>
     ensures { (at : Moment) → result ≡ (decide at ask.now found.entry).says }

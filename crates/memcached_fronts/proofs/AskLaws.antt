@@ -6,6 +6,8 @@ use Rattle.std.proofs.Math.Seq.{drop-nil}
 use Rattle.std.proofs.lemmas.List.{append-nil}
 use Rattle.std.proofs.lemmas.List.Elements.{filter_map-append}
 use Rattle.std.specs.List.{cons_option}
+use Rattle.mica_clock.specs.Seconds.{ClockView, once_read}
+use Rattle.partition_model.specs.declared.options.Options.{Options}
 use Rattle.memcached_text.specs.Answer.{last_text}
 use Rattle.memcached_commands.specs.declared.asks.Asked.{Asked}
 use Rattle.memcached_commands.specs.Answers.{last_of, unless_quiet}
@@ -16,19 +18,24 @@ use Rattle.memcached_fronts.specs.Going.{ask_text}
 
 -- Seconds
 
-pub told_then : (told between tells : ℕ) (one two : List ℕ) → ToldFrom told one between → ToldFrom between two tells → ToldFrom told (one ++ two) tells
+pub told_then : (told between tells : ClockView) (one two : List ℕ) → ToldFrom told one between → ToldFrom between two tells → ToldFrom told (one ++ two) tells
 told_then told between tells [] two first then = subst (λ t. ToldFrom t two tells) first then
-told_then told between tells (second ∷ one) two first then = (first.0, told_then second between tells one two first.1 then)
+told_then told between tells (second ∷ one) two first then = (first.0, told_then (once_read second told) between tells one two first.1 then)
 
-pub one_second : (a : Answered) (second : ℕ) → second_in a ≡ Some second → seconds_of (a ∷ []) ≡ second ∷ []
-one_second a second is = ap (λ o. cons_option o []) is
+pub one_second : (options : Options) (a : Answered) (second : ℕ) → second_in options a ≡ Some second → seconds_of options (a ∷ []) ≡ second ∷ []
+one_second options a second is = ap (λ o. cons_option o []) is
+
+-- the seconds of some answers and of others behind them
+pub seconds_then : (options : Options) (told between tells : ClockView) (one two : List Answered) → ToldFrom told (seconds_of options one) between → ToldFrom between (seconds_of options two) tells
+    → ToldFrom told (seconds_of options (one ++ two)) tells
+seconds_then options told between tells one two first then =
+    subst (λ s. ToldFrom told s tells) (sym (filter_map-append (second_in options) one two)) (told_then told between tells (seconds_of options one) (seconds_of options two) first then)
 
 -- one more second was told
-pub tells_more : (told between tells : ℕ) (answers : List Answered) (a : Answered) → ToldFrom told (seconds_of answers) between → between ≤ tells
-    → second_in a ≡ Some tells → ToldFrom told (seconds_of (answers ++ a ∷ [])) tells
-tells_more told between tells answers a before falls is =
-    subst (λ s. ToldFrom told s tells) (sym (filter_map-append second_in answers (a ∷ []) ∙ ap (λ s. seconds_of answers ++ s) (one_second a tells is)))
-    (told_then told between tells (seconds_of answers) (tells ∷ []) before (falls, refl))
+pub tells_more : (options : Options) (told between tells : ClockView) (answers : List Answered) (a : Answered) (second : ℕ) → ToldFrom told (seconds_of options answers) between
+    → ToldFrom between (second ∷ []) tells → second_in options a ≡ Some second → ToldFrom told (seconds_of options (answers ++ a ∷ [])) tells
+tells_more options told between tells answers a second before read is =
+    seconds_then options told between tells answers (a ∷ []) before (subst (λ s. ToldFrom between s tells) (sym (one_second options a second is)) read)
 
 module _ (base : ℕ) where
   -- Answers

@@ -1,6 +1,7 @@
 -- Asks that are answered one after another.
-use Rattle.std.proofs.Common.{◌≡◌, ◌≤◌, ◌==◌, ◌+◌, ℕ, Bool, List, [], ◌∷◌, ◌++◌, length, drop, refl, sym, ap, ◌∙◌, subst, append_assoc, length-append}
+use Rattle.std.proofs.Common.{◌≡◌, ◌==◌, ◌+◌, ℕ, Bool, List, [], ◌∷◌, ◌++◌, length, drop, refl, sym, ap, ◌∙◌, subst, append_assoc, length-append}
 use Rattle.std.proofs.lemmas.List.Elements.{filter_map-append}
+use Rattle.mica_clock.specs.Seconds.{ClockView}
 use Rattle.partition_model.specs.declared.options.Options.{Options}
 use Rattle.memcached_commands.specs.declared.asks.Asked.{Asked}
 use Rattle.memcached_commands.specs.Answers.{unless_quiet}
@@ -9,17 +10,18 @@ use Rattle.mica_fronts.specs.Session.{Sessions}
 use Rattle.mica_fronts.proofs.InOrder.{answers_append}
 use Rattle.memcached_fronts.specs.AskAnswers.{AnswersAsks, said_of, asks_text}
 use Rattle.memcached_fronts.specs.Going.{AnswersAt, AnswersFirst, ask_text}
+use Rattle.memcached_fronts.specs.Seconds.{ToldFrom}
 use Rattle.memcached_fronts.proofs.AskLaws.{tells_more, more_answers, more_text, one_text, quiet_both}
 
-pub none_yet : (options : Options) (is_alone : Bool) (base : ℕ) (asks : List Asked) (old : Sessions) (told : ℕ) → AnswersFirst options is_alone base asks old told old told []
+pub none_yet : (options : Options) (is_alone : Bool) (base : ℕ) (asks : List Asked) (old : Sessions) (told : ClockView) → AnswersFirst options is_alone base asks old told old told []
 none_yet options is_alone base asks old told = record { in_order = λ q. refl; seconds = refl; to_asks = tt }
 
-module _ {options : Options} {is_alone : Bool} {base : ℕ} {asks : List Asked} {old between new : Sessions} {told then tells : ℕ} {answers : List Answered} {asked : Asked} {left : List Asked} where
-  pub one_more : (a : Answered) → AnswersFirst options is_alone base asks old told between then answers → drop (length answers) asks ≡ asked ∷ left → then ≤ tells
-      → AnswersAt options is_alone base tells between asked new a → AnswersFirst options is_alone base asks old told new tells (answers ++ a ∷ [])
-  one_more a first left_is falls at = record {
+module _ {options : Options} {is_alone : Bool} {base : ℕ} {asks : List Asked} {old between new : Sessions} {told then tells : ClockView} {answers : List Answered} {asked : Asked} {left : List Asked} where
+  pub one_more : (a : Answered) → AnswersFirst options is_alone base asks old told between then answers → drop (length answers) asks ≡ asked ∷ left
+      → ToldFrom then (tells.last ∷ []) tells → AnswersAt options is_alone base tells.last between asked new a → AnswersFirst options is_alone base asks old told new tells (answers ++ a ∷ [])
+  one_more a first left_is read at = record {
     in_order = answers_append options is_alone answers (a ∷ []) old between new first.in_order (new, at.one, λ q. refl);
-    seconds = tells_more told then tells answers a first.seconds falls at.at;
+    seconds = tells_more options told then tells answers a tells.last first.seconds read at.at;
     to_asks = more_answers base asks answers (a ∷ []) first.to_asks (subst (λ l. AnswersAsks base l (a ∷ [])) (sym left_is) (at.to_ask, tt));
   }
 

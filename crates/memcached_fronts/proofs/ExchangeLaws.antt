@@ -3,12 +3,15 @@ use Rattle.std.proofs.Common.{◌≡◌, ◌<◌, ◌≤◌, ◌+◌, ◌-◌, �
 use Rattle.std.proofs.Math.Dec.{eqb-suc-zero}
 use Rattle.std.proofs.lemmas.List.{append-nil, length-drop}
 use Rattle.std.proofs.lemmas.Bool.{eqb-true, eq-eqb, ltb-true, ltb-false}
+use Rattle.mica_clock.specs.Seconds.{ClockView}
 use Rattle.partition_model.specs.declared.options.Options.{Options}
 use Rattle.memcached_text.specs.declared.command.Command.{Command}
 use Rattle.memcached_text.specs.declared.command.Command.TheVariants as commands
 use Rattle.memcached_text.specs.declared.command.Topic.TheVariants.{Server, NoPart}
 use Rattle.memcached_text.specs.declared.next.Next.{Next}
 use Rattle.memcached_text.specs.declared.next.Next.TheVariants as nexts
+use Rattle.memcached_text.specs.Fit.{IsFit, IsFitNext}
+use Rattle.memcached_text.specs.Lifetimes.{IsDue}
 use Rattle.memcached_commands.specs.declared.asks.Asked.{Asked}
 use Rattle.memcached_commands.specs.Asks.{asks_in, asks_of}
 use Rattle.memcached_commands.specs.Answers.{unless_quiet}
@@ -136,6 +139,27 @@ no_asks (nexts.Refused fault stale quiet len) is = absurd (true≢false (sym is)
 no_asks nexts.More is = refl
 no_asks nexts.LongLine is = refl
 
+-- the second of a flush is one that a word may say
+pub fit_due : (next : Next) → IsFitNext next → IsDue (flush_due next)
+fit_due (nexts.Command command len) fit = go command fit
+  where
+    go : (command : Command) → IsFit command → IsDue (flush_due (nexts.Command command len))
+    go (commands.Get keys unique lifetime) fit = tt
+    go (commands.Store wants key flags lifetime value quiet) fit = tt
+    go (commands.Join side key value quiet) fit = tt
+    go (commands.Count direction key delta quiet) fit = tt
+    go (commands.Delete key quiet) fit = tt
+    go (commands.Touch key lifetime quiet) fit = tt
+    go (commands.Flush due quiet) fit = fit
+    go (commands.Stats topic) fit = tt
+    go commands.Version fit = tt
+    go (commands.Verbosity quiet) fit = tt
+    go commands.Noop fit = tt
+    go commands.Quit fit = tt
+fit_due (nexts.Refused fault stale quiet len) fit = tt
+fit_due nexts.More fit = tt
+fit_due nexts.LongLine fit = tt
+
 -- how many bytes are due before a flush, and after it
 module _ (options : Options) (base : ℕ) (next : Next) (flushes : is_flush_all next ≡ true) (e : Exchange) (at : StandsAt options base next 0 e) (told : Told) (answers : List Answered) where
   none_yet : (given : List Answered) → length given ≡ 0 → given ≡ []
@@ -207,7 +231,7 @@ pub at_first : (next : Next) (done : ℕ) → IsOpenAt next done → asks_in nex
 at_first next done stands none =
     elim stands as (λ _. done ≡ 0) [ inl first ↦ first | inr less ↦ let many : length (asks_in next) ≡ 0 = ap length none in absurd (omega (arith, less, many)) ]
 
-module _ (options : Options) (is_alone : Bool) (base : ℕ) (next : Next) (done : ℕ) (stands : IsOpenAt next done) (old new : Sessions) (told tells : ℕ) where
+module _ (options : Options) (is_alone : Bool) (base : ℕ) (next : Next) (done : ℕ) (stands : IsOpenAt next done) (old new : Sessions) (told tells : ClockView) where
   -- A flush
 
   module _ (flushes : is_flush_all next ≡ true) (answers : List Answered) (is : (second : ℕ) × FlushesFrom options (flush_at second (flush_due next)) 0 answers) where
@@ -217,7 +241,7 @@ module _ (options : Options) (is_alone : Bool) (base : ℕ) (next : Next) (done 
     here : (e : Exchange) → StandsAt options base next done e → StandsAt options base next 0 e
     here e at = subst (λ n. StandsAt options base next n e) first at
 
-    pub flush_goes : AnswersInOrder options is_alone old answers new → ToldFrom told (seconds_of answers) tells → GoesOn options is_alone base next done old told new tells answers
+    pub flush_goes : AnswersInOrder options is_alone old answers new → ToldFrom told (seconds_of options answers) tells → GoesOn options is_alone base next done old told new tells answers
     flush_goes in_order seconds = record {
       in_order = in_order;
       seconds = seconds;

@@ -1,10 +1,13 @@
 -- Partitions that are flushed one after another.
-use Rattle.std.proofs.Common.{◌≡◌, ◌<◌, ◌≤◌, ◌+◌, ◌^◌, ◌&&◌, ℕ, suc, Bool, true, false, cond, List, [], ◌∷◌, ◌++◌, length, drop, nat_lt, Option, Some, None, option_to_list, refl, sym, ap, ◌∙◌, subst, arith, length-append}
+use Rattle.std.proofs.Common.{◌≡◌, ◌<◌, ◌≤◌, ◌+◌, ◌^◌, ◌&&◌, ◌==◌, ℕ, suc, Bool, true, false, cond, List, [], ◌∷◌, ◌++◌, length, drop, nat_lt, Option, Some, None, option_to_list, refl, sym, ap, ◌∙◌, subst, arith, length-append}
+use Rattle.std.specs.Prelude.{if◌then◌else◌}
 use Rattle.std.specs.Int.{w64, to_le_bytes, from_le_bytes}
 use Rattle.std.specs.List.{list_all, cons_option}
+use Rattle.std.proofs.Math.Dec.{eqb-suc-zero}
 use Rattle.std.proofs.lemmas.Bool.{le-ltb}
 use Rattle.std.proofs.lemmas.Nat.{from_le_bytes-to_le_bytes_8}
 use Rattle.std.proofs.lemmas.List.Folds.{list_all-append}
+use Rattle.mica_clock.specs.Seconds.{ClockView}
 use Rattle.mica_words.specs.Hash.{partition_of}
 use Rattle.partition_model.specs.declared.options.Options.{Options}
 use Rattle.partition_model.specs.declared.write.Outcome.{Outcome}
@@ -61,46 +64,37 @@ module _ (options : Options) (flush : Flush) (is_alone : Bool) (old between new 
 -- Seconds
 
 module _ (options : Options) (flush : Flush) where
-  one_asked : (partition : ℕ) (a : Answered) → FlushesOne options flush partition a → second_in a ≡ second_asked flush
-  one_asked partition (wrote step) is = ap (λ t. cond t (second_asked (flush_in step.write.key)) None) is.0 ∙ ap second_asked is.1
+  -- that of the first partition, and of another
+  one_asked : (partition : ℕ) (a : Answered) → FlushesOne options flush partition a → second_in options a ≡ (if partition == 0 then second_asked flush else None)
+  one_asked partition (wrote step) is = (λ i. cond (is.0 i && (is.2 i == 0)) (second_asked (is.1 i)) None)
   one_asked partition (got key stamp value) is = absurd is
   one_asked partition (changed step look) is = absurd is
   one_asked partition (kept key stamp look) is = absurd is
 
-  -- a flush at once reads no clock
-  none_told : (partition : ℕ) (answers : List Answered) → second_asked flush ≡ None → FlushesFrom options flush partition answers → seconds_of answers ≡ []
-  none_told partition [] none is = refl
-  none_told partition (a ∷ answers) none is =
-      (λ i. cons_option ((one_asked partition a is.0 ∙ none) i) (none_told (suc partition) answers none is.1 i))
+  -- no other partition than the first tells one
+  none_told : (partition : ℕ) (answers : List Answered) → FlushesFrom options flush (suc partition) answers → seconds_of options answers ≡ []
+  none_told partition [] is = refl
+  none_told partition (a ∷ answers) is =
+      let none = one_asked (suc partition) a is.0 ∙ ap (λ t. cond t (second_asked flush) None) (eqb-suc-zero partition) in
+      (λ i. cons_option (none i) (none_told (suc partition) answers is.1 i))
 
-  -- and each partition tells the second of another
-  same_told : (partition second : ℕ) (answers : List Answered) (tells : ℕ) → second_asked flush ≡ Some second → tells ≡ second
-      → FlushesFrom options flush partition answers → ToldFrom second (seconds_of answers) tells
-  same_told partition second [] tells at same is = same
-  same_told partition second (a ∷ answers) tells at same is =
-      subst (λ o. ToldFrom second (cons_option o (seconds_of answers)) tells) (sym (one_asked partition a is.0 ∙ at))
-      (omega arith, same_told (suc partition) second answers tells at same is.1)
+  one_told : (second : Option ℕ) → cons_option second [] ≡ option_to_list second
+  one_told None = refl
+  one_told (Some second) = refl
 
-  pub flush_told : (answers : List Answered) (told tells : ℕ) → 0 < length answers → FlushesFrom options flush 0 answers
-      → ToldFrom told (option_to_list (second_asked flush)) tells → ToldFrom told (seconds_of answers) tells
-  flush_told [] told tells some is at = absurd (omega (arith, some))
-  flush_told (a ∷ answers) told tells some is at = go (second_asked flush) refl at
-    where
-      go : (o : Option ℕ) → second_asked flush ≡ o → ToldFrom told (option_to_list o) tells → ToldFrom told (seconds_of (a ∷ answers)) tells
-      go None none at = subst (λ s. ToldFrom told s tells) (sym (none_told 0 (a ∷ answers) none is)) at
-      go (Some second) here at =
-          subst (λ o. ToldFrom told (cons_option o (seconds_of answers)) tells) (sym (one_asked 0 a is.0 ∙ here))
-          (at.0, same_told 1 second answers tells here at.1 is.1)
+  pub flush_told : (answers : List Answered) → 0 < length answers → FlushesFrom options flush 0 answers → seconds_of options answers ≡ option_to_list (second_asked flush)
+  flush_told [] some is = absurd (omega (arith, some))
+  flush_told (a ∷ answers) some is = (λ i. cons_option (one_asked 0 a is.0 i) (none_told 0 answers is.1 i)) ∙ one_told (second_asked flush)
 
--- all partitions tell the second at which they were asked, where there are any
-pub all_told : (options : Options) (flush : Flush) (answers : List Answered) (told tells partitions : ℕ) (due : Due) → length answers ≡ partitions
+-- the first partition tells the second at which all are asked, where there are any
+pub all_told : (options : Options) (flush : Flush) (answers : List Answered) (told tells : ClockView) (partitions : ℕ) (due : Due) → length answers ≡ partitions
     → FlushesFrom options flush 0 answers → (0 < partitions → (second : ℕ) × (flush ≡ flush_at second due)) → (partitions ≡ 0 → tells ≡ told)
     → ToldFrom told (option_to_list (second_asked flush)) tells
-    → ToldFrom told (seconds_of answers) tells × ((second : ℕ) × FlushesFrom options (flush_at second due) 0 answers)
+    → ToldFrom told (seconds_of options answers) tells × ((second : ℕ) × FlushesFrom options (flush_at second due) 0 answers)
 all_told options flush [] told tells partitions due many is asked none at = (none (sym many), (0, tt))
 all_told options flush (a ∷ answers) told tells partitions due many is asked none at =
     let here = asked (omega (arith, many)) in (
-      flush_told options flush (a ∷ answers) told tells (omega arith) is at,
+      subst (λ s. ToldFrom told s tells) (sym (flush_told options flush (a ∷ answers) (omega arith) is)) at,
       (here.0, subst (λ f. FlushesFrom options f 0 (a ∷ answers)) here.1 is),
     )
 

@@ -3,6 +3,7 @@ use Rattle.std.proofs.Common.{◌≡◌, ◌≤◌, ◌+◌, ℕ, Bool, true, fa
 use Rattle.std.specs.List.{AllByRecursion}
 use Rattle.std.proofs.lemmas.List.Elements.{filter_map-append}
 use Rattle.std.proofs.lemmas.Option.{same_Some}
+use Rattle.mica_clock.specs.Seconds.{ClockView}
 use Rattle.mica_words.specs.Hash.{partition_of}
 use Rattle.partition_model.specs.declared.options.Options.{Options}
 use Rattle.partition_model.specs.declared.options.Mode.TheVariants.{Cache}
@@ -19,9 +20,9 @@ use Rattle.mica_fronts.specs.Changing.{stays, goes, write_for, write_by, DoesWri
 use Rattle.mica_fronts.specs.Looks.{Look}
 use Rattle.mica_fronts.specs.Session.{Sessions, Answers, AnswersOne, ChangesOnly, Writes}
 use Rattle.mica_fronts.proofs.InOrder.{answers_append}
-use Rattle.memcached_fronts.specs.Seconds.{second_in, seconds_of, ToldFrom}
+use Rattle.memcached_fronts.specs.Seconds.{second_in, ToldFrom}
 use Rattle.memcached_fronts.specs.Sweeps.{IsSweep, SweepsBy}
-use Rattle.memcached_fronts.proofs.AskLaws.{told_then, one_second}
+use Rattle.memcached_fronts.proofs.AskLaws.{one_second, seconds_then}
 
 -- what a sweep writes is a delete of what is over
 takes : (base : ℕ) (when : When) (key : List ℕ) (value : Option (List ℕ)) (write : Write) → write_for key value (sweeping base when value) ≡ Some write
@@ -39,25 +40,24 @@ all_both P [] two first then = then
 all_both P (a ∷ one) two first then = (first.0, all_both P one two first.1 then)
 
 module _ (options : Options) (is_alone : Bool) (base : ℕ) where
-  pub none_swept : (old : Sessions) (left told : ℕ) → SweepsBy options is_alone base old left told old left told
+  pub none_swept : (old : Sessions) (left : ℕ) (told : ClockView) → SweepsBy options is_alone base old left told old left told
   none_swept old left told = record { answers = []; sweeps = tt; in_order = λ q. refl; seconds = refl; few = omega arith }
 
-  pub swept_then : {old between new : Sessions} {left then_left left_after told then tells : ℕ} → SweepsBy options is_alone base old left told between then_left then
+  pub swept_then : {old between new : Sessions} {left then_left left_after : ℕ} {told then tells : ClockView} → SweepsBy options is_alone base old left told between then_left then
       → SweepsBy options is_alone base between then_left then new left_after tells → SweepsBy options is_alone base old left told new left_after tells
   swept_then {old} {between} {new} {told = told} {then = then} {tells = tells} one two =
       let writes = ap length (filter_map-append step_in one.answers two.answers) ∙ length-append (steps_of one.answers) (steps_of two.answers) in record {
         answers = one.answers ++ two.answers;
         sweeps = all_both (IsSweep options base) one.answers two.answers one.sweeps two.sweeps;
         in_order = answers_append options is_alone one.answers two.answers old between new one.in_order two.in_order;
-        seconds = subst (λ s. ToldFrom told s tells) (sym (filter_map-append second_in one.answers two.answers))
-            (told_then told then tells (seconds_of one.answers) (seconds_of two.answers) one.seconds two.seconds);
+        seconds = seconds_then options told then tells one.answers two.answers one.seconds two.seconds;
         few = omega (arith, one.few, two.few, writes);
       }
 
   -- a key that was touched
   pub one_touched : (old new : Sessions) (left left_after : ℕ) (key : List ℕ) (outcome : Outcome) (stamp : ℕ) → options.mode ≡ Cache
       → Writes options is_alone (old (partition_of key options.partitions)) (record { write = write_of Touch key []; outcome = outcome; stamp = stamp }) (new (partition_of key options.partitions))
-      → ChangesOnly (partition_of key options.partitions) old new → left ≤ left_after + 1 → (told : ℕ) → SweepsBy options is_alone base old left told new left_after told
+      → ChangesOnly (partition_of key options.partitions) old new → left ≤ left_after + 1 → (told : ClockView) → SweepsBy options is_alone base old left told new left_after told
   one_touched old new left left_after key outcome stamp mode writes others few told = record {
     answers = wrote (record { write = write_of Touch key []; outcome = outcome; stamp = stamp }) ∷ [];
     sweeps = ((mode, refl), tt);
@@ -67,19 +67,19 @@ module _ (options : Options) (is_alone : Bool) (base : ℕ) where
   }
 
   -- a key that was looked at
-  module _ (old new : Sessions) (left left_after told second : ℕ) (key : List ℕ) (c : Changed) (buffer : List ℕ) (falls : told ≤ second) where
-    one_by : (a : Answered) → Answers options is_alone old a new → IsSweep options base a → second_in a ≡ Some second → left ≤ left_after + count_of_writes (a ∷ [])
-        → SweepsBy options is_alone base old left told new left_after second
+  module _ (old new : Sessions) (left left_after : ℕ) (told tells : ClockView) (second : ℕ) (key : List ℕ) (c : Changed) (buffer : List ℕ) (read : ToldFrom told (second ∷ []) tells) where
+    one_by : (a : Answered) → Answers options is_alone old a new → IsSweep options base a → second_in options a ≡ Some second → left ≤ left_after + count_of_writes (a ∷ [])
+        → SweepsBy options is_alone base old left told new left_after tells
     one_by a here is at few = record {
       answers = a ∷ [];
       sweeps = (is, tt);
       in_order = (new, here, λ q. refl);
-      seconds = subst (λ s. ToldFrom told s second) (sym (one_second a second at)) (falls, refl);
+      seconds = subst (λ s. ToldFrom told s tells) (sym (one_second options a second at)) read;
       few = few;
     }
 
     pub one_swept : let p = partition_of key options.partitions in ComesTo options is_alone second key true (sweeping base) (old p) c buffer (new p)
-        → ChangesOnly (partition_of key options.partitions) old new → left ≤ left_after + count_of c.outcome → SweepsBy options is_alone base old left told new left_after second
+        → ChangesOnly (partition_of key options.partitions) old new → left ≤ left_after + count_of c.outcome → SweepsBy options is_alone base old left told new left_after tells
     one_swept comes others few = go (write_by (sweeping base) key look) c.outcome refl refl comes.does
       where
         look : Look
@@ -87,7 +87,7 @@ module _ (options : Options) (is_alone : Bool) (base : ℕ) where
 
         go : (write : Option Write) (outcome : Option Outcome) → write_by (sweeping base) key look ≡ write → c.outcome ≡ outcome
             → DoesWrite options is_alone (old (partition_of key options.partitions)) key write outcome c.stamp look (new (partition_of key options.partitions))
-            → SweepsBy options is_alone base old left told new left_after second
+            → SweepsBy options is_alone base old left told new left_after tells
         go None None writes is does =
             one_by (kept key c.stamp look) (record { one = does; others = others }) tt (ap Some comes.at) (subst (λ o. left ≤ left_after + count_of o) is few)
         go None (Some outcome) writes is does = absurd does

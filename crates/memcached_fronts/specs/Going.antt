@@ -1,5 +1,6 @@
 -- What one call makes of an exchange.
 use Rattle.std.specs.Prelude.{◌≡◌, ◌≤◌, ◌⊎◌, ◌+◌, ◌==◌, ℕ, Bool, false, List, ◌++◌, length, drop, Option, Some, None, if◌then◌else◌, []}
+use Rattle.mica_clock.specs.Seconds.{ClockView}
 use Rattle.partition_model.specs.declared.options.Options.{Options}
 use Rattle.partition_model.specs.declared.write.Answer.{Answer}
 use Rattle.partition_model.specs.declared.write.Answer.TheVariants.{Hit}
@@ -24,7 +25,7 @@ pub record AnswersAt (options : Options) (is_alone : Bool) (base second : ℕ) (
     : Type 0 where
   pub one : Answers options is_alone old answered new
   pub to_ask : AnswersAsk base asked answered
-  pub at : second_in answered ≡ Some second
+  pub at : second_in options answered ≡ Some second
 
 -- the value in a buffer, where one was found
 abbrev pub value_found : Option Answer → List ℕ → Option (List ℕ)
@@ -36,10 +37,10 @@ abbrev pub ask_text : Bool → Bool → Bool → List ℕ → Says → List ℕ
 ask_text quiet unique is_last key says = unless_quiet quiet (shown_text unique key says ++ (if is_last then last_text (last_of says) else []))
 
 -- These asks were answered, as far as the answers go.
-pub record AnswersFirst (options : Options) (is_alone : Bool) (base : ℕ) (asks : List Asked) (old : Sessions) (told : ℕ) (new : Sessions) (tells : ℕ)
+pub record AnswersFirst (options : Options) (is_alone : Bool) (base : ℕ) (asks : List Asked) (old : Sessions) (told : ClockView) (new : Sessions) (tells : ClockView)
     (answers : List Answered) : Type 0 where
   pub in_order : AnswersInOrder options is_alone old answers new
-  pub seconds : ToldFrom told (seconds_of answers) tells
+  pub seconds : ToldFrom told (seconds_of options answers) tells
   pub to_asks : AnswersAsks base asks answers
 
 -- The text that is due to them was appended. All are answered; or as many are as the limits allow.
@@ -59,10 +60,10 @@ pub record StandsAt (options : Options) (base : ℕ) (next : Next) (done : ℕ) 
   pub answers : AnswersNext options base e.next e.answers
 
 -- The front's sessions and the clock went on by these answers and no others, and they are the next to what was said.
-pub record GoesOn (options : Options) (is_alone : Bool) (base : ℕ) (next : Next) (done : ℕ) (old : Sessions) (told : ℕ) (new : Sessions) (tells : ℕ)
+pub record GoesOn (options : Options) (is_alone : Bool) (base : ℕ) (next : Next) (done : ℕ) (old : Sessions) (told : ClockView) (new : Sessions) (tells : ClockView)
     (answers : List Answered) : Type 0 where
   pub in_order : AnswersInOrder options is_alone old answers new
-  pub seconds : ToldFrom told (seconds_of answers) tells
+  pub seconds : ToldFrom told (seconds_of options answers) tells
   pub next_ones : (e : Exchange) → StandsAt options base next done e → AnswersNext options base e.next (e.answers ++ answers)
 
 -- The text that is due to them was appended. All is answered; or as many were as the limits allow.

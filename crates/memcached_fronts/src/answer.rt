@@ -2,6 +2,7 @@
 ghost use Rattle.std.specs.Prelude.{◌≡◌, ◌<◌, ◌≤◌, ◌+◌, ◌^◌, ◌++◌, ℕ, true, List, length, drop, IfOk, OnErr};
 ghost use Rattle.std.specs.List.{AllByRecursion, list_all};
 ghost use Rattle.memcached_text.specs.Fit.{IsFitNext};
+ghost use Rattle.memcached_text.specs.Lifetimes.{IsDue};
 ghost use Rattle.memcached_commands.specs.Answers.{unless_quiet};
 ghost use Rattle.memcached_commands.specs.Asks.{asks_in};
 ghost use Rattle.memcached_commands.specs.Fit.{IsFitAsked};
@@ -75,7 +76,7 @@ fn answer_stats<C: Clock>(
         × ((told : Told) × (out.new.items ≡ out.old.items ++ stats_text partitions told))) }
     ensures err { OnErr result (out.new.items ≡ out.old.items) }
 {
-    buffers.show();
+    buffers.show_all();
     buffers.board.put_stats(clock.present(), partitions, out)?;
     Ok(Progress {
         done,
@@ -130,10 +131,11 @@ fn answer_flush<R: Threads + Wait + Sync, F: Changes, C: Clock>(
     quiet: bool,
     out: &mut Vec<u8>,
 ) -> Result<Progress, NoMemory>
+    requires due { IsDue due }
     requires partitions { partitions ≡ (F.options front.old).partitions }
     requires left { partitions ≤ F.left front.old }
     ensures flushed { (answers : List Answered) × AnswersInOrder (F.options front.old) F.is_alone (F.sessions front.old) answers (F.sessions front.new)
-        × ToldFrom (C.last clock.old) (seconds_of answers) (C.last clock.new)
+        × ToldFrom (C.view clock.old) (seconds_of (F.options front.old) answers) (C.view clock.new)
         × ((second : ℕ) × FlushesFrom (F.options front.old) (flush_at second due) 0 answers) × (length answers ≡ partitions)
         × IfOk result (λ progress. (progress ≡ record { done = partitions; is_whole = true })
         × (out.new.items ≡ out.old.items ++ unless_quiet quiet (flush_text true answers)))
@@ -156,6 +158,7 @@ fn answer_flush<R: Threads + Wait + Sync, F: Changes, C: Clock>(
 }
 
 // Leaves so many out.
+#[inline(always)]
 fn skip(asks: &mut Asks, count: usize)
     requires { count ≤ length asks.old }
     ensures { asks.new ≡ drop count asks.old }
@@ -181,7 +184,7 @@ fn answer_asks<'a, R: Threads + Wait + Sync, F: Changes, C: Clock>(
     requires fit { AllByRecursion IsFitAsked asks.old }
     requires left { limits.asks ≤ F.left front.old }
     ensures answered { (answers : List Answered)
-        × AnswersFirst (F.options front.old) F.is_alone base asks.old (F.sessions front.old) (C.last clock.old) (F.sessions front.new) (C.last clock.new) answers
+        × AnswersFirst (F.options front.old) F.is_alone base asks.old (F.sessions front.old) (C.view clock.old) (F.sessions front.new) (C.view clock.new) answers
         × IfOk result (λ count. RepliesFirst base style.quiet style.unique asks.old limits answers out.old.items out.new.items count asks.new)
         × (F.left front.old ≤ F.left front.new + count_of_writes answers)
         × (buffers.new.tally ≡ tally_after_all base partitions asks.old answers buffers.old.tally) }
@@ -203,6 +206,9 @@ fn answer_asks<'a, R: Threads + Wait + Sync, F: Changes, C: Clock>(
             return Err(NoMemory);
         };
         count += 1;
+        if is_last {
+            return Ok(count);
+        }
     }
     Ok(count)
 }
@@ -226,7 +232,7 @@ pub fn answer_next<'a, R: Threads + Wait + Sync, F: Changes, C: Clock>(
     requires partitions { numbering.partitions ≡ (F.options front.old).partitions }
     requires left { limits.asks + numbering.partitions ≤ F.left front.old }
     ensures answered { (answers : List Answered)
-        × GoesOn (F.options front.old) F.is_alone numbering.base next.entry done (F.sessions front.old) (C.last clock.old) (F.sessions front.new) (C.last clock.new) answers
+        × GoesOn (F.options front.old) F.is_alone numbering.base next.entry done (F.sessions front.old) (C.view clock.old) (F.sessions front.new) (C.view clock.new) answers
         × IfOk result (Replies (F.options front.old) numbering.base next.entry done limits answers out.old.items out.new.items)
         × (F.left front.old ≤ F.left front.new + count_of_writes answers)
         × (buffers.new.tally ≡ tally_after_next numbering.base numbering.partitions next.entry done answers buffers.old.tally) }

@@ -5,6 +5,7 @@ ghost use Rattle.mica_fronts.specs.Answered.{Answered, count_of_writes};
 ghost use Rattle.memcached_fronts.specs.AskAnswers.{said_of};
 ghost use Rattle.memcached_fronts.specs.Counting.{count_of_accepted, noted_if, tally_after};
 ghost use Rattle.memcached_fronts.specs.Going.{AnswersAt, ask_text, value_found};
+ghost use Rattle.memcached_fronts.specs.Seconds.{ToldFrom};
 
 use crate::buffers::Buffers;
 use crate::noted::Noted;
@@ -21,6 +22,7 @@ use std::sync::Wait;
 use std::thread::Threads;
 
 // Appends the text that is due to one ask. When out of memory, nothing is appended.
+#[inline(always)]
 fn put_said(
     out: &mut Vec<u8>,
     style: Style,
@@ -59,6 +61,7 @@ fn count_of_accepted(outcome: Outcome) -> u64
 }
 
 // Notes what a write left of its partition, where one was made, and what it leaves for the next sweep.
+#[inline(always)]
 fn note_write(
     tally: &mut Tally,
     noted: &mut Noted,
@@ -98,12 +101,12 @@ pub fn answer_ask<R: Threads + Wait + Sync, F: Changes, C: Clock>(
     requires fit { IsFitAsked asked.now }
     requires left { 0 < F.left front.old }
     ensures answered { (answered : Answered)
-        × AnswersAt (F.options front.old) F.is_alone base (C.last clock.new) (F.sessions front.old) asked.now (F.sessions front.new) answered
+        × AnswersAt (F.options front.old) F.is_alone base (C.view clock.new).last (F.sessions front.old) asked.now (F.sessions front.new) answered
         × OnOk result (out.new.items ≡ out.old.items ++ ask_text style.quiet style.unique is_last asked.now.key (said_of base asked.now answered))
         × (F.left front.old ≤ F.left front.new + count_of_writes (answered ∷ []))
         × (buffers.new.tally ≡ tally_after base partitions asked.now answered buffers.old.tally) }
     ensures err { OnErr result (out.new.items ≡ out.old.items) }
-    ensures never_falls { C.last clock.old ≤ C.last clock.new }
+    ensures read { ToldFrom (C.view clock.old) ((C.view clock.new).last ∷ []) (C.view clock.new) }
     ensures left { F.left front.old ≤ F.left front.new + 1 }
     ensures options { F.options front.new ≡ F.options front.old }
     ensures number { F.number front.new ≡ F.number front.old }

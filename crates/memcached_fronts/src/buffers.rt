@@ -1,4 +1,5 @@
 //! What a front has in hand for its commands.
+ghost use Rattle.std.specs.Prelude.{◌≡◌};
 
 use crate::noted::Noted;
 use memcached_stats::{Board, Tally};
@@ -32,7 +33,18 @@ impl<'a> Buffers<'a> {
     }
 
     /// Shows what the front has counted.
-    pub fn show(&self) {
+    pub fn show_all(&self) {
         self.board.show(self.place, &self.tally);
+    }
+
+    /// Shows what the front has counted since this was asked last.
+    pub fn show(&mut self)
+        ensures { self.new.tally ≡ self.old.tally }
+    {
+        if self.noted.take_written() {
+            self.show_all();
+        } else {
+            self.board.show_counters(self.place, &self.tally);
+        }
     }
 }

@@ -3,6 +3,7 @@ ghost use Rattle.std.specs.Prelude.{◌≡◌, ◌<◌, ◌≤◌, ◌+◌, ℕ,
 ghost use Rattle.std.specs.List.{list_all};
 ghost use Rattle.mica_words.specs.Hash.{partition_of};
 ghost use Rattle.mica_words.specs.Item.{KeyFits};
+ghost use Rattle.memcached_text.specs.Lifetimes.{IsDue};
 ghost use Rattle.mica_fronts.specs.Answered.{Answered, accepts, count_of_writes};
 ghost use Rattle.mica_fronts.specs.Flushes.{begins_with_feed, flush_in};
 ghost use Rattle.mica_fronts.specs.Session.{Answers, AnswersInOrder};
@@ -19,9 +20,10 @@ use std::thread::Threads;
 
 /// The flush that is asked for now. The clock is read unless it is to take place at once, and not where there is no partition to tell its second.
 pub fn ask_flush<C: Clock>(clock: &mut C, partitions: u32, due: Due) -> Flush
+    requires due { IsDue due }
     ensures asked { 0 < partitions → (second : ℕ) × (result ≡ flush_at second due) }
-    ensures told { ToldFrom (C.last clock.old) (option_to_list (second_asked result)) (C.last clock.new) }
-    ensures none { partitions ≡ 0 → C.last clock.new ≡ C.last clock.old }
+    ensures told { ToldFrom (C.view clock.old) (option_to_list (second_asked result)) (C.view clock.new) }
+    ensures none { partitions ≡ 0 → C.view clock.new ≡ C.view clock.old }
 {
     if partitions == 0 {
         return Flush { due: 0, asked: 0 };

@@ -1,5 +1,6 @@
 //! Items that are over give their room back, and items that are used stay.
 ghost use Rattle.std.specs.Prelude.{◌≡◌, ◌<◌, ◌≤◌, ◌+◌, ℕ};
+ghost use Rattle.mica_clock.specs.Seconds.{ClockView};
 ghost use Rattle.mica_words.specs.Item.{KeyFits};
 ghost use Rattle.memcached_fronts.specs.Sweeps.{SweepsBy};
 
@@ -121,7 +122,7 @@ fn sweep_key<R: Threads + Wait + Sync, F: Changes, C: Clock>(
 ) -> Changed
     requires key { KeyFits key.now }
     requires left { 0 < F.left front.old }
-    ensures swept { SweepsBy (F.options front.old) F.is_alone base (F.sessions front.old) (F.left front.old) (C.last clock.old) (F.sessions front.new) (F.left front.new) (C.last clock.new) }
+    ensures swept { SweepsBy (F.options front.old) F.is_alone base (F.sessions front.old) (F.left front.old) (C.view clock.old) (F.sessions front.new) (F.left front.new) (C.view clock.new) }
     ensures left { F.left front.old ≤ F.left front.new + 1 }
     ensures options { F.options front.new ≡ F.options front.old }
     ensures number { F.number front.new ≡ F.number front.old }
@@ -142,7 +143,7 @@ fn sweep_item<R: Threads + Wait + Sync, F: Changes, C: Clock>(
 ) -> bool
     requires key { KeyFits sweeper.old.key }
     requires left { 0 < F.left front.old }
-    ensures swept { SweepsBy (F.options front.old) F.is_alone base (F.sessions front.old) (F.left front.old) (C.last clock.old) (F.sessions front.new) (F.left front.new) (C.last clock.new) }
+    ensures swept { SweepsBy (F.options front.old) F.is_alone base (F.sessions front.old) (F.left front.old) (C.view clock.old) (F.sessions front.new) (F.left front.new) (C.view clock.new) }
     ensures left { F.left front.old ≤ F.left front.new + 1 }
     ensures options { F.options front.new ≡ F.options front.old }
     ensures number { F.number front.new ≡ F.number front.old }
@@ -179,7 +180,7 @@ fn sweep_place<R: Threads + Wait + Sync, F: Glances, C: Clock>(
 ) -> bool
     requires partitions { numbering.partitions ≡ (F.options front.old).partitions }
     requires left { 0 < F.left front.old }
-    ensures swept { SweepsBy (F.options front.old) F.is_alone numbering.base (F.sessions front.old) (F.left front.old) (C.last clock.old) (F.sessions front.new) (F.left front.new) (C.last clock.new) }
+    ensures swept { SweepsBy (F.options front.old) F.is_alone numbering.base (F.sessions front.old) (F.left front.old) (C.view clock.old) (F.sessions front.new) (F.left front.new) (C.view clock.new) }
     ensures left { F.left front.old ≤ F.left front.new + 1 }
     ensures options { F.options front.new ≡ F.options front.old }
     ensures number { F.number front.new ≡ F.number front.old }
@@ -214,7 +215,7 @@ fn sweep_places<R: Threads + Wait + Sync, F: Glances, C: Clock>(
 ) -> u32
     requires partitions { numbering.partitions ≡ (F.options front.old).partitions }
     requires left { most ≤ F.left front.old }
-    ensures swept { SweepsBy (F.options front.old) F.is_alone numbering.base (F.sessions front.old) (F.left front.old) (C.last clock.old) (F.sessions front.new) (F.left front.new) (C.last clock.new) }
+    ensures swept { SweepsBy (F.options front.old) F.is_alone numbering.base (F.sessions front.old) (F.left front.old) (C.view clock.old) (F.sessions front.new) (F.left front.new) (C.view clock.new) }
     ensures few { result ≤ most }
     ensures left { F.left front.old ≤ F.left front.new + result }
     ensures options { F.options front.new ≡ F.options front.old }
@@ -241,7 +242,7 @@ fn touch_old<R: Threads + Wait + Sync, F: Glances>(
     key: &mut ItemBuf,
 ) -> u64
     requires left { most ≤ F.left front.old }
-    ensures swept { (base told : ℕ) → SweepsBy (F.options front.old) F.is_alone base (F.sessions front.old) (F.left front.old) told (F.sessions front.new) (F.left front.new) told }
+    ensures swept { (base : ℕ) (told : ClockView) → SweepsBy (F.options front.old) F.is_alone base (F.sessions front.old) (F.left front.old) told (F.sessions front.new) (F.left front.new) told }
     ensures few { result ≤ most }
     ensures left { F.left front.old ≤ F.left front.new + result }
     ensures options { F.options front.new ≡ F.options front.old }
@@ -264,7 +265,7 @@ fn touch_used<R: Threads + Wait + Sync, F: Glances>(
     key: &mut ItemBuf,
 ) -> u64
     requires left { most ≤ F.left front.old }
-    ensures swept { (base told : ℕ) → SweepsBy (F.options front.old) F.is_alone base (F.sessions front.old) (F.left front.old) told (F.sessions front.new) (F.left front.new) told }
+    ensures swept { (base : ℕ) (told : ClockView) → SweepsBy (F.options front.old) F.is_alone base (F.sessions front.old) (F.left front.old) told (F.sessions front.new) (F.left front.new) told }
     ensures few { result ≤ most }
     ensures left { F.left front.old ≤ F.left front.new + result }
     ensures options { F.options front.new ≡ F.options front.old }
@@ -292,7 +293,7 @@ pub fn sweep<R: Threads + Wait + Sync, F: Glances, C: Clock>(
 ) -> u64
     requires partitions { numbering.partitions ≡ (F.options front.old).partitions }
     requires left { most ≤ F.left front.old }
-    ensures swept { SweepsBy (F.options front.old) F.is_alone numbering.base (F.sessions front.old) (F.left front.old) (C.last clock.old) (F.sessions front.new) (F.left front.new) (C.last clock.new) }
+    ensures swept { SweepsBy (F.options front.old) F.is_alone numbering.base (F.sessions front.old) (F.left front.old) (C.view clock.old) (F.sessions front.new) (F.left front.new) (C.view clock.new) }
     ensures few { result ≤ most }
     ensures left { F.left front.old ≤ F.left front.new + result }
     ensures options { F.options front.new ≡ F.options front.old }

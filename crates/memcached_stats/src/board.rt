@@ -43,9 +43,9 @@ impl Shown {
         Ok(Shown { numbers })
     }
 
-    // Shows what has changed.
-    fn show(&self, tally: &Tally) {
-        for (shown, number) in self.numbers.iter().zip(&tally.numbers) {
+    // Shows what has changed of these, which are the first numbers of a tally.
+    fn show(&self, numbers: &[u64]) {
+        for (shown, number) in self.numbers.iter().zip(numbers) {
             if shown.load(Ordering::Relaxed) != *number {
                 shown.store(*number, Ordering::Relaxed);
             }
@@ -90,7 +90,14 @@ impl Board {
     /// Shows what the front of this number has counted.
     pub fn show(&self, front: u32, tally: &Tally) {
         if let Some(shown) = self.fronts.get(front as usize) {
-            shown.show(tally);
+            shown.show(tally.numbers.as_slice());
+        }
+    }
+
+    /// Shows its counters alone, where no partition was noted since all was shown.
+    pub fn show_counters(&self, front: u32, tally: &Tally) {
+        if let Some(shown) = self.fronts.get(front as usize) {
+            shown.show(&tally.numbers[..COUNTERS]);
         }
     }
 

@@ -112,6 +112,7 @@ fn count_counter(direction: Direction, says: &Says) -> Option<Counter>
 }
 
 /// Which counter is raised by what a key was asked and what was said of it, if any.
+#[inline(always)]
 pub fn counter_of(ask: &Ask, says: &Says) -> Option<Counter>
     ensures { result ≡ counter_of ask.now says.now }
 {

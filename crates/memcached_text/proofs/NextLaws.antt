@@ -113,6 +113,11 @@ no_line_short from text short lacks =
     let test : nat_lt MAX_LINE_LEN (length from) ≡ false = le-ltb _ _ short in
     next_is from None text (line_at_none from lacks) ∙ rw test refl
 
+-- no bytes are the beginning of a line
+pub no_bytes : (from : List ℕ) → length from ≡ 0 → next_of from ≡ More
+no_bytes [] none = no_line_short [] refl (omega arith) tt
+no_bytes (b ∷ bytes) none = absurd (omega arith)
+
 -- bytes that begin with a line
 pub a_line : (from line rest : List ℕ) → is_binary from ≡ false → HasLine from line rest → length line ≤ MAX_LINE_LEN → next_of from ≡ says_at (line_of (words_of (without_return line))) (length line + 1) rest
 unfolding next_in

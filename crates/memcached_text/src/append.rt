@@ -4,7 +4,7 @@ ghost use Rattle.std.specs.Prelude.{◌≡◌, ◌++◌, flat_map, OnOk, OnErr};
 use mica_io::NoMemory;
 
 // Appends the parts. Where memory runs out, nothing is appended.
-#[inline]
+#[inline(always)]
 pub fn append_parts(out: &mut Vec<u8>, parts: &[&[u8]]) -> Result<(), NoMemory>
     ensures ok { OnOk result (out.new.items ≡ out.old.items ++ flat_map (λ part. part.now) parts.now) }
     ensures err { OnErr result (out.new.items ≡ out.old.items) }

@@ -158,9 +158,13 @@ fn front_line(from: &[u8]) -> Next
     }
 }
 
+#[inline(always)]
 fn front_of(from: &[u8]) -> Next
     ensures { result ≡ next_of from.now }
 {
+    if from.is_empty() {
+        return Next::More;
+    }
     if let Some((key, len)) = spelled_get(from) {
         let command = Command::Get {
             keys: Words::one(key),
@@ -183,6 +187,7 @@ fn front_of(from: &[u8]) -> Next
 }
 
 /// What the bytes begin with. It stays so whatever bytes follow, unless it is `More`.
+#[inline(always)]
 pub fn next_command(from: &[u8]) -> Next
     ensures next { result ≡ next_of from.now }
     ensures waits { result ≡ Next.More → length from.now < MAX_WAITING_LEN }

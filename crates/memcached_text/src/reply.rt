@@ -113,7 +113,7 @@ fn put_numbers(
 }
 
 // Appends the value that a get found, and what is to stand behind it. Where memory runs out, nothing is appended.
-#[inline]
+#[inline(always)]
 #[tactic(auto, unfolding(crate::specs::Replies::value_text))]
 fn put_value_and(
     out: &mut Vec<u8>,
@@ -133,6 +133,7 @@ fn put_value_and(
 
 /// Appends the value that a get found, with its unique number where there is one. Where memory runs out, nothing is
 /// appended.
+#[inline(always)]
 pub fn put_value(
     out: &mut Vec<u8>,
     key: &[u8],
@@ -147,6 +148,7 @@ pub fn put_value(
 }
 
 /// Appends the last value that a get found, and the end of its reply. Where memory runs out, nothing is appended.
+#[inline(always)]
 pub fn put_last_value(
     out: &mut Vec<u8>,
     key: &[u8],

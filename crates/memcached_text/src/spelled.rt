@@ -10,7 +10,7 @@ use crate::{Command, Direction, Lifetime, Wants};
 use memchr::memchr2;
 
 // What stands before the first space or line feed, and the text from there on. None where neither stands near.
-#[inline]
+#[inline(always)]
 fn first_part(text: &[u8]) -> Option<(&[u8], &[u8])>
     ensures { IfSome result (λ parts. (text.now ≡ parts.0.now ++ parts.1.now) × Lacks 32 parts.0.now × Lacks 10 parts.0.now) }
 {
@@ -66,7 +66,7 @@ fn is_key_len(len: usize) -> bool
 }
 
 // The key of a get of one key, and the bytes of its text.
-#[inline]
+#[inline(always)]
 pub fn spelled_get(from: &[u8]) -> Option<(&[u8], usize)>
     ensures { IfSome result (λ found. BeginsAs from.now (Command.Get (found.0.now ∷ []) false None) found.1) }
 {
@@ -89,7 +89,7 @@ fn is_spelled(digits: &[u8]) -> bool
 }
 
 // The number at the front of a text, and what stands behind it.
-#[inline]
+#[inline(always)]
 fn leading_number(text: &[u8]) -> Option<(u32, &[u8])>
     ensures { IfSome result (λ found. (found.0 ≤ 4294967295) × (text.now ≡ decimal found.0 ++ found.1.now)) }
 {
@@ -111,7 +111,7 @@ fn leading_number(text: &[u8]) -> Option<(u32, &[u8])>
 }
 
 // The number that leads a text, where a space is behind it, and what stands behind that.
-#[inline]
+#[inline(always)]
 fn number_word(text: &[u8]) -> Option<(u32, &[u8])>
     ensures { IfSome result (λ found. (found.0 ≤ 4294967295) × (text.now ≡ decimal found.0 ++ 32 ∷ found.1.now)) }
 {
@@ -158,7 +158,7 @@ pub struct SpelledSet<'a> {
 }
 
 // A set, with its value.
-#[inline]
+#[inline(always)]
 pub fn spelled_set(from: &[u8]) -> Option<SpelledSet>
     ensures { IfSome result (λ set. BeginsAs from.now (Command.Store Wants.Whatever set.key.now set.flags set.lifetime set.value.now set.quiet) set.len) }
 {
@@ -186,7 +186,7 @@ pub fn spelled_set(from: &[u8]) -> Option<SpelledSet>
 
 impl<'a> SpelledSet<'a> {
     /// The command that stores the item, whatever is there.
-    #[inline]
+    #[inline(always)]
     pub fn command(self) -> Command<'a>
         ensures { result ≡ Command.Store Wants.Whatever self.entry.key.now self.entry.flags self.entry.lifetime self.entry.value.now self.entry.quiet }
     {

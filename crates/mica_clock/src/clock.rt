@@ -1,20 +1,20 @@
 //! What tells seconds.
-ghost use Rattle.std.specs.Prelude.{◌≡◌, ◌≤◌, ℕ};
-ghost use Rattle.mica_clock.specs.Seconds.{second_after};
+ghost use Rattle.std.specs.Prelude.{◌≡◌};
+ghost use Rattle.mica_clock.specs.Seconds.{ClockView, IsReading, once_read, second_after};
 
 /// What tells seconds, from the beginning of 1970 on.
 pub trait Clock {
-    /// The last second that it told, and at first one that it will not fall below.
-    ghost last: { Self → ℕ };
+    /// The last second that it told, and at first one that it will not fall below; and what it shows from now on, where it tells that.
+    ghost view: { Self → ClockView };
 
     /// The present second.
     fn second(&mut self) -> u64
-        ensures told { result ≡ last self.new }
-        ensures never_falls { last self.old ≤ last self.new };
+        ensures told { IsReading (view self.old) result }
+        ensures once { view self.new ≡ once_read result (view self.old) };
 
     /// The present second where nothing is decided by it: it is shown, and does not count as told.
     fn present(&self) -> u64
-        ensures { last self.now ≤ result };
+        ensures { IsReading (view self.now) result };
 }
 
 // The second that is told where the clock shows this.

@@ -1,6 +1,5 @@
 //! A clock in memory.
-ghost use Rattle.std.specs.Prelude.{◌≡◌, ◌≤◌, ℕ, List, drop};
-ghost use Rattle.mica_clock.specs.Seconds.{second_after, shown_in};
+ghost use Rattle.std.specs.Prelude.{◌≡◌, Some};
 
 use crate::clock::{Clock, second_after};
 
@@ -22,14 +21,9 @@ impl<'a> MemClock<'a> {
 }
 
 impl<'a> Clock for MemClock<'a> {
-    ghost last = { λ clock. clock.last };
+    ghost view = { λ clock. record { last = clock.last; shows = Some clock.script.now } };
 
-    fn second(&mut self) -> u64
-        ensures told { result ≡ self.new.last }
-        ensures never_falls { self.old.last ≤ self.new.last }
-        ensures shown { self.new.last ≡ second_after self.old.last (shown_in self.old.script.now) }
-        ensures later { self.new.script.now ≡ drop 1 self.old.script.now }
-    {
+    fn second(&mut self) -> u64 {
         if let Some((shown, later)) = self.script.split_first() {
             self.last = second_after(self.last, *shown);
             self.script = later;
@@ -37,10 +31,7 @@ impl<'a> Clock for MemClock<'a> {
         self.last
     }
 
-    fn present(&self) -> u64
-        ensures later { self.now.last ≤ result }
-        ensures shown { result ≡ second_after self.now.last (shown_in self.now.script.now) }
-    {
+    fn present(&self) -> u64 {
         second_after(self.last, self.script.first().copied().flatten())
     }
 }

@@ -1,5 +1,5 @@
 //! A clock over the system's.
-ghost use Rattle.std.specs.Prelude.{◌≡◌};
+ghost use Rattle.std.specs.Prelude.{None};
 
 use crate::clock::{Clock, second_after};
 use std::time;
@@ -26,7 +26,7 @@ fn shown<R: time::Clock>(rt: &R) -> Option<u64> {
 }
 
 impl<'a, R: time::Clock> Clock for StdClock<'a, R> {
-    ghost last = { λ clock. clock.last };
+    ghost view = { λ clock. record { last = clock.last; shows = None } };
 
     fn second(&mut self) -> u64 {
         self.last = second_after(self.last, shown(self.rt));

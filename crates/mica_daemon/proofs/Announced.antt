@@ -1,6 +1,7 @@
 -- What a server that stays up has written, by what it came to.
 use Rattle.std.proofs.Common.{◌≡◌, ℕ, ◌⊎◌, inl, inr, List, take, Option, Some, None, refl, sym, ap, subst, arith}
 use Rattle.std.specs.Prelude.{Result, Ok, Err}
+use Rattle.mica_clock.specs.Seconds.{ClockView}
 use Rattle.partition_model.specs.declared.options.Options.{Options}
 use Rattle.partition_model.specs.declared.write.Write.{Write}
 use Rattle.mica_fronts.specs.declared.totals.Totals.{Totals}
@@ -58,12 +59,12 @@ pub written_last : (stop cause : Stop) (old new : SinkFacts) (status : Status) �
 written_last stop cause old new status is last = subst (λ (s : Stop). WritesLast (Err s) old new status) (sym is) last
 
 -- a server whose listeners had been told where to listen, with the clocks that it took
-pub serves_placed : {options : Options} {ports : PortOptions} {streams : StreamOptions} (all : List ℕ) {taken : List ℕ} {base : ℕ} {writes : List Write} (old : DaemonOutside) {told new : DaemonOutside}
+pub serves_placed : {options : Options} {ports : PortOptions} {streams : StreamOptions} (all : List ClockView) {taken : List ClockView} {base : ℕ} {writes : List Write} (old : DaemonOutside) {told new : DaemonOutside}
     {status : Status} → take streams.ports.fronts all ≡ taken → told ≡ placed (place_of streams) old
     → ServesAloud (record { options = options; ports = ports; streams = streams.ports; base = base }) taken writes told new status
     → ServesPlaced options ports streams all base writes old new status
 serves_placed {options} {ports} {streams} all {base = base} {writes = writes} old {new = new} {status = status} same is served =
-    subst (λ (y : List ℕ × DaemonOutside). ServesAloud (record { options = options; ports = ports; streams = streams.ports; base = base }) y.0 writes y.1 new status)
+    subst (λ (y : List ClockView × DaemonOutside). ServesAloud (record { options = options; ports = ports; streams = streams.ports; base = base }) y.0 writes y.1 new status)
     (λ i. (sym same i, is i)) served
 
 kept_files : (image : Option Text) (files : FilesFacts) → KeepsFiles image files files
@@ -71,7 +72,7 @@ kept_files None files = refl
 kept_files (Some name) files = omega arith
 
 -- where there was no memory before it began, the words do not matter
-pub unwritten : (given : Option Service) (seconds : List ℕ) (base : ℕ) (files : FilesFacts) (old new : DaemonOutside) (status : Status) → IsUnwritten old.sink new.sink status → BindsNothing old new
-    → KeepsUp given seconds base files files old new status
-unwritten None seconds base files old new status none same = (inl none, same, refl)
-unwritten (Some service) seconds base files old new status none same = (inr (inl none, same), kept_files service.image files)
+pub unwritten : (given : Option Service) (clocks : List ClockView) (base : ℕ) (files : FilesFacts) (old new : DaemonOutside) (status : Status) → IsUnwritten old.sink new.sink status → BindsNothing old new
+    → KeepsUp given clocks base files files old new status
+unwritten None clocks base files old new status none same = (inl none, same, refl)
+unwritten (Some service) clocks base files old new status none same = (inr (inl none, same), kept_files service.image files)

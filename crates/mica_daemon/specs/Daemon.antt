@@ -2,6 +2,7 @@
 use Rattle.std.specs.Prelude.{◌≡◌, ◌+◌, ◌-◌, ◌<◌, ◌≤◌, ◌==◌, ◌⊎◌, ◌++◌, ◌∷◌, [], ℕ, List, length, take, codes, Option, Some, None, IfSome, Result, Ok, Err, if◌then◌else◌}
 use Rattle.std.specs.Fmt.{decimal}
 use Rattle.std.specs.Io.KnownBytes.{Appends}
+use Rattle.mica_clock.specs.Seconds.{ClockView}
 use Rattle.mica_io.specs.Faults.{Rose}
 use Rattle.stream_io.specs.PortLogs.{Place, place_at}
 use Rattle.partition_model.specs.declared.options.Options.{Options}
@@ -42,15 +43,16 @@ Says line old new = Appends old.taken new.taken line
 abbrev pub FailsToSay : List ℕ → SinkFacts → SinkFacts → Type 0
 FailsToSay line old new = Rose old.faults new.faults × ((n : ℕ) × (n < length line) × Appends old.taken new.taken (take n line))
 
--- all that a run touches, but files
+-- all that a run touches, but files; and for how many connections there was no memory
 pub record DaemonOutside : Type 0 where
   pub sink : SinkFacts
   pub ports : PortFacts
   pub tables : List KeptSeat
+  pub lacked : ℕ
 
 -- of its parts
-abbrev pub daemon_outside : SinkFacts → PortFacts → List KeptSeat → DaemonOutside
-daemon_outside sink ports tables = record { sink = sink; ports = ports; tables = tables }
+abbrev pub daemon_outside : SinkFacts → PortFacts → List KeptSeat → ℕ → DaemonOutside
+daemon_outside sink ports tables lacked = record { sink = sink; ports = ports; tables = tables; lacked = lacked }
 
 -- what is written last, by what the server came to, and the status
 abbrev pub WritesLast : Result Totals Stop → SinkFacts → SinkFacts → Status → Type 0
@@ -61,18 +63,19 @@ WritesLast (Err Refused) old new status = IsWritten ImageRefused (with_line_feed
 WritesLast (Err Unannounced) old new status = (status ≡ WriteFault) × (new ≡ old)
 
 -- The server, which these writes filled, came to this answer, for the cause that it names. It said that its ports are had where they were, and wrote what is due at its end.
--- The clocks of its fronts behind connections had told these seconds before, and unique numbers of values begin at the base.
-pub record ServesAloud (service : LockedService) (seconds : List ℕ) (writes : List Write) (old new : DaemonOutside) (status : Status) : Type 0 where
+-- So the clocks of its fronts behind connections were seen before, and unique numbers of values begin at the base.
+pub record ServesAloud (service : LockedService) (clocks : List ClockView) (writes : List Write) (old new : DaemonOutside) (status : Status) : Type 0 where
   pub answer : Result Totals Stop
   pub said : SinkFacts
-  pub cause : IsCauseOfStop answer service writes seconds new.tables old.ports new.ports
+  pub cause : IsCauseOfStop answer service writes clocks new.tables new.lacked old.ports new.ports
   pub leaves : Leaves (λ ports streams. Says (ready_text ports streams)) (λ ports streams. FailsToSay (ready_text ports streams)) answer service old.ports new.ports old.sink said
   pub last : WritesLast answer said new.sink status
 
--- no port was had, and no table is kept
+-- no port was had, no table is kept, and no connection was closed
 pub record BindsNothing (old new : DaemonOutside) : Type 0 where
   pub ports : new.ports ≡ old.ports
   pub tables : new.tables ≡ old.tables
+  pub lacked : new.lacked ≡ old.lacked
 
 -- where words have ports of connections listened at
 abbrev pub place_of : StreamOptions → Place
@@ -83,27 +86,27 @@ abbrev pub placed : Place → DaemonOutside → DaemonOutside
 placed place old = record old { ports = record old.ports { listens = record old.ports.listens { place = place } } }
 
 -- It served, and all ports of connections were listened at where the words say. Of the clocks each of their fronts took one.
-abbrev pub ServesPlaced : Options → PortOptions → StreamOptions → List ℕ → ℕ → List Write → DaemonOutside → DaemonOutside → Status → Type 0
-ServesPlaced options ports streams seconds base writes old new status =
-    ServesAloud (record { options = options; ports = ports; streams = streams.ports; base = base }) (take streams.ports.fronts seconds) writes (placed (place_of streams) old) new status
+abbrev pub ServesPlaced : Options → PortOptions → StreamOptions → List ClockView → ℕ → List Write → DaemonOutside → DaemonOutside → Status → Type 0
+ServesPlaced options ports streams clocks base writes old new status =
+    ServesAloud (record { options = options; ports = ports; streams = streams.ports; base = base }) (take streams.ports.fronts clocks) writes (placed (place_of streams) old) new status
 
 -- it served so, or had no memory before it began
-abbrev pub ServesOrNot : Options → PortOptions → StreamOptions → List ℕ → ℕ → List Write → DaemonOutside → DaemonOutside → Status → Type 0
-ServesOrNot options ports streams seconds base writes old new status =
-    ServesPlaced options ports streams seconds base writes old new status ⊎ (IsUnwritten old.sink new.sink status × BindsNothing old new)
+abbrev pub ServesOrNot : Options → PortOptions → StreamOptions → List ClockView → ℕ → List Write → DaemonOutside → DaemonOutside → Status → Type 0
+ServesOrNot options ports streams clocks base writes old new status =
+    ServesPlaced options ports streams clocks base writes old new status ⊎ (IsUnwritten old.sink new.sink status × BindsNothing old new)
 
 -- the partitions take no more memory than is free, where that is told
 abbrev pub HasMemory : FilesFacts → Options → Type 0
 HasMemory files options = IfSome files.free (λ free. start_bytes options ≤ free)
 
 -- It served with partitions that there is memory for, and that were filled as it was asked; or it wrote why there is nothing to fill them with, or had no memory, before it began.
-abbrev pub FillsAndServes : Service → List ℕ → ℕ → FilesFacts → FilesFacts → DaemonOutside → DaemonOutside → Status → Type 0
-FillsAndServes service seconds base before after old new status =
+abbrev pub FillsAndServes : Service → List ClockView → ℕ → FilesFacts → FilesFacts → DaemonOutside → DaemonOutside → Status → Type 0
+FillsAndServes service clocks base before after old new status =
     ((writes : List Write) × HasMemory before service.options × Fills before service.image writes
-    × ServesPlaced service.options service.ports service.streams seconds base writes old new status)
+    × ServesPlaced service.options service.ports service.streams clocks base writes old new status)
     ⊎ (WritesDue (IsDueOfFile before after service.image) old.sink new.sink status × BindsNothing old new)
 
 -- What a run promises by its words: it served as they ask, or said that they are none of its own.
-abbrev pub KeepsUp : Option Service → List ℕ → ℕ → FilesFacts → FilesFacts → DaemonOutside → DaemonOutside → Status → Type 0
-KeepsUp (Some service) seconds base before after old new status = FillsAndServes service seconds base before after old new status × KeepsFiles service.image before after
-KeepsUp None seconds base before after old new status = IsTold Usage (with_line_feed (codes "usage")) old.sink new.sink status × BindsNothing old new × KeepsFiles None before after
+abbrev pub KeepsUp : Option Service → List ClockView → ℕ → FilesFacts → FilesFacts → DaemonOutside → DaemonOutside → Status → Type 0
+KeepsUp (Some service) clocks base before after old new status = FillsAndServes service clocks base before after old new status × KeepsFiles service.image before after
+KeepsUp None clocks base before after old new status = IsTold Usage (with_line_feed (codes "usage")) old.sink new.sink status × BindsNothing old new × KeepsFiles None before after

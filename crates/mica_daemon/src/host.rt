@@ -70,6 +70,7 @@ fn run_words<R: Threads + Wait + Sync + AllocGlobal + Files + Print + Sockets + 
         pid,
         &FreeGate,
         &mut Tables::new(),
+        &mut 0,
     ))
 }
 

@@ -56,6 +56,7 @@ fn serve_aloud<
     listeners: &mut L,
     clocks: Vec<C>,
     tables: &mut Tables,
+    lacked: &mut u64,
 ) -> Status
     requires service { IsPossibleService shared.now.service }
     requires clocks { length clocks.items ≡ shared.now.service.streams.fronts }
@@ -63,11 +64,14 @@ fn serve_aloud<
     requires line { string_bytes speaker.old.line ≡ ready_text shared.now.service.ports shared.now.service.streams }
     requires unbound { N.binds net.old ≡ 0 }
     requires tables { tables.old ≡ [] }
-    ensures { ServesAloud shared.now.service (map C.last clocks.items) filling.items
-        (daemon_outside (sink_facts K.Sink speaker.old.sink) (ports_at N.Net L.Listeners net.old listeners.old) tables.old)
-        (daemon_outside (sink_facts K.Sink speaker.new.sink) (ports_at N.Net L.Listeners net.new listeners.new) tables.new) result }
+    requires uncounted { lacked.old ≡ 0 }
+    ensures { ServesAloud shared.now.service (map C.view clocks.items) filling.items
+        (daemon_outside (sink_facts K.Sink speaker.old.sink) (ports_at N.Net L.Listeners net.old listeners.old) tables.old lacked.old)
+        (daemon_outside (sink_facts K.Sink speaker.new.sink) (ports_at N.Net L.Listeners net.new listeners.new) tables.new lacked.new) result }
 {
-    match serve_locked(shared, filling, net, listeners, clocks, tables, speaker) {
+    match serve_locked(
+        shared, filling, net, listeners, clocks, tables, lacked, speaker,
+    ) {
         Ok(totals) => print_totals(shared.alloc, totals, &mut speaker.sink),
         Err(Stop::Refused) => write_due(&mut speaker.sink, b"pair refused\n", Status::ImageRefused),
         Err(Stop::Fault(fault)) => write_fault(fault, &mut speaker.sink),
@@ -98,6 +102,7 @@ fn stay_up<
     pid: u32,
     gate: &G,
     tables: &mut Tables,
+    lacked: &mut u64,
 ) -> Status
     requires options { IsPossible options.now }
     requires fronts { ArePossibleFronts ports.now streams.now.ports }
@@ -105,9 +110,10 @@ fn stay_up<
     requires filling { All IsWrite filling.items }
     requires unbound { N.binds net.old ≡ 0 }
     requires tables { tables.old ≡ [] }
-    ensures { ServesOrNot options.now ports.now streams.now (map C.last clocks.items) base filling.items
-        (daemon_outside (sink_facts K.Sink speaker.old.sink) (ports_at N.Net L.Listeners net.old listeners.old) tables.old)
-        (daemon_outside (sink_facts K.Sink speaker.new.sink) (ports_at N.Net L.Listeners net.new listeners.new) tables.new) result }
+    requires uncounted { lacked.old ≡ 0 }
+    ensures { ServesOrNot options.now ports.now streams.now (map C.view clocks.items) base filling.items
+        (daemon_outside (sink_facts K.Sink speaker.old.sink) (ports_at N.Net L.Listeners net.old listeners.old) tables.old lacked.old)
+        (daemon_outside (sink_facts K.Sink speaker.new.sink) (ports_at N.Net L.Listeners net.new listeners.new) tables.new lacked.new) result }
 {
     let Ok(board) = board_of(
         alloc,
@@ -139,7 +145,9 @@ fn stay_up<
                 board: &board,
                 gate,
             };
-            serve_aloud(&shared, filling, speaker, net, listeners, clocks, tables)
+            serve_aloud(
+                &shared, filling, speaker, net, listeners, clocks, tables, lacked,
+            )
         }
         Err(NoMemory) => Status::NoMemory,
     }
@@ -158,6 +166,7 @@ fn has_memory<F: Files>(alloc: Global, files: &F, options: &Options) -> bool
 
 /// Fills the partitions from the image that the words name, and serves the ports that they give, each for as many datagrams as can be
 /// counted, and each connection until it ends. It writes one line once it has all ports, and one at its end. Where they take more memory than is free, it ends at once.
+/// `lacked` says how many connections were closed since there was no memory for them.
 pub fn daemon<
     W: Threads + Wait + Sync,
     F: Files,
@@ -179,13 +188,15 @@ pub fn daemon<
     pid: u32,
     gate: &G,
     tables: &mut Tables,
+    lacked: &mut u64,
 ) -> Status
     requires net { N.binds net.old ≡ 0 }
     requires clocks { MOST_FRONTS ≤ length clocks.items }
     requires tables { tables.old ≡ [] }
-    ensures { KeepsUp (daemon_of (map string_bytes words.now)) (map C.last clocks.items) base (files_facts F.file F.free F.faults files.old) (files_facts F.file F.free F.faults files.new)
-        (daemon_outside (sink_facts K.Sink speaker.old.sink) (ports_at N.Net L.Listeners net.old listeners.old) tables.old)
-        (daemon_outside (sink_facts K.Sink speaker.new.sink) (ports_at N.Net L.Listeners net.new listeners.new) tables.new) result }
+    requires uncounted { lacked.old ≡ 0 }
+    ensures { KeepsUp (daemon_of (map string_bytes words.now)) (map C.view clocks.items) base (files_facts F.file F.free F.faults files.old) (files_facts F.file F.free F.faults files.new)
+        (daemon_outside (sink_facts K.Sink speaker.old.sink) (ports_at N.Net L.Listeners net.old listeners.old) tables.old lacked.old)
+        (daemon_outside (sink_facts K.Sink speaker.new.sink) (ports_at N.Net L.Listeners net.new listeners.new) tables.new lacked.new) result }
 {
     let DaemonOptions {
         options,
@@ -203,7 +214,7 @@ pub fn daemon<
     match filling_of(alloc, files, image, &mut speaker.sink) {
         Ok(filling) => stay_up(
             rt, alloc, &options, &ports, &streams, filling, speaker, net, listeners, clocks, base,
-            pid, gate, tables,
+            pid, gate, tables, lacked,
         ),
         Err(status) => status,
     }

@@ -10,12 +10,13 @@ use mica_clock::MemClock;
 use mica_cmd::Status;
 use mica_commands::MOST_FRONTS;
 use mica_daemon::{Files, MemFiles, PlacedListeners, Speaker, daemon};
-use mica_io::{FreeGate, Gate, MemNet, MemSink, Net, NoMemory};
+use mica_io::{Bytes, FreeGate, Gate, MemNet, MemSink, Net, NoMemory};
 use partition_table::Tables;
 use std::alloc::Global;
 use std::sync::Wait;
 use std::test::Fail;
 use std::thread::Threads;
+use stream_io::{Change, Step};
 
 // As many clocks as there may be fronts.
 fn clocks_of(alloc: Global) -> Result<Vec<MemClock<'static>>, NoMemory>
@@ -28,7 +29,8 @@ fn clocks_of(alloc: Global) -> Result<Vec<MemClock<'static>>, NoMemory>
     Ok(clocks)
 }
 
-// The status and what the sink took, which has so much room. Fronts over datagrams come to the gate before their requests.
+// The status, what the sink took, which has so much room, and for how many connections there was no memory. Fronts over datagrams come to the gate before
+// their requests.
 fn run_whole<W: Threads + Wait + Sync, F: Files, N: Net, L: PlacedListeners, G: Gate>(
     rt: &W,
     alloc: Global,
@@ -38,7 +40,7 @@ fn run_whole<W: Threads + Wait + Sync, F: Files, N: Net, L: PlacedListeners, G: 
     gate: &G,
     line: &str,
     room: u32,
-) -> Result<(Status, MemSink), NoMemory>
+) -> Result<(Status, MemSink, u64), NoMemory>
     requires { N.binds net.old ≡ 0 }
 {
     let words = words_of(alloc, line)?;
@@ -47,6 +49,7 @@ fn run_whole<W: Threads + Wait + Sync, F: Files, N: Net, L: PlacedListeners, G: 
         line: String::new(alloc),
     };
     let mut tables = Tables::new();
+    let mut lacked = 0;
     let status = daemon(
         rt,
         alloc,
@@ -60,8 +63,9 @@ fn run_whole<W: Threads + Wait + Sync, F: Files, N: Net, L: PlacedListeners, G: 
         1,
         gate,
         &mut tables,
+        &mut lacked,
     );
-    Ok((status, speaker.sink))
+    Ok((status, speaker.sink, lacked))
 }
 
 /// The status and what the sink took, with no gate.
@@ -76,7 +80,8 @@ pub fn run_listening<W: Threads + Wait + Sync, F: Files, N: Net, L: PlacedListen
 ) -> Result<(Status, MemSink), NoMemory>
     requires { N.binds net.old ≡ 0 }
 {
-    run_whole(rt, alloc, files, net, listeners, &FreeGate, line, room)
+    let (status, sink, _) = run_whole(rt, alloc, files, net, listeners, &FreeGate, line, room)?;
+    Ok((status, sink))
 }
 
 /// The status and what the sink took, where nothing happens at the ports of connections.
@@ -92,7 +97,8 @@ pub fn run_gated<W: Threads + Wait + Sync, F: Files, N: Net, G: Gate>(
     requires { N.binds net.old ≡ 0 }
 {
     let mut listeners = SameSchedule::new(alloc, &[], None);
-    run_whole(rt, alloc, files, net, &mut listeners, gate, line, room)
+    let (status, sink, _) = run_whole(rt, alloc, files, net, &mut listeners, gate, line, room)?;
+    Ok((status, sink))
 }
 
 /// Runs the daemon with no gate.
@@ -162,6 +168,50 @@ fn needs_no_port_of_datagrams(rt: HostRuntime) -> Result<(), Fail> {
     let (status, sink) = run_unfilled(&rt, alloc, &mut net, words, 100)?;
     assert!(rt; status == Status::Done);
     let said = b"ready memcached 11211 to 11211\nbatches 0 requests 0 bad 0\n";
+    assert!(rt; sink.taken() == said.as_slice());
+    Ok(())
+}
+
+// One client sets a value, gets it and ends; another breaks off in the midst of a command.
+fn two_clients(alloc: Global) -> Result<Vec<Step>, NoMemory> {
+    let whole = b"set a 0 0 1\r\n1\r\nget a\r\n";
+    let mut steps = Vec::with_capacity(alloc, 4)?;
+    steps.push_reserved(Step::Opens(1_000, Bytes::copy(alloc, whole)?));
+    steps.push_reserved(Step::Opens(1_000, Bytes::copy(alloc, b"get a")?));
+    let ends = Change {
+        comes: 23,
+        ends: true,
+        ..Change::NOTHING
+    };
+    steps.push_reserved(Step::Reports(0, ends));
+    let breaks = Change {
+        comes: 5,
+        breaks: Some(0),
+        ..Change::NOTHING
+    };
+    steps.push_reserved(Step::Reports(1, breaks));
+    Ok(steps)
+}
+
+// Both clients come to each of two fronts, and there is memory for all.
+#[test]
+fn closes_no_connection_for_want_of_memory(rt: HostRuntime) -> Result<(), Fail> {
+    let alloc = rt.alloc();
+    let mut net = MemNet::new(alloc, &[])?;
+    let steps = two_clients(alloc)?;
+    let mut listeners = SameSchedule::new(alloc, steps.as_slice(), None);
+    let (status, sink, lacked) = run_whole(
+        &rt,
+        alloc,
+        &mut MemFiles::new(alloc),
+        &mut net,
+        &mut listeners,
+        &FreeGate,
+        "--mode store --partitions 1 --memcached 11211 --memcached-fronts 2",
+        100,
+    )?;
+    assert!(rt; status == Status::Done && lacked == 0);
+    let said = b"ready memcached 11211 to 11212\nbatches 0 requests 0 bad 0\n";
     assert!(rt; sink.taken() == said.as_slice());
     Ok(())
 }

@@ -1,6 +1,7 @@
 //! The entries of a chain, by loads in an open try.
 ghost use Rattle.std.specs.Prelude.{◌≡◌, ℕ, ◌<◌, ◌≤◌, ◌^◌, true, is_some, Some, None, IfSome, MatchBool};
 ghost use Rattle.mica_words.specs.declared.entry.TheConstants.{SLOTS};
+ghost use Rattle.mica_words.specs.Entry.{entry_tag};
 ghost use Rattle.epoch_core.specs.Shape.{IsMain, IsBucket};
 ghost use Rattle.partition_model.specs.declared.options.Mode.TheVariants as mode;
 ghost use Rattle.optimistic_get.specs.Search.{Weighs, Scans, ScansFirst, Searches};
@@ -22,7 +23,36 @@ fn is_later(best: Option<u64>, offset: u64) -> bool
     }
 }
 
-// The offset of the best item of the key, after one entry more.
+// The offset of the best item of the key, after one entry more that has its tag.
+fn weigh_tagged<R: ReaderWords>(
+    seat: &mut R,
+    entry: u64,
+    wanted: &Wanted<'_>,
+    best: Option<u64>,
+    out: &mut ItemBuf,
+) -> Option<u64>
+    requires open { is_some (R.reader seat.old).current ≡ true }
+    requires low { IfSome best (λ p. p < 2 ^ 48) }
+    requires tagged { entry_tag entry ≡ wanted.now.tag }
+    ensures weighs { Weighs (R.reader seat.old) entry wanted.now.key.now best out.old result out.new
+        (R.reader seat.new) }
+    ensures low { IfSome result (λ p. p < 2 ^ 48) }
+    ensures home { R.home seat.new ≡ R.home seat.old }
+    ensures plan { R.plan seat.new ≡ R.plan seat.old }
+{
+    let offset = entry_offset(entry);
+    if !is_later(best, offset) {
+        return best;
+    }
+    if look(seat, offset, wanted, out) {
+        Some(offset)
+    } else {
+        best
+    }
+}
+
+// The offset of the best item of the key, after one entry more. Most entries have another tag: for these it makes no call.
+#[inline(always)]
 fn weigh<R: ReaderWords>(
     seat: &mut R,
     entry: u64,
@@ -38,15 +68,8 @@ fn weigh<R: ReaderWords>(
     ensures home { R.home seat.new ≡ R.home seat.old }
     ensures plan { R.plan seat.new ≡ R.plan seat.old }
 {
-    if entry_tag(entry) != wanted.tag {
-        return best;
-    }
-    let offset = entry_offset(entry);
-    if !is_later(best, offset) {
-        return best;
-    }
-    if look(seat, offset, wanted, out) {
-        Some(offset)
+    if entry_tag(entry) == wanted.tag {
+        weigh_tagged(seat, entry, wanted, best, out)
     } else {
         best
     }

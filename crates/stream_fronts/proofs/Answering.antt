@@ -2,6 +2,7 @@
 use Rattle.std.proofs.Common.{◌≡◌, ℕ, ◌+◌, ◌-◌, ◌≤◌, ◌<◌, Bool, List, [], ◌++◌, length, drop, sym, ap, ◌∙◌, subst, arith, length-drop}
 use Rattle.std.specs.Prelude.{MatchResult, Result, Err}
 use Rattle.std.proofs.lemmas.List.{drop-drop, drop_all}
+use Rattle.mica_clock.specs.Seconds.{ClockView}
 use Rattle.partition_model.specs.declared.options.Options.{Options}
 use Rattle.memcached_text.specs.Next.{next_of}
 use Rattle.mica_fronts.specs.Answered.{Answered}
@@ -17,11 +18,11 @@ use Rattle.stream_fronts.proofs.Reaching.{on_then, on_as, spoke_then, stands_mor
 
 module _ (options : Options) (is_alone : Bool) (base : ℕ) where
   -- sessions went on by their answers under equal options
-  these_cast : {o : Options} {old new : Sessions} {left left_after told tells : ℕ} {answers : List Answered} → o ≡ options → GoesByThese o is_alone old left told answers new left_after tells
+  these_cast : {o : Options} {old new : Sessions} {left left_after : ℕ} {told tells : ClockView} {answers : List Answered} → o ≡ options → GoesByThese o is_alone old left told answers new left_after tells
       → GoesByThese options is_alone old left told answers new left_after tells
   these_cast {o} {old} {new} {left} {left_after} {told} {tells} {answers} same these = subst (λ (x : Options). GoesByThese x is_alone old left told answers new left_after tells) same these
 
-  module _ {old between new : Sessions} {left then_left left_after told then tells : ℕ} where
+  module _ {old between new : Sessions} {left then_left left_after : ℕ} {told then tells : ClockView} where
     -- a command more was answered
     pub answers_then : (one two : List Answered) (o : Options) → o ≡ options → GoesByThese options is_alone old left told one between then_left then → GoesByThese o is_alone between then_left then two new left_after tells
         → GoesByThese options is_alone old left told (one ++ two) new left_after tells
@@ -51,7 +52,7 @@ module _ (options : Options) (is_alone : Bool) (base : ℕ) where
         (first.0 ++ all.0, these_then options is_alone first.1 all.1, spoke_then options base less first.2 all.2)
 
   -- by the same answers, more is said of where the talk came to
-  pub some_as : {old new : Sessions} {left left_after told tells : ℕ} (place : Place) (before after : List ℕ) (P Q : List ℕ → List Answered → List ℕ → Type 0)
+  pub some_as : {old new : Sessions} {left left_after : ℕ} {told tells : ClockView} (place : Place) (before after : List ℕ) (P Q : List ℕ → List Answered → List ℕ → Type 0)
       → ((received : List ℕ) (given : List Answered) (due : List ℕ) → P received given due → Q received given due)
       → GoesBySome options is_alone old left told new left_after tells (λ answers. GoesOnTo options base place answers before after P)
       → GoesBySome options is_alone old left told new left_after tells (λ answers. GoesOnTo options base place answers before after Q)

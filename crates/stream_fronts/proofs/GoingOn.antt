@@ -1,6 +1,7 @@
 -- Visits go one after another, as the front's sessions go on by their answers.
 use Rattle.std.proofs.Common.{◌≡◌, ℕ, Bool, [], ◌++◌, subst}
 use Rattle.std.specs.Prelude.{Option}
+use Rattle.mica_clock.specs.Seconds.{ClockView}
 use Rattle.partition_model.specs.declared.options.Options.{Options}
 use Rattle.stream_io.specs.Log.{Log}
 use Rattle.mica_fronts.specs.Session.{Sessions}
@@ -19,12 +20,12 @@ use Rattle.stream_fronts.proofs.Revisiting.{visits_none, visits_then, visits_lac
 
 module _ (options : Options) (is_alone : Bool) (base number : ℕ) where
   -- none yet
-  pub goes_none : (old : Sessions) (left told : ℕ) (client : Client) (log : Option Log)
+  pub goes_none : (old : Sessions) (left : ℕ) (told : ClockView) (client : Client) (log : Option Log)
       → GoesBySome options is_alone old left told old left told (λ answers. OnLogs (OnHeld number (Visits options base client answers client Again)) log log)
   goes_none old left told client log =
       ([], these_none options is_alone old left told, on_same number (Visits options base client [] client Again) log (λ c a. visits_none options base c client a))
 
-  module _ {old between new : Sessions} {left then_left left_after told then_told tells : ℕ} (client mid : Client) (a b d : Option Log)
+  module _ {old between new : Sessions} {left then_left left_after : ℕ} {told then_told tells : ClockView} (client mid : Client) (a b d : Option Log)
       (first : GoesBySome options is_alone old left told between then_left then_told (λ answers. OnLogs (OnHeld number (Visits options base client answers mid Again)) a b))
       (o : Options) (same : o ≡ options) where
     -- one more

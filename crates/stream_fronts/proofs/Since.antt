@@ -3,6 +3,7 @@ use Rattle.std.proofs.Common.{◌≡◌, ℕ, ◌+◌, ◌<◌, Bool, true, fals
 use Rattle.std.specs.Prelude.{min, Option, None, Some, is_some, IfSome, option_map}
 use Rattle.std.proofs.lemmas.List.{append-nil, map-append}
 use Rattle.std.proofs.lemmas.Option.{none-some}
+use Rattle.mica_clock.specs.Seconds.{ClockView}
 use Rattle.partition_model.specs.declared.options.Options.{Options}
 use Rattle.mica_io.specs.Faults.{LAST_COUNT}
 use Rattle.stream_io.specs.declared.schedule.Step.{Step}
@@ -37,16 +38,16 @@ pub record StandsBy (options : Options) (base had lacked : ℕ) (clients : List 
   pub tends : Tends now.script.piece (state_of now) clients
 
 -- They went on by answers that were given to clients and by sweeps, and of the first P holds.
-abbrev pub GoesBySwept : Options → Bool → ℕ → Sessions → ℕ → ℕ → Sessions → ℕ → ℕ → (List Given → Type 0) → Type 0
+abbrev pub GoesBySwept : Options → Bool → ℕ → Sessions → ℕ → ClockView → Sessions → ℕ → ClockView → (List Given → Type 0) → Type 0
 GoesBySwept options is_alone base old left told new left_after tells P =
     (given : List Given) × (answers : List Answered) × HasSweeps options base (answers_in given) answers × GoesByThese options is_alone old left told answers new left_after tells × P given
 
 -- Where nothing had been done before, sessions and clock went on by answers by which all stands.
-abbrev pub StandsSince : Options → Bool → ℕ → Sessions → ℕ → ℕ → ℕ → Sessions → ℕ → ℕ → ℕ → List (Option Client) → Log → Log → Type 0
+abbrev pub StandsSince : Options → Bool → ℕ → Sessions → ℕ → ClockView → ℕ → Sessions → ℕ → ClockView → ℕ → List (Option Client) → Log → Log → Type 0
 StandsSince options is_alone base old left told had new left_after tells lacked clients before now =
     before.entries ≡ [] → GoesBySwept options is_alone base old left told new left_after tells (StandsBy options base had lacked clients before now)
 
-module _ (options : Options) (is_alone : Bool) (base : ℕ) (old : Sessions) (left told had : ℕ) where
+module _ (options : Options) (is_alone : Bool) (base : ℕ) (old : Sessions) (left : ℕ) (told : ClockView) (had : ℕ) where
   begun_through : (schedule : List Step) (entries : List Entry) → entries ≡ [] → TalksThrough options base MOST_UNSENT schedule [] entries []
   begun_through schedule entries none = subst (λ (e : List Entry). TalksThrough options base MOST_UNSENT schedule [] e []) (sym none)
       (λ c. inl (record { said = []; rest = []; spells = refl; answered = refl; begins = ([], refl) }, record { kept = omega arith; unsent = omega arith }))
@@ -80,7 +81,7 @@ module _ (options : Options) (is_alone : Bool) (base : ℕ) (old : Sessions) (le
     },
   )
 
-  module _ {between new : Sessions} {then_left left_after then_told tells : ℕ} (clients now : List (Option Client)) where
+  module _ {between new : Sessions} {then_left left_after : ℕ} {then_told tells : ClockView} (clients now : List (Option Client)) where
     -- one report more was served
     pub since_then : (event : Event) (then_lacked count lacked : ℕ) → lacked ≡ min (then_lacked + count) LAST_COUNT → (before a b d : Option Log)
         → OnLogs (StandsSince options is_alone base old left told had between then_left then_told then_lacked clients) before a
@@ -114,7 +115,7 @@ module _ (options : Options) (is_alone : Bool) (base : ℕ) (old : Sessions) (le
           },
         )
 
-  module _ {between new : Sessions} {then_left left_after then_told tells : ℕ} (lacked : ℕ) (clients : List (Option Client)) where
+  module _ {between new : Sessions} {then_left left_after : ℕ} {then_told tells : ClockView} (lacked : ℕ) (clients : List (Option Client)) where
     -- and the partitions were swept
     pub since_swept : (before now : Option Log) → OnLogs (StandsSince options is_alone base old left told had between then_left then_told lacked clients) before now
         → (o : Options) → o ≡ options → SweepsBy o is_alone base between then_left then_told new left_after tells
@@ -132,12 +133,12 @@ module _ (options : Options) (is_alone : Bool) (base : ℕ) (old : Sessions) (le
           f.4,
         )
 
-  module _ (opened ended : Bool) (new : Sessions) (left_after tells lacked : ℕ) (clients : List (Option Client)) where
+  module _ (opened ended : Bool) (new : Sessions) (left_after : ℕ) (tells : ClockView) (lacked : ℕ) (clients : List (Option Client)) where
     abbrev pub first : FrontAt
-    first = record { sessions = old; left = left; second = told; lacked = had; has_ended = opened }
+    first = record { sessions = old; left = left; clock = told; lacked = had; has_ended = opened }
 
     abbrev pub last : FrontAt
-    last = record { sessions = new; left = left_after; second = tells; lacked = lacked; has_ended = ended }
+    last = record { sessions = new; left = left_after; clock = tells; lacked = lacked; has_ended = ended }
 
     -- what the front served, by what stands
     serves_by : {before now : Log} (after : Log) → after.schedule ≡ now.schedule → after.entries ≡ now.entries

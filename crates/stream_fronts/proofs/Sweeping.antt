@@ -1,6 +1,7 @@
 -- Sweeps between what was answered to clients.
 use Rattle.std.proofs.Common.{ℕ, Bool, List, [], ◌∷◌, ◌++◌, inl, inr, refl, sym, ap, subst}
 use Rattle.std.specs.List.{AllByRecursion}
+use Rattle.mica_clock.specs.Seconds.{ClockView}
 use Rattle.partition_model.specs.declared.options.Options.{Options}
 use Rattle.mica_fronts.specs.Answered.{Answered}
 use Rattle.mica_fronts.specs.Session.{Sessions}
@@ -24,7 +25,7 @@ module _ (options : Options) (base : ℕ) where
         | inr one ↦ inr (one.0 ++ later, ap (λ g. g ++ later) one.1, has_both whole more one.0 later one.2 then)
       ]
 
-module _ {options : Options} {is_alone : Bool} {base : ℕ} {old new : Sessions} {left left_after told tells : ℕ} where
+module _ {options : Options} {is_alone : Bool} {base : ℕ} {old new : Sessions} {left left_after : ℕ} {told tells : ClockView} where
   pub by_sweeps : SweepsBy options is_alone base old left told new left_after tells → GoesBy options is_alone old left told new left_after tells
   by_sweeps s = record { answers = s.answers; in_order = s.in_order; seconds = s.seconds; few = s.few }
 

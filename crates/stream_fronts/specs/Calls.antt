@@ -1,5 +1,6 @@
 -- What calls leave of a port, and what they make of a front and its clock. They take as parameters what contracts see of these.
 use Rattle.std.specs.Prelude.{◌≡◌, ℕ, Bool, List, Option, is_some}
+use Rattle.mica_clock.specs.Seconds.{ClockView}
 use Rattle.partition_model.specs.declared.options.Options.{Options}
 use Rattle.stream_io.specs.Log.{Log}
 use Rattle.mica_fronts.specs.Session.{Sessions}
@@ -15,8 +16,8 @@ pub record LeavesPort {Port : Type 0} (log : Port → Option Log) (has_ended : P
 
 -- A front's sessions and its clock went on by some answers, in order, and by no others. Its options, its number and its stands are the same.
 pub record MovesFront {Front Clock : Type 0} (options : Front → Options) (number : Front → ℕ) (stands : Front → List Stand) (is_alone : Bool) (sessions : Front → Sessions)
-    (left : Front → ℕ) (last : Clock → ℕ) (old : Front) (told : Clock) (new : Front) (tells : Clock) : Type 0 where
-  pub goes : GoesBy (options old) is_alone (sessions old) (left old) (last told) (sessions new) (left new) (last tells)
+    (left : Front → ℕ) (view : Clock → ClockView) (old : Front) (told : Clock) (new : Front) (tells : Clock) : Type 0 where
+  pub goes : GoesBy (options old) is_alone (sessions old) (left old) (view told) (sessions new) (left new) (view tells)
   pub same_options : options new ≡ options old
   pub same_number : number new ≡ number old
   pub same_stands : stands new ≡ stands old

@@ -1,5 +1,6 @@
 -- What a front made of the connections at its port.
 use Rattle.std.specs.Prelude.{◌≡◌, ◌⊎◌, ℕ, ◌+◌, ◌<◌, ◌≤◌, Bool, true, List, [], length, min, slice_get, IfSome}
+use Rattle.mica_clock.specs.Seconds.{ClockView}
 use Rattle.partition_model.specs.declared.options.Options.{Options}
 use Rattle.mica_io.specs.Faults.{LAST_COUNT}
 use Rattle.stream_io.specs.Log.{Log, state_of, connections_of, received_of, sent_of}
@@ -17,7 +18,7 @@ use Rattle.stream_fronts.specs.Moments.{TalksThrough}
 pub record FrontAt : Type 0 where
   pub sessions : Sessions
   pub left : ℕ
-  pub second : ℕ
+  pub clock : ClockView
   pub lacked : ℕ
   pub has_ended : Bool
 
@@ -42,7 +43,7 @@ pub record AnswersClients (options : Options) (is_alone : Bool) (base most : ℕ
   pub answers : List Answered
   pub sweeps : HasSweeps options base (answers_in all) answers
   pub in_order : AnswersInOrder options is_alone old.sessions answers new.sessions
-  pub seconds : ToldFrom old.second (seconds_of answers) new.second
+  pub seconds : ToldFrom old.clock (seconds_of options answers) new.clock
   pub few : old.left ≤ new.left + count_of_writes answers
   pub lacking : List ℕ
   pub counted : min new.lacked LAST_COUNT ≡ min (old.lacked + length lacking) LAST_COUNT

@@ -1,5 +1,6 @@
 -- What stands between a front and all its clients at one moment, and what a report makes of that.
 use Rattle.std.specs.Prelude.{◌≡◌, ⊤, ℕ, Bool, List, [], ◌++◌, length, slice_get, Option, None, Some}
+use Rattle.mica_clock.specs.Seconds.{ClockView}
 use Rattle.partition_model.specs.declared.options.Options.{Options}
 use Rattle.stream_io.specs.declared.connections.Event.{Event}
 use Rattle.stream_io.specs.declared.connections.Event.TheVariants.{Opened, Ready}
@@ -54,6 +55,6 @@ pub record StandsOn (options : Options) (base : ℕ) (event : Event) (clients : 
       → TendsBut event old.script.piece (state_of old) clients → Tends old.script.piece (state_of new) now
 
 -- They went on by some answers, of which it is told to whom they were given, and of these P holds.
-abbrev pub GoesByGiven : Options → Bool → Sessions → ℕ → ℕ → Sessions → ℕ → ℕ → (List Given → Type 0) → Type 0
+abbrev pub GoesByGiven : Options → Bool → Sessions → ℕ → ClockView → Sessions → ℕ → ClockView → (List Given → Type 0) → Type 0
 GoesByGiven options is_alone old left told new left_after tells P =
     (given : List Given) × GoesByThese options is_alone old left told (answers_in given) new left_after tells × P given

@@ -8,6 +8,7 @@ ghost use Rattle.memcached_commands.specs.Asks.{asks_in};
 use memcached_text::{Command, Next, next_command};
 
 /// What the bytes begin with. Its keys can be counted.
+#[inline(always)]
 pub fn said_next(bytes: &[u8]) -> Next
     ensures next { result ≡ next_of bytes.now }
     ensures fit { IsFitNext result }

@@ -47,8 +47,8 @@ fn visit_held<R: Threads + Wait + Sync, F: Counts, K: Clock, C: Connections>(
     ensures room { vec_len desk.new.room ≡ MAX_WAITING_LEN }
     ensures clients { AreOpen clients.new.held.items (C.log connections.new) }
     ensures port { LeavesPort C.log C.has_ended C.faults C.port connections.old connections.new }
-    ensures front { MovesFront F.options F.number F.stands F.is_alone F.sessions F.left K.last front.old clock.old front.new clock.new }
-    ensures serves { GoesByGiven (F.options front.old) F.is_alone (F.sessions front.old) (F.left front.old) (K.last clock.old) (F.sessions front.new) (F.left front.new) (K.last clock.new)
+    ensures front { MovesFront F.options F.number F.stands F.is_alone F.sessions F.left K.view front.old clock.old front.new clock.new }
+    ensures serves { GoesByGiven (F.options front.old) F.is_alone (F.sessions front.old) (F.left front.old) (K.view clock.old) (F.sessions front.new) (F.left front.new) (K.view clock.new)
         (λ given. OnLogs (StandsOn (F.options front.old) numbering.base (Event.Ready number) clients.old.held.items result given clients.new.held.items) (C.log connections.old) (C.log connections.new)) }
 {
     let Some(mut client) = clients.take(number) else {
@@ -151,8 +151,8 @@ fn serve_event<R: Threads + Wait + Sync, F: Counts, K: Clock, C: Connections>(
     ensures room { vec_len desk.new.room ≡ MAX_WAITING_LEN }
     ensures clients { AreOpen clients.new.held.items (C.log connections.new) }
     ensures port { LeavesPort C.log C.has_ended C.faults C.port connections.old connections.new }
-    ensures front { MovesFront F.options F.number F.stands F.is_alone F.sessions F.left K.last front.old clock.old front.new clock.new }
-    ensures serves { GoesByGiven (F.options front.old) F.is_alone (F.sessions front.old) (F.left front.old) (K.last clock.old) (F.sessions front.new) (F.left front.new) (K.last clock.new)
+    ensures front { MovesFront F.options F.number F.stands F.is_alone F.sessions F.left K.view front.old clock.old front.new clock.new }
+    ensures serves { GoesByGiven (F.options front.old) F.is_alone (F.sessions front.old) (F.left front.old) (K.view clock.old) (F.sessions front.new) (F.left front.new) (K.view clock.new)
         (λ given. OnLogs (StandsOn (F.options front.old) numbering.base event clients.old.held.items result given clients.new.held.items) (C.log connections.old) (C.log connections.new)) }
 {
     match event {
@@ -187,10 +187,10 @@ pub fn serve_connections<R: Threads + Wait + Sync, F: Glances, K: Clock, C: Conn
 ) -> Result<(), ServeFault>
     requires open { C.has_ended connections.old ≡ false }
     requires partitions { numbering.partitions ≡ (F.options front.old).partitions }
-    ensures goes { GoesBy (F.options front.old) F.is_alone (F.sessions front.old) (F.left front.old) (K.last clock.old) (F.sessions front.new) (F.left front.new) (K.last clock.new) }
+    ensures goes { GoesBy (F.options front.old) F.is_alone (F.sessions front.old) (F.left front.old) (K.view clock.old) (F.sessions front.new) (F.left front.new) (K.view clock.new) }
     ensures serves { OnLogs (ServesFromNone (F.options front.old) F.is_alone numbering.base MOST_UNSENT
-        (record { sessions = F.sessions front.old; left = F.left front.old; second = K.last clock.old; lacked = lacked.old; has_ended = C.has_ended connections.old })
-        (record { sessions = F.sessions front.new; left = F.left front.new; second = K.last clock.new; lacked = lacked.new; has_ended = C.has_ended connections.new }))
+        (record { sessions = F.sessions front.old; left = F.left front.old; clock = K.view clock.old; lacked = lacked.old; has_ended = C.has_ended connections.old })
+        (record { sessions = F.sessions front.new; left = F.left front.new; clock = K.view clock.new; lacked = lacked.new; has_ended = C.has_ended connections.new }))
         (C.log connections.old) (C.log connections.new) }
     ensures ends { OnOk result (IsFinished (F.options front.new) (C.has_ended connections.new) (F.left front.new)) }
     ensures cause { IsErrOf result ServeFault.Net → Rose (C.faults connections.old) (C.faults connections.new) }

@@ -174,12 +174,12 @@ fn look_at_room<R: Threads + Wait + Sync, F: Counts, K: Clock>(
     ensures few { IfOk result (λ _. length replies.new.items ≤ MOST_UNSENT) }
     ensures unsent { client.new.unsent ≡ client.old.unsent }
     ensures asks { client.new.asks ≡ client.old.asks }
-    ensures talk { GoesBySome (F.options front.old) F.is_alone (F.sessions front.old) (F.left front.old) (K.last clock.old) (F.sessions front.new) (F.left front.new) (K.last clock.new)
+    ensures talk { GoesBySome (F.options front.old) F.is_alone (F.sessions front.old) (F.left front.old) (K.view clock.old) (F.sessions front.new) (F.left front.new) (K.view clock.new)
         (λ answers. MatchResult result (λ stand. GoesOnTo (F.options front.old) numbering.base (place_of client.old) answers [] replies.new.items
         (λ received given due. StandsAs (F.options front.old) numbering.base MAX_WAITING_LEN stand (place_of client.new)
         (received ++ drop (length client.old.kept.items) bytes.now) given due))
         (λ _. SpokeBehind (F.options front.old) numbering.base MAX_WAITING_LEN (place_of client.old) (drop (length client.old.kept.items) bytes.now) answers)) }
-    ensures goes { GoesBy (F.options front.old) F.is_alone (F.sessions front.old) (F.left front.old) (K.last clock.old) (F.sessions front.new) (F.left front.new) (K.last clock.new) }
+    ensures goes { GoesBy (F.options front.old) F.is_alone (F.sessions front.old) (F.left front.old) (K.view clock.old) (F.sessions front.new) (F.left front.new) (K.view clock.new) }
     ensures options { F.options front.new ≡ F.options front.old }
     ensures number { F.number front.new ≡ F.number front.old }
     ensures stands { F.stands front.new ≡ F.stands front.old }
@@ -217,7 +217,7 @@ fn answer_more<R: Threads + Wait + Sync, F: Counts, K: Clock, C: Connections>(
     ensures client { IfOk result (λ _. IsClient client.new) }
     ensures leaving { IfOk result (λ r. IfOk r (λ stood. client.new.leaving ≡ leaves stood.0)) }
     ensures unsent { IfOk result (λ _. client.new.unsent ≡ client.old.unsent) }
-    ensures talk { GoesBySome (F.options front.old) F.is_alone (F.sessions front.old) (F.left front.old) (K.last clock.old) (F.sessions front.new) (F.left front.new) (K.last clock.new)
+    ensures talk { GoesBySome (F.options front.old) F.is_alone (F.sessions front.old) (F.left front.old) (K.view clock.old) (F.sessions front.new) (F.left front.new) (K.view clock.new)
         (λ answers. MatchResult result
         (λ r. OnLogs (OnHeld number (Looks (F.options front.old) numbering.base client.old answers desk.new.replies.items client.new r)) (C.log connections.old) (C.log connections.new))
         (λ _. OnLogs (OnHeld number (Lacks (F.options front.old) numbering.base client.old answers)) (C.log connections.old) (C.log connections.new))) }
@@ -227,7 +227,7 @@ fn answer_more<R: Threads + Wait + Sync, F: Counts, K: Clock, C: Connections>(
     ensures ended { C.has_ended connections.new ≡ C.has_ended connections.old }
     ensures faults { C.faults connections.new ≡ C.faults connections.old }
     ensures port { C.port connections.new ≡ C.port connections.old }
-    ensures goes { GoesBy (F.options front.old) F.is_alone (F.sessions front.old) (F.left front.old) (K.last clock.old) (F.sessions front.new) (F.left front.new) (K.last clock.new) }
+    ensures goes { GoesBy (F.options front.old) F.is_alone (F.sessions front.old) (F.left front.old) (K.view clock.old) (F.sessions front.new) (F.left front.new) (K.view clock.new) }
     ensures options { F.options front.new ≡ F.options front.old }
     ensures number { F.number front.new ≡ F.number front.old }
     ensures stands { F.stands front.new ≡ F.stands front.old }
@@ -303,7 +303,7 @@ pub fn visit_once<R: Threads + Wait + Sync, F: Counts, K: Clock, C: Connections>
     requires partitions { numbering.partitions ≡ (F.options front.old).partitions }
     ensures room { vec_len desk.new.room ≡ MAX_WAITING_LEN }
     ensures client { IfOk result (λ _. IsClient client.new) }
-    ensures talks { GoesBySome (F.options front.old) F.is_alone (F.sessions front.old) (F.left front.old) (K.last clock.old) (F.sessions front.new) (F.left front.new) (K.last clock.new)
+    ensures talks { GoesBySome (F.options front.old) F.is_alone (F.sessions front.old) (F.left front.old) (K.view clock.old) (F.sessions front.new) (F.left front.new) (K.view clock.new)
         (λ answers. MatchResult result
         (λ after. OnLogs (OnHeld number (Visits (F.options front.old) numbering.base client.old answers client.new after)) (C.log connections.old) (C.log connections.new))
         (λ _. OnLogs (OnHeld number (VisitLacks (F.options front.old) numbering.base client.old answers)) (C.log connections.old) (C.log connections.new))) }
@@ -313,7 +313,7 @@ pub fn visit_once<R: Threads + Wait + Sync, F: Counts, K: Clock, C: Connections>
     ensures ended { C.has_ended connections.new ≡ C.has_ended connections.old }
     ensures faults { C.faults connections.new ≡ C.faults connections.old }
     ensures port { C.port connections.new ≡ C.port connections.old }
-    ensures goes { GoesBy (F.options front.old) F.is_alone (F.sessions front.old) (F.left front.old) (K.last clock.old) (F.sessions front.new) (F.left front.new) (K.last clock.new) }
+    ensures goes { GoesBy (F.options front.old) F.is_alone (F.sessions front.old) (F.left front.old) (K.view clock.old) (F.sessions front.new) (F.left front.new) (K.view clock.new) }
     ensures options { F.options front.new ≡ F.options front.old }
     ensures number { F.number front.new ≡ F.number front.old }
     ensures stands { F.stands front.new ≡ F.stands front.old }

@@ -48,14 +48,14 @@ pub fn visit_on<R: Threads + Wait + Sync, F: Counts, K: Clock, C: Connections>(
     ensures again { IfOk result (λ after. after ≡ After.Again → 0 < client.new.asks) }
     ensures room { vec_len desk.new.room ≡ MAX_WAITING_LEN }
     ensures client { IfOk result (λ _. IsClient client.new) }
-    ensures talks { GoesBySome (F.options front.old) F.is_alone (F.sessions front.old) (F.left front.old) (K.last clock.old) (F.sessions front.new) (F.left front.new) (K.last clock.new)
+    ensures talks { GoesBySome (F.options front.old) F.is_alone (F.sessions front.old) (F.left front.old) (K.view clock.old) (F.sessions front.new) (F.left front.new) (K.view clock.new)
         (λ answers. MatchResult result
         (λ after. OnLogs (OnHeld number (Visits (F.options front.old) numbering.base client.old answers client.new after)) (C.log connections.old) (C.log connections.new))
         (λ _. OnLogs (OnHeld number (VisitLacks (F.options front.old) numbering.base client.old answers)) (C.log connections.old) (C.log connections.new))) }
     ensures open { IfSome (C.log connections.new) (IsOpen number client.new.asks) }
     ensures keeps { OnLogs Keeps (C.log connections.old) (C.log connections.new) }
     ensures port { LeavesPort C.log C.has_ended C.faults C.port connections.old connections.new }
-    ensures front { MovesFront F.options F.number F.stands F.is_alone F.sessions F.left K.last front.old clock.old front.new clock.new }
+    ensures front { MovesFront F.options F.number F.stands F.is_alone F.sessions F.left K.view front.old clock.old front.new clock.new }
 {
     let mut is_again = false;
     for _ in rt.forever() {

@@ -68,7 +68,7 @@ returns-in_err-bind_all-clause-served g c =
     let z = (goal.at.returns-in_err-bind_all-clause-served g c).After-bind_all in
     let failed = c.in_err-bind_all.ensures in
     let is = err_from_is_err_and c.from_residual.result c.from_residual.ensures.1 in
-    unbound (is.1 ∙ ap Err is.2) (sym (ap (map (of_stream g)) c.requires.no_streams))
+    unbound (is.1 ∙ ap Err is.2) c.requires.uncounted (sym (ap (map (of_stream g)) c.requires.no_streams))
     (run_failed (bound g z) c.requires.filled refl c.requires.tables failed.cause failed.refused (silent c.args.shared.now.service.streams [] []))
 
 pub returns-in_err-bind_all-clause-heard : goal.returns-in_err-bind_all-clause-heard
@@ -87,7 +87,7 @@ pub returns-in_err-listen_all-clause-served : goal.returns-in_err-listen_all-cla
 returns-in_err-listen_all-clause-served g c =
     let at = goal.at.returns-in_err-listen_all-clause-served g c in
     let is = err_from_is_err_and c.from_residual-in_err-listen_all.result c.from_residual-in_err-listen_all.ensures.1 in
-    unserved (map (of_stream g) c.listen_all.new.connections.items) c.listen_all.ensures.new (heard_few g at.After-listen_all) (Fault Net) (is.1 ∙ ap Err is.2) (inr (refl, c.in_err-listen_all.ensures.cause)) refl
+    unserved (map (of_stream g) c.listen_all.new.connections.items) c.listen_all.ensures.new (heard_few g at.After-listen_all) (Fault Net) (is.1 ∙ ap Err is.2) c.requires.uncounted (inr (refl, c.in_err-listen_all.ensures.cause)) refl
     (run_left (bound g at.After-bind_all) c.requires.filled c.requires.tables (ends_long g at.After-bind_all ∙ c.in_ok-bind_all.ensures.all))
 
 pub returns-in_err-listen_all-clause-announced : goal.returns-in_err-listen_all-clause-announced
@@ -103,7 +103,7 @@ pub returns-in_err-ready-clause-served : goal.returns-in_err-ready-clause-served
 returns-in_err-ready-clause-served g c =
     let at = goal.at.returns-in_err-ready-clause-served g c in
     let is = err_from_is_err_and c.from_residual-in_err-ready.result c.from_residual-in_err-ready.ensures.1 in
-    unserved (map (of_stream g) c.listen_all.new.connections.items) c.listen_all.ensures.new (heard_few g at.After-listen_all) Unannounced (is.1 ∙ ap Err is.2) refl refl
+    unserved (map (of_stream g) c.listen_all.new.connections.items) c.listen_all.ensures.new (heard_few g at.After-listen_all) Unannounced (is.1 ∙ ap Err is.2) c.requires.uncounted refl refl
     (run_left (bound g at.After-bind_all) c.requires.filled c.requires.tables (ends_long g at.After-bind_all ∙ c.in_ok-bind_all.ensures.all))
 
 pub returns-in_err-ready-clause-announced : goal.returns-in_err-ready-clause-announced

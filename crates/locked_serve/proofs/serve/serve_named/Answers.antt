@@ -86,7 +86,7 @@ returns-clause-leaves g c =
 pub returns-in_err-server-clause-cause : goal.returns-in_err-server-clause-cause
 returns-in_err-server-clause-cause g c =
     let is = err_from_is_err_and c.from_residual.result c.from_residual.ensures.1 in
-    no_memory (is.1 ∙ ap Err is.2) c.requires.tables
+    no_memory (is.1 ∙ ap Err is.2) c.requires.tables c.requires.uncounted
 
 pub returns-in_err-server-clause-leaves : goal.returns-in_err-server-clause-leaves
 returns-in_err-server-clause-leaves g c =
@@ -96,7 +96,7 @@ returns-in_err-server-clause-leaves g c =
 pub returns-in_err-ends-clause-cause : goal.returns-in_err-ends-clause-cause
 returns-in_err-ends-clause-cause g c =
     let is = err_from_is_err_and c.from_residual-in_err-ends.result c.from_residual-in_err-ends.ensures.1 in
-    no_memory (is.1 ∙ ap Err is.2) c.requires.tables
+    no_memory (is.1 ∙ ap Err is.2) c.requires.tables c.requires.uncounted
 
 pub returns-in_err-ends-clause-leaves : goal.returns-in_err-ends-clause-leaves
 returns-in_err-ends-clause-leaves g c =
@@ -106,7 +106,7 @@ returns-in_err-ends-clause-leaves g c =
 pub returns-in_err-connections-clause-cause : goal.returns-in_err-connections-clause-cause
 returns-in_err-connections-clause-cause g c =
     let is = err_from_is_err_and c.from_residual-in_err-connections.result c.from_residual-in_err-connections.ensures.1 in
-    no_memory (is.1 ∙ ap Err is.2) c.requires.tables
+    no_memory (is.1 ∙ ap Err is.2) c.requires.tables c.requires.uncounted
 
 pub returns-in_err-connections-clause-leaves : goal.returns-in_err-connections-clause-leaves
 returns-in_err-connections-clause-leaves g c =

@@ -30,7 +30,7 @@ returns-clause-cause g c =
     let service = c.args.shared.now.service in
     let filled = subst (λ (w : List Write). AreFilled service.options w (views g c.in_ok-parts.parts.items)) c.as_slice.ensures.value c.in_ok-parts.ensures.filled in
     cause_filled c.serve_named.result c.args.filling.items
-    (subst (λ (origin : ℕ → History). HasCause c.serve_named.result service origin (map g.K.Clock.last c.args.clocks.items) c.serve_named.new.tables
+    (subst (λ (origin : ℕ → History). HasCause c.serve_named.result service origin (map g.K.Clock.view c.args.clocks.items) c.serve_named.new.tables c.serve_named.new.lacked
     (ports_at g.N.Net g.L.Listeners c.args.net.now c.args.listeners.now) (ports_at g.N.Net g.L.Listeners c.serve_named.new.net c.serve_named.new.listeners))
     (origin_is service.options (fronts_of service) c.args.filling.items (views g c.in_ok-parts.parts.items) c.requires.service.options.partitions.0 filled) c.serve_named.ensures.cause)
 
@@ -39,8 +39,8 @@ returns-in_err-parts-clause-cause g c =
     let service = c.args.shared.now.service in
     let is = err_from_is_err_and c.from_residual-in_err-parts.result c.from_residual-in_err-parts.ensures.1 in
     let fault = c.in_err-parts.field-0.0 in
-    not_opened fault service c.args.filling.items (map g.K.Clock.last c.args.clocks.items) c.args.tables.now (ports_at g.N.Net g.L.Listeners c.args.net.now c.args.listeners.now)
-    (is.1 ∙ ap Err is.2) c.requires.tables
+    not_opened fault service c.args.filling.items (map g.K.Clock.view c.args.clocks.items) c.args.tables.now c.args.lacked.now (ports_at g.N.Net g.L.Listeners c.args.net.now c.args.listeners.now)
+    (is.1 ∙ ap Err is.2) c.requires.tables c.requires.uncounted
     (λ (e : fault ≡ open_fault.Refused). subst (λ l. RefusesFilling service.options l) c.as_slice.ensures.value (c.in_err-parts.ensures.refused (ap Err e)))
 
 pub returns-in_err-parts-clause-leaves : goal.returns-in_err-parts-clause-leaves
@@ -51,8 +51,8 @@ returns-in_err-parts-clause-leaves g c =
 pub returns-in_err-rehearse-clause-cause : goal.returns-in_err-rehearse-clause-cause
 returns-in_err-rehearse-clause-cause g c =
     let is = err_from_is_err_and c.from_residual.result c.from_residual.ensures.1 in
-    not_opened open_fault.NoMemory c.args.shared.now.service c.args.filling.items (map g.K.Clock.last c.args.clocks.items) c.args.tables.now
-    (ports_at g.N.Net g.L.Listeners c.args.net.now c.args.listeners.now) (is.1 ∙ ap Err is.2) c.requires.tables (λ refused. absurd (cc refused))
+    not_opened open_fault.NoMemory c.args.shared.now.service c.args.filling.items (map g.K.Clock.view c.args.clocks.items) c.args.tables.now c.args.lacked.now
+    (ports_at g.N.Net g.L.Listeners c.args.net.now c.args.listeners.now) (is.1 ∙ ap Err is.2) c.requires.tables c.requires.uncounted (λ refused. absurd (cc refused))
 
 pub returns-in_err-rehearse-clause-leaves : goal.returns-in_err-rehearse-clause-leaves
 returns-in_err-rehearse-clause-leaves g c =

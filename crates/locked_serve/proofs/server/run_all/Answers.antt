@@ -2,6 +2,7 @@ use Rattle.std.proofs.Common.{◌≡◌, ◌<◌, ◌≤◌, ◌++◌, ℕ, List
 use Rattle.std.specs.Prelude.{Result, ⊤}
 use Rattle.std.proofs.lemmas.List.{length-map}
 use Rattle.std.proofs.lemmas.Simd.{map-map}
+use Rattle.mica_clock.specs.Seconds.{ClockView}
 use Rattle.partition_model.specs.declared.options.Options.{Options}
 use Rattle.partition_model.specs.History.{IsHistory}
 use Rattle.partition_table.specs.Tabled.{kept_seat_in}
@@ -115,7 +116,7 @@ run_workers-requires-clause-many g c κs within =
 pub run_workers-requires-clause-ready_streams : goal.run_workers-requires-clause-ready_streams
 run_workers-requires-clause-ready_streams g c κs within =
     let z = (goal.at.run_workers-requires-clause-ready_streams g c).After-pair_up in
-    ready_streams (plan_of g) (of_stream g) g.K.Clock.last (length c.args.connections.now.items) c.args.connections.now.items c.pair_streams.new.tasks.items (opened_streams g z) (own_streams g z)
+    ready_streams (plan_of g) (of_stream g) g.K.Clock.view (length c.args.connections.now.items) c.args.connections.now.items c.pair_streams.new.tasks.items (opened_streams g z) (own_streams g z)
     c.requires.fresh
 
 pub run_workers-requires-clause-ready : goal.run_workers-requires-clause-ready
@@ -125,19 +126,19 @@ run_workers-requires-clause-ready g c κs within =
     (ready (plan_of g) c.args.shared.now.service.ports.batches (facts g) c.requires.service.ports.batches.1 (length c.args.connections.now.items) (length c.args.ends.now.items) c.args.ends.now.items c.pair_up.new.tasks.items
     (opened g z) (own g z) c.requires.unserved)
 
-pub part_streams-requires-clause-ports : goal.part_streams-requires-clause-ports
-part_streams-requires-clause-ports g c =
-    let z = (goal.at.part_streams-requires-clause-ports g c).After-pair_up in
+pub part_streams-lacked-requires-clause-ports : goal.part_streams-lacked-requires-clause-ports
+part_streams-lacked-requires-clause-ports g c =
+    let z = (goal.at.part_streams-lacked-requires-clause-ports g c).After-pair_up in
     omega (arith, streams_many g z, c.run_workers.ensures.streams.0, c.run_workers.new.streams.ok, c.requires.server.has_room.ports.1, ap vec_capacity c.replace-ports_before.ensures.after)
 
-pub part_streams-requires-clause-hands : goal.part_streams-requires-clause-hands
-part_streams-requires-clause-hands g c =
-    let z = (goal.at.part_streams-requires-clause-hands g c).After-pair_up in
+pub part_streams-lacked-requires-clause-hands : goal.part_streams-lacked-requires-clause-hands
+part_streams-lacked-requires-clause-hands g c =
+    let z = (goal.at.part_streams-lacked-requires-clause-hands g c).After-pair_up in
     omega (arith, streams_many g z, c.run_workers.ensures.streams.0, c.run_workers.new.streams.ok, c.requires.server.has_room.streams_row.hands.1)
 
-pub part_streams-requires-clause-answers : goal.part_streams-requires-clause-answers
-part_streams-requires-clause-answers g c =
-    let z = (goal.at.part_streams-requires-clause-answers g c).After-pair_up in
+pub part_streams-lacked-requires-clause-answers : goal.part_streams-lacked-requires-clause-answers
+part_streams-lacked-requires-clause-answers g c =
+    let z = (goal.at.part_streams-lacked-requires-clause-answers g c).After-pair_up in
     omega (arith, streams_many g z, c.run_workers.ensures.streams.0, c.run_workers.new.streams.ok, c.requires.server.has_room.streams_row.answers.1)
 
 pub part_fronts-requires-clause-ends : goal.part_fronts-requires-clause-ends
@@ -169,13 +170,13 @@ module _ (g : given.Over) (c : After-part_fronts g) where
       (omega (arith, c.len-first.ensures, c.pair_streams.new.tasks.ok)) c.run_workers.ensures.fronts
 
   are : AreHands (plan_of g) (map stream_hand c.run_workers.new.streams.items ++ map hand_of c.run_workers.new.fronts.items)
-  are = both_are (plan_of g) (of_stream g) g.K.Clock.last c.args.shared.now.service.base c.pair_streams.new.tasks.items c.run_workers.new.streams.items c.args.shared.now.service.ports.batches (facts g)
+  are = both_are (plan_of g) (of_stream g) g.K.Clock.view c.args.shared.now.service.base c.pair_streams.new.tasks.items c.run_workers.new.streams.items c.args.shared.now.service.ports.batches (facts g)
       c.pair_up.new.tasks.items c.run_workers.new.fronts.items c.run_workers.ensures.streams ran_fronts
 
   -- what is in hand then
-  news : map (λ own. own.items) c.part_streams.new.hands.items ++ map (λ own. own.items) c.part_fronts.new.hands.items
+  news : map (λ own. own.items) c.part_streams-lacked.new.hands.items ++ map (λ own. own.items) c.part_fronts.new.hands.items
       ≡ map stream_hand c.run_workers.new.streams.items ++ map hand_of c.run_workers.new.fronts.items
-  news = λ i. (ap (map (λ own. own.items)) c.part_streams.ensures.hands ∙ map-map (λ own. own.items) (λ (t : StreamTask g.row.C.Denot g.row.K.Denot). t.parts) c.run_workers.new.streams.items) i
+  news = λ i. (ap (map (λ own. own.items)) c.part_streams-lacked.ensures.hands ∙ map-map (λ own. own.items) (λ (t : StreamTask g.row.C.Denot g.row.K.Denot). t.parts) c.run_workers.new.streams.items) i
       ++ (ap (map (λ own. own.items)) c.part_fronts.ensures.hands ∙ map-map (λ own. own.items) (λ (t : FrontTask g.row.D.Denot). t.parts) c.run_workers.new.fronts.items) i
 
 pub take_in_all-requires-clause-hands : goal.take_in_all-requires-clause-hands
@@ -186,7 +187,7 @@ take_in_all-requires-clause-hands g c =
 module _ (g : given.Over) (c : After-take_in_all g) (open_streams : AreNewHands (plan_of g) 0 (length c.args.connections.now.items) (map stream_hand c.pair_streams.new.tasks.items))
     (open_fronts : AreNewHands (plan_of g) (length c.args.connections.now.items) (length c.args.ends.now.items) (map hand_of c.pair_up.new.tasks.items))
     (hands_are : AreHands (plan_of g) (map stream_hand c.run_workers.new.streams.items ++ map hand_of c.run_workers.new.fronts.items))
-    (news_are : map (λ own. own.items) c.part_streams.new.hands.items ++ map (λ own. own.items) c.part_fronts.new.hands.items
+    (news_are : map (λ own. own.items) c.part_streams-lacked.new.hands.items ++ map (λ own. own.items) c.part_fronts.new.hands.items
     ≡ map stream_hand c.run_workers.new.streams.items ++ map hand_of c.run_workers.new.fronts.items) where
   opens : AreNewHands (plan_of g) 0 (plan_of g).fronts (map stream_hand c.pair_streams.new.tasks.items ++ map hand_of c.pair_up.new.tasks.items)
   opens =
@@ -219,23 +220,23 @@ returns-clause-ran g c =
     let streams = c.run_workers.new.streams.items in
     let stream_olds = c.pair_streams.new.tasks.items in
     let some = subst (λ (o : Options). 1 ≤ o.partitions) c.requires.plan.options c.requires.service.options.partitions.0 in
-    let it = ran_beside plan some (of_stream g) g.K.Clock.last c.args.shared.now.service.base stream_olds streams c.args.shared.now.service.ports.batches (facts g) c.pair_up.new.tasks.items c.run_workers.new.fronts.items c.run_workers.ensures.streams
+    let it = ran_beside plan some (of_stream g) g.K.Clock.view c.args.shared.now.service.base stream_olds streams c.args.shared.now.service.ports.batches (facts g) c.pair_up.new.tasks.items c.run_workers.new.fronts.items c.run_workers.ensures.streams
     (ran_fronts g at.After-part_fronts)
     (all g at.After-take_in_all (opened_streams g at.After-pair_up) (opened g at.After-pair_up) (are g at.After-part_fronts) (news g at.After-part_fronts)) in
     let kept = map (λ (left : Owned). kept_seat_in left.owner) (map (view g) c.take_in_all.new.parts.items) in
-    let clocks : map (λ (t : StreamTask g.row.C.Denot g.row.K.Denot). g.K.Clock.last t.clock) stream_olds ≡ map g.K.Clock.last c.args.clocks.items =
-    sym (map-map g.K.Clock.last (λ (t : StreamTask g.row.C.Denot g.row.K.Denot). t.clock) stream_olds) ∙ ap (map g.K.Clock.last) c.pair_streams.ensures.clocks in
+    let clocks : map (λ (t : StreamTask g.row.C.Denot g.row.K.Denot). g.K.Clock.view t.clock) stream_olds ≡ map g.K.Clock.view c.args.clocks.items =
+    sym (map-map g.K.Clock.view (λ (t : StreamTask g.row.C.Denot g.row.K.Denot). t.clock) stream_olds) ∙ ap (map g.K.Clock.view) c.pair_streams.ensures.clocks in
     let before : map (λ (t : FrontTask g.row.D.Denot). facts g t.end) c.pair_up.new.tasks.items ≡ map (facts g) c.args.ends.now.items =
     sym (map-map (facts g) (λ (t : FrontTask g.row.D.Denot). t.end) c.pair_up.new.tasks.items) ∙ ap (map (facts g)) (own g at.After-pair_up) in
     let after : map (λ (t : FrontTask g.row.D.Denot). facts g t.end) c.run_workers.new.fronts.items ≡ map (facts g) c.part_fronts.new.ends.items =
     sym (map-map (facts g) (λ (t : FrontTask g.row.D.Denot). t.end) c.run_workers.new.fronts.items) ∙ ap (map (facts g)) (sym c.part_fronts.ensures.ends) in
     let ports : map (λ (t : StreamTask g.row.C.Denot g.row.K.Denot). of_stream g t.port) stream_olds ≡ map (of_stream g) c.args.connections.now.items =
     sym (map-map (of_stream g) (λ (t : StreamTask g.row.C.Denot g.row.K.Denot). t.port) stream_olds) ∙ ap (map (of_stream g)) (own_streams g at.After-pair_up) in
-    let left : map (λ (t : StreamTask g.row.C.Denot g.row.K.Denot). of_stream g t.port) streams ≡ map (of_stream g) c.part_streams.new.ports.items =
-    sym (map-map (of_stream g) (λ (t : StreamTask g.row.C.Denot g.row.K.Denot). t.port) streams) ∙ ap (map (of_stream g)) (sym c.part_streams.ensures.ports) in
-    subst (λ (y : Options × List ℕ × List (Result ⊤ ServeFault) × List (Result Totals ServeFault) × List EndFacts × List EndFacts × List StreamFacts × List StreamFacts).
-    RanBeside y.0 plan.origin c.args.shared.now.service.ports.batches c.args.shared.now.service.base y.1 kept y.2 y.3 y.4 y.5 y.6 y.7)
-    (λ i. (sym c.requires.plan.options i, clocks i, sym c.part_streams.ensures.answers i, sym c.part_fronts.ensures.answers i, before i, after i, ports i, left i)) it
+    let left : map (λ (t : StreamTask g.row.C.Denot g.row.K.Denot). of_stream g t.port) streams ≡ map (of_stream g) c.part_streams-lacked.new.ports.items =
+    sym (map-map (of_stream g) (λ (t : StreamTask g.row.C.Denot g.row.K.Denot). t.port) streams) ∙ ap (map (of_stream g)) (sym c.part_streams-lacked.ensures.ports) in
+    subst (λ (y : Options × List ClockView × List (Result ⊤ ServeFault) × List (Result Totals ServeFault) × List EndFacts × List EndFacts × List StreamFacts × List StreamFacts × ℕ).
+    RanBeside y.0 plan.origin c.args.shared.now.service.ports.batches c.args.shared.now.service.base y.1 kept y.8 y.2 y.3 y.4 y.5 y.6 y.7)
+    (λ i. (sym c.requires.plan.options i, clocks i, sym c.part_streams-lacked.ensures.answers i, sym c.part_fronts.ensures.answers i, before i, after i, ports i, left i, sym c.part_streams-lacked.ensures.lacked i)) it
 
 pub returns-clause-idle : goal.returns-clause-idle
 returns-clause-idle g c =

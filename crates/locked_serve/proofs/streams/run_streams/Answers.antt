@@ -15,7 +15,7 @@ for_each_mut-requires-clause-accepts g c κs within i p low is =
       (
         omega (arith, fits, c.requires.many),
         c.requires.plan,
-        subst (IsReadyStream g.J.ServerPlan.plan facts g.K.Clock.last i) (sym here) (c.requires.ready i p.now fits),
+        subst (IsReadyStream g.J.ServerPlan.plan facts g.K.Clock.view i) (sym here) (c.requires.ready i p.now fits),
       ),
       (grind serving, grind serving, grind serving, grind serving, grind serving, grind serving, grind serving),
     )
@@ -33,9 +33,9 @@ returns g c =
       ap length whole ∙ many,
       λ k d low.
           let each = (c.for_each_mut.ensures k d (omega (arith, low, ap length value))).1 in
-          let call : StreamRan {C = g.row.C.Denot} {K = g.row.K.Denot} g.J.ServerPlan.plan facts g.K.Clock.last c.args.shared.now.service.base k each.argument.now each.after_call.now = each.call in
+          let call : StreamRan {C = g.row.C.Denot} {K = g.row.K.Denot} g.J.ServerPlan.plan facts g.K.Clock.view c.args.shared.now.service.base k each.argument.now each.after_call.now = each.call in
           let here : each.argument.now ≡ get_or items k d = each.argument_is ∙ ap (λ (l : List (StreamTask g.row.C.Denot g.row.K.Denot)). get_or l k d) value in
           let ran = subst (λ (y : StreamTask g.row.C.Denot g.row.K.Denot × StreamTask g.row.C.Denot g.row.K.Denot). StreamRan {C = g.row.C.Denot} {K = g.row.K.Denot} g.J.ServerPlan.plan facts
-          g.K.Clock.last c.args.shared.now.service.base k y.0 y.1) (λ j. (here j, each.left j)) call in
-          subst (λ (l : List (StreamTask g.row.C.Denot g.row.K.Denot)). StreamRan {C = g.row.C.Denot} {K = g.row.K.Denot} g.J.ServerPlan.plan facts g.K.Clock.last c.args.shared.now.service.base k (get_or items k d) (get_or l k d)) (sym whole) ran,
+          g.K.Clock.view c.args.shared.now.service.base k y.0 y.1) (λ j. (here j, each.left j)) call in
+          subst (λ (l : List (StreamTask g.row.C.Denot g.row.K.Denot)). StreamRan {C = g.row.C.Denot} {K = g.row.K.Denot} g.J.ServerPlan.plan facts g.K.Clock.view c.args.shared.now.service.base k (get_or items k d) (get_or l k d)) (sym whole) ran,
     )

@@ -5,6 +5,7 @@ use Rattle.std.specs.declared.result.Result.TheVariants.{Ok, Err}
 use Rattle.std.proofs.lemmas.List.{length-drop}
 use Rattle.mica_fronts.specs.Answered.{Answered}
 use Rattle.memcached_text.specs.declared.next.Next.{Next}
+use Rattle.memcached_text.specs.Lifetimes.{IsDue}
 use Rattle.memcached_commands.specs.declared.asks.Asked.{Asked}
 use Rattle.memcached_commands.specs.Asks.{asks_in}
 use Rattle.memcached_commands.specs.Answers.{unless_quiet}
@@ -18,7 +19,7 @@ use Rattle.memcached_stats.specs.Stats.{stats_text}
 use Rattle.memcached_stats.specs.Tallies.{counted}
 use Rattle.memcached_fronts.specs.Counting.{tally_after_all}
 use Rattle.memcached_stats.proofs.Untold.{untold}
-use Rattle.memcached_fronts.proofs.ExchangeLaws.{of_stats, flush_goes, flush_replies, plain_goes, plain_replies, asks_go, asks_reply, is_below}
+use Rattle.memcached_fronts.proofs.ExchangeLaws.{of_stats, fit_due, flush_goes, flush_replies, plain_goes, plain_replies, asks_go, asks_reply, is_below}
 use Rattle.memcached_fronts.proofs.Counting.{counted_flush, counted_keyed, counted_plain}
 use Rattle.memcached_fronts.proofs.answer.answer_next.Goals as goal
 
@@ -29,17 +30,20 @@ if_ok P Q (Err e) then is = is
 abbrev progress_of : ℕ → Bool → Progress
 progress_of done whole = record { done = done; is_whole = whole }
 
+pub answer_flush-requires-clause-due : goal.answer_flush-requires-clause-due
+answer_flush-requires-clause-due g c = λ _ _. subst IsDue (sym c.flush_due.ensures) (fit_due c.args.next c.requires.fit)
+
 pub returns-then-is_flush_all-clause-answered : goal.returns-then-is_flush_all-clause-answered
 returns-then-is_flush_all-clause-answered g c =
     let F = g.F.Front in
     let options = F.options c.args.front.now in
     let old = F.sessions c.args.front.now in
     let new = F.sessions c.answer_flush.new.front in
-    let told = g.C.Clock.last c.args.clock.now in
+    let told = g.C.Clock.view c.args.clock.now in
     let next = c.args.next in
     let done = c.args.done in
     let flushes : is_flush_all next ≡ true = sym c.is_flush_all.ensures ∙ c.if-is_flush_all.true in
-    let tells = g.C.Clock.last c.answer_flush.new.clock in
+    let tells = g.C.Clock.view c.answer_flush.new.clock in
     let r = c.answer_flush.ensures.flushed in
     let asked : (second : ℕ) × FlushesFrom options (flush_at second (flush_due next)) 0 r.0 = (r.3.0, subst (λ due. FlushesFrom options (flush_at r.3.0 due) 0 r.0) c.flush_due.ensures r.3.1) in (
       r.0,
@@ -58,7 +62,7 @@ returns-then-is_stats-clause-answered g c =
     let F = g.F.Front in
     let options = F.options c.args.front.now in
     let old = F.sessions c.args.front.now in
-    let last = g.C.Clock.last c.args.clock.now in
+    let last = g.C.Clock.view c.args.clock.now in
     let next = c.args.next in
     let is = of_stats next (sym c.is_stats.ensures ∙ c.if-is_stats.true) in
     let before = c.args.out.now.items in
@@ -80,7 +84,7 @@ returns-then-is_empty-clause-answered g c =
     let F = g.F.Front in
     let options = F.options c.args.front.now in
     let old = F.sessions c.args.front.now in
-    let told = g.C.Clock.last c.args.clock.now in
+    let told = g.C.Clock.view c.args.clock.now in
     let next = c.args.next in
     let keyed : is_flush_all next ≡ false = sym c.is_flush_all.ensures ∙ c.if-is_flush_all.false in
     let none : asks_in next ≡ [] = sym c.by-asks.ensures.asks ∙ none_left c.by-asks.result (sym c.is_empty.ensures ∙ c.if-is_empty.true) in
@@ -100,7 +104,7 @@ returns-in_default-clause-answered g c =
     let F = g.F.Front in
     let options = F.options c.args.front.now in
     let old = F.sessions c.args.front.now in
-    let told = g.C.Clock.last c.args.clock.now in
+    let told = g.C.Clock.view c.args.clock.now in
     let keyed : is_flush_all c.args.next ≡ false = sym c.is_flush_all.ensures ∙ c.if-is_flush_all.false in
     let none : asks_in c.args.next ≡ [] = sym c.by-asks.ensures.asks ∙ none_left c.by-asks.result (sym c.is_empty.ensures ∙ c.if-is_empty.true) in (
       [],
@@ -146,8 +150,8 @@ returns-in-Ok-answer_asks-clause-answered g c =
     let options = F.options c.args.front.now in
     let old = F.sessions c.args.front.now in
     let new = F.sessions c.answer_asks.new.front in
-    let told = g.C.Clock.last c.args.clock.now in
-    let tells = g.C.Clock.last c.answer_asks.new.clock in
+    let told = g.C.Clock.view c.args.clock.now in
+    let tells = g.C.Clock.view c.answer_asks.new.clock in
     let next = c.args.next in
     let done = c.args.done in
     let base = c.args.numbering.base in
@@ -181,8 +185,8 @@ returns-in-Err-clause-answered g c =
     let options = F.options c.args.front.now in
     let old = F.sessions c.args.front.now in
     let new = F.sessions c.answer_asks.new.front in
-    let told = g.C.Clock.last c.args.clock.now in
-    let tells = g.C.Clock.last c.answer_asks.new.clock in
+    let told = g.C.Clock.view c.args.clock.now in
+    let tells = g.C.Clock.view c.answer_asks.new.clock in
     let keyed : is_flush_all c.args.next ≡ false = sym c.is_flush_all.ensures ∙ c.if-is_flush_all.false in
     let asks_are : c.skip.new.asks ≡ drop c.args.done (asks_in c.args.next) = c.skip.ensures ∙ ap (drop c.args.done) c.by-asks.ensures.asks in
     let r = c.answer_asks.ensures.answered in

@@ -1,6 +1,7 @@
-use Rattle.std.proofs.Common.{◌≡◌, ◌++◌, ℕ, List, ap, ◌∙◌, subst, arith}
+use Rattle.std.proofs.Common.{◌≡◌, ◌∷◌, ◌++◌, ℕ, List, [], sym, ap, ◌∙◌, subst, arith}
 use Rattle.std.specs.Prelude.{option_copied}
 use Rattle.std.proofs.lemmas.Result.{on_ok_weaker}
+use Rattle.mica_clock.specs.Seconds.{ClockView}
 use Rattle.mica_words.specs.Hash.{partition_of}
 use Rattle.memcached_commands.specs.declared.asks.Asked.{Asked}
 use Rattle.memcached_commands.specs.Changes.{looks}
@@ -12,8 +13,15 @@ use Rattle.memcached_stats.specs.Counted.{counter_of}
 use Rattle.memcached_stats.specs.Tallies.{counted}
 use Rattle.memcached_fronts.specs.Counting.{noted_if}
 use Rattle.memcached_fronts.specs.Going.{AnswersAt, ask_text}
+use Rattle.memcached_fronts.specs.Seconds.{ToldFrom}
 use Rattle.memcached_fronts.proofs.Looking.{IsAnsweredBy, answered_by}
 use Rattle.memcached_fronts.proofs.ask.answer_ask.Goals as goal
+
+pub returns-clause-read : goal.returns-clause-read
+returns-clause-read g c =
+    let view = g.C.Clock.view in
+    let one = c.second-second.ensures in
+    subst (λ (s : ℕ). ToldFrom (view c.args.clock.now) (s ∷ []) (view c.second-second.new.self)) (sym (ap (λ (v : ClockView). v.last) one.once)) (one.told, one.once)
 
 pub returns-clause-answered : goal.returns-clause-answered
 returns-clause-answered g c =
@@ -35,7 +43,7 @@ returns-clause-answered g c =
     let others = subst (λ (k : List ℕ). ChangesOnly (partition_of k options.partitions) old new) c.bytes-key.ensures c.change-changed.ensures.others in
     let by : IsAnsweredBy options F.is_alone c.args.base second asked old new changed buffer =
     answered_by options F.is_alone c.args.base second asked old new changed buffer comes others in
-    let at = subst (λ (s : ℕ). AnswersAt options F.is_alone c.args.base s old asked new by.answered) c.second-second.ensures.told by.at in
+    let at = subst (λ (s : ℕ). AnswersAt options F.is_alone c.args.base s old asked new by.answered) (sym (ap (λ (v : ClockView). v.last) c.second-second.ensures.once)) by.at in
     let says : c.says-says.result ≡ said_of c.args.base asked by.answered =
     c.says-says.ensures ∙ ap (λ (o : Order). says_by o changed.when (option_copied c.value_found-stored.result) changed.outcome) c.new-order.ensures
     ∙ ap (λ v. says_by (order_of c.args.base asked) changed.when v changed.outcome) c.value_found-stored.ensures ∙ by.said in (

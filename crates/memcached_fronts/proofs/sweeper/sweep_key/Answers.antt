@@ -1,8 +1,7 @@
-use Rattle.std.proofs.Common.{◌≤◌, true, ℕ, subst, sym}
+use Rattle.std.proofs.Common.{true, ℕ, subst}
 use Rattle.mica_words.specs.Hash.{partition_of}
 use Rattle.memcached_changes.specs.Over.{sweeping}
 use Rattle.mica_fronts.specs.Changing.{ComesTo}
-use Rattle.memcached_fronts.specs.Sweeps.{SweepsBy}
 use Rattle.memcached_fronts.proofs.Sweeping.{one_swept}
 use Rattle.memcached_fronts.proofs.sweeper.sweep_key.Goals as goal
 
@@ -14,11 +13,10 @@ returns-clause-swept g c =
     let new = F.sessions c.change.new.self in
     let left = F.left c.args.front.now in
     let left_after = F.left c.change.new.self in
-    let told = g.C.Clock.last c.args.clock.now in
+    let told = g.C.Clock.view c.args.clock.now in
     let key = c.args.key.now in
     let p = partition_of key options.partitions in
     let second = c.second-second.result in
     let comes = subst (λ (base : ℕ). ComesTo options F.is_alone second key true (sweeping base) (old p) c.change.result c.change.new.found (new p)) c.new-order.ensures c.change.ensures.changed in
-    subst (λ (s : ℕ). SweepsBy options F.is_alone c.args.base old left told new left_after s) c.second-second.ensures.told
-    (one_swept options F.is_alone c.args.base old new left left_after told second key c.change.result c.change.new.found
-    (subst (λ (s : ℕ). told ≤ s) (sym c.second-second.ensures.told) c.second-second.ensures.never_falls) comes c.change.ensures.others c.change.ensures.left)
+    one_swept options F.is_alone c.args.base old new left left_after told (g.C.Clock.view c.second-second.new.self) second key c.change.result c.change.new.found
+    (c.second-second.ensures.told, c.second-second.ensures.once) comes c.change.ensures.others c.change.ensures.left

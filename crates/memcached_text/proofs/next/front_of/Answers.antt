@@ -1,8 +1,12 @@
-use Rattle.std.proofs.Common.{◌∙◌, false, None, ap}
+use Rattle.std.proofs.Common.{◌∙◌, false, None, sym, ap, eqb-true}
 use Rattle.memcached_text.specs.declared.command.Command.TheVariants.{Get}
 use Rattle.memcached_text.specs.declared.next.Next.TheVariants as nexts
+use Rattle.memcached_text.proofs.NextLaws.{no_bytes}
 use Rattle.memcached_text.proofs.SpelledLaws.{begins_next}
 use Rattle.memcached_text.proofs.next.front_of.Goals as goal
+
+pub returns-then-is_empty : goal.returns-then-is_empty
+returns-then-is_empty c = sym (no_bytes c.args.from.now (eqb-true _ 0 (sym c.is_empty.ensures ∙ c.if-is_empty.true)))
 
 pub returns-in-Some : goal.returns-in-Some
 returns-in-Some c = ap (λ keys. nexts.Command (Get keys false None) c.in-Some.len) c.one.ensures ∙ begins_next c.args.from.now _ c.in-Some.len c.in-Some.ensures

@@ -16,7 +16,7 @@ loop-init g c =
       c.requires.«open»,
       (
         [],
-        these_none options g.F.Front.is_alone (g.F.Front.sessions c.args.front.now) (g.F.Front.left c.args.front.now) (g.K.Clock.last c.args.clock.now),
+        these_none options g.F.Front.is_alone (g.F.Front.sessions c.args.front.now) (g.F.Front.left c.args.front.now) (g.K.Clock.view c.args.clock.now),
         on_none options c.args.numbering.base (place_at c.args.bytes.now c.args.done) c.args.out.now.items,
       ),
       refl,

@@ -12,7 +12,7 @@ invariant-loop g l =
     let base = l.numbering.base in
     (l.taken ≤ length l.bytes)
     × IsOpenAt (next_of (drop l.taken l.bytes)) l.done
-    × GoesBySome options g.F.Front.is_alone (g.F.Front.sessions l.initial.front) (g.F.Front.left l.initial.front) (g.K.Clock.last l.initial.clock) (g.F.Front.sessions l.front) (g.F.Front.left l.front) (g.K.Clock.last l.clock)
+    × GoesBySome options g.F.Front.is_alone (g.F.Front.sessions l.initial.front) (g.F.Front.left l.initial.front) (g.K.Clock.view l.initial.clock) (g.F.Front.sessions l.front) (g.F.Front.left l.front) (g.K.Clock.view l.clock)
     (λ answers. GoesOnTo options base (place_at l.bytes l.initial.done) answers l.initial.out.items l.out.items (Reaches options base (place_at (drop l.taken l.bytes) l.done)))
     × (g.F.Front.options l.front ≡ options)
     × (g.F.Front.number l.front ≡ g.F.Front.number l.initial.front)

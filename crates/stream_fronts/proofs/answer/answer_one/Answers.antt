@@ -21,7 +21,7 @@ returns-in-More-clause-talk g c =
     let options = g.F.Front.options c.args.front.now in
     let more = sym c.said_next-next.ensures.next ∙ c.in-More.is in (
       [],
-      these_none options g.F.Front.is_alone (g.F.Front.sessions c.args.front.now) (g.F.Front.left c.args.front.now) (g.K.Clock.last c.args.clock.now),
+      these_none options g.F.Front.is_alone (g.F.Front.sessions c.args.front.now) (g.F.Front.left c.args.front.now) (g.K.Clock.view c.args.clock.now),
       on_as options c.args.numbering.base (λ received given due r. (r, more)) (on_none options c.args.numbering.base _ c.args.out.now.items),
     )
 

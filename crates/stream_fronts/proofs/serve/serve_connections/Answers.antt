@@ -37,26 +37,26 @@ loop-init g c =
       c.in_ok-desk.ensures,
       subst (λ held. AreOpen held log) (sym c.new-clients.ensures) (none_held log),
       c.requires.«open»,
-      by_none options g.F.Front.is_alone (g.F.Front.sessions c.args.front.now) (g.F.Front.left c.args.front.now) (g.K.Clock.last c.args.clock.now),
+      by_none options g.F.Front.is_alone (g.F.Front.sessions c.args.front.now) (g.F.Front.left c.args.front.now) (g.K.Clock.view c.args.clock.now),
       omega arith,
       refl,
       refl,
       refl,
       refl,
       refl,
-      since_none options g.F.Front.is_alone c.args.numbering.base (g.F.Front.sessions c.args.front.now) (g.F.Front.left c.args.front.now) (g.K.Clock.last c.args.clock.now) c.args.lacked.now
+      since_none options g.F.Front.is_alone c.args.numbering.base (g.F.Front.sessions c.args.front.now) (g.F.Front.left c.args.front.now) (g.K.Clock.view c.args.clock.now) c.args.lacked.now
           c.new-clients.result.held.items c.new-clients.ensures log,
     )
 
 pub loop-preserved : goal.loop-preserved
 loop-preserved g c =
     let F = g.F.Front in
-    let last = g.K.Clock.last in
+    let view = g.K.Clock.view in
     let log = g.C.Connections.log in
     let options = F.options c.args.front.now in
     let old = F.sessions c.args.front.now in
     let left = F.left c.args.front.now in
-    let told = last c.args.clock.now in
+    let told = view c.args.clock.now in
     let base = c.args.numbering.base in
     let inv = c.loop.invariant in
     let before = log c.loop.connections in
@@ -69,14 +69,14 @@ loop-preserved g c =
     let reports = subst (λ got. IfSome got (λ event. IfSome before (λ l. ReportsNext l event after))) c.in-Some-2.is next.next in
     let on = subst (λ got. g.C.Connections.has_ended c.next-in-loop.new.self ≡ is_none got) c.in-Some-2.is next.ended in
     let same = served.front.same_options ∙ inv.6 in
-    let more = subst (λ (o : Options). GoesBy o F.is_alone (F.sessions c.loop.front) (F.left c.loop.front) (last c.loop.clock) (F.sessions then.front) (F.left then.front) (last then.clock)) inv.6
+    let more = subst (λ (o : Options). GoesBy o F.is_alone (F.sessions c.loop.front) (F.left c.loop.front) (view c.loop.clock) (F.sessions then.front) (F.left then.front) (view then.clock)) inv.6
     served.front.goes in
-    let swept = subst (λ (o : Options). SweepsBy o F.is_alone base (F.sessions then.front) (F.left then.front) (last then.clock) (F.sessions now.front) (F.left now.front) (last now.clock)) same sweep.swept in (
+    let swept = subst (λ (o : Options). SweepsBy o F.is_alone base (F.sessions then.front) (F.left then.front) (view then.clock) (F.sessions now.front) (F.left now.front) (view now.clock)) same sweep.swept in (
       served.room,
       served.clients,
       served.port.ended ∙ on,
-      by_both options F.is_alone old (F.sessions then.front) (F.sessions now.front) left (F.left then.front) (F.left now.front) told (last then.clock) (last now.clock)
-          (by_both options F.is_alone old (F.sessions c.loop.front) (F.sessions then.front) left (F.left c.loop.front) (F.left then.front) told (last c.loop.clock) (last then.clock) inv.3 more)
+      by_both options F.is_alone old (F.sessions then.front) (F.sessions now.front) left (F.left then.front) (F.left now.front) told (view then.clock) (view now.clock)
+          (by_both options F.is_alone old (F.sessions c.loop.front) (F.sessions then.front) left (F.left c.loop.front) (F.left then.front) told (view c.loop.clock) (view then.clock) inv.3 more)
           (by_sweeps swept),
       (let first = inv.4 in let second = next.never_fall in let third = served.port.no_fault in omega (arith, first, second, third)),
       served.port.same_port ∙ next.port ∙ inv.5,
@@ -96,7 +96,7 @@ returns-in_err-desk-clause-serves g c =
     let options = g.F.Front.options c.args.front.now in
     let sessions = g.F.Front.sessions c.args.front.now in
     let left = g.F.Front.left c.args.front.now in
-    let told = g.K.Clock.last c.args.clock.now in
+    let told = g.K.Clock.view c.args.clock.now in
     let had = c.args.lacked.now in
     since_serves options g.F.Front.is_alone c.args.numbering.base sessions left told had opened opened sessions left told had [] c.requires.«open» log log
     (since_none options g.F.Front.is_alone c.args.numbering.base sessions left told had [] refl log)
@@ -108,7 +108,7 @@ returns-in_err-sweeper-clause-serves g c =
     let options = g.F.Front.options c.args.front.now in
     let sessions = g.F.Front.sessions c.args.front.now in
     let left = g.F.Front.left c.args.front.now in
-    let told = g.K.Clock.last c.args.clock.now in
+    let told = g.K.Clock.view c.args.clock.now in
     let had = c.args.lacked.now in
     since_serves options g.F.Front.is_alone c.args.numbering.base sessions left told had opened opened sessions left told had [] c.requires.«open» log log
     (since_none options g.F.Front.is_alone c.args.numbering.base sessions left told had [] refl log)
@@ -117,8 +117,8 @@ pub returns-in_err-event-clause-serves : goal.returns-in_err-event-clause-serves
 returns-in_err-event-clause-serves g c =
     let log = g.C.Connections.log in
     let ended = g.C.Connections.has_ended in
-    since_called (g.F.Front.options c.args.front.now) g.F.Front.is_alone c.args.numbering.base (g.F.Front.sessions c.args.front.now) (g.F.Front.left c.args.front.now) (g.K.Clock.last c.args.clock.now)
-    c.args.lacked.now (ended c.args.connections.now) (ended c.next-in-loop.new.self) (g.F.Front.sessions c.loop.front) (g.F.Front.left c.loop.front) (g.K.Clock.last c.loop.clock) c.loop.lacked
+    since_called (g.F.Front.options c.args.front.now) g.F.Front.is_alone c.args.numbering.base (g.F.Front.sessions c.args.front.now) (g.F.Front.left c.args.front.now) (g.K.Clock.view c.args.clock.now)
+    c.args.lacked.now (ended c.args.connections.now) (ended c.next-in-loop.new.self) (g.F.Front.sessions c.loop.front) (g.F.Front.left c.loop.front) (g.K.Clock.view c.loop.clock) c.loop.lacked
     c.loop.clients.held.items c.in_err-event.ensures.still_open (log c.args.connections.now) (log c.loop.connections) (log c.next-in-loop.new.self) c.loop.invariant.10 c.in_err-event.ensures.unmoved
 
 pub returns-clause-serves : goal.returns-clause-serves
@@ -129,24 +129,24 @@ returns-clause-serves g c =
     let base = c.args.numbering.base in
     let opened = ended c.args.connections.now in
     let sessions = g.F.Front.sessions c.args.front.now in
-    let told = g.K.Clock.last c.args.clock.now in
+    let told = g.K.Clock.view c.args.clock.now in
     let inv = c.loop.invariant in
     let here = since_serves options g.F.Front.is_alone base sessions (g.F.Front.left c.args.front.now) told c.args.lacked.now opened (ended c.loop.connections) (g.F.Front.sessions c.loop.front)
-    (g.F.Front.left c.loop.front) (g.K.Clock.last c.loop.clock) c.loop.lacked c.loop.clients.held.items inv.2 (log c.args.connections.now) (log c.loop.connections) inv.10 in
+    (g.F.Front.left c.loop.front) (g.K.Clock.view c.loop.clock) c.loop.lacked c.loop.clients.held.items inv.2 (log c.args.connections.now) (log c.loop.connections) inv.10 in
     elim c.match-next.branch [
-      | in-None w ↦ subst (λ x. OnLogs (ServesFromNone options g.F.Front.is_alone base MOST_UNSENT (record { sessions = sessions; left = g.F.Front.left c.args.front.now; second = told; lacked = c.args.lacked.now; has_ended = opened })
-          (record { sessions = g.F.Front.sessions c.loop.front; left = g.F.Front.left c.loop.front; second = g.K.Clock.last c.loop.clock; lacked = c.loop.lacked; has_ended = ended x })) (log c.args.connections.now) (log x))
+      | in-None w ↦ subst (λ x. OnLogs (ServesFromNone options g.F.Front.is_alone base MOST_UNSENT (record { sessions = sessions; left = g.F.Front.left c.args.front.now; clock = told; lacked = c.args.lacked.now; has_ended = opened })
+          (record { sessions = g.F.Front.sessions c.loop.front; left = g.F.Front.left c.loop.front; clock = g.K.Clock.view c.loop.clock; lacked = c.loop.lacked; has_ended = ended x })) (log c.args.connections.now) (log x))
           (sym w.connections-is) here
       | in-Some+then-writes_left-least w ↦ subst (λ x. OnLogs (ServesFromNone options g.F.Front.is_alone base MOST_UNSENT
-          (record { sessions = sessions; left = g.F.Front.left c.args.front.now; second = told; lacked = c.args.lacked.now; has_ended = opened })
-          (record { sessions = g.F.Front.sessions c.loop.front; left = g.F.Front.left c.loop.front; second = g.K.Clock.last c.loop.clock; lacked = c.loop.lacked; has_ended = ended x })) (log c.args.connections.now) (log x))
+          (record { sessions = sessions; left = g.F.Front.left c.args.front.now; clock = told; lacked = c.args.lacked.now; has_ended = opened })
+          (record { sessions = g.F.Front.sessions c.loop.front; left = g.F.Front.left c.loop.front; clock = g.K.Clock.view c.loop.clock; lacked = c.loop.lacked; has_ended = ended x })) (log c.args.connections.now) (log x))
           (sym w.connections-is) here
       | in-Some+else-writes_left-least+in_ok-event+in_default w ↦ subst (λ x. OnLogs (ServesFromNone options g.F.Front.is_alone base MOST_UNSENT
-          (record { sessions = sessions; left = g.F.Front.left c.args.front.now; second = told; lacked = c.args.lacked.now; has_ended = opened })
-          (record { sessions = g.F.Front.sessions c.loop.front; left = g.F.Front.left c.loop.front; second = g.K.Clock.last c.loop.clock; lacked = c.loop.lacked; has_ended = ended x })) (log c.args.connections.now) (log x))
+          (record { sessions = sessions; left = g.F.Front.left c.args.front.now; clock = told; lacked = c.args.lacked.now; has_ended = opened })
+          (record { sessions = g.F.Front.sessions c.loop.front; left = g.F.Front.left c.loop.front; clock = g.K.Clock.view c.loop.clock; lacked = c.loop.lacked; has_ended = ended x })) (log c.args.connections.now) (log x))
           (sym w.connections-is)
           (since_over options g.F.Front.is_alone base sessions (g.F.Front.left c.args.front.now) told c.args.lacked.now opened (ended w.next-in-loop.new.self) (g.F.Front.sessions c.loop.front)
-          (g.F.Front.left c.loop.front) (g.K.Clock.last c.loop.clock) c.loop.lacked c.loop.clients.held.items (log c.args.connections.now) (log c.loop.connections) (log w.next-in-loop.new.self) inv.10 inv.1
+          (g.F.Front.left c.loop.front) (g.K.Clock.view c.loop.clock) c.loop.lacked c.loop.clients.held.items (log c.args.connections.now) (log c.loop.connections) (log w.next-in-loop.new.self) inv.10 inv.1
           (subst (λ got. IfNone got (IfSome (log c.loop.connections) (λ l. IsOver l (log w.next-in-loop.new.self)))) w.in_default.is w.in_ok-event.ensures.end))
     ]
 

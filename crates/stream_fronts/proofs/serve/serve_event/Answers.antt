@@ -11,7 +11,7 @@ returns-in-Opened-clause-serves g c =
     let options = g.F.Front.options c.args.front.now in
     let base = c.args.numbering.base in (
       [],
-      these_none options g.F.Front.is_alone (g.F.Front.sessions c.args.front.now) (g.F.Front.left c.args.front.now) (g.K.Clock.last c.args.clock.now),
+      these_none options g.F.Front.is_alone (g.F.Front.sessions c.args.front.now) (g.F.Front.left c.args.front.now) (g.K.Clock.view c.args.clock.now),
       subst (λ (e : Event). OnLogs (StandsOn options base e c.args.clients.now.held.items c.take_in.result [] c.take_in.new.clients.held.items) (log c.args.connections.now) (log c.take_in.new.connections))
           (sym c.in-Opened.is) (c.take_in.ensures.serves options base),
     )

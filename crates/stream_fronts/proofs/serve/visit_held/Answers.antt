@@ -62,7 +62,7 @@ pub returns-in_default-clause-serves : goal.returns-in_default-clause-serves
 returns-in_default-clause-serves g c =
     let options = g.F.Front.options c.args.front.now in (
       [],
-      these_none options g.F.Front.is_alone (g.F.Front.sessions c.args.front.now) (g.F.Front.left c.args.front.now) (g.K.Clock.last c.args.clock.now),
+      these_none options g.F.Front.is_alone (g.F.Front.sessions c.args.front.now) (g.F.Front.left c.args.front.now) (g.K.Clock.view c.args.clock.now),
       serves_none options c.args.numbering.base c.args.number c.args.clients.now.held.items c.take.new.self.held.items c.take.ensures.others c.take.ensures.gone
           (sym c.take.ensures.taken ∙ c.in_default.is) (g.C.Connections.log c.args.connections.now),
     )

@@ -105,7 +105,7 @@ returns-in-Err-clause-talk g c =
     let client = c.args.client.now in
     let first : client.done ≡ 0 = let none = c.if-client-gt0.false in omega (arith, none) in (
       [],
-      these_none options g.F.Front.is_alone (g.F.Front.sessions c.args.front.now) (g.F.Front.left c.args.front.now) (g.K.Clock.last c.args.clock.now),
+      these_none options g.F.Front.is_alone (g.F.Front.sessions c.args.front.now) (g.F.Front.left c.args.front.now) (g.K.Clock.view c.args.clock.now),
       on_one c.args.number _ (Looks options c.args.numbering.base client [] c.args.desk.now.replies.items c.fill.new.client (Err c.in-Err.field-0)) (g.C.Connections.log c.args.connections.now)
           (g.C.Connections.log c.fill.new.connections) (λ d a b x. (refl, first, x.0, x.1)) c.in-Err.ensures.reads,
     )

@@ -12,7 +12,7 @@ returns-then-client-bytes-clause-talk g c =
     let client = c.args.client.now in
     let bytes = c.args.bytes.now in (
       [],
-      these_none options g.F.Front.is_alone (g.F.Front.sessions c.args.front.now) (g.F.Front.left c.args.front.now) (g.K.Clock.last c.args.clock.now),
+      these_none options g.F.Front.is_alone (g.F.Front.sessions c.args.front.now) (g.F.Front.left c.args.front.now) (g.K.Clock.view c.args.clock.now),
       looks_at_none options c.args.numbering.base client bytes (drop (length client.kept.items) bytes) c.requires.first c.requires.kept c.clear.new.self.items c.clear.ensures.items c.if-client-bytes.true,
     )
 

@@ -64,7 +64,7 @@ returns-in-Ok-false-clause-talks g c =
     let client = c.args.client.now in
     let now = c.send_unsent.new.client in (
       [],
-      these_none options g.F.Front.is_alone (g.F.Front.sessions c.args.front.now) (g.F.Front.left c.args.front.now) (g.K.Clock.last c.args.clock.now),
+      these_none options g.F.Front.is_alone (g.F.Front.sessions c.args.front.now) (g.F.Front.left c.args.front.now) (g.K.Clock.view c.args.clock.now),
       on_one c.args.number (SendsFrom client.unsent now.unsent (Ok c.in-Ok-false.field-0)) (Visits options base client [] now Waits) (log c.args.connections.now)
           (log c.send_unsent.new.connections) (λ d a b sends. visit_waits options base d c.requires.client now c.in-Ok-false.ensures.place c.in-Ok-false.ensures.leaving c.in-Ok-false.field-0 sends
           (c.in-Ok-false.ensures.some c.in-Ok-false.field-0-test)) c.in-Ok-false.ensures.sends,
@@ -78,7 +78,7 @@ returns-in-Err-clause-talks g c =
     let client = c.args.client.now in
     let now = c.send_unsent.new.client in (
       [],
-      these_none options g.F.Front.is_alone (g.F.Front.sessions c.args.front.now) (g.F.Front.left c.args.front.now) (g.K.Clock.last c.args.clock.now),
+      these_none options g.F.Front.is_alone (g.F.Front.sessions c.args.front.now) (g.F.Front.left c.args.front.now) (g.K.Clock.view c.args.clock.now),
       on_one c.args.number (SendsFrom {X = Bool} client.unsent now.unsent (Err c.in-Err.field-0)) (Visits options base client [] now Over) (log c.args.connections.now)
           (log c.send_unsent.new.connections) (λ d a b sends. visit_breaks options base d c.requires.client now c.in-Err.field-0 sends) c.in-Err.ensures.sends,
     )
@@ -92,7 +92,7 @@ returns-then-client-clause-talks g c =
     let now = c.send_unsent.new.client in
     let none = c.in-Ok-true.ensures.all c.in-Ok-true.field-0-test in (
       [],
-      these_none options g.F.Front.is_alone (g.F.Front.sessions c.args.front.now) (g.F.Front.left c.args.front.now) (g.K.Clock.last c.args.clock.now),
+      these_none options g.F.Front.is_alone (g.F.Front.sessions c.args.front.now) (g.F.Front.left c.args.front.now) (g.K.Clock.view c.args.clock.now),
       on_one c.args.number (SendsFrom client.unsent now.unsent (Ok c.in-Ok-true.field-0)) (Visits options base client [] now Over) (log c.args.connections.now)
           (log c.send_unsent.new.connections) (λ d a b sends. visit_leaves options base d c.requires.client now c.in-Ok-true.ensures.place c.in-Ok-true.ensures.leaving c.in-Ok-true.field-0 sends
           c.in-Ok-true.ensures.client c.if-client.true none) c.in-Ok-true.ensures.sends,

@@ -24,7 +24,7 @@ loop-init g c =
       refl,
       refl,
       goes_none (g.F.Front.options c.args.front.now) g.F.Front.is_alone c.args.numbering.base c.args.number (g.F.Front.sessions c.args.front.now) (g.F.Front.left c.args.front.now)
-          (g.K.Clock.last c.args.clock.now) c.args.client.now log,
+          (g.K.Clock.view c.args.clock.now) c.args.client.now log,
       refl,
       refl,
       refl,
@@ -96,8 +96,8 @@ loop-preserved g c =
       visit.ended ∙ inv.5,
       visit.faults ∙ inv.6,
       visit.port ∙ inv.7,
-      subst (λ (a : After). GoesBySome (g.F.Front.options c.args.front.now) g.F.Front.is_alone (g.F.Front.sessions c.args.front.now) (g.F.Front.left c.args.front.now) (g.K.Clock.last c.args.clock.now)
-          (g.F.Front.sessions c.visit_once.new.front) (g.F.Front.left c.visit_once.new.front) (g.K.Clock.last c.visit_once.new.clock)
+      subst (λ (a : After). GoesBySome (g.F.Front.options c.args.front.now) g.F.Front.is_alone (g.F.Front.sessions c.args.front.now) (g.F.Front.left c.args.front.now) (g.K.Clock.view c.args.clock.now)
+          (g.F.Front.sessions c.visit_once.new.front) (g.F.Front.left c.visit_once.new.front) (g.K.Clock.view c.visit_once.new.clock)
           (λ answers. OnLogs (OnHeld c.args.number (Visits (g.F.Front.options c.args.front.now) c.args.numbering.base c.args.client.now answers c.visit_once.new.client a)) (log c.args.connections.now)
           (log c.visit_once.new.connections))) again
           (goes_then (g.F.Front.options c.args.front.now) g.F.Front.is_alone c.args.numbering.base c.args.number c.args.client.now c.loop.client (log c.args.connections.now) (log c.loop.connections)

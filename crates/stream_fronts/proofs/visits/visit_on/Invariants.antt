@@ -20,7 +20,7 @@ invariant-loop g l =
     × (g.C.Connections.has_ended l.connections ≡ g.C.Connections.has_ended l.initial.connections)
     × (g.C.Connections.faults l.connections ≡ g.C.Connections.faults l.initial.connections)
     × (g.C.Connections.port l.connections ≡ g.C.Connections.port l.initial.connections)
-    × GoesBySome options g.F.Front.is_alone (g.F.Front.sessions l.initial.front) (g.F.Front.left l.initial.front) (g.K.Clock.last l.initial.clock) (g.F.Front.sessions l.front) (g.F.Front.left l.front) (g.K.Clock.last l.clock)
+    × GoesBySome options g.F.Front.is_alone (g.F.Front.sessions l.initial.front) (g.F.Front.left l.initial.front) (g.K.Clock.view l.initial.clock) (g.F.Front.sessions l.front) (g.F.Front.left l.front) (g.K.Clock.view l.clock)
     (λ answers. OnLogs (OnHeld l.number (Visits options l.numbering.base l.initial.client answers l.client Again)) (g.C.Connections.log l.initial.connections) (g.C.Connections.log l.connections))
     × (g.F.Front.options l.front ≡ options)
     × (g.F.Front.number l.front ≡ g.F.Front.number l.initial.front)

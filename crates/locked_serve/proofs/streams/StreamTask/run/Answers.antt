@@ -1,5 +1,6 @@
 use Rattle.std.proofs.Common.{◌≡◌, ℕ, Bool, slice_get, refl, sym, ap, ◌∙◌, subst, arith}
 use Rattle.std.specs.Prelude.{OnOk}
+use Rattle.mica_clock.specs.Seconds.{ClockView}
 use Rattle.mica_fronts.specs.Answered.{count_of_writes}
 use Rattle.locked_fronts.specs.Parts.{LockedView, IsLockedFront, locked_view, turns_taken, turns_left, sessions_of}
 use Rattle.stream_fronts.specs.Serving.{FrontAt, IsFinished}
@@ -16,21 +17,21 @@ pub new-front-requires-clause-each : goal.new-front-requires-clause-each
 new-front-requires-clause-each g c p part at = (c.requires.ready.parts.each p part (ap (λ v. slice_get v.items p) (sym c.replace-parts.ensures.value) ∙ at)).of
 
 -- as a view of it, its clock, a count and its port tell it
-abbrev told_by : LockedView → ℕ → ℕ → Bool → FrontAt
-told_by view second lacked has_ended = record { sessions = sessions_of view.parts; left = turns_left view.parts; second = second; lacked = lacked; has_ended = has_ended }
+abbrev told_by : LockedView → ClockView → ℕ → Bool → FrontAt
+told_by view clock lacked has_ended = record { sessions = sessions_of view.parts; left = turns_left view.parts; clock = clock; lacked = lacked; has_ended = has_ended }
 
 pub returns : goal.returns
 returns g c =
     let plan = g.J.ServerPlan.plan in
-    let last = g.K.Clock.last in
+    let shown = g.K.Clock.view in
     let facts : g.row.C.Denot → StreamFacts = stream_facts g.C.Connections in
     let old : LockedView = c.new-front.result in
     let new : LockedView = c.serve_connections-self.new.front in
     let served = c.serve_connections-self.ensures in
     let b = facts c.args.self.now.port in
     let a = facts c.serve_connections-self.new.connections in
-    let before : LockedView → FrontAt = λ v. told_by v (last c.args.self.now.clock) c.args.self.now.lacked b.has_ended in
-    let after : LockedView → FrontAt = λ v. told_by v (last c.serve_connections-self.new.clock) c.serve_connections-self.new.lacked a.has_ended in
+    let before : LockedView → FrontAt = λ v. told_by v (shown c.args.self.now.clock) 0 b.has_ended in
+    let after : LockedView → FrontAt = λ v. told_by v (shown c.serve_connections-self.new.clock) c.serve_connections-self.new.lacked a.has_ended in
     let old_is : old ≡ locked_view plan.options c.args.number c.args.self.now.parts.items = c.new-front.ensures ∙ (λ i. locked_view (c.requires.plan.options i) c.args.number (c.replace-parts.ensures.value i).items) in
     let new_is : new ≡ locked_view plan.options c.args.number c.into_parts.result.items =
     λ i. locked_view ((served.options ∙ ap (λ (v : LockedView). v.options) old_is) i) ((served.number ∙ ap (λ (v : LockedView). v.number) old_is) i) (sym c.into_parts.ensures.same i) in
