@@ -134,10 +134,11 @@ impl<'a, J: ServerPlan, P: LendPartition<Reader = ReaderSeat, Note = Note> + Dro
         key: &[u8],
         value: &[u8],
     ) -> Result<(Outcome, u64), NoMemory> {
-        let number = partition_of(key_hash(key), self.options.partitions);
+        let hash = key_hash(key);
+        let number = partition_of(hash, self.options.partitions);
         let at = number as usize;
         let lock = &self.locks[at];
-        let written = self.parts[at].write(rt, lock, number, op, key, value);
+        let written = self.parts[at].write(rt, lock, number, op, key, hash, value);
         self.left -= 1;
         Ok(written)
     }
@@ -178,19 +179,21 @@ impl<'a, J: ServerPlan, P: LendPartition<Reader = ReaderSeat, Note = Note> + Dro
     }
 
     fn delete<R: Threads + Wait + Sync>(&mut self, rt: &R, key: &[u8]) -> (Outcome, u64) {
-        let number = partition_of(key_hash(key), self.options.partitions);
+        let hash = key_hash(key);
+        let number = partition_of(hash, self.options.partitions);
         let at = number as usize;
         let lock = &self.locks[at];
-        let written = self.parts[at].write(rt, lock, number, Op::Del, key, &[]);
+        let written = self.parts[at].write(rt, lock, number, Op::Del, key, hash, &[]);
         self.left -= 1;
         written
     }
 
     fn touch<R: Threads + Wait + Sync>(&mut self, rt: &R, key: &[u8]) -> (Outcome, u64) {
-        let number = partition_of(key_hash(key), self.options.partitions);
+        let hash = key_hash(key);
+        let number = partition_of(hash, self.options.partitions);
         let at = number as usize;
         let lock = &self.locks[at];
-        let written = self.parts[at].write(rt, lock, number, Op::Touch, key, &[]);
+        let written = self.parts[at].write(rt, lock, number, Op::Touch, key, hash, &[]);
         self.left -= 1;
         written
     }
