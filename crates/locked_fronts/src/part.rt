@@ -11,7 +11,7 @@ ghost use Rattle.locked_fronts.specs.Parts.{IsPartOf, HasLearned, PartWrites, Pa
 use crate::counts::{HistoryCounts, Learned};
 use crate::owned::{OwnedPartition, ServerPlan, Step, Written};
 use crate::taking::take;
-use epoch_core::{LendPartition, ReaderWords, WordAt};
+use epoch_core::{LendPartition, ReaderWords};
 use mica_fronts::{Changed, Decide};
 use optimistic_get::{Got, ask_hashed, get_hashed};
 use partition_model::{Answer, ItemBuf, Op, Outcome};
@@ -140,13 +140,13 @@ impl LockedPart {
         ensures looked { IfSome result (λ r. PartLooks self.old key.entry.now r.0 r.1 found.new self.new) }
         ensures none { IfNone result (PartRests self.old self.new) }
     {
-        let epoch = self.seat.peek(WordAt::Epoch(0));
+        let epoch = self.seat.epoch_of_first();
         if !self.counts.has_all_flushes(epoch) {
             return None;
         }
         let aside = self.seat.set_aside();
         let got = get_hashed(&mut self.seat, key, hash, TRIES, found);
-        let epoch = self.seat.epoch(0);
+        let epoch = self.seat.epoch_of_first();
         match answer_in(got) {
             Some((answer, stamp)) if self.counts.has_all_flushes(epoch) => {
                 self.seat.take_up_seen(aside);

@@ -117,15 +117,14 @@ impl ReaderSeat {
         self.table.shared.join_seat::<Meets>(&mut self.seat, seen);
     }
 
-    /// The epoch of a bucket, loaded outside every try. It tells how many of the writes that the seat has seen are to the bucket, at the most: each
-    /// raised it by two, but for one that has not ended.
-    pub fn epoch(&mut self, bucket: u32) -> u64
-        requires main { IsMain (reader_state self.old).shape bucket }
-        ensures most { 2 * writes_to_bucket (options_of (reader_state self.old).shape) (reader_state self.old).seen bucket ≤ result + 1 }
+    /// The epoch of bucket 0, loaded outside every try. It tells how many of the writes that the seat has seen are to that bucket, at the most: each raised it
+    /// by two, but for one that has not ended.
+    pub fn epoch_of_first(&mut self) -> u64
+        ensures most { 2 * writes_to_bucket (options_of (reader_state self.old).shape) (reader_state self.old).seen 0 ≤ result + 1 }
         ensures same { reader_state self.new ≡ reader_state self.old }
         ensures home { reader_home self.new ≡ reader_home self.old }
     {
-        let place = self.places.of(WordAt::Epoch(bucket));
+        let place = self.places.of(WordAt::Epoch(0));
         self.table.shared.load::<Tallies>(&mut self.seat, place)
     }
 
