@@ -158,6 +158,10 @@ impl<'a, J: ServerPlan, P: LendPartition<Reader = ReaderSeat, Note = Note> + Dro
 
 impl<'a, J: ServerPlan, P: LendPartition<Reader = ReaderSeat, Note = Note> + Drop> Changes
     for LockedFront<'a, J, P> {
+    fn buckets(&self) -> u32 {
+        self.options.buckets
+    }
+
     fn change<R: Threads + Wait + Sync, D: Decide>(
         &mut self,
         rt: &R,

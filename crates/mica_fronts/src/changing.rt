@@ -65,6 +65,11 @@ pub struct Changed {
 
 /// A front that looks at a value, decides, and writes what was decided, with nothing between. Where nothing is to be written, it may look without a hold.
 pub trait Changes: Front {
+    /// How many buckets each of its partitions has.
+    fn buckets(&self) -> u32
+        ensures some { 0 < result }
+        ensures is { result ≡ (Self.options self.now).buckets };
+
     fn change<R: Threads + Wait + Sync, D: Decide>(
         &mut self,
         rt: &R,
