@@ -1,11 +1,12 @@
 -- What one write more makes of the flushes, and which writes make nothing of them.
-use Rattle.std.proofs.Common.{◌≡◌, ℕ, suc, ◌+◌, ◌≤◌, ◌<◌, cond, Bool, true, false, List, [], ◌∷◌, ◌++◌, length, count_by, refl, sym, ap, ◌∙◌, arith}
+use Rattle.std.proofs.Common.{◌≡◌, ℕ, suc, ◌+◌, ◌≤◌, ◌&&◌, cond, Bool, true, false, List, [], ◌∷◌, ◌++◌, length, count_by, refl, sym, ap, ◌∙◌, arith}
 use Rattle.std.proofs.lemmas.List.Sums.{count_by-le-length}
 use Rattle.partition_model.specs.declared.write.Write.{Write}
 use Rattle.partition_model.specs.History.{History, IsPrefix}
 use Rattle.mica_fronts.specs.declared.flushes.Flushes.{Flushes}
 use Rattle.mica_fronts.specs.declared.flushes.KeptFlushes.{KeptFlushes}
-use Rattle.mica_fronts.specs.Flushes.{is_in_first, is_delete, begins_with_feed, with_write, no_flushes, flushes_from, flushes_in, AreKept, kept_then}
+use Rattle.partition_table.proofs.Tallying.{count_both}
+use Rattle.mica_fronts.specs.Flushes.{is_in_first, is_delete, begins_with_feed, flush_in, flushes_then, with_write, no_flushes, flushes_from, flushes_in, AreKept, kept_then}
 
 module _ (buckets : ℕ) where
   -- behind one history another
@@ -22,34 +23,22 @@ module _ (buckets : ℕ) where
   pub flushes_push : (history : History) (write : Write) → flushes_in buckets (history ++ write ∷ []) ≡ with_write buckets (suc (length history)) write (flushes_in buckets history)
   flushes_push history write = in_both history (write ∷ [])
 
-  count_both : (history later : History) → count_by (is_in_first buckets) (history ++ later) ≡ count_by (is_in_first buckets) history + count_by (is_in_first buckets) later
-  count_both [] later = refl
-  count_both (w ∷ history) later = by (is_in_first buckets w)
-    where
-      rest : count_by (is_in_first buckets) (history ++ later) ≡ count_by (is_in_first buckets) history + count_by (is_in_first buckets) later
-      rest = count_both history later
-
-      by : (b : Bool) → cond b (1 + count_by (is_in_first buckets) (history ++ later)) (count_by (is_in_first buckets) (history ++ later))
-          ≡ cond b (1 + count_by (is_in_first buckets) history) (count_by (is_in_first buckets) history) + count_by (is_in_first buckets) later
-      by true = ap suc rest
-      by false = rest
-
   -- no write in the bucket of flushes is a flush
   none_from : (n : ℕ) (flushes : Flushes) (later : History) → count_by (is_in_first buckets) later ≡ 0 → flushes_from buckets n flushes later ≡ flushes
   none_from n flushes [] none = refl
-  none_from n flushes (w ∷ later) none = by (is_in_first buckets w) refl
+  none_from n flushes (w ∷ later) none = by (is_in_first buckets w) none (none_from (suc n) flushes later)
     where
-      by : (b : Bool) → is_in_first buckets w ≡ b → flushes_from buckets n flushes (w ∷ later) ≡ flushes
-      by true is = absurd (omega (arith, none, ap (λ t. cond t (1 + count_by (is_in_first buckets) later) (count_by (is_in_first buckets) later)) is))
-      by false is =
-          ap (λ t. flushes_from buckets (suc n) (cond (cond t (is_delete w.op) false) flushes flushes) later) is
-          ∙ none_from (suc n) flushes later (sym (ap (λ t. cond t (1 + count_by (is_in_first buckets) later) (count_by (is_in_first buckets) later)) is) ∙ none)
+      by : (b : Bool) → cond b (1 + count_by (is_in_first buckets) later) (count_by (is_in_first buckets) later) ≡ 0
+          → (count_by (is_in_first buckets) later ≡ 0 → flushes_from buckets (suc n) flushes later ≡ flushes)
+          → flushes_from buckets (suc n) (cond (b && is_delete w.op && begins_with_feed w.key) (flushes_then (suc n) (flush_in w.key) flushes) flushes) later ≡ flushes
+      by true one rest = absurd (omega (arith, one))
+      by false none rest = rest none
 
   -- A history with no more writes in the bucket of flushes than one that begins it has the same flushes.
   pub unmoved : (before history : History) → IsPrefix before history → count_by (is_in_first buckets) history ≤ count_by (is_in_first buckets) before
       → flushes_in buckets history ≡ flushes_in buckets before
   unmoved before history begins few =
-      let counts = ap (count_by (is_in_first buckets)) begins.1 ∙ count_both before begins.0 in
+      let counts = ap (count_by (is_in_first buckets)) begins.1 ∙ count_both (is_in_first buckets) before begins.0 in
       ap (flushes_in buckets) begins.1 ∙ in_both before begins.0 ∙ none_from (length before) (flushes_in buckets before) begins.0 (omega (arith, counts, few))
 
   pub first_few : (history : History) → count_by (is_in_first buckets) history ≤ length history
@@ -59,7 +48,7 @@ module _ (buckets : ℕ) where
   kept_push history write kept are = record {
     some = are.some;
     buckets_are = are.buckets_are;
-    in_first = (λ i. are.in_first i + cond (is_in_first (are.buckets_are i) write) 1 0) ∙ sym (count_both history (write ∷ []) ∙ ap (λ n. count_by (is_in_first buckets) history + n) (one (is_in_first buckets write)));
+    in_first = (λ i. are.in_first i + cond (is_in_first (are.buckets_are i) write) 1 0) ∙ sym (count_both (is_in_first buckets) history (write ∷ []) ∙ ap (λ n. count_by (is_in_first buckets) history + n) (one (is_in_first buckets write)));
     flushes = (λ i. with_write (are.buckets_are i) (suc (length history)) write (are.flushes i)) ∙ sym (flushes_push history write);
   }
     where

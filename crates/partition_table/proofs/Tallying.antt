@@ -15,14 +15,12 @@ use Rattle.epoch_core.proofs.Marked.{bit_le}
 -- in two lists
 pub count_both : {X : Type 0} (p : X → Bool) (xs ys : List X) → count_by p (xs ++ ys) ≡ count_by p xs + count_by p ys
 count_both p [] ys = refl
-count_both p (x ∷ xs) ys = by (p x)
+count_both p (x ∷ xs) ys = by (p x) (count_both p xs ys)
   where
-    rest : count_by p (xs ++ ys) ≡ count_by p xs + count_by p ys
-    rest = count_both p xs ys
-
-    by : (b : Bool) → cond b (1 + count_by p (xs ++ ys)) (count_by p (xs ++ ys)) ≡ cond b (1 + count_by p xs) (count_by p xs) + count_by p ys
-    by true = ap suc rest
-    by false = rest
+    by : (b : Bool) → count_by p (xs ++ ys) ≡ count_by p xs + count_by p ys
+        → cond b (1 + count_by p (xs ++ ys)) (count_by p (xs ++ ys)) ≡ cond b (1 + count_by p xs) (count_by p xs) + count_by p ys
+    by true rest = ap suc rest
+    by false rest = rest
 
 marked_low : (phase : Phase) (b : ℕ) → marked_in phase b ≤ 1
 marked_low Idle b = omega arith
