@@ -106,7 +106,6 @@ fn count_event(event: Event, lacked: u64, tally: &mut Tally) {
 
 /// Holds a new connection. Where there is no memory for it, it is closed. Says for how many there was none.
 fn take_in<C: Connections>(
-    alloc: Global,
     connections: &mut C,
     number: u32,
     clients: &mut Clients,
@@ -120,7 +119,7 @@ fn take_in<C: Connections>(
 {
     match clients.make_room(number) {
         Ok(()) => {
-            clients.put(number, Client::new(alloc));
+            clients.put(number, Client::new());
             0
         }
         Err(NoMemory) => {
@@ -156,7 +155,7 @@ fn serve_event<R: Threads + Wait + Sync, F: Counts, K: Clock, C: Connections>(
         (λ given. OnLogs (StandsOn (F.options front.old) numbering.base event clients.old.held.items result given clients.new.held.items) (C.log connections.old) (C.log connections.new)) }
 {
     match event {
-        Event::Opened(number) => take_in(alloc, connections, number, clients),
+        Event::Opened(number) => take_in(connections, number, clients),
         Event::Ready(number) => visit_held(
             rt,
             alloc,
