@@ -105,11 +105,7 @@ fn count_event(event: Event, lacked: u64, tally: &mut Tally) {
 }
 
 /// Holds a new connection. Where there is no memory for it, it is closed. Says for how many there was none.
-fn take_in<C: Connections>(
-    connections: &mut C,
-    number: u32,
-    clients: &mut Clients,
-) -> u64
+fn take_in<C: Connections>(connections: &mut C, number: u32, clients: &mut Clients) -> u64
     requires clients { AreOpen clients.old.held.items (C.log connections.old) }
     requires open { IfSome (C.log connections.old) (IsOpen number 0) }
     ensures clients { AreOpen clients.new.held.items (C.log connections.new) }
