@@ -18,9 +18,13 @@ abbrev pub is_read : Entry → Bool
 is_read (received c bytes) = true
 is_read _ = false
 
--- how many answers are given at one look at a connection, at most
+-- how many answers are given to one command at one look, at most
+abbrev pub most_to_one : Options → ℕ
+most_to_one options = LIMITS.asks + options.partitions
+
+-- and to one connection
 abbrev pub most_answers : Options → ℕ
-most_answers options = MOST_COMMANDS * (LIMITS.asks + options.partitions)
+most_answers options = MOST_COMMANDS * most_to_one options
 
 -- none of these calls was a report, and in them reads gave bytes so often at most
 pub record AreFew (reads : ℕ) (calls : List Entry) : Type 0 where

@@ -4,7 +4,7 @@ ghost use Rattle.memcached_text.specs.Next.{next_of};
 ghost use Rattle.memcached_fronts.specs.Exchange.{IsOpenAt};
 ghost use Rattle.stream_fronts.specs.declared.answer.TheConstants.{LIMITS};
 ghost use Rattle.stream_fronts.specs.Parts.{IsPart};
-ghost use Rattle.stream_fronts.specs.Turns.{most_answers};
+ghost use Rattle.stream_fronts.specs.Turns.{most_answers, most_to_one};
 ghost use Rattle.stream_fronts.specs.Going.{GoesBy, GoesBySome};
 ghost use Rattle.stream_fronts.specs.Reached.{GoesOnTo, ReachesAfter, SpokeFrom, StandsAs, place_at, place_in};
 
@@ -92,7 +92,7 @@ fn answer_one<R: Threads + Wait + Sync, F: Counts, K: Clock>(
     requires left { LIMITS.asks + numbering.partitions ≤ F.left front.old }
     ensures part { IfOk result (IsPart (next_of bytes.now)) }
     ensures talk { GoesBySome (F.options front.old) F.is_alone (F.sessions front.old) (F.left front.old) (K.view clock.old) (F.sessions front.new) (F.left front.new) (K.view clock.new)
-        (λ answers. (length answers ≤ LIMITS.asks + (F.options front.old).partitions) × MatchResult result (λ said. GoesOnTo (F.options front.old) numbering.base (place_at bytes.now done) answers out.old.items out.new.items
+        (λ answers. (length answers ≤ most_to_one (F.options front.old)) × MatchResult result (λ said. GoesOnTo (F.options front.old) numbering.base (place_at bytes.now done) answers out.old.items out.new.items
         (ReachesAfter (F.options front.old) numbering.base bytes.now done said))
         (λ _. SpokeFrom (F.options front.old) numbering.base (length bytes.now) (place_at bytes.now done) answers)) }
     ensures goes { GoesBy (F.options front.old) F.is_alone (F.sessions front.old) (F.left front.old) (K.view clock.old) (F.sessions front.new) (F.left front.new) (K.view clock.new) }
