@@ -167,7 +167,7 @@ fn serve_event<R: Threads + Wait + Sync, F: Counts, K: Clock, C: Connections>(
 }
 
 /// Serves the connections of a port, to its end, or until the front may be given fewer writes than one command may need. A connection that there is no memory for is closed,
-/// and `lacked` counts it. What the front counts is shown in this place of the board. After each report it sweeps a few places of the partitions, and touches old items that were used.
+/// and `lacked` counts it. For one report a connection is read twice at most, and few of its commands are answered. What the front counts is shown in this place of the board. After each report it sweeps a few places of the partitions, and touches old items that were used.
 #[tactic(auto, using(crate::proofs::Going::by_none))]
 pub fn serve_connections<R: Threads + Wait + Sync, F: Glances, K: Clock, C: Connections>(
     rt: &R,

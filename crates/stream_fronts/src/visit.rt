@@ -347,7 +347,14 @@ pub fn visit_once<R: Threads + Wait + Sync, F: Counts, K: Clock, C: Connections>
     };
     client.leaving = leaves_by(stand, input);
     let tally = &mut desk.buffers.tally;
-    match send_new(alloc, connections, number, client, desk.replies.as_slice(), tally)? {
+    match send_new(
+        alloc,
+        connections,
+        number,
+        client,
+        desk.replies.as_slice(),
+        tally,
+    )? {
         Err(Broken) => Ok(After::Over),
         Ok(false) => Ok(After::Waits),
         Ok(true) => Ok(after_all(client.leaving, stand, input)),

@@ -64,7 +64,7 @@ pub fn visit_on<R: Threads + Wait + Sync, F: Counts, K: Clock, C: Connections>(
     if after != After::Again {
         return Ok(after);
     }
-    let after = visit_once(
+    let last = visit_once(
         rt,
         alloc,
         front,
@@ -75,8 +75,8 @@ pub fn visit_on<R: Threads + Wait + Sync, F: Counts, K: Clock, C: Connections>(
         client,
         desk,
     )?;
-    if after == After::Again && client.asks == 0 {
+    if last == After::Again && client.asks == 0 {
         return Err(NoMemory);
     }
-    Ok(after)
+    Ok(last)
 }

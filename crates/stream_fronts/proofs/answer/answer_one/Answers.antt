@@ -14,8 +14,11 @@ returns-in_err-progress-clause-talk g c =
     let is = err_from_is_err_and c.from_residual.result c.from_residual.ensures.1 in (
       r.0,
       these_of options g.F.Front.is_alone r.1 r.3,
-      (few, match_err _ _ c.from_residual.result is.0 is.1 (spoke_of options c.args.numbering.base c.args.bytes.now c.args.done c.said_next-next.result c.said_next-next.ensures.next r.1 c.in_default.not-More
-          c.requires.«open»)),
+      (
+        few,
+        match_err _ _ c.from_residual.result is.0 is.1 (spoke_of options c.args.numbering.base c.args.bytes.now c.args.done c.said_next-next.result c.said_next-next.ensures.next r.1 c.in_default.not-More
+            c.requires.«open»),
+      ),
     )
 
 pub returns-in-More-clause-talk : goal.returns-in-More-clause-talk
@@ -51,6 +54,9 @@ returns-else-last-clause-talk g c =
     let few : length r.0 ≤ most_to_one options = omega (arith, r.5, c.requires.partitions) in (
       r.0,
       these_of options g.F.Front.is_alone r.1 r.3,
-      (few, whole_of options c.args.numbering.base c.args.bytes.now c.said_next-next.result c.said_next-next.ensures.next r.1 r.2 c.in_default.not-More c.if-not-progress.false
-          (sym c.is_last-last.ensures ∙ c.if-last.false) c.len_of-len.result c.len_of-len.ensures),
+      (
+        few,
+        whole_of options c.args.numbering.base c.args.bytes.now c.said_next-next.result c.said_next-next.ensures.next r.1 r.2 c.in_default.not-More c.if-not-progress.false
+            (sym c.is_last-last.ensures ∙ c.if-last.false) c.len_of-len.result c.len_of-len.ensures,
+      ),
     )

@@ -26,12 +26,15 @@ returns-clause-talk g c =
     let r = c.look_at.ensures.talk in (
       r.0,
       r.1,
-      (r.2.0, if_match _
-          (λ stand. GoesOnTo options base (place_of client) r.0 [] c.look_at.new.replies.items
-          (λ received given due. StandsAs options base MAX_WAITING_LEN stand (place_of c.look_at.new.client) (received ++ more) given due)) _
-          (λ _. SpokeBehind options base MAX_WAITING_LEN (place_of client) more r.0) c.look_at.result
-          (λ stand goes. looks_at options base client bytes more c.requires.first c.requires.kept c.look_at.new.client stand r.0 c.look_at.new.replies.items
-          (take (length bytes - client.dropping) (drop client.dropping bytes)) c.if-client-bytes.false c.requires.short (take_rest bytes client.dropping) goes)
-          (λ e spoke. lacks_at options base client bytes more c.requires.first c.requires.kept r.0 (take (length bytes - client.dropping) (drop client.dropping bytes)) c.if-client-bytes.false
-          c.requires.short (take_rest bytes client.dropping) spoke) r.2.1),
+      (
+        r.2.0,
+        if_match _
+            (λ stand. GoesOnTo options base (place_of client) r.0 [] c.look_at.new.replies.items
+            (λ received given due. StandsAs options base MAX_WAITING_LEN stand (place_of c.look_at.new.client) (received ++ more) given due)) _
+            (λ _. SpokeBehind options base MAX_WAITING_LEN (place_of client) more r.0) c.look_at.result
+            (λ stand goes. looks_at options base client bytes more c.requires.first c.requires.kept c.look_at.new.client stand r.0 c.look_at.new.replies.items
+            (take (length bytes - client.dropping) (drop client.dropping bytes)) c.if-client-bytes.false c.requires.short (take_rest bytes client.dropping) goes)
+            (λ e spoke. lacks_at options base client bytes more c.requires.first c.requires.kept r.0 (take (length bytes - client.dropping) (drop client.dropping bytes)) c.if-client-bytes.false
+            c.requires.short (take_rest bytes client.dropping) spoke) r.2.1,
+      ),
     )
