@@ -1,11 +1,10 @@
 -- What one write more makes of the flushes, and which writes make nothing of them.
 use Rattle.std.proofs.Common.{◌≡◌, ℕ, suc, ◌+◌, ◌≤◌, ◌&&◌, cond, Bool, true, false, List, [], ◌∷◌, ◌++◌, length, count_by, refl, sym, ap, ◌∙◌, arith}
-use Rattle.std.proofs.lemmas.List.Sums.{count_by-le-length}
+use Rattle.std.proofs.lemmas.List.Sums.{count_by-le-length, sum_by-append}
 use Rattle.partition_model.specs.declared.write.Write.{Write}
 use Rattle.partition_model.specs.History.{History, IsPrefix}
 use Rattle.mica_fronts.specs.declared.flushes.Flushes.{Flushes}
 use Rattle.mica_fronts.specs.declared.flushes.KeptFlushes.{KeptFlushes}
-use Rattle.partition_table.proofs.Tallying.{count_both}
 use Rattle.mica_fronts.specs.Flushes.{is_in_first, is_delete, begins_with_feed, flush_in, flushes_then, with_write, no_flushes, flushes_from, flushes_in, AreKept, kept_then}
 
 module _ (buckets : ℕ) where
@@ -26,19 +25,19 @@ module _ (buckets : ℕ) where
   -- no write in the bucket of flushes is a flush
   none_from : (n : ℕ) (flushes : Flushes) (later : History) → count_by (is_in_first buckets) later ≡ 0 → flushes_from buckets n flushes later ≡ flushes
   none_from n flushes [] none = refl
-  none_from n flushes (w ∷ later) none = by (is_in_first buckets w) none (none_from (suc n) flushes later)
+  none_from n flushes (w ∷ later) none = by (is_in_first buckets w) (sum_by-append _ (w ∷ []) later) (none_from (suc n) flushes later)
     where
-      by : (b : Bool) → cond b (1 + count_by (is_in_first buckets) later) (count_by (is_in_first buckets) later) ≡ 0
+      by : (b : Bool) → count_by (is_in_first buckets) (w ∷ later) ≡ 0 + cond b 1 0 + count_by (is_in_first buckets) later
           → (count_by (is_in_first buckets) later ≡ 0 → flushes_from buckets (suc n) flushes later ≡ flushes)
           → flushes_from buckets (suc n) (cond (b && is_delete w.op && begins_with_feed w.key) (flushes_then (suc n) (flush_in w.key) flushes) flushes) later ≡ flushes
-      by true one rest = absurd (omega (arith, one))
-      by false none rest = rest none
+      by true both rest = absurd (omega (arith, both, none))
+      by false both rest = rest (omega (arith, both, none))
 
   -- A history with no more writes in the bucket of flushes than one that begins it has the same flushes.
   pub unmoved : (before history : History) → IsPrefix before history → count_by (is_in_first buckets) history ≤ count_by (is_in_first buckets) before
       → flushes_in buckets history ≡ flushes_in buckets before
   unmoved before history begins few =
-      let counts = ap (count_by (is_in_first buckets)) begins.1 ∙ count_both (is_in_first buckets) before begins.0 in
+      let counts = ap (count_by (is_in_first buckets)) begins.1 ∙ sum_by-append _ before begins.0 in
       ap (flushes_in buckets) begins.1 ∙ in_both before begins.0 ∙ none_from (length before) (flushes_in buckets before) begins.0 (omega (arith, counts, few))
 
   pub first_few : (history : History) → count_by (is_in_first buckets) history ≤ length history
@@ -48,10 +47,9 @@ module _ (buckets : ℕ) where
   kept_push history write kept are = record {
     some = are.some;
     buckets_are = are.buckets_are;
-    in_first = (λ i. are.in_first i + cond (is_in_first (are.buckets_are i) write) 1 0) ∙ sym (count_both (is_in_first buckets) history (write ∷ []) ∙ ap (λ n. count_by (is_in_first buckets) history + n) (one (is_in_first buckets write)));
+    in_first = (λ i. are.in_first i + cond (is_in_first (are.buckets_are i) write) 1 0) ∙ one_more;
     flushes = (λ i. with_write (are.buckets_are i) (suc (length history)) write (are.flushes i)) ∙ sym (flushes_push history write);
   }
     where
-      one : (b : Bool) → cond b (1 + 0) 0 ≡ cond b 1 0
-      one true = refl
-      one false = refl
+      one_more : count_by (is_in_first buckets) history + cond (is_in_first buckets write) 1 0 ≡ count_by (is_in_first buckets) (history ++ write ∷ [])
+      one_more = let both = sum_by-append (λ (w : Write). cond (is_in_first buckets w) 1 0) history (write ∷ []) in omega (arith, both)

@@ -1,5 +1,6 @@
 -- What an epoch tells of the writes that a seat has seen.
-use Rattle.std.proofs.Common.{◌≡◌, ℕ, suc, ◌+◌, ◌*◌, ◌≤◌, ◌==◌, Bool, true, false, cond, List, [], ◌∷◌, ◌++◌, count_by, refl, sym, ap, ◌∙◌, subst, arith}
+use Rattle.std.proofs.Common.{◌≡◌, ℕ, ◌+◌, ◌*◌, ◌≤◌, ap, ◌∙◌, subst, arith}
+use Rattle.std.proofs.lemmas.List.Sums.{sum_by-append}
 use Rattle.partition_model.specs.History.{writes_to_bucket}
 use Rattle.epoch_core.specs.declared.shape.Shape.{Shape}
 use Rattle.epoch_core.specs.declared.state.OwnerState.{OwnerState}
@@ -12,16 +13,6 @@ use Rattle.epoch_core.specs.Kept.{Kept}
 use Rattle.epoch_core.specs.ReaderKept.{ReaderKept}
 use Rattle.epoch_core.proofs.Marked.{bit_le}
 
--- in two lists
-pub count_both : {X : Type 0} (p : X → Bool) (xs ys : List X) → count_by p (xs ++ ys) ≡ count_by p xs + count_by p ys
-count_both p [] ys = refl
-count_both p (x ∷ xs) ys = by (p x) (count_both p xs ys)
-  where
-    by : (b : Bool) → count_by p (xs ++ ys) ≡ count_by p xs + count_by p ys
-        → cond b (1 + count_by p (xs ++ ys)) (count_by p (xs ++ ys)) ≡ cond b (1 + count_by p xs) (count_by p xs) + count_by p ys
-    by true rest = ap suc rest
-    by false rest = rest
-
 marked_low : (phase : Phase) (b : ℕ) → marked_in phase b ≤ 1
 marked_low Idle b = omega arith
 marked_low (Begun c) b = omega arith
@@ -31,7 +22,7 @@ marked_low (Marked c write before) b = bit_le c b
 pub most_seen : (o : OwnerState) → Kept o → (r : ReaderState) → ReaderKept o r → (b : ℕ) → IsMain r.shape b → 2 * writes_to_bucket (options_of r.shape) r.seen b ≤ epoch_in o b + 1
 most_seen o s r k b main =
     let options = options_of o.shape in
-    let all : writes_in o b ≡ writes_to_bucket options r.seen b + writes_to_bucket options k.seen.0 b = ap (λ h. writes_to_bucket options h b) k.seen.1 ∙ count_both _ r.seen k.seen.0 in
+    let all : writes_in o b ≡ writes_to_bucket options r.seen b + writes_to_bucket options k.seen.0 b = ap (λ h. writes_to_bucket options h b) k.seen.1 ∙ sum_by-append _ r.seen k.seen.0 in
     let epoch = s.epochs b (subst (λ (z : Shape). IsMain z b) k.shape main) in
     let same = ap (λ (z : Shape). writes_to_bucket (options_of z) r.seen b) k.shape in
     omega (arith, all, epoch, same, marked_low o.phase b)
