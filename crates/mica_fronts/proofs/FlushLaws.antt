@@ -1,11 +1,52 @@
 -- What one write more makes of the flushes, and which writes make nothing of them.
-use Rattle.std.proofs.Common.{◌≡◌, ℕ, suc, ◌+◌, ◌≤◌, ◌&&◌, cond, Bool, true, false, List, [], ◌∷◌, ◌++◌, length, count_by, refl, sym, ap, ◌∙◌, arith}
+use Rattle.std.proofs.Common.{◌≡◌, ℕ, zero, suc, ◌+◌, ◌≤◌, ◌<◌, ◌==◌, ◌&&◌, cond, Bool, true, false, List, [], ◌∷◌, ◌++◌, length, count_by, refl, sym, ap, ◌∙◌, arith}
+use Rattle.std.proofs.Math.Dec.{eqb-suc-zero}
 use Rattle.std.proofs.lemmas.List.Sums.{count_by-le-length, sum_by-append}
+use Rattle.mica_words.specs.Hash.{fnv1a, hash_bucket, bucket_of}
 use Rattle.partition_model.specs.declared.write.Write.{Write}
 use Rattle.partition_model.specs.History.{History, IsPrefix}
 use Rattle.mica_fronts.specs.declared.flushes.Flushes.{Flushes}
 use Rattle.mica_fronts.specs.declared.flushes.KeptFlushes.{KeptFlushes}
 use Rattle.mica_fronts.specs.Flushes.{is_in_first, is_delete, begins_with_feed, flush_in, flushes_then, with_write, no_flushes, flushes_from, flushes_in, AreKept, kept_then}
+
+-- One write more, by the hash of its key
+
+not_zero : (n : ℕ) → 0 < n → (n == 0) ≡ false
+not_zero zero some = absurd (omega (arith, some))
+not_zero (suc n) some = eqb-suc-zero n
+
+module _ (key : List ℕ) (buckets hash at : ℕ) (hashed : hash ≡ fnv1a key) (at_is : at ≡ hash_bucket hash buckets) where
+  at_key : at ≡ bucket_of key buckets
+  unfolding bucket_of
+  at_key = at_is ∙ ap (λ h. hash_bucket h buckets) hashed
+
+  pub in_another : 0 < at → (bucket_of key buckets == 0) ≡ false
+  in_another some = ap (λ n. n == 0) (sym at_key) ∙ not_zero at some
+
+  pub in_bucket_0 : at ≡ 0 → (bucket_of key buckets == 0) ≡ true
+  in_bucket_0 none = ap (λ n. n == 0) (sym at_key ∙ none)
+
+module _ (n : ℕ) (write : Write) (kept : KeptFlushes) where
+  kept_by : Bool → KeptFlushes
+  kept_by first = record {
+    buckets = kept.buckets;
+    in_first = kept.in_first + cond first 1 0;
+    flushes = cond (first && is_delete write.op && begins_with_feed write.key) (flushes_then n (flush_in write.key) kept.flushes) kept.flushes;
+  }
+
+  pub kept_other : is_in_first kept.buckets write ≡ false → kept ≡ kept_then n write kept
+  unfolding kept_by
+  kept_other is = let none : kept.in_first ≡ kept.in_first + 0 = omega arith in (λ i. record kept { in_first = none i }) ∙ ap kept_by (sym is)
+
+  pub kept_first : (flushes : Flushes) (flush : Bool) → is_in_first kept.buckets write ≡ true → (is_delete write.op && begins_with_feed write.key) ≡ flush
+      → flushes ≡ cond flush (flushes_then n (flush_in write.key) kept.flushes) kept.flushes
+      → record kept { in_first = kept.in_first + 1; flushes = flushes } ≡ kept_then n write kept
+  unfolding kept_by
+  kept_first flushes flush is one flushes_are =
+      (λ i. record kept { in_first = kept.in_first + 1; flushes = (flushes_are ∙ ap (λ t. cond t (flushes_then n (flush_in write.key) kept.flushes) kept.flushes) (sym one)) i })
+      ∙ ap kept_by (sym is)
+
+-- Histories
 
 module _ (buckets : ℕ) where
   -- behind one history another
