@@ -9,7 +9,8 @@ use Rattle.std.proofs.lemmas.Nat.{from_le_bytes-to_le_bytes_8}
 use Rattle.std.proofs.lemmas.List.Folds.{list_all-append}
 use Rattle.std.proofs.lemmas.List.Sums.{fold-append}
 use Rattle.mica_clock.specs.Seconds.{ClockView}
-use Rattle.mica_words.specs.Hash.{fnv1a, partition_of, bucket_of}
+use Rattle.mica_words.specs.Hash.{fnv1a, hash_partition, hash_bucket, partition_of, bucket_of}
+use Rattle.mica_words.proofs.Hashes.{partition_of_hash, bucket_of_hash}
 use Rattle.partition_model.specs.declared.options.Options.{Options}
 use Rattle.partition_model.specs.declared.write.Outcome.{Outcome}
 use Rattle.partition_model.specs.declared.write.Op.TheVariants.{Del}
@@ -140,6 +141,15 @@ made_key none feed with_due with_both with_number key number end due asked due_l
 pub hash_more : (key : List ℕ) (byte : ℕ) → fnv1a (key ++ byte ∷ []) ≡ bit_xor (fnv1a key) byte * 1099511628211 % 2 ^ 64
 unfolding fnv1a
 hash_more key byte = fold-append (λ hash byte. bit_xor hash byte * 1099511628211 % 2 ^ 64) 14695981039346656037 key (byte ∷ [])
+
+-- a key that two bytes more lead to its partition and bucket
+pub sought : (key : List ℕ) (byte last whole partitions buckets partition : ℕ) → whole ≡ fnv1a ((key ++ byte ∷ []) ++ last ∷ []) → hash_partition whole partitions ≡ partition
+    → hash_bucket whole buckets ≡ 0 → (partition_of (key ++ byte ∷ last ∷ []) partitions ≡ partition) × (bucket_of (key ++ byte ∷ last ∷ []) buckets ≡ 0)
+sought key byte last whole partitions buckets partition is in_partition in_bucket =
+    let hash : fnv1a (key ++ byte ∷ last ∷ []) ≡ whole = sym (is ∙ ap fnv1a (append_assoc key (byte ∷ []) (last ∷ []))) in (
+      partition_of_hash (key ++ byte ∷ last ∷ []) partitions ∙ ap (λ h. hash_partition h partitions) hash ∙ in_partition,
+      bucket_of_hash (key ++ byte ∷ last ∷ []) buckets ∙ ap (λ h. hash_bucket h buckets) hash ∙ in_bucket,
+    )
 
 -- the write of a partition's flush
 pub one_flush : (options : Options) (flush : Flush) (is_alone : Bool) (old new : Sessions) (partition : ℕ) (key : List ℕ) (outcome : Outcome) (stamp : ℕ) → begins_with_feed key ≡ true

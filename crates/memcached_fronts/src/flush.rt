@@ -48,6 +48,7 @@ pub fn ask_flush<C: Clock>(clock: &mut C, partitions: u32, due: Due) -> Flush
 }
 
 // The hash of a key with one byte more.
+#[tactic(auto, using(crate::proofs::Flushing::hash_more))]
 fn hash_on(hash: u64, byte: u8) -> u64
     ensures { (key : List ℕ) → hash ≡ fnv1a key → result ≡ fnv1a (key ++ byte ∷ []) }
 {
