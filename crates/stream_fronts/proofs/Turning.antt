@@ -45,7 +45,7 @@ grows_call {reads} call unreported unread grows = (
   ap (λ e. call ∷ e) grows.1,
   record {
     unreported = (unreported, grows.2.unreported);
-    few_reads = let same = ap (λ t. length (cond t (call ∷ filter is_read grows.0) (filter is_read grows.0))) unread in let few = grows.2.few_reads in omega (arith, same, few);
+    few_reads = subst (λ t. length (cond t (call ∷ filter is_read grows.0) (filter is_read grows.0)) ≤ reads) (sym unread) grows.2.few_reads;
   },
 )
 

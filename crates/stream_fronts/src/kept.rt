@@ -5,10 +5,11 @@ use mica_io::NoMemory;
 use std::alloc::Global;
 use std::marker::Model;
 
-/// Bytes that are kept from one visit of a connection to the next. There is a buffer only where there are bytes. Clauses see the list of them.
+/// Bytes that are kept from one visit of a connection to the next. There is a buffer only where there are bytes, and else but a word that says so. Clauses see the
+/// list of the bytes.
 #[derive(Drop)]
 pub struct Kept {
-    buffer: Option<Vec<u8>>,
+    buffer: Option<Box<Vec<u8>>>,
 }
 
 impl Model for Kept {
@@ -19,7 +20,7 @@ impl Model for Kept {
 
     ghost view = { λ k. bytes_in k.buffer };
 
-    ghost invariant = { λ k. IfSome k.buffer (λ buffer. 0 < vec_len buffer) };
+    ghost invariant = { λ k. IfSome k.buffer (λ buffer. 0 < vec_len buffer.value) };
 }
 
 impl Kept {
@@ -37,7 +38,7 @@ impl Kept {
         if bytes.is_empty() {
             return Ok(Kept::nothing());
         }
-        let buffer = Vec::from_slice(alloc, bytes)?;
+        let buffer = Box::new(alloc, Vec::from_slice(alloc, bytes)?)?;
         Ok(Kept {
             buffer: Some(buffer),
         })

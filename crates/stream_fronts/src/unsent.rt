@@ -15,7 +15,7 @@ pub struct Unsent {
 }
 
 impl Model for Unsent {
-    ghost use Rattle.std.specs.Prelude.{◌≡◌, ◌⊎◌, ◌<◌, List, ℕ, length, drop};
+    ghost use Rattle.std.specs.Prelude.{◌≡◌, ◌⊎◌, ◌<◌, List, ℕ, [], length, drop};
 
     ghost Value = { List ℕ };
 
@@ -47,8 +47,9 @@ impl Unsent {
         requires { count ≤ length self.old }
         ensures { self.new ≡ drop count self.old }
     {
+        let len = self.text.bytes().len();
         self.sent += count;
-        if self.sent == self.text.bytes().len() {
+        if self.sent == len {
             self.text = Kept::nothing();
             self.sent = 0;
         }

@@ -20,6 +20,13 @@ use std::sync::Wait;
 use std::thread::Threads;
 use stream_io::Connections;
 
+// Whether there may be more to do at once, and it may not be asked for again.
+fn is_stuck(after: After, asks: u64) -> bool
+    ensures { result ≡ false → after ≡ After.Again → 0 < asks }
+{
+    after == After::Again && asks == 0
+}
+
 /// Visits a connection once, and once more where there may be more to do at once. Mostly the second visit finds that nothing more came: then it need not be
 /// reported again. Where there is more to do still, it is to be asked for again. If it might not be, it would be as if memory lacked; none comes to that, since
 /// whoever is left so has sent bytes, or was answered some, that allow it.
@@ -50,7 +57,7 @@ pub fn visit_on<R: Threads + Wait + Sync, F: Counts, K: Clock, C: Connections>(
     ensures port { LeavesPort C.log C.has_ended C.faults C.port connections.old connections.new }
     ensures front { MovesFront F.options F.number F.stands F.is_alone F.sessions F.left K.view front.old clock.old front.new clock.new }
 {
-    let after = visit_once(
+    match visit_once(
         rt,
         alloc,
         front,
@@ -60,9 +67,9 @@ pub fn visit_on<R: Threads + Wait + Sync, F: Counts, K: Clock, C: Connections>(
         number,
         client,
         desk,
-    )?;
-    if after != After::Again {
-        return Ok(after);
+    )? {
+        After::Again => {}
+        after => return Ok(after),
     }
     let last = visit_once(
         rt,
@@ -75,7 +82,7 @@ pub fn visit_on<R: Threads + Wait + Sync, F: Counts, K: Clock, C: Connections>(
         client,
         desk,
     )?;
-    if last == After::Again && client.asks == 0 {
+    if is_stuck(last, client.asks) {
         return Err(NoMemory);
     }
     Ok(last)

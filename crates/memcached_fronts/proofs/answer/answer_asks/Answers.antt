@@ -83,7 +83,7 @@ loop-count-preserved g c =
       text = text_more c.args.base c.args.style.quiet c.args.style.unique c.args.asks.now c.next_asked.new.self inv.answers c.in-Some.asked one.0 c.args.out.now.items
           c.loop-count.out.items c.answer_ask.new.out.items (here g z) inv.text text;
       few = let less = c.loop-count-test.true in omega (arith, less);
-      few_answers = few_answers g z one.0 c.loop-count-test.true;
+      few_answers = few_answers g z one.0 (let less = c.loop-count-test.true in omega (arith, less));
       left = omega (arith, left, inv.left);
       given = omega (arith, one.3, inv.given, writes_more inv.answers one.0);
       counted = counts g z one.0 one.4;
@@ -97,7 +97,7 @@ returns-in_default-answer_ask-clause-answered g c =
     let z = (goal.at.returns-in_default-answer_ask-clause-answered g c).After-answer_ask in
     let one = c.answer_ask.ensures.answered in
     let more = writes_more c.loop-count.invariant.answers one.0 in
-    (c.loop-count.invariant.answers ++ one.0 ∷ [], first g z one.0 one.1, tt, omega (arith, one.3, c.loop-count.invariant.given, more), counts g z one.0 one.4, few_answers g z one.0 c.loop-count-test.true)
+    (c.loop-count.invariant.answers ++ one.0 ∷ [], first g z one.0 one.1, tt, omega (arith, one.3, c.loop-count.invariant.given, more), counts g z one.0 one.4, few_answers g z one.0 (let less = c.loop-count-test.true in omega (arith, less)))
 
 pub returns-then-is_last-clause-answered : goal.returns-then-is_last-clause-answered
 returns-then-is_last-clause-answered g c =
@@ -117,5 +117,5 @@ returns-then-is_last-clause-answered g c =
       },
       omega (arith, one.3, inv.given, writes_more inv.answers one.0),
       counts g z one.0 one.4,
-      few_answers g z one.0 c.loop-count-test.true,
+      few_answers g z one.0 (let less = c.loop-count-test.true in omega (arith, less)),
     )
