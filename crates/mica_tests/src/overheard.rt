@@ -1,5 +1,5 @@
 //! Connections in memory, whose replies are written down.
-ghost use Rattle.std.specs.Prelude.{◌≡◌};
+ghost use Rattle.std.specs.Prelude.{◌≡◌, false, [], IfOk, IfSome};
 
 use mica_io::{Failed, NoMemory};
 use std::alloc::Global;
@@ -14,7 +14,12 @@ pub struct Overheard<'a> {
 
 impl<'a> Overheard<'a> {
     /// Connections at a port, at which this schedule happens.
-    pub fn new(alloc: Global, port: u16, schedule: &'a [Step]) -> Result<Overheard<'a>, NoMemory> {
+    pub fn new(alloc: Global, port: u16, schedule: &'a [Step]) -> Result<Overheard<'a>, NoMemory>
+        ensures port { IfOk result (λ c. ⟦<Overheard<'a> as Connections>⟧.port c ≡ port) }
+        ensures no_faults { IfOk result (λ c. ⟦<Overheard<'a> as Connections>⟧.faults c ≡ 0) }
+        ensures open { IfOk result (λ c. ⟦<Overheard<'a> as Connections>⟧.has_ended c ≡ false) }
+        ensures fresh { IfOk result (λ c. IfSome (⟦<Overheard<'a> as Connections>⟧.log c) (λ l. l.entries ≡ [])) }
+    {
         Ok(Overheard {
             connections: MemConnections::new(alloc, port, schedule, 1_024, &[])?,
             heard: Vec::new(alloc),
@@ -30,11 +35,8 @@ impl<'a> Overheard<'a> {
 // Writes down what came to pass under a number from 0 to 9. What there is no memory for is left out.
 fn note(heard: &mut Vec<u8>, number: u32, what: &[u8]) {
     let digit = b'0' + (number % 10) as u8;
-    if heard.extend_from_slice(&[digit, b':', b' ']).is_ok()
-        && heard.extend_from_slice(what).is_err()
-    {
-        heard.clear();
-    }
+    let _ = heard.extend_from_slice(&[digit, b':', b' ']);
+    let _ = heard.extend_from_slice(what);
 }
 
 impl<'a> Connections for Overheard<'a> {

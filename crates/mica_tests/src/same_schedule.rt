@@ -65,9 +65,7 @@ impl<'a> Listeners for SameSchedule<'a> {
     }
 
     fn release(&mut self, connections: Overheard<'a>) {
-        if self.heard.extend_from_slice(connections.heard()).is_err() {
-            self.heard.clear();
-        }
+        let _ = self.heard.extend_from_slice(connections.heard());
     }
 }
 
