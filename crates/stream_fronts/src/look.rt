@@ -13,7 +13,7 @@ use crate::answer::{Stand, answer_bytes};
 use crate::client::Client;
 use crate::desk::MOST_UNSENT;
 use crate::kept::Kept;
-use memcached_fronts::{Buffers, Numbering};
+use memcached_fronts::{Buffers, Numbering, load_ahead};
 use mica_clock::Clock;
 use mica_fronts::Counts;
 use mica_io::NoMemory;
@@ -71,6 +71,7 @@ pub fn look_at<R: Threads + Wait + Sync, F: Counts, K: Clock>(
     ensures stands { F.stands front.new ≡ F.stands front.old }
 {
     replies.clear();
+    load_ahead(front, bytes);
     let answered = answer_bytes(rt, front, clock, numbering, buffers, bytes, done, replies)?;
     if replies.len() > MOST_UNSENT {
         return Err(NoMemory);
