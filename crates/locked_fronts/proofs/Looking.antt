@@ -5,7 +5,7 @@ use Rattle.std.proofs.lemmas.Option.{same_Some}
 use Rattle.partition_model.specs.declared.write.Answer.{Answer}
 use Rattle.partition_model.specs.declared.write.Answer.TheVariants.{Hit, Miss}
 use Rattle.partition_model.specs.Answer.{IsAnswer}
-use Rattle.partition_model.specs.History.{History, IsPrefix, stamp_of, answer_of, writes_to_bucket}
+use Rattle.partition_model.specs.History.{History, IsPrefix, stamp_of, writes_to_bucket}
 use Rattle.partition_model.specs.Run.{IsAnswerAt}
 use Rattle.partition_model.proofs.Rises.{prefix_rises}
 use Rattle.epoch_core.specs.declared.shape.Shape.{Shape}
@@ -20,7 +20,6 @@ use Rattle.optimistic_get.specs.Gets.{AnswersGet, IsAnsweredAt, TriesMade}
 use Rattle.optimistic_get.proofs.Repeated.{same_answer}
 use Rattle.mica_fronts.specs.declared.changing.Changed.{Changed}
 use Rattle.mica_fronts.specs.declared.changing.When.{When}
-use Rattle.mica_fronts.specs.declared.flushes.Flushes.{Flushes}
 use Rattle.mica_fronts.specs.Flushes.{flushed_at, waits_at, flushes_in}
 use Rattle.mica_fronts.specs.Looks.{Look, when_after}
 use Rattle.mica_fronts.specs.Session.{Session, Keeps}
