@@ -1,5 +1,5 @@
 -- What a front knows once it has looked without a hold.
-use Rattle.std.proofs.Common.{◌≡◌, ◌×◌, ℕ, ◌+◌, ◌*◌, ◌≤◌, Bool, true, false, List, [], ◌∷◌, ◌++◌, length, length-append, append-nil, map, nat_le, nat_lt, cond, Option, Some, None, inr, refl, sym, ap, ◌∙◌, subst, arith}
+use Rattle.std.proofs.Common.{◌≡◌, ℕ, ◌+◌, ◌*◌, ◌≤◌, Bool, true, false, List, [], ◌∷◌, ◌++◌, length, length-append, append-nil, map, nat_le, nat_lt, cond, Option, Some, None, inr, refl, sym, ap, ◌∙◌, subst, arith}
 use Rattle.std.proofs.lemmas.Bool.{leb-true, ltb-false}
 use Rattle.std.proofs.lemmas.Option.{same_Some}
 use Rattle.partition_model.specs.declared.write.Answer.{Answer}
@@ -41,13 +41,13 @@ use Rattle.locked_fronts.specs.Parts.{IsPartOf, PartChanges, PartRests, PartLook
 longer_begun : (a b : History) → IsPrefix a b → longer a b ≡ b
 longer_begun a b (later, is) = by (nat_lt (length a) (length b)) refl
   where
-    no_longer : (more : History) → b ≡ a ++ more → length b ≤ length a → a ≡ b
+    no_longer : (rest : History) → b ≡ a ++ rest → length b ≤ length a → a ≡ b
     no_longer [] same low = sym (same ∙ append-nil a)
-    no_longer (write ∷ more) same low = let n = ap length same in absurd (omega (arith, n, low, length-append a (write ∷ more)))
+    no_longer (write ∷ rest) same low = let n = ap length same in absurd (omega (arith, n, low, length-append a (write ∷ rest)))
 
     by : (t : Bool) → nat_lt (length a) (length b) ≡ t → cond t b a ≡ b
-    by true longer = refl
-    by false no = no_longer later is (ltb-false _ _ no)
+    by true less = refl
+    by false more = no_longer later is (ltb-false _ _ more)
 
 -- what the tries answered
 record Found (before after : ReaderState) (key : List ℕ) (answer : Answer) (stamp : ℕ) (buffer : List ℕ) : Type 0 where

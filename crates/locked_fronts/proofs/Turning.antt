@@ -27,7 +27,7 @@ use Rattle.mica_fronts.specs.Looks.{when_after}
 use Rattle.mica_fronts.specs.Changing.{Becoming, IsFound, write_by}
 use Rattle.mica_fronts.specs.declared.flushes.KeptFlushes.{KeptFlushes}
 use Rattle.mica_fronts.specs.Flushes.{flushes_in, AreKept, kept_then}
-use Rattle.mica_fronts.proofs.FlushLaws.{first_few, kept_push}
+use Rattle.mica_fronts.proofs.FlushLaws.{kept_push}
 use Rattle.turn_book.specs.declared.rule.Entry.{Entry}
 use Rattle.turn_book.specs.Entries.{BookView, TakerView, entry, book_view, taker_view}
 use Rattle.locked_fronts.specs.declared.owned.Step.{Step}
@@ -123,27 +123,14 @@ looks plan was owner second key needs becoming old new changed buffer learned wr
   stamped = stamped;
 }
 
--- What is kept of the flushes
-
-module _ (old new : OwnerState) (write : Write) (outcome : Outcome) (step : IsOwnerStep old new write outcome) where
-  gained_as : (b : Bool) → is_accepted outcome ≡ b → new ≡ cond b (record old { words = new.words; history = old.history ++ write ∷ [] }) old
-  gained_as b is = step.gained ∙ ap (λ t. cond t (record old { words = new.words; history = old.history ++ write ∷ [] }) old) is
-
-  module _ (kept : KeptFlushes) (are : AreKept old.shape.buckets old.history kept) where
-    pub kept_refused : is_accepted outcome ≡ false → AreKept new.shape.buckets new.history kept
-    kept_refused refused = subst (λ (o : OwnerState). AreKept o.shape.buckets o.history kept) (sym (gained_as false refused)) are
-
-    module _ (accepted : is_accepted outcome ≡ true) where
-      long : length new.history ≡ suc (length old.history)
-      long = ap (λ (o : OwnerState). length o.history) (gained_as true accepted) ∙ length_push old.history write ∙ omega arith
-
-      pub kept_fewer : kept.in_first < length new.history
-      kept_fewer = omega (arith, are.in_first, first_few old.shape.buckets old.history, long)
-
-      pub kept_accepted : AreKept new.shape.buckets new.history (kept_then (length new.history) write kept)
-      kept_accepted =
-          subst (λ (o : OwnerState). AreKept o.shape.buckets o.history (kept_then (length new.history) write kept)) (sym (gained_as true accepted))
-          (subst (λ n. AreKept old.shape.buckets (old.history ++ write ∷ []) (kept_then n write kept)) (sym long) (kept_push old.shape.buckets old.history write kept are))
+-- what is kept of the flushes behind an accepted write
+pub kept_accepted : (old new : OwnerState) (write : Write) (outcome : Outcome) → IsOwnerStep old new write outcome → (kept : KeptFlushes) → AreKept old.shape.buckets old.history kept
+    → is_accepted outcome ≡ true → AreKept new.shape.buckets new.history (kept_then (length new.history) write kept)
+kept_accepted old new write outcome step kept are accepted =
+    let gained = step.gained ∙ ap (λ t. cond t (record old { words = new.words; history = old.history ++ write ∷ [] }) old) accepted in
+    let long : length new.history ≡ suc (length old.history) = ap (λ (o : OwnerState). length o.history) gained ∙ length_push old.history write ∙ omega arith in
+    subst (λ (o : OwnerState). AreKept o.shape.buckets o.history (kept_then (length new.history) write kept)) (sym gained)
+    (subst (λ n. AreKept old.shape.buckets (old.history ++ write ∷ []) (kept_then n write kept)) (sym long) (kept_push old.shape.buckets old.history write kept are))
 
 -- what was learned of an owner between its writes
 pub seen_by : (plan : Plan) (number : ℕ) (owner : OwnerState) (home : TableId) (learned : Learned) → owner.shape ≡ shape_of plan.options → owner.phase ≡ Idle → home ≡ plan.homes number

@@ -147,8 +147,9 @@ impl LockedPart {
         let aside = self.seat.set_aside();
         let got = get_hashed(&mut self.seat, key, hash, TRIES, found);
         let epoch = self.seat.epoch_of_first();
+        let unmoved = self.counts.has_all_flushes(epoch);
         match answer_in(got) {
-            Some((answer, stamp)) if self.counts.has_all_flushes(epoch) => {
+            Some((answer, stamp)) if unmoved => {
                 self.seat.take_up_seen(aside);
                 self.last = stamp;
                 self.newest = stamp;

@@ -1,7 +1,7 @@
 -- What one write more makes of the flushes, and which writes make nothing of them.
 use Rattle.std.proofs.Common.{◌≡◌, ℕ, zero, suc, ◌+◌, ◌≤◌, ◌<◌, ◌==◌, ◌&&◌, cond, Bool, true, false, List, [], ◌∷◌, ◌++◌, length, count_by, refl, sym, ap, ◌∙◌, arith}
 use Rattle.std.proofs.Math.Dec.{eqb-suc-zero}
-use Rattle.std.proofs.lemmas.List.Sums.{count_by-le-length, sum_by-append}
+use Rattle.std.proofs.lemmas.List.Sums.{sum_by-append}
 use Rattle.mica_words.specs.Hash.{fnv1a, hash_bucket, bucket_of}
 use Rattle.partition_model.specs.declared.write.Write.{Write}
 use Rattle.partition_model.specs.History.{History, IsPrefix}
@@ -80,9 +80,6 @@ module _ (buckets : ℕ) where
   unmoved before history begins few =
       let counts = ap (count_by (is_in_first buckets)) begins.1 ∙ sum_by-append _ before begins.0 in
       ap (flushes_in buckets) begins.1 ∙ in_both before begins.0 ∙ none_from (length before) (flushes_in buckets before) begins.0 (omega (arith, counts, few))
-
-  pub first_few : (history : History) → count_by (is_in_first buckets) history ≤ length history
-  first_few history = count_by-le-length (is_in_first buckets) history
 
   pub kept_push : (history : History) (write : Write) (kept : KeptFlushes) → AreKept buckets history kept → AreKept buckets (history ++ write ∷ []) (kept_then (suc (length history)) write kept)
   kept_push history write kept are = record {

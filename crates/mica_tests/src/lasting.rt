@@ -18,25 +18,26 @@ use std::test::Fail;
 use std::thread::Threads;
 use stream_io::{Change, Step};
 
-// As many clocks as there may be fronts.
-fn clocks_of(alloc: Global) -> Result<Vec<MemClock<'static>>, NoMemory>
+// As many clocks as there may be fronts, each of which shows these seconds.
+fn clocks_of(alloc: Global, seconds: &[Option<u64>]) -> Result<Vec<MemClock<'_>>, NoMemory>
     ensures { IfOk result (λ clocks. length clocks.items ≡ MOST_FRONTS) }
 {
     let mut clocks = Vec::with_capacity(alloc, MOST_FRONTS as usize)?;
     for _ in 0..MOST_FRONTS {
-        clocks.push_reserved(MemClock::new(&[]));
+        clocks.push_reserved(MemClock::new(seconds));
     }
     Ok(clocks)
 }
 
-// The status, what the sink took, which has so much room, and for how many connections there was no memory. Fronts over datagrams come to the gate before
-// their requests.
-fn run_whole<W: Threads + Wait + Sync, F: Files, N: Net, L: PlacedListeners, G: Gate>(
+/// The status, what the sink took, which has so much room, and for how many connections there was no memory. Each front over connections has a clock that shows
+/// these seconds; fronts over datagrams come to the gate before their requests.
+pub fn run_whole<W: Threads + Wait + Sync, F: Files, N: Net, L: PlacedListeners, G: Gate>(
     rt: &W,
     alloc: Global,
     files: &mut F,
     net: &mut N,
     listeners: &mut L,
+    seconds: &[Option<u64>],
     gate: &G,
     line: &str,
     room: u32,
@@ -58,7 +59,7 @@ fn run_whole<W: Threads + Wait + Sync, F: Files, N: Net, L: PlacedListeners, G: 
         files,
         net,
         listeners,
-        clocks_of(alloc)?,
+        clocks_of(alloc, seconds)?,
         1,
         1,
         gate,
@@ -80,7 +81,17 @@ pub fn run_listening<W: Threads + Wait + Sync, F: Files, N: Net, L: PlacedListen
 ) -> Result<(Status, MemSink), NoMemory>
     requires { N.binds net.old ≡ 0 }
 {
-    let (status, sink, _) = run_whole(rt, alloc, files, net, listeners, &FreeGate, line, room)?;
+    let (status, sink, _) = run_whole(
+        rt,
+        alloc,
+        files,
+        net,
+        listeners,
+        &[],
+        &FreeGate,
+        line,
+        room,
+    )?;
     Ok((status, sink))
 }
 
@@ -97,7 +108,17 @@ pub fn run_gated<W: Threads + Wait + Sync, F: Files, N: Net, G: Gate>(
     requires { N.binds net.old ≡ 0 }
 {
     let mut listeners = SameSchedule::new(alloc, &[], None);
-    let (status, sink, _) = run_whole(rt, alloc, files, net, &mut listeners, gate, line, room)?;
+    let (status, sink, _) = run_whole(
+        rt,
+        alloc,
+        files,
+        net,
+        &mut listeners,
+        &[],
+        gate,
+        line,
+        room,
+    )?;
     Ok((status, sink))
 }
 
@@ -206,6 +227,7 @@ fn closes_no_connection_for_want_of_memory(rt: HostRuntime) -> Result<(), Fail> 
         &mut MemFiles::new(alloc),
         &mut net,
         &mut listeners,
+        &[],
         &FreeGate,
         "--mode store --partitions 1 --memcached 11211 --memcached-fronts 2",
         100,

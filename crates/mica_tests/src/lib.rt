@@ -8,6 +8,8 @@ mod asked;
 #[cfg(test)]
 mod batches;
 #[cfg(test)]
+mod clients;
+#[cfg(test)]
 mod counts;
 #[cfg(test)]
 mod datagrams;
@@ -27,6 +29,8 @@ mod large;
 mod lasting;
 #[cfg(test)]
 mod meeting;
+#[cfg(test)]
+mod overheard;
 #[cfg(test)]
 mod repeated;
 #[cfg(test)]

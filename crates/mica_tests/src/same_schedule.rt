@@ -2,11 +2,12 @@
 ghost use Rattle.std.specs.Prelude.{◌≡◌};
 ghost use Rattle.stream_io.specs.PortLogs.{place_at};
 
+use crate::overheard::Overheard;
 use mica_daemon::PlacedListeners;
 use mica_io::Failed;
 use std::alloc::Global;
 use std::net::Ipv4Addr;
-use stream_io::{Listeners, MemConnections, Step};
+use stream_io::{Listeners, Step};
 
 /// They tell nothing of content.
 #[derive(Drop)]
@@ -18,6 +19,7 @@ pub struct SameSchedule<'a> {
     address: Ipv4Addr,
     most: u32,
     faults: u64,
+    heard: Vec<u8>,
 }
 
 impl<'a> SameSchedule<'a> {
@@ -29,14 +31,20 @@ impl<'a> SameSchedule<'a> {
             address: Ipv4Addr::LOCALHOST,
             most: 0,
             faults: 0,
+            heard: Vec::new(alloc),
         }
+    }
+
+    /// What became of the connections of all ports that were let go, one port after another.
+    pub fn heard(&self) -> &[u8] {
+        self.heard.as_slice()
     }
 }
 
 impl<'a> Listeners for SameSchedule<'a> {
     ghost use Rattle.std.specs.Prelude.{None};
 
-    type Port = MemConnections<'a>;
+    type Port = Overheard<'a>;
 
     ghost faults = { λ l. l.faults };
 
@@ -46,15 +54,9 @@ impl<'a> Listeners for SameSchedule<'a> {
 
     ghost place = { λ l. place_at l.address l.most };
 
-    fn listen(&mut self, port: u16) -> Result<MemConnections<'a>, Failed> {
+    fn listen(&mut self, port: u16) -> Result<Overheard<'a>, Failed> {
         if self.taken != Some(port) {
-            if let Ok(connections) = MemConnections::new(
-                self.alloc,
-                port,
-                self.schedule,
-                1_024,
-                &[],
-            ) {
+            if let Ok(connections) = Overheard::new(self.alloc, port, self.schedule) {
                 return Ok(connections);
             }
         }
@@ -62,7 +64,9 @@ impl<'a> Listeners for SameSchedule<'a> {
         Err(Failed)
     }
 
-    fn release(&mut self, _connections: MemConnections<'a>) {}
+    fn release(&mut self, connections: Overheard<'a>) {
+        let _ = self.heard.extend_from_slice(connections.heard());
+    }
 }
 
 impl<'a> PlacedListeners for SameSchedule<'a> {

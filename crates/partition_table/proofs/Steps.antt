@@ -249,8 +249,11 @@ module _ (slots id : ℕ) (me : Seated) (reader : is_reader me.0 ≡ true) where
         keeps,
         tt,
         stays s k i id me.1 me.0 at,
-        (refl, λ c there. let same : b ≡ c = omega (arith, is, there) in subst (λ (y : ℕ × ℕ). 2 * writes_to_bucket (options_of r.shape) r.seen y.0 ≤ y.1 + 1)
-            (λ j. (same j, (ap (λ (z : ℕ). get_or k.owner.words z 0) (sym is) ∙ word_now s k i) j)) most),
+        (
+          refl,
+          λ c there. let same : b ≡ c = omega (arith, is, there) in subst (λ (y : ℕ × ℕ). 2 * writes_to_bucket (options_of r.shape) r.seen y.0 ≤ y.1 + 1)
+              (λ j. (same j, (ap (λ (z : ℕ). get_or k.owner.words z 0) (sym is) ∙ word_now s k i) j)) most,
+        ),
       )
 
   pub opens_here : (b i : ℕ) → i ≡ epoch_at b → IsMain r.shape b → Allows IsLawful slots id me i (λ n. n) (opens (step slots i 0 0 none) me)

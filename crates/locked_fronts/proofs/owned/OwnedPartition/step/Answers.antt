@@ -5,7 +5,7 @@ use Rattle.epoch_core.specs.declared.state.OwnerState.{OwnerState}
 use Rattle.epoch_core.specs.OwnerState.{options_in}
 use Rattle.epoch_core.specs.OwnerStep.{IsOwnerStep}
 use Rattle.epoch_core.specs.Joins.{lent}
-use Rattle.mica_fronts.specs.Flushes.{flushes_in}
+use Rattle.mica_fronts.specs.Flushes.{AreKept}
 use Rattle.locked_fronts.specs.Counts.{counts_after}
 use Rattle.locked_fronts.specs.Owned.{Owned, owned_as, TookTurn}
 use Rattle.locked_fronts.proofs.Turning.{keeps, takes}
@@ -21,7 +21,7 @@ invariant_of-self g c =
     let step = subst (λ (o : OwnerState). IsOwnerStep was.owner o write c.write_counted-outcome.result) same c.write_counted-outcome.ensures.step in
     let counted = learns.ensures.counts ∙ ap (λ (o : OwnerState). counts_after (options_in o) o.history) same in (
       keeps g.J.ServerPlan.plan was _ _ _ c.args.taker.now write _ learns.result c.self.invariant.0 step counted (learns.ensures.home ∙ c.write_counted-outcome.ensures.home) c.enter.ensures.book,
-      c.write_counted-outcome.ensures.flushes ∙ ap (λ (o : OwnerState). flushes_in o.history) same,
+      subst (λ (o : OwnerState). AreKept o.shape.buckets o.history c.write_counted-outcome.new.kept) same c.write_counted-outcome.ensures.kept,
       c.self.invariant.2,
     )
 
