@@ -23,6 +23,21 @@ use std::test::Fail;
 use std::thread::{Threads, join};
 use store_partition::StorePartition;
 
+/// The key is in bucket 10 of 16.
+const SPREAD: Options = Options {
+    buckets: 16,
+    ..SMALL
+};
+
+/// Begins with a line feed, and is in bucket 0 of 16.
+const FLUSH: &[u8] = b"\n-";
+
+/// Begins with a line feed, and is in bucket 13 of 16.
+const NO_FLUSH: &[u8] = b"\n";
+
+/// A key in bucket 0 of 16.
+const FIRST: &[u8] = b"5";
+
 /// Leaves what it finds.
 #[derive(Clone, Copy)]
 struct Reads;
@@ -48,13 +63,12 @@ impl Decide for Reads {
     }
 }
 
-// What a look finds, and how many writes had been accepted then, and flushed.
+// What a look finds, and how many writes had been flushed then.
 fn expect_look<R: Abort + Threads + Wait + Sync, F: Changes>(
     rt: &R,
     front: &mut F,
     room: &mut Room,
     wanted: Option<&[u8]>,
-    written: u64,
     flushed: u64,
 )
     requires { 0 < F.left front.old }
@@ -63,7 +77,7 @@ fn expect_look<R: Abort + Threads + Wait + Sync, F: Changes>(
     assert!(rt; key_fits(KEY));
     let looked = front.change(rt, 7, KEY, &Reads, &mut room.found, &mut room.next);
     assert!(rt; looked.outcome.is_none());
-    assert!(rt; looked.when.written == written && looked.when.flushed == flushed);
+    assert!(rt; looked.when.flushed == flushed);
     match wanted {
         Some(value) => {
             assert!(rt; looked.found == Some(Answer::Hit) && room.found.value() == value)
@@ -72,7 +86,7 @@ fn expect_look<R: Abort + Threads + Wait + Sync, F: Changes>(
     }
 }
 
-// A write of the key, or of a flush at once.
+// A put or a delete of a key.
 fn write_one<R: Abort + AllocGlobal + Threads + Wait + Sync, F: Changes>(
     rt: &R,
     front: &mut F,
@@ -102,19 +116,22 @@ fn look_in_turn<R: Abort + AllocGlobal + Threads + Wait + Sync, F: Changes>(
     ensures one { F.left one.old ≤ F.left one.new + 10 }
     ensures two { F.left two.old ≤ F.left two.new + 10 }
 {
-    expect_look(rt, one, room, None, 0, 0);
+    expect_look(rt, one, room, None, 0);
     write_one(rt, one, Op::Put, KEY, b"one")?;
-    expect_look(rt, one, room, Some(b"one"), 1, 0);
-    expect_look(rt, two, room, Some(b"one"), 1, 0);
+    expect_look(rt, one, room, Some(b"one"), 0);
+    expect_look(rt, two, room, Some(b"one"), 0);
     write_one(rt, two, Op::Put, KEY, b"two")?;
-    expect_look(rt, one, room, Some(b"two"), 2, 0);
-    expect_look(rt, one, room, Some(b"two"), 2, 0);
-    write_one(rt, one, Op::Del, b"\n", b"")?;
-    expect_look(rt, one, room, Some(b"two"), 3, 3);
-    expect_look(rt, two, room, Some(b"two"), 3, 3);
+    expect_look(rt, one, room, Some(b"two"), 0);
+    write_one(rt, one, Op::Del, NO_FLUSH, b"")?;
+    expect_look(rt, two, room, Some(b"two"), 0);
+    write_one(rt, one, Op::Del, FLUSH, b"")?;
+    expect_look(rt, one, room, Some(b"two"), 4);
+    expect_look(rt, two, room, Some(b"two"), 4);
+    write_one(rt, two, Op::Put, FIRST, b"")?;
+    expect_look(rt, one, room, Some(b"two"), 4);
     write_one(rt, two, Op::Del, KEY, b"")?;
-    expect_look(rt, two, room, None, 4, 3);
-    expect_look(rt, one, room, None, 4, 3);
+    expect_look(rt, two, room, None, 4);
+    expect_look(rt, one, room, None, 4);
     Ok(())
 }
 
@@ -166,6 +183,14 @@ fn look_by_two<
     let mut second = front_of(options, locks.as_slice(), 1, second);
     let (one, mut two) = (Room::new(alloc)?, Room::new(alloc)?);
     look_in_turn(rt, &mut first, &mut second, &mut two)?;
+    write_one(rt, &mut second, Op::Put, KEY, b"held")?;
+    // No lock is taken for a look, also where another front wrote: while it is held, one that waited for it would wait for ever.
+    if let Some(lock) = locks.as_slice().get(0) {
+        let held = lock.lock(rt);
+        expect_look(rt, &mut first, &mut two, Some(b"held"), 4);
+        drop(held);
+    }
+    write_one(rt, &mut second, Op::Del, KEY, b"")?;
     let (_, rose) = join(
         rt,
         move ||
@@ -199,7 +224,7 @@ fn open_and_look<P: OnTable + LendPartition<Reader = ReaderSeat, Note = Note> + 
 
 #[test]
 fn looks_in_store_mode(rt: HostRuntime) -> Result<(), Fail> {
-    open_and_look::<StorePartition<OwnerSeat>>(&rt, &SMALL)
+    open_and_look::<StorePartition<OwnerSeat>>(&rt, &SPREAD)
 }
 
 #[test]
@@ -207,7 +232,7 @@ fn looks_in_cache_mode(rt: HostRuntime) -> Result<(), Fail> {
     let options = Options {
         mode: Mode::Cache,
         words: 4_096,
-        ..SMALL
+        ..SPREAD
     };
     open_and_look::<CachePartition<OwnerSeat>>(&rt, &options)
 }

@@ -1,5 +1,5 @@
 -- What a front knows once it has learned under a hold, and once its seat has answered a get.
-use Rattle.std.proofs.Common.{◌≡◌, ℕ, ◌+◌, ◌<◌, ◌≤◌, Bool, true, false, List, [], ◌∷◌, ◌++◌, length, map, Option, Some, None, cond, refl, sym, ap, ◌∙◌, subst, append-nil, length-append, arith}
+use Rattle.std.proofs.Common.{◌≡◌, ℕ, ◌+◌, ◌<◌, ◌≤◌, Bool, true, false, List, [], ◌∷◌, ◌++◌, length, map, Option, Some, None, inl, cond, refl, sym, ap, ◌∙◌, subst, append-nil, length-append, arith}
 use Rattle.std.specs.List.{cons_option}
 use Rattle.std.proofs.lemmas.Bool.{true≢false}
 use Rattle.std.proofs.lemmas.List.{map-append, length_push}
@@ -125,7 +125,7 @@ module _ (plan : Plan) (number : ℕ) (old held new : LockedPart) (learned : Lea
       taker = ap (λ (t : TakerView Step). t.number) knows.taker ∙ hold.own;
       newest = newest_is;
       last = let up = prefix_rises plan.options hold.history (reader_state new.seat).seen saw in omega (arith, up, knows.last, stamped_at, newest_is);
-      counts = record { history = hold.history; counted = knows.counts ∙ hold.seen.counted; seen = saw; done = ended };
+      counts = record { history = hold.history; counted = knows.counts ∙ hold.seen.counted; seen = saw };
     }
 
     cut_at : IsCut plan.options (reader_state new.seat).seen learned.counts.stamp hold.history
@@ -206,7 +206,6 @@ module _ (plan : Plan) (number : ℕ) (old held new : LockedPart) (learned : Lea
       newest = had_seen by_none;
       looked = looked;
       done = knows.done.0;
-      ended = ended by_none;
       order = order by_none;
       last = knows.last;
       told = (
@@ -254,9 +253,10 @@ part_changes plan number second key needs becoming old held new changed buffer l
       still = did.0;
       taken = did.1;
       comes = record {
-        value = took.value;
+        look = look;
         found = took.found;
         at = took.at;
+        tells = inl refl;
         does = subst (λ (stamp : ℕ). DoesWrite plan.options false (session_of old) key (write_by becoming key look) changed.outcome stamp look (session_of new)) (sym took.stamped) did.2;
       };
     }
@@ -282,7 +282,6 @@ module _ (plan : Plan) (number : ℕ) (old new : LockedPart) (key : List ℕ) (s
             history = part.counts.history;
             counted = counts ∙ part.counts.counted;
             seen = prefix_then _ _ _ part.counts.seen seat.seen;
-            done = subst (λ h. IsPrefix part.counts.history h) (sym seat.done) part.counts.done;
           };
         };
         taken = taker;

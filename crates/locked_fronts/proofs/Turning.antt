@@ -6,7 +6,7 @@ use Rattle.partition_model.specs.declared.options.Options.{Options}
 use Rattle.partition_model.specs.declared.write.Outcome.{Outcome}
 use Rattle.partition_model.specs.declared.write.Write.{Write}
 use Rattle.partition_model.specs.Write.{is_accepted}
-use Rattle.partition_model.specs.History.{History, MayGive, stamp_in, value_in, stamp_of, answer_of}
+use Rattle.partition_model.specs.History.{History, MayGive, stamp_in, value_in, stamp_of, answer_of, writes_to_bucket}
 use Rattle.partition_model.specs.Run.{RunStep, history_of, IsRunFrom}
 use Rattle.partition_model.proofs.Runs.{history-append, run-append}
 use Rattle.epoch_core.specs.declared.shape.Shape.{Shape}
@@ -25,9 +25,9 @@ use Rattle.mica_fronts.specs.declared.changing.Changed.{Changed}
 use Rattle.mica_fronts.specs.declared.changing.When.{When}
 use Rattle.mica_fronts.specs.Looks.{when_after}
 use Rattle.mica_fronts.specs.Changing.{Becoming, IsFound, write_by}
-use Rattle.mica_fronts.specs.declared.flushes.Flushes.{Flushes}
-use Rattle.mica_fronts.specs.Flushes.{is_flush, flush_in, flushes_then, flushes_in}
-use Rattle.mica_fronts.proofs.FlushLaws.{flushes_push}
+use Rattle.mica_fronts.specs.declared.flushes.KeptFlushes.{KeptFlushes}
+use Rattle.mica_fronts.specs.Flushes.{flushes_in, AreKept, kept_then}
+use Rattle.mica_fronts.proofs.FlushLaws.{first_few, kept_push}
 use Rattle.turn_book.specs.declared.rule.Entry.{Entry}
 use Rattle.turn_book.specs.Entries.{BookView, TakerView, entry, book_view, taker_view}
 use Rattle.locked_fronts.specs.declared.owned.Step.{Step}
@@ -44,7 +44,12 @@ plan_stamp options shape history is = ap (λ s. stamp_of (options_of s) history)
 -- what is counted, and the value of a key likewise
 
 pub plan_counts : (options : Options) (shape : Shape) (history : History) → shape ≡ shape_of options → counts_after (options_of shape) history ≡ counts_after options history
-plan_counts options shape history is = ap (λ (stamp : ℕ). record { stamp = stamp; written = length history; flushes = flushes_in history }) (plan_stamp options shape history is)
+plan_counts options shape history is = (λ i. record {
+  stamp = plan_stamp options shape history is i;
+  written = length history;
+  in_first = writes_to_bucket (options_of (is i)) history 0;
+  flushes = flushes_in (is i).buckets history;
+})
 
 plan_answer : (options : Options) (shape : Shape) (history : History) (key : List ℕ) → shape ≡ shape_of options → answer_of (options_of shape) history key ≡ answer_of options history key
 plan_answer options shape history key is = ap (λ s. answer_of (options_of s) history key) is ∙ ap (λ s. value_in s key) (same_state options history)
@@ -100,7 +105,7 @@ module _ {plan : Plan} {number least : ℕ} {owned : Owned} (here : IsHere plan 
 
 -- what a look came to, where `owner` is the same as before
 pub looks : (plan : Plan) (was : Owned) (owner : OwnerState) (second : ℕ) (key : List ℕ) (needs : Bool) (becoming : When → Option (List ℕ) → Becoming) (old new : TakerView Step) (changed : Changed) (buffer : List ℕ)
-    (learned : Learned) (write : Option Write) → IsOwned plan was → owner ≡ was.owner → changed.when ≡ when_after second was.owner.history → changed.stamp ≡ learned.counts.stamp
+    (learned : Learned) (write : Option Write) → IsOwned plan was → owner ≡ was.owner → changed.when ≡ when_after (options_in was.owner) second was.owner.history → changed.stamp ≡ learned.counts.stamp
     → IsFound needs changed.found buffer (answer_of (options_in was.owner) was.owner.history key)
     → write ≡ write_by becoming key (record { when = changed.when; value = answer_of (options_in was.owner) was.owner.history key })
     → TookOrLeft plan was.number (stamp_of plan.options owner.history) owner.history old new write changed.outcome learned
@@ -110,7 +115,7 @@ looks plan was owner second key needs becoming old new changed buffer learned wr
   found = found;
   at = ap (λ (w : When). w.second) when;
   looked = record {
-    when = when ∙ ap (λ s. when_after s was.owner.history) (sym (ap (λ (w : When). w.second) when));
+    when = when ∙ (λ i. when_after (options_of (law.shape i)) (ap (λ (w : When). w.second) (sym when) i) was.owner.history);
     value = plan_answer plan.options was.owner.shape was.owner.history key law.shape;
   };
   does = subst (λ (y : Option Write × History). TookOrLeft plan was.number (stamp_of plan.options y.1) y.1 old new y.0 changed.outcome learned)
@@ -118,28 +123,27 @@ looks plan was owner second key needs becoming old new changed buffer learned wr
   stamped = stamped;
 }
 
--- The flushes
+-- What is kept of the flushes
 
 module _ (old new : OwnerState) (write : Write) (outcome : Outcome) (step : IsOwnerStep old new write outcome) where
-  history_is : (b : Bool) → is_accepted outcome ≡ b → new.history ≡ cond b (old.history ++ write ∷ []) old.history
-  history_is true is = ap (λ (o : OwnerState). o.history) (step.gained ∙ ap (λ b. cond b (record old { words = new.words; history = old.history ++ write ∷ [] }) old) is)
-  history_is false is = ap (λ (o : OwnerState). o.history) (step.gained ∙ ap (λ b. cond b (record old { words = new.words; history = old.history ++ write ∷ [] }) old) is)
+  gained_as : (b : Bool) → is_accepted outcome ≡ b → new ≡ cond b (record old { words = new.words; history = old.history ++ write ∷ [] }) old
+  gained_as b is = step.gained ∙ ap (λ t. cond t (record old { words = new.words; history = old.history ++ write ∷ [] }) old) is
 
-  abbrev one_more : ℕ → Flushes
-  one_more n = flushes_then n (flush_in write.key) (flushes_in old.history)
+  module _ (kept : KeptFlushes) (are : AreKept old.shape.buckets old.history kept) where
+    pub kept_refused : is_accepted outcome ≡ false → AreKept new.shape.buckets new.history kept
+    kept_refused refused = subst (λ (o : OwnerState). AreKept o.shape.buckets o.history kept) (sym (gained_as false refused)) are
 
-  flushes_after : (b : Bool) → is_flush write ≡ b → is_accepted outcome ≡ true → flushes_in new.history ≡ cond b (one_more (suc (length old.history))) (flushes_in old.history)
-  flushes_after b is accepted = ap flushes_in (history_is true accepted) ∙ flushes_push old.history write ∙ ap (λ x. cond x (one_more (suc (length old.history))) (flushes_in old.history)) is
+    module _ (accepted : is_accepted outcome ≡ true) where
+      long : length new.history ≡ suc (length old.history)
+      long = ap (λ (o : OwnerState). length o.history) (gained_as true accepted) ∙ length_push old.history write ∙ omega arith
 
-  pub flushes : is_accepted outcome ≡ true → is_flush write ≡ true → one_more (length new.history) ≡ flushes_in new.history
-  flushes accepted is = ap one_more (ap length (history_is true accepted) ∙ length_push old.history write ∙ omega arith) ∙ sym (flushes_after true is accepted)
+      pub kept_fewer : kept.in_first < length new.history
+      kept_fewer = omega (arith, are.in_first, first_few old.shape.buckets old.history, long)
 
-  pub no_flush : is_accepted outcome ≡ false → flushes_in new.history ≡ flushes_in old.history
-  no_flush refused = ap flushes_in (history_is false refused)
-
-  pub flushes_not : (b : Bool) → is_accepted outcome ≡ b → is_flush write ≡ false → flushes_in new.history ≡ flushes_in old.history
-  flushes_not true accepted is = flushes_after false is accepted
-  flushes_not false refused is = no_flush refused
+      pub kept_accepted : AreKept new.shape.buckets new.history (kept_then (length new.history) write kept)
+      kept_accepted =
+          subst (λ (o : OwnerState). AreKept o.shape.buckets o.history (kept_then (length new.history) write kept)) (sym (gained_as true accepted))
+          (subst (λ n. AreKept old.shape.buckets (old.history ++ write ∷ []) (kept_then n write kept)) (sym long) (kept_push old.shape.buckets old.history write kept are))
 
 -- what was learned of an owner between its writes
 pub seen_by : (plan : Plan) (number : ℕ) (owner : OwnerState) (home : TableId) (learned : Learned) → owner.shape ≡ shape_of plan.options → owner.phase ≡ Idle → home ≡ plan.homes number

@@ -2,15 +2,18 @@
 use Rattle.std.specs.Prelude.{◌≡◌, ◌<◌, ◌≤◌, ◌+◌, ◌-◌, ◌++◌, ℕ, Bool, false, List, [], map, length, sum_by, slice_get, Option, Some, None}
 use Rattle.partition_model.specs.declared.options.Options.{Options}
 use Rattle.partition_model.specs.declared.write.Answer.{Answer}
+use Rattle.partition_model.specs.declared.write.Answer.TheVariants.{Hit, Miss}
 use Rattle.partition_model.specs.declared.write.Outcome.{Outcome}
 use Rattle.partition_model.specs.declared.write.Write.{Write}
 use Rattle.partition_model.specs.Answer.{IsAnswer}
 use Rattle.partition_model.specs.Options.{IsPossible}
-use Rattle.partition_model.specs.History.{History, IsPrefix, stamp_of}
+use Rattle.partition_model.specs.History.{History, IsPrefix, stamp_of, writes_to_bucket}
 use Rattle.partition_model.specs.Run.{IsAnswerAt}
 use Rattle.epoch_core.specs.declared.reader.ReaderState.{ReaderState}
 use Rattle.epoch_core.specs.Shape.{shape_of, options_of}
 use Rattle.partition_table.specs.Seats.{reader_state, reader_home, note_state}
+use Rattle.optimistic_get.specs.declared.getting.Got.{Got}
+use Rattle.optimistic_get.specs.declared.getting.Got.TheVariants as gots
 use Rattle.mica_fronts.specs.declared.changing.Changed.{Changed}
 use Rattle.mica_fronts.specs.declared.changing.When.{When}
 use Rattle.mica_fronts.specs.Session.{Session, Sessions, Writes, Reads}
@@ -23,13 +26,11 @@ use Rattle.locked_fronts.specs.Plan.{Plan}
 use Rattle.locked_fronts.specs.Counts.{counts_after}
 use Rattle.locked_fronts.specs.Owned.{run_step}
 
--- The counts are those of a history that had ended, with which begins all that the seat has seen. So at one stamp there is one history: each accepted
--- write raises the stamp, and no other changes anything.
+-- The counts are those of a history with which begins all that the seat has seen.
 pub record HasCounted (options : Options) (seat : ReaderState) (counts : HistoryCounts) : Type 0 where
   pub history : History
   pub counted : counts ≡ counts_after options history
   pub seen : IsPrefix history seat.seen
-  pub done : IsPrefix history seat.done
 
 -- The seat is of the table of the plan's partition, and the token of its book, with the front's number. The stamp of what the seat has seen is
 -- none below the one that was answered last.
@@ -93,13 +94,30 @@ pub record PartRests (old new : LockedPart) : Type 0 where
   pub newest : new.newest ≡ old.newest
   pub counts : new.counts ≡ old.counts
 
--- It is the machine's answer to the key behind a history that begins with all that the seat has seen, at the stamp that was counted last.
-pub record AnswersAsCounted (part : LockedPart) (key : List ℕ) (answer : Answer) (buffer : List ℕ) : Type 0 where
+-- the answer of a get, with its stamp
+abbrev pub answer_in : Got → Option (Answer × ℕ)
+answer_in (gots.Hit stamp) = Some (Hit, stamp)
+answer_in (gots.Miss stamp) = Some (Miss, stamp)
+answer_in (gots.Again first last) = None
+
+-- A get was answered behind a history that begins with all that the seat had seen, and its tries are told nowhere. Of the writes that were seen no more are
+-- in the bucket of flushes than were counted.
+pub record PartLooks (old : LockedPart) (key : List ℕ) (answer : Answer) (stamp : ℕ) (buffer : List ℕ) (new : LockedPart) : Type 0 where
+  pub home : reader_home new.seat ≡ reader_home old.seat
+  pub taker : new.taker ≡ old.taker
+  pub last : new.last ≡ stamp
+  pub newest : new.newest ≡ stamp
+  pub counts : new.counts ≡ old.counts
+  pub shape : (reader_state new.seat).shape ≡ (reader_state old.seat).shape
+  pub seen : IsPrefix (reader_state old.seat).seen (reader_state new.seat).seen
+  pub done : (reader_state new.seat).done ≡ (reader_state old.seat).done
+  pub tried : (reader_state new.seat).tried ≡ (reader_state old.seat).tried
+  pub fails : (reader_state new.seat).fails ≡ (reader_state old.seat).fails
+  pub closed : (reader_state new.seat).closed ≡ (reader_state old.seat).closed
   pub value : Option (List ℕ)
   pub is : IsAnswer answer buffer value
-  pub history : History
-  pub newest : IsPrefix (reader_state part.seat).seen history
-  pub at : IsAnswerAt (options_of (reader_state part.seat).shape) history key part.counts.stamp value
+  pub at : IsAnswerAt (options_of (reader_state old.seat).shape) (reader_state new.seat).seen key stamp value
+  pub few : writes_to_bucket (options_of (reader_state old.seat).shape) (reader_state new.seat).seen 0 ≤ old.counts.in_first
 
 -- A get was answered.
 pub record PartReads (plan : Plan) (number : ℕ) (old : LockedPart) (key : List ℕ) (answer : Answer) (stamp : ℕ) (buffer : List ℕ) (new : LockedPart)

@@ -1,33 +1,42 @@
 //! What is counted where a partition is held, and what is learned there.
-ghost use Rattle.std.specs.Prelude.{◌≡◌};
+ghost use Rattle.std.specs.Prelude.{◌≡◌, ◌*◌, nat_le};
 ghost use Rattle.epoch_core.specs.OwnerState.{options_in};
 ghost use Rattle.epoch_core.specs.Joins.{lent};
-ghost use Rattle.mica_fronts.specs.Flushes.{flushes_in};
+ghost use Rattle.mica_fronts.specs.Flushes.{AreKept};
 ghost use Rattle.locked_fronts.specs.Counts.{counts_after, when_by};
 
 use epoch_core::{LendPartition, Partition};
-use mica_fronts::{Flushes, When};
+use mica_fronts::{Flushes, KeptFlushes, When};
 use partition_table::{Note, ReaderSeat};
 
-/// The stamp behind a history, how many writes it has, and what its flushes come to.
+/// The stamp behind a history, how many writes it has, how many of them are in bucket 0, and what its flushes come to, which are all there.
 #[derive(Clone, Copy)]
 pub struct HistoryCounts {
     pub stamp: u64,
     pub written: u64,
+    pub in_first: u64,
     pub flushes: Flushes,
 }
 
 impl HistoryCounts {
     /// What is counted of a partition whose flushes are these.
-    pub fn of<P: Partition>(part: &P, flushes: Flushes) -> HistoryCounts
-        requires { flushes ≡ flushes_in (P.owner part.now).history }
+    pub fn of<P: Partition>(part: &P, kept: &KeptFlushes) -> HistoryCounts
+        requires { AreKept (P.owner part.now).shape.buckets (P.owner part.now).history kept.now }
         ensures { result ≡ counts_after (options_in (P.owner part.now)) (P.owner part.now).history }
     {
         HistoryCounts {
             stamp: part.stamp(),
             written: part.accepted(),
-            flushes,
+            in_first: kept.in_first,
+            flushes: kept.flushes,
         }
+    }
+
+    /// Whether no flush stands behind this history, by the epoch of bucket 0.
+    pub fn has_all_flushes(&self, epoch: u64) -> bool
+        ensures { result ≡ nat_le epoch (2 * self.now.in_first) }
+    {
+        epoch <= self.in_first.saturating_mul(2)
     }
 
     /// When a decision is made that is made of this history.
@@ -53,15 +62,15 @@ pub struct Learned {
 /// What is learned of a partition whose flushes are these.
 pub(crate) fn learn_of<P: LendPartition<Reader = ReaderSeat, Note = Note>>(
     part: &mut P,
-    flushes: Flushes,
+    kept: &KeptFlushes,
 ) -> Learned
-    requires { flushes ≡ flushes_in (P.owner part.old).history }
+    requires { AreKept (P.owner part.old).shape.buckets (P.owner part.old).history kept.now }
     ensures counts { result.counts ≡ counts_after (options_in (P.owner part.old)) (P.owner part.old).history }
     ensures lent { (P.noted result.note ≡ lent (P.owner part.old)) × (P.note_home result.note ≡ P.home part.old) }
     ensures same { P.owner part.new ≡ P.owner part.old }
     ensures home { P.home part.new ≡ P.home part.old }
 {
-    let counts = HistoryCounts::of(part, flushes);
+    let counts = HistoryCounts::of(part, kept);
     let note = part.note();
     Learned { counts, note }
 }

@@ -121,9 +121,14 @@ impl<'a, J: ServerPlan, P: LendPartition<Reader = ReaderSeat, Note = Note> + Dro
         seat_loads::load_bucket(&self.parts[at].seat, hash);
     }
 
-    fn load_item(&self, hash: u64) {
+    fn entry_of(&self, hash: u64) -> u64 {
         let at = partition_of(hash, self.options.partitions) as usize;
-        seat_loads::load_item(&self.parts[at].seat, hash);
+        seat_loads::entry_of(&self.parts[at].seat, hash)
+    }
+
+    fn load_item(&self, hash: u64, entry: u64) {
+        let at = partition_of(hash, self.options.partitions) as usize;
+        seat_loads::load_item(&self.parts[at].seat, entry);
     }
 
     fn write<R: Threads + Wait + Sync>(
@@ -134,10 +139,11 @@ impl<'a, J: ServerPlan, P: LendPartition<Reader = ReaderSeat, Note = Note> + Dro
         key: &[u8],
         value: &[u8],
     ) -> Result<(Outcome, u64), NoMemory> {
-        let number = partition_of(key_hash(key), self.options.partitions);
+        let hash = key_hash(key);
+        let number = partition_of(hash, self.options.partitions);
         let at = number as usize;
         let lock = &self.locks[at];
-        let written = self.parts[at].write(rt, lock, number, op, key, value);
+        let written = self.parts[at].write(rt, lock, number, op, key, hash, value);
         self.left -= 1;
         Ok(written)
     }
@@ -157,6 +163,10 @@ impl<'a, J: ServerPlan, P: LendPartition<Reader = ReaderSeat, Note = Note> + Dro
 
 impl<'a, J: ServerPlan, P: LendPartition<Reader = ReaderSeat, Note = Note> + Drop> Changes
     for LockedFront<'a, J, P> {
+    fn buckets(&self) -> u32 {
+        self.options.buckets
+    }
+
     fn change<R: Threads + Wait + Sync, D: Decide>(
         &mut self,
         rt: &R,
@@ -178,19 +188,21 @@ impl<'a, J: ServerPlan, P: LendPartition<Reader = ReaderSeat, Note = Note> + Dro
     }
 
     fn delete<R: Threads + Wait + Sync>(&mut self, rt: &R, key: &[u8]) -> (Outcome, u64) {
-        let number = partition_of(key_hash(key), self.options.partitions);
+        let hash = key_hash(key);
+        let number = partition_of(hash, self.options.partitions);
         let at = number as usize;
         let lock = &self.locks[at];
-        let written = self.parts[at].write(rt, lock, number, Op::Del, key, &[]);
+        let written = self.parts[at].write(rt, lock, number, Op::Del, key, hash, &[]);
         self.left -= 1;
         written
     }
 
     fn touch<R: Threads + Wait + Sync>(&mut self, rt: &R, key: &[u8]) -> (Outcome, u64) {
-        let number = partition_of(key_hash(key), self.options.partitions);
+        let hash = key_hash(key);
+        let number = partition_of(hash, self.options.partitions);
         let at = number as usize;
         let lock = &self.locks[at];
-        let written = self.parts[at].write(rt, lock, number, Op::Touch, key, &[]);
+        let written = self.parts[at].write(rt, lock, number, Op::Touch, key, hash, &[]);
         self.left -= 1;
         written
     }

@@ -1,12 +1,13 @@
 //! A partition under its lock.
 ghost use Rattle.std.specs.Prelude.{◌≡◌, ◌≤◌, ◌++◌, ◌∷◌, [], ℕ, true, false, List, Option, IfSome, IfNone};
+ghost use Rattle.mica_words.specs.Hash.{fnv1a};
 ghost use Rattle.mica_words.specs.Item.{KeyFits};
 ghost use Rattle.partition_model.specs.Answer.{IsAnswer};
 ghost use Rattle.partition_model.specs.Write.{HasValueOf, write_of};
 ghost use Rattle.epoch_core.specs.OwnerState.{options_in};
 ghost use Rattle.partition_model.specs.History.{answer_of, stamp_of};
 ghost use Rattle.mica_fronts.specs.Changing.{IsFound, write_by, written_by};
-ghost use Rattle.mica_fronts.specs.Flushes.{flushes_in};
+ghost use Rattle.mica_fronts.specs.Flushes.{AreKept};
 ghost use Rattle.turn_book.specs.Entries.{book_view, taker_view, entry};
 ghost use Rattle.partition_table.specs.Seats.{note_state, note_home};
 ghost use Rattle.locked_fronts.specs.Owned.{where_none as none_where, owned_as, step_of, NotesAre, TookTurn, TookLook, TookOrLeft, IsHere, IsElsewhere, IsOwned};
@@ -16,7 +17,7 @@ use crate::counts::{HistoryCounts, Learned, learn_of};
 use crate::flushes::write_counted;
 use crate::returned::Returned;
 use epoch_core::{LendPartition, Partition};
-use mica_fronts::{Changed, Decide, Flushes, When};
+use mica_fronts::{Changed, Decide, KeptFlushes, When};
 use partition_model::{Answer, Change, ItemBuf, Op, Outcome, Write};
 use partition_table::{Note, ReaderSeat};
 use std::marker::{Brand, Model, PhantomData};
@@ -64,7 +65,7 @@ pub struct OwnedPartition<
     number: u32,
     part: P,
     book: TurnBook<Step>,
-    flushes: Flushes,
+    flushes: KeptFlushes,
     of: PhantomData<J>,
 }
 
@@ -72,7 +73,7 @@ impl<J: ServerPlan, P: LendPartition<Reader = ReaderSeat, Note = Note> + Drop> M
     for OwnedPartition<J, P> {
     ghost use Rattle.std.specs.Prelude.{◌≡◌};
     ghost use Rattle.partition_table.specs.Seats.{note_state, note_home};
-    ghost use Rattle.mica_fronts.specs.Flushes.{flushes_in};
+    ghost use Rattle.mica_fronts.specs.Flushes.{AreKept};
     ghost use Rattle.locked_fronts.specs.Owned.{Owned, owned_as, IsOwned, NotesAre};
 
     ghost Value = { Owned };
@@ -80,7 +81,7 @@ impl<J: ServerPlan, P: LendPartition<Reader = ReaderSeat, Note = Note> + Drop> M
     ghost view = { λ o. owned_as o.number (P.home o.part) (P.owner o.part) o.book };
 
     ghost invariant = { λ o. IsOwned J.plan (owned_as o.number (P.home o.part) (P.owner o.part) o.book)
-        × (o.flushes ≡ flushes_in (P.owner o.part).history) × NotesAre P.noted P.note_home note_state note_home };
+        × AreKept (P.owner o.part).shape.buckets (P.owner o.part).history o.flushes × NotesAre P.noted P.note_home note_state note_home };
 }
 
 // Enters the step of K. It is told what the pick reads.
@@ -113,8 +114,8 @@ fn where_none(change: Change) -> Change
     }
 }
 
-/// What is decided of the answer to a get.
-pub(crate) fn decide_of<D: Decide>(
+// What is decided of the answer to a get.
+fn decide_of<D: Decide>(
     decide: &D,
     when: When,
     answer: Answer,
@@ -162,8 +163,13 @@ impl<J: ServerPlan, P: LendPartition<Reader = ReaderSeat, Note = Note> + Drop> O
     P,
 > {
     /// A partition as filled, with its flushes, and a book of no turns.
-    pub fn new(number: u32, part: P, book: TurnBook<Step>, flushes: Flushes) -> OwnedPartition<J, P>
-        requires flushes { flushes ≡ flushes_in (P.owner part).history }
+    pub fn new(
+        number: u32,
+        part: P,
+        book: TurnBook<Step>,
+        flushes: KeptFlushes,
+    ) -> OwnedPartition<J, P>
+        requires flushes { AreKept (P.owner part).shape.buckets (P.owner part).history flushes }
         requires notes { NotesAre P.noted P.note_home note_state note_home }
         requires filled { IsNew J.plan number (P.home part) (P.owner part) book }
         ensures { result ≡ owned_as number (P.home part) (P.owner part) book }
@@ -198,15 +204,23 @@ impl<J: ServerPlan, P: LendPartition<Reader = ReaderSeat, Note = Note> + Drop> O
     }
 
     // Takes one step, in the taker's turn.
-    fn step(&mut self, taker: &mut Taker<Step>, op: Op, key: &[u8], value: &[u8]) -> Written
+    fn step(
+        &mut self,
+        taker: &mut Taker<Step>,
+        op: Op,
+        key: &[u8],
+        hash: u64,
+        value: &[u8],
+    ) -> Written
         requires key { KeyFits key.now }
+        requires hashed { hash ≡ fnv1a key.now }
         requires value { HasValueOf op value.now }
         requires own { taker.old.table ≡ self.old.book.table }
         ensures { TookTurn J.plan self.old.number (stamp_of J.plan.options self.old.owner.history) self.old.owner.history taker.old taker.new
             (write_of op key.entry.now value.entry.now) result.outcome result.learned }
     {
-        let outcome = write_counted(&mut self.part, &mut self.flushes, op, key, value);
-        let learned = learn_of(&mut self.part, self.flushes);
+        let outcome = write_counted(&mut self.part, &mut self.flushes, op, key, hash, value);
+        let learned = learn_of(&mut self.part, &self.flushes);
         let stamp = learned.counts.stamp;
         enter::<Brand>(&mut self.book, taker, op, key, value, outcome, stamp);
         Written { outcome, learned }
@@ -217,25 +231,27 @@ impl<J: ServerPlan, P: LendPartition<Reader = ReaderSeat, Note = Note> + Drop> O
         &mut self,
         taker: &mut Taker<Step>,
         key: &[u8],
+        hash: u64,
         change: Change,
         next: &ItemBuf,
     ) -> (Option<Outcome>, Learned)
         requires key { KeyFits key.now }
+        requires hashed { hash ≡ fnv1a key.now }
         requires own { taker.old.table ≡ self.old.book.table }
         ensures { TookOrLeft J.plan self.old.number (stamp_of J.plan.options self.old.owner.history) self.old.owner.history taker.old taker.new
             (written_by key.entry.now next.entry.now change) result.0 result.1 }
     {
         match change {
             Change::Stay => {
-                let learned = learn_of(&mut self.part, self.flushes);
+                let learned = learn_of(&mut self.part, &self.flushes);
                 (None, learned)
             }
             Change::Become => {
-                let written = self.step(taker, Op::Put, key, next.value());
+                let written = self.step(taker, Op::Put, key, hash, next.value());
                 (Some(written.outcome), written.learned)
             }
             Change::Go => {
-                let written = self.step(taker, Op::Del, key, &[]);
+                let written = self.step(taker, Op::Del, key, hash, &[]);
                 (Some(written.outcome), written.learned)
             }
         }
@@ -247,18 +263,20 @@ impl<J: ServerPlan, P: LendPartition<Reader = ReaderSeat, Note = Note> + Drop> O
         taker: &mut Taker<Step>,
         second: u64,
         key: &[u8],
+        hash: u64,
         decide: &D,
         found: &mut ItemBuf,
         next: &mut ItemBuf,
     ) -> (Changed, Learned)
         requires key { KeyFits key.now }
+        requires hashed { hash ≡ fnv1a key.now }
         requires own { taker.old.table ≡ self.old.book.table }
         ensures { TookLook J.plan self.old.number (stamp_of J.plan.options self.old.owner.history) second self.old.owner.history key.entry.now
             (D.needs decide.entry.now) (D.becoming decide.entry.now) taker.old taker.new result.0 found.new result.1 }
     {
-        let when = HistoryCounts::of(&self.part, self.flushes).when_at(second);
+        let when = HistoryCounts::of(&self.part, &self.flushes).when_at(second);
         let (answer, change) = look(&mut self.part, key, decide, when, found, next);
-        let (outcome, learned) = self.do_change(taker, key, change, next);
+        let (outcome, learned) = self.do_change(taker, key, hash, change, next);
         let changed = Changed {
             when,
             found: answer,
@@ -276,9 +294,11 @@ impl<J: ServerPlan, P: LendPartition<Reader = ReaderSeat, Note = Note> + Drop> O
         least: u64,
         op: Op,
         key: &[u8],
+        hash: u64,
         value: &[u8],
     ) -> Option<Written>
         requires key { KeyFits key.now }
+        requires hashed { hash ≡ fnv1a key.now }
         requires value { HasValueOf op value.now }
         requires own { taker.old.table ≡ J.plan.books number }
         ensures written { IfSome result (λ w. TookTurn J.plan number least self.old.owner.history taker.old taker.new
@@ -286,7 +306,7 @@ impl<J: ServerPlan, P: LendPartition<Reader = ReaderSeat, Note = Note> + Drop> O
         ensures none { IfNone result (IsElsewhere J.plan number least self.old × (self.new ≡ self.old) × (taker.new ≡ taker.old)) }
     {
         if self.is_at(number, least) {
-            Some(self.step(taker, op, key, value))
+            Some(self.step(taker, op, key, hash, value))
         } else {
             None
         }
@@ -300,18 +320,20 @@ impl<J: ServerPlan, P: LendPartition<Reader = ReaderSeat, Note = Note> + Drop> O
         least: u64,
         second: u64,
         key: &[u8],
+        hash: u64,
         decide: &D,
         found: &mut ItemBuf,
         next: &mut ItemBuf,
     ) -> Option<(Changed, Learned)>
         requires key { KeyFits key.now }
+        requires hashed { hash ≡ fnv1a key.now }
         requires own { taker.old.table ≡ J.plan.books number }
         ensures looked { IfSome result (λ r. TookLook J.plan number least second self.old.owner.history key.entry.now
             (D.needs decide.entry.now) (D.becoming decide.entry.now) taker.old taker.new r.0 found.new r.1) }
         ensures none { IfNone result (IsElsewhere J.plan number least self.old × (self.new ≡ self.old) × (taker.new ≡ taker.old)) }
     {
         if self.is_at(number, least) {
-            Some(self.change_here(taker, second, key, decide, found, next))
+            Some(self.change_here(taker, second, key, hash, decide, found, next))
         } else {
             None
         }

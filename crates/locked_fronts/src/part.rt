@@ -6,19 +6,22 @@ ghost use Rattle.partition_model.specs.History.{History};
 ghost use Rattle.partition_model.specs.Write.{HasValueOf, write_of};
 ghost use Rattle.partition_table.specs.Seats.{reader_home, note_home};
 ghost use Rattle.locked_fronts.specs.Owned.{TookTurn, TookLook};
-ghost use Rattle.locked_fronts.specs.Parts.{IsPartOf, HasLearned, PartWrites, PartReads, PartChanges, PartRests, AnswersAsCounted};
+ghost use Rattle.locked_fronts.specs.Parts.{IsPartOf, HasLearned, PartWrites, PartReads, PartChanges, PartRests, PartLooks, answer_in as in_got};
 
 use crate::counts::{HistoryCounts, Learned};
-use crate::owned::{OwnedPartition, ServerPlan, Step, Written, decide_of};
+use crate::owned::{OwnedPartition, ServerPlan, Step, Written};
 use crate::taking::take;
-use epoch_core::{LendPartition, ReaderWords, WordAt};
+use epoch_core::{LendPartition, ReaderWords};
 use mica_fronts::{Changed, Decide};
 use optimistic_get::{Got, ask_hashed, get_hashed};
-use partition_model::{Answer, Change, ItemBuf, Op, Outcome};
+use partition_model::{Answer, ItemBuf, Op, Outcome};
 use partition_table::{Note, ReaderSeat};
 use std::sync::{Mutex, Wait};
 use std::thread;
 use turn_book::Taker;
+
+/// How often a look is tried before the lock is taken for it.
+const TRIES: u32 = 8;
 
 /// What a front has of one partition.
 #[derive(Drop)]
@@ -31,6 +34,17 @@ pub struct LockedPart {
     pub newest: u64,
     /// What was counted under the last hold.
     pub counts: HistoryCounts,
+}
+
+// The answer, with its stamp, where there is one.
+fn answer_in(got: Got) -> Option<(Answer, u64)>
+    ensures { result ≡ in_got got }
+{
+    match got {
+        Got::Hit { stamp } => Some((Answer::Hit, stamp)),
+        Got::Miss { stamp } => Some((Answer::Miss, stamp)),
+        Got::Again { .. } => None,
+    }
 }
 
 // Owns the partition for one write. Whatever the lock is of, the write is done in the partition of the number, and not before that has come as
@@ -47,16 +61,18 @@ fn write_under_lock<
     least: u64,
     op: Op,
     key: &[u8],
+    hash: u64,
     value: &[u8],
 ) -> Written
     requires key { KeyFits key.now }
+    requires hashed { hash ≡ fnv1a key.now }
     requires value { HasValueOf op value.now }
     requires own { taker.old.table ≡ J.plan.books number }
     ensures { (before : History) × TookTurn J.plan number least before taker.old taker.new
         (write_of op key.entry.now value.entry.now) result.outcome result.learned }
 {
     for _ in rt.forever() {
-        let written = take(rt, lock).write(taker, number, least, op, key, value);
+        let written = take(rt, lock).write(taker, number, least, op, key, hash, value);
         match written {
             Some(written) => return written,
             None => thread::yield_now(),
@@ -79,17 +95,21 @@ fn change_under_lock<
     least: u64,
     second: u64,
     key: &[u8],
+    hash: u64,
     decide: &D,
     found: &mut ItemBuf,
     next: &mut ItemBuf,
 ) -> (Changed, Learned)
     requires key { KeyFits key.now }
+    requires hashed { hash ≡ fnv1a key.now }
     requires own { taker.old.table ≡ J.plan.books number }
     ensures { (before : History) × TookLook J.plan number least second before key.entry.now
         (D.needs decide.entry.now) (D.becoming decide.entry.now) taker.old taker.new result.0 found.new result.1 }
 {
     for _ in rt.forever() {
-        let looked = take(rt, lock).change(taker, number, least, second, key, decide, found, next);
+        let looked = take(rt, lock).change(
+            taker, number, least, second, key, hash, decide, found, next,
+        );
         match looked {
             Some(looked) => return looked,
             None => thread::yield_now(),
@@ -112,28 +132,36 @@ impl LockedPart {
         self.counts = counts;
     }
 
-    // The answer to one try that is told nowhere, where it is as of the history that was counted last. The stamp is looked at first, since at
-    // another one the try would be for nothing.
-    fn peek(&mut self, key: &[u8], hash: u64, found: &mut ItemBuf) -> Option<Answer>
+    // The answer to a few tries that are told nowhere, with its stamp, where no flush stands behind what was counted last. The epoch of their bucket is
+    // looked at first, too: where it has moved the tries would be for nothing.
+    fn peek(&mut self, key: &[u8], hash: u64, found: &mut ItemBuf) -> Option<(Answer, u64)>
         requires key { KeyFits key.now }
         requires hashed { hash ≡ fnv1a key.now }
-        ensures rests { PartRests self.old self.new }
-        ensures answered { IfSome result (λ answer. AnswersAsCounted self.old key.entry.now answer found.new) }
+        ensures looked { IfSome result (λ r. PartLooks self.old key.entry.now r.0 r.1 found.new self.new) }
+        ensures none { IfNone result (PartRests self.old self.new) }
     {
-        if self.seat.peek(WordAt::Stamp) != self.counts.stamp {
+        let epoch = self.seat.epoch_of_first();
+        if !self.counts.has_all_flushes(epoch) {
             return None;
         }
         let aside = self.seat.set_aside();
-        let got = get_hashed(&mut self.seat, key, hash, 1, found);
-        self.seat.take_up(aside);
-        match got {
-            Got::Hit { stamp } if stamp == self.counts.stamp => Some(Answer::Hit),
-            Got::Miss { stamp } if stamp == self.counts.stamp => Some(Answer::Miss),
-            _ => None,
+        let got = get_hashed(&mut self.seat, key, hash, TRIES, found);
+        let epoch = self.seat.epoch_of_first();
+        match answer_in(got) {
+            Some((answer, stamp)) if self.counts.has_all_flushes(epoch) => {
+                self.seat.take_up_seen(aside);
+                self.last = stamp;
+                self.newest = stamp;
+                Some((answer, stamp))
+            }
+            _ => {
+                self.seat.take_up(aside);
+                None
+            }
         }
     }
 
-    // A look without a hold, at the history that was counted last, where the decision only reads and nothing is to be written.
+    // A look without a hold, where the decision only reads.
     fn look_on<J: ServerPlan, D: Decide>(
         &mut self,
         _number: u32,
@@ -142,7 +170,6 @@ impl LockedPart {
         hash: u64,
         decide: &D,
         found: &mut ItemBuf,
-        next: &mut ItemBuf,
     ) -> Option<Changed>
         requires key { KeyFits key.now }
         requires hashed { hash ≡ fnv1a key.now }
@@ -154,20 +181,13 @@ impl LockedPart {
         if !decide.only_reads() {
             return None;
         }
-        let answer = self.peek(key, hash, found)?;
-        let when = self.counts.when_at(second);
-        match decide_of(decide, when, answer, found, next) {
-            Change::Stay => {
-                self.last = self.counts.stamp;
-                Some(Changed {
-                    when,
-                    found: Some(answer),
-                    outcome: None,
-                    stamp: self.last,
-                })
-            }
-            Change::Become | Change::Go => None,
-        }
+        let (answer, stamp) = self.peek(key, hash, found)?;
+        Some(Changed {
+            when: self.counts.when_at(second),
+            found: Some(answer),
+            outcome: None,
+            stamp,
+        })
     }
 
     /// Owns the partition of the number for one write, and tells the seat its note.
@@ -182,9 +202,11 @@ impl LockedPart {
         number: u32,
         op: Op,
         key: &[u8],
+        hash: u64,
         value: &[u8],
     ) -> (Outcome, u64)
         requires key { KeyFits key.now }
+        requires hashed { hash ≡ fnv1a key.now }
         requires value { HasValueOf op value.now }
         requires own { IsPartOf J.plan number self.old.taker.number self.old }
         ensures { PartWrites J.plan number self.old (write_of op key.entry.now value.entry.now) result.0 result.1 self.new }
@@ -197,6 +219,7 @@ impl LockedPart {
             self.newest,
             op,
             key,
+            hash,
             value,
         );
         let stamp = learned.counts.stamp;
@@ -217,11 +240,13 @@ impl LockedPart {
         number: u32,
         second: u64,
         key: &[u8],
+        hash: u64,
         decide: &D,
         found: &mut ItemBuf,
         next: &mut ItemBuf,
     ) -> Changed
         requires key { KeyFits key.now }
+        requires hashed { hash ≡ fnv1a key.now }
         requires own { IsPartOf J.plan number self.old.taker.number self.old }
         ensures { PartChanges J.plan number second key.entry.now (D.needs decide.entry.now) (D.becoming decide.entry.now) self.old result found.new self.new }
     {
@@ -233,6 +258,7 @@ impl LockedPart {
             self.newest,
             second,
             key,
+            hash,
             decide,
             found,
             next,
@@ -241,7 +267,8 @@ impl LockedPart {
         changed
     }
 
-    /// Looks at the key's value and does what is decided of it: without a hold where that only reads and nobody wrote since the last one, else under one.
+    /// Looks at the key's value and does what is decided of it: without a hold where that only reads and nothing was written in the bucket of flushes since
+    /// the last one, else under one.
     pub(crate) fn change<
         R: Wait,
         J: ServerPlan,
@@ -264,9 +291,9 @@ impl LockedPart {
         requires own { IsPartOf J.plan number self.old.taker.number self.old }
         ensures { PartChanges J.plan number second key.entry.now (D.needs decide.entry.now) (D.becoming decide.entry.now) self.old result found.new self.new }
     {
-        match self.look_on::<J, D>(number, second, key, hash, decide, found, next) {
+        match self.look_on::<J, D>(number, second, key, hash, decide, found) {
             Some(changed) => changed,
-            None => self.change_held(rt, lock, number, second, key, decide, found, next),
+            None => self.change_held(rt, lock, number, second, key, hash, decide, found, next),
         }
     }
 

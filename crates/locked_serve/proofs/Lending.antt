@@ -7,8 +7,6 @@ use Rattle.mica_serve.proofs.Binding.{at_snoc}
 use Rattle.list_laws.proofs.UpTo.{UpTo, up_one}
 use Rattle.epoch_core.specs.declared.state.OwnerState.{OwnerState}
 use Rattle.epoch_core.specs.declared.reader.ReaderState.{ReaderState}
-use Rattle.epoch_core.specs.declared.state.Phase.{Phase}
-use Rattle.epoch_core.specs.Joins.{ended_in}
 use Rattle.epoch_core.proofs.Prefixes.{prefix_same}
 use Rattle.partition_model.specs.History.{IsPrefix, stamp_of}
 use Rattle.mica_fronts.proofs.SoloSteps.{same_stamp}
@@ -47,8 +45,6 @@ lent_part plan k p old new part was lends = record {
       history = old.owner.history;
       counted = lends.counts ∙ plan_counts plan.options old.owner.shape old.owner.history (ap (λ (o : OwnerState). o.shape) was.owner.state);
       seen = subst (λ (r : ReaderState). IsPrefix old.owner.history r.seen) (sym lends.seat) (prefix_same old.owner.history);
-      done = subst (λ (r : ReaderState). IsPrefix old.owner.history r.done) (sym lends.seat)
-          (subst (λ (p : Phase). IsPrefix old.owner.history (ended_in p old.owner.history)) (sym (ap (λ (o : OwnerState). o.phase) was.owner.state)) (prefix_same old.owner.history));
     };
   };
   none = ap (λ (t : TakerView Step). t.mine) lends.taker;

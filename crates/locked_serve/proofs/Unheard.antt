@@ -57,6 +57,7 @@ module _ (options : Options) (base : ℕ) where
         counted = refl;
         through = subst (λ (entries : List Entry). TalksThrough options base MOST_UNSENT log.schedule [] entries []) (sym fresh)
             (λ c. inl (record { said = []; rest = []; spells = refl; answered = refl; begins = ([], refl) }, record { kept = omega arith; unsent = omega arith }));
+        turns = record { turns = []; calls = sym fresh; given = refl; short = tt };
         done = λ ended. absurd (true≢false (sym ended));
       };
     },

@@ -14,17 +14,17 @@ use Rattle.locked_fronts.specs.declared.part.LockedPart.{LockedPart}
 use Rattle.locked_fronts.specs.Plan.{Plan}
 use Rattle.locked_fronts.specs.Counts.{counts_after}
 use Rattle.locked_fronts.specs.Parts.{IsPartOf}
-use Rattle.mica_fronts.specs.declared.flushes.Flushes.{Flushes}
-use Rattle.mica_fronts.specs.Flushes.{flushes_in}
+use Rattle.mica_fronts.specs.declared.flushes.KeptFlushes.{KeptFlushes}
+use Rattle.mica_fronts.specs.Flushes.{AreKept}
 use Rattle.locked_serve.specs.Filled.{IsFilledOwner, origin_of}
 use Rattle.locked_serve.specs.declared.opening.FilledPart.{FilledPart}
 
--- the table, the owner's state, the book, and how many writes were accepted up to the last flush
+-- the table, the owner's state, the book, and what is kept of its flushes
 pub record FilledView : Type 0 where
   pub home : TableId
   pub owner : OwnerState
   pub book : BookView Step
-  pub flushes : Flushes
+  pub flushes : KeptFlushes
 
 -- what contracts see of a partition that was filled
 abbrev pub filled_view : {P : Type 0} → (P → OwnerState) → (P → TableId) → FilledPart P → FilledView
@@ -35,7 +35,7 @@ pub record IsFilled (options : Options) (writes : List Write) (p : ℕ) (filled 
   pub owner : IsFilledOwner options filled.owner
   pub origin : filled.owner.history ≡ origin_of options writes p
   pub book : filled.book ≡ book_view filled.book.table 0 []
-  pub flushes : filled.flushes ≡ flushes_in filled.owner.history
+  pub flushes : AreKept filled.owner.shape.buckets filled.owner.history filled.flushes
 
 -- one for each partition, in order
 pub record AreFilled (options : Options) (writes : List Write) (all : List FilledView) : Type 0 where
@@ -75,7 +75,7 @@ pub record IsPlanned (plan : Plan) (takers p : ℕ) (filled : FilledView) : Type
   pub origin : filled.owner.history ≡ plan.origin p
   pub home : filled.home ≡ plan.homes p
   pub book : filled.book ≡ book_view (plan.books p) takers []
-  pub flushes : filled.flushes ≡ flushes_in filled.owner.history
+  pub flushes : AreKept filled.owner.shape.buckets filled.owner.history filled.flushes
 
 -- there is one filled partition for each number, and each is as the plan says
 pub record ArePlanned (plan : Plan) (takers : ℕ) (all : List FilledView) : Type 0 where

@@ -7,12 +7,12 @@ ghost use Rattle.partition_model.specs.Options.{IsPossible};
 ghost use Rattle.epoch_core.specs.OwnerState.{as_made};
 ghost use Rattle.epoch_core.specs.Shape.{shape_of};
 ghost use Rattle.epoch_core.specs.OwnerStep.{IsOwnerStep};
-ghost use Rattle.mica_fronts.specs.Flushes.{flushes_in};
+ghost use Rattle.mica_fronts.specs.Flushes.{AreKept};
 ghost use Rattle.locked_serve.specs.Filled.{RefusesFilling, IsFilledOwner, origin_of};
 
 use epoch_core::Partition;
 use locked_fronts::write_counted;
-use mica_fronts::Flushes;
+use mica_fronts::KeptFlushes;
 use mica_io::NoMemory;
 use mica_words::{key_hash, partition_of};
 use partition_model::{Options, Write};
@@ -72,30 +72,25 @@ impl<T: Drop> From<AllocFailed<T>> for OpenFault {
 // Does the write in the partition, where it is to one of its keys, and says whether it was not refused.
 fn fill_one<P: Partition>(
     part: &mut P,
-    flushes: &mut Flushes,
+    flushes: &mut KeptFlushes,
     options: &Options,
     number: u32,
     write: &Write,
 ) -> bool
     requires valid { IsPossible options.now }
     requires write { IsWrite write.now }
-    requires flushes { flushes.old ≡ flushes_in (P.owner part.old).history }
+    requires flushes { AreKept (P.owner part.old).shape.buckets (P.owner part.old).history flushes.old }
     ensures own { partition_of write.now.key options.now.partitions ≡ number
         → (outcome : Outcome) × (is_accepted outcome ≡ result) × IsOwnerStep (P.owner part.old) (P.owner part.new) write.now outcome }
     ensures other { partition_of write.now.key options.now.partitions ≢ number → (result ≡ true) × (P.owner part.new ≡ P.owner part.old) }
-    ensures flushes { flushes.new ≡ flushes_in (P.owner part.new).history }
+    ensures flushes { AreKept (P.owner part.new).shape.buckets (P.owner part.new).history flushes.new }
 {
-    if partition_of(key_hash(write.key.bytes()), options.partitions) != number {
+    let key = write.key.bytes();
+    let hash = key_hash(key);
+    if partition_of(hash, options.partitions) != number {
         return true;
     }
-    write_counted(
-        part,
-        flushes,
-        write.op,
-        write.key.bytes(),
-        write.value.bytes(),
-    )
-    .is_accepted()
+    write_counted(part, flushes, write.op, key, hash, write.value.bytes()).is_accepted()
 }
 
 /// Does those of the writes in the partition that are to its keys, up to the first that is refused. Says what flushes are among them.
@@ -104,16 +99,16 @@ pub(crate) fn fill<P: Partition>(
     options: &Options,
     number: u32,
     filling: &[Write],
-) -> Result<Flushes, OpenFault>
+) -> Result<KeptFlushes, OpenFault>
     requires valid { IsPossible options.now }
     requires made { P.owner part.old ≡ as_made (shape_of options.now) }
     requires writes { All IsWrite filling.now }
     ensures filled { OnOk result (IsFilledOwner options.now (P.owner part.new)) }
     ensures origin { OnOk result ((P.owner part.new).history ≡ origin_of options.now filling.now number) }
-    ensures flushes { IfOk result (λ flushes. flushes ≡ flushes_in (P.owner part.new).history) }
+    ensures flushes { IfOk result (AreKept (P.owner part.new).shape.buckets (P.owner part.new).history) }
     ensures refused { OnErr result (RefusesFilling options.now filling.now) }
 {
-    let mut flushes = Flushes::none();
+    let mut flushes = KeptFlushes::none(options.buckets);
     for write in filling {
         if !fill_one(part, &mut flushes, options, number, write) {
             return Err(OpenFault::Refused);

@@ -6,7 +6,7 @@ ghost use Rattle.partition_model.specs.Write.{IsWrite};
 ghost use Rattle.epoch_core.specs.OwnerState.{as_made};
 ghost use Rattle.epoch_core.specs.Shape.{shape_of};
 ghost use Rattle.partition_table.specs.Seats.{note_state, note_home};
-ghost use Rattle.mica_fronts.specs.Flushes.{flushes_in};
+ghost use Rattle.mica_fronts.specs.Flushes.{AreKept};
 ghost use Rattle.locked_fronts.specs.Owned.{NotesAre};
 ghost use Rattle.locked_serve.specs.declared.serve.TheConstants.{MOST_FRONTS};
 ghost use Rattle.locked_serve.specs.Filled.{RefusesFilling};
@@ -15,7 +15,7 @@ ghost use Rattle.locked_serve.specs.Opening.{IsFilled, AreFilled, ArePlanned, Le
 use crate::filling::{OpenFault, fill};
 use epoch_core::{LendPartition, Partition, Shape};
 use locked_fronts::{HistoryCounts, LockedPart, OwnedPartition, ServerPlan, Step};
-use mica_fronts::Flushes;
+use mica_fronts::KeptFlushes;
 use mica_io::NoMemory;
 use partition_model::{Options, Write};
 use partition_table::{Note, ReaderSeat, zeros_for};
@@ -29,7 +29,7 @@ use turn_book::TurnBook;
 pub struct FilledPart<P> {
     pub part: P,
     pub book: TurnBook<Step>,
-    pub flushes: Flushes,
+    pub flushes: KeptFlushes,
 }
 
 // Makes and fills one partition.
@@ -82,7 +82,7 @@ pub fn open_parts<P: OnTable + LendPartition<Reader = ReaderSeat, Note = Note>>(
 impl<P: LendPartition<Reader = ReaderSeat, Note = Note>> FilledPart<P> {
     // A part for one front more.
     fn lend(&mut self) -> Result<LockedPart, NoMemory>
-        requires { self.old.flushes ≡ flushes_in (P.owner self.old.part).history }
+        requires { AreKept (P.owner self.old.part).shape.buckets (P.owner self.old.part).history self.old.flushes }
         ensures { IfOk result (LendsOne (filled_view P.owner P.home self.old) (filled_view P.owner P.home self.new)) }
     {
         let seat = self.part.lend()?;
@@ -91,7 +91,7 @@ impl<P: LendPartition<Reader = ReaderSeat, Note = Note>> FilledPart<P> {
             taker: self.book.enroll(),
             last: 0,
             newest: self.part.stamp(),
-            counts: HistoryCounts::of(&self.part, self.flushes),
+            counts: HistoryCounts::of(&self.part, &self.flushes),
         })
     }
 }

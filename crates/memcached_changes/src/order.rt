@@ -6,7 +6,7 @@ ghost use Rattle.mica_fronts.specs.declared.changing.When.{When};
 ghost use Rattle.mica_fronts.specs.Changing.{IsChange};
 ghost use Rattle.memcached_changes.specs.Numbered.{numbered, moment_at, value_in, becoming_by, says_by};
 
-use memcached_commands::{Ask, Moment, Says, change_stored, found_in, looks, says_of};
+use memcached_commands::{Ask, Moment, Says, change_stored, found_in, looks, only_reads, says_of};
 use memcached_text::Reply;
 use mica_fronts::{Decide, When};
 use mica_words::MAX_VALUE_LEN;
@@ -96,9 +96,9 @@ impl<'a> Decide for CommandOrder<'a> {
         looks(self.ask)
     }
 
-    #[tactic(auto, using(crate::proofs::Becomings::get_gives_nothing))]
+    #[tactic(auto, using(crate::proofs::Becomings::becomes_nothing))]
     fn only_reads(&self) -> bool {
-        matches!(self.ask, Ask::Get)
+        only_reads(self.ask)
     }
 
     #[tactic(auto, using(crate::proofs::Becomings::same_change))]

@@ -21,7 +21,7 @@ use Rattle.memcached_commands.specs.declared.moment.TheConstants.{LAST_SECOND}
 use Rattle.memcached_text.specs.declared.fault.Fault.TheVariants.{TooLarge}
 use Rattle.memcached_text.specs.declared.reply.Reply.TheVariants.{Stored}
 use Rattle.memcached_text.specs.declared.command.Wants.TheVariants.{Whatever, Absent, Present, Numbered}
-use Rattle.memcached_commands.specs.Changes.{without_dead, ends_with_flush, becoming_of, looks}
+use Rattle.memcached_commands.specs.Changes.{only_reads, without_dead, ends_with_flush, becoming_of, looks}
 use Rattle.memcached_commands.specs.declared.ask.Says.{Says}
 use Rattle.memcached_commands.specs.declared.ask.Says.TheVariants.{Line, Refusal, Number}
 use Rattle.memcached_commands.specs.declared.ask.Ask.{Ask}
@@ -226,12 +226,13 @@ never_longer at Delete (Some item) next asked is = goes_no_item next is
 never_longer at Spoil found next asked is = goes_no_item next is
 
 -- what becomes an item is decided so
-alive_item : (stored : Option (List ℕ)) (found : Option Item) (becoming : Becoming) (item : Item) → without_dead stored found becoming ≡ becomes item → becoming ≡ becomes item
-alive_item None found becoming item is = is
-alive_item (Some stored) (Some old) becoming item is = is
-alive_item (Some stored) None stays item is = goes_no_item item is
-alive_item (Some stored) None (becomes next) item is = is
-alive_item (Some stored) None goes item is = is
+alive_item : (reads : Bool) (stored : Option (List ℕ)) (found : Option Item) (becoming : Becoming) (item : Item) → without_dead reads stored found becoming ≡ becomes item → becoming ≡ becomes item
+alive_item true stored found becoming item is = is
+alive_item false None found becoming item is = is
+alive_item false (Some stored) (Some old) becoming item is = is
+alive_item false (Some stored) None stays item is = goes_no_item item is
+alive_item false (Some stored) None (becomes next) item is = is
+alive_item false (Some stored) None goes item is = is
 
 above_none : (n : ℕ) → (n == 0) ≡ false → 0 < n
 above_none zero is = absurd (true≢false is)
@@ -255,7 +256,7 @@ flush_ends at goes item some is = goes_no_item item is
 
 pub ends_with_it : EndsWithFlush
 ends_with_it at ask stored item some is =
-    flush_ends at (decide at ask (found_in at stored)).becoming item some (alive_item stored (found_in at stored) _ item is)
+    flush_ends at (decide at ask (found_in at stored)).becoming item some (alive_item (only_reads ask) stored (found_in at stored) _ item is)
 
 kept_same : (end : Option ℕ) (item next : Item) → kept_until end item ≡ becomes next → IsSameValue (Some item) next
 kept_same None item next is = goes_no_item next is
@@ -337,7 +338,7 @@ counts_go_on at direction delta n item is = said_on at direction delta n item (n
 
 -- only what stays is taken away where it is not there
 kept_alive : (at : Moment) (end : Option ℕ) (item : Item) (stored : Option (List ℕ)) (found : Option Item)
-    → without_dead stored found (ends_with_flush at (kept_until end item)) ≡ ends_with_flush at (kept_until end item)
+    → without_dead false stored found (ends_with_flush at (kept_until end item)) ≡ ends_with_flush at (kept_until end item)
 kept_alive at None item None found = refl
 kept_alive at None item (Some stored) None = refl
 kept_alive at None item (Some stored) (Some old) = refl
@@ -345,7 +346,7 @@ kept_alive at (Some end) item None found = refl
 kept_alive at (Some end) item (Some stored) None = refl
 kept_alive at (Some end) item (Some stored) (Some old) = refl
 
-goes_alive : (stored : Option (List ℕ)) (found : Option Item) → without_dead stored found goes ≡ goes
+goes_alive : (stored : Option (List ℕ)) (found : Option Item) → without_dead false stored found goes ≡ goes
 goes_alive None found = refl
 goes_alive (Some stored) None = refl
 goes_alive (Some stored) (Some old) = refl
@@ -364,3 +365,19 @@ blind (Join side more) is at one other = absurd (true≢false is)
 blind (Count direction delta) is at one other = absurd (true≢false is)
 blind (Touch lifetime) is at one other = absurd (true≢false is)
 blind Delete is at one other = absurd (true≢false is)
+
+-- a command that only reads leaves whatever is stored
+pub left : (ask : Ask) → only_reads ask ≡ true → (at : Moment) (stored : Option (List ℕ)) → becoming_of at ask stored ≡ stays
+unfolding decide
+left Get is at stored = nothing (found_in at stored)
+  where
+    nothing : (found : Option Item) → without_dead true stored found (ends_with_flush at (decide at Get found).becoming) ≡ stays
+    nothing None = refl
+    nothing (Some item) = refl
+left (GetTouch lifetime) is at stored = absurd (true≢false (sym is))
+left (Store wants flags lifetime value) is at stored = absurd (true≢false (sym is))
+left (Join side more) is at stored = absurd (true≢false (sym is))
+left (Count direction delta) is at stored = absurd (true≢false (sym is))
+left (Touch lifetime) is at stored = absurd (true≢false (sym is))
+left Delete is at stored = absurd (true≢false (sym is))
+left Spoil is at stored = absurd (true≢false (sym is))

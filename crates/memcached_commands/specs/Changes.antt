@@ -5,16 +5,21 @@ use Rattle.memcached_text.specs.Item.{item_text}
 use Rattle.memcached_commands.specs.declared.moment.Moment.{Moment}
 use Rattle.memcached_commands.specs.declared.ask.Ask.{Ask}
 use Rattle.memcached_text.specs.declared.command.Wants.TheVariants.{Whatever}
-use Rattle.memcached_commands.specs.declared.ask.Ask.TheVariants.{Store, Spoil}
+use Rattle.memcached_commands.specs.declared.ask.Ask.TheVariants.{Get, Store, Spoil}
 use Rattle.partition_model.specs.declared.change.Change.{Change}
 use Rattle.partition_model.specs.declared.change.Change.TheVariants.{Stay, Become, Go}
 use Rattle.memcached_commands.specs.Moments.{ended_by, found_in}
 use Rattle.memcached_commands.specs.Decide.{Becoming, stays, becomes, goes, decide}
 
--- what is stored and not there is not left
-abbrev pub without_dead : Option (List ℕ) → Option Item → Becoming → Becoming
-without_dead (Some stored) None stays = goes
-without_dead _ _ becoming = becoming
+-- a get leaves all that it finds, whatever is there of it
+abbrev pub only_reads : Ask → Bool
+only_reads Get = true
+only_reads _ = false
+
+-- what is stored and not there is not left by a command that may change it
+abbrev pub without_dead : Bool → Option (List ℕ) → Option Item → Becoming → Becoming
+without_dead false (Some stored) None stays = goes
+without_dead _ _ _ becoming = becoming
 
 -- What is stored while a flush waits ends with it at the latest, so that flush takes what came behind it too.
 abbrev pub ends_with_flush : Moment → Becoming → Becoming
@@ -24,7 +29,7 @@ ends_with_flush at goes = goes
 
 -- What a command makes of what is stored.
 abbrev pub becoming_of : Moment → Ask → Option (List ℕ) → Becoming
-becoming_of at ask stored = without_dead stored (found_in at stored) (ends_with_flush at (decide at ask (found_in at stored)).becoming)
+becoming_of at ask stored = without_dead (only_reads ask) stored (found_in at stored) (ends_with_flush at (decide at ask (found_in at stored)).becoming)
 
 -- what a call answers for it, and leaves in a buffer: the text of the item that is to be
 abbrev pub IsChange : Becoming → Change → List ℕ → Type 0

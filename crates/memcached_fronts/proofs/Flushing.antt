@@ -1,14 +1,16 @@
 -- Partitions that are flushed one after another.
-use Rattle.std.proofs.Common.{◌≡◌, ◌<◌, ◌≤◌, ◌+◌, ◌^◌, ◌&&◌, ◌==◌, ℕ, suc, Bool, true, false, cond, List, [], ◌∷◌, ◌++◌, length, drop, nat_lt, Option, Some, None, option_to_list, refl, sym, ap, ◌∙◌, subst, arith, length-append}
-use Rattle.std.specs.Prelude.{if◌then◌else◌}
+use Rattle.std.proofs.Common.{◌≡◌, ◌<◌, ◌≤◌, ◌+◌, ◌*◌, ◌%◌, ◌^◌, ◌&&◌, ◌==◌, ℕ, suc, Bool, true, false, cond, List, [], ◌∷◌, ◌++◌, length, drop, nat_lt, Option, Some, None, option_to_list, refl, sym, ap, ◌∙◌, subst, arith, append_assoc, length-append}
+use Rattle.std.specs.Prelude.{bit_xor, if◌then◌else◌}
 use Rattle.std.specs.Int.{w64, to_le_bytes, from_le_bytes}
 use Rattle.std.specs.List.{list_all, cons_option}
 use Rattle.std.proofs.Math.Dec.{eqb-suc-zero}
 use Rattle.std.proofs.lemmas.Bool.{le-ltb}
 use Rattle.std.proofs.lemmas.Nat.{from_le_bytes-to_le_bytes_8}
 use Rattle.std.proofs.lemmas.List.Folds.{list_all-append}
+use Rattle.std.proofs.lemmas.List.Sums.{fold-append}
 use Rattle.mica_clock.specs.Seconds.{ClockView}
-use Rattle.mica_words.specs.Hash.{partition_of}
+use Rattle.mica_words.specs.Hash.{fnv1a, hash_partition, hash_bucket, partition_of, bucket_of}
+use Rattle.mica_words.proofs.Hashes.{partition_of_hash, bucket_of_hash}
 use Rattle.partition_model.specs.declared.options.Options.{Options}
 use Rattle.partition_model.specs.declared.write.Outcome.{Outcome}
 use Rattle.partition_model.specs.declared.write.Op.TheVariants.{Del}
@@ -127,20 +129,35 @@ key_says due asked rest due_low asked_low =
     rw (long, at, from) refl
 
 -- of a key that is made piece by piece
-pub made_key : (none feed with_due with_both key rest : List ℕ) (due asked : ℕ) → due < 2 ^ 64 → asked < 2 ^ 64 → none ≡ [] → feed ≡ none ++ 10 ∷ []
-    → with_due ≡ feed ++ to_le_bytes w64 due → with_both ≡ with_due ++ to_le_bytes w64 asked → key ≡ with_both ++ rest
+pub made_key : (none feed with_due with_both with_number key number end : List ℕ) (due asked : ℕ) → due < 2 ^ 64 → asked < 2 ^ 64 → none ≡ [] → feed ≡ none ++ 10 ∷ []
+    → with_due ≡ feed ++ to_le_bytes w64 due → with_both ≡ with_due ++ to_le_bytes w64 asked → with_number ≡ with_both ++ number → key ≡ with_number ++ end
     → flush_in key ≡ record { due = due; asked = asked }
-made_key none feed with_due with_both key rest due asked due_low asked_low none_is feed_is due_is both_is key_is =
-    ap flush_in (key_is ∙ ap (λ b. b ++ rest) (both_is ∙ ap (λ d. d ++ to_le_bytes w64 asked) (due_is ∙ ap (λ f. f ++ to_le_bytes w64 due) (feed_is ∙ ap (λ n. n ++ 10 ∷ []) none_is))))
-    ∙ key_says due asked rest due_low asked_low
+made_key none feed with_due with_both with_number key number end due asked due_low asked_low none_is feed_is due_is both_is number_is key_is =
+    ap flush_in (key_is ∙ ap (λ n. n ++ end) number_is ∙ append_assoc with_both number end ∙ ap (λ b. b ++ (number ++ end))
+    (both_is ∙ ap (λ d. d ++ to_le_bytes w64 asked) (due_is ∙ ap (λ f. f ++ to_le_bytes w64 due) (feed_is ∙ ap (λ n. n ++ 10 ∷ []) none_is))))
+    ∙ key_says due asked (number ++ end) due_low asked_low
+
+-- the hash of a key with one byte more
+pub hash_more : (key : List ℕ) (byte : ℕ) → fnv1a (key ++ byte ∷ []) ≡ bit_xor (fnv1a key) byte * 1099511628211 % 2 ^ 64
+unfolding fnv1a
+hash_more key byte = fold-append (λ hash byte. bit_xor hash byte * 1099511628211 % 2 ^ 64) 14695981039346656037 key (byte ∷ [])
+
+-- a key that two bytes more lead to its partition and bucket
+pub sought : (key : List ℕ) (byte last whole partitions buckets partition : ℕ) → whole ≡ fnv1a ((key ++ byte ∷ []) ++ last ∷ []) → hash_partition whole partitions ≡ partition
+    → hash_bucket whole buckets ≡ 0 → (partition_of (key ++ byte ∷ last ∷ []) partitions ≡ partition) × (bucket_of (key ++ byte ∷ last ∷ []) buckets ≡ 0)
+sought key byte last whole partitions buckets partition is in_partition in_bucket =
+    let hash : fnv1a (key ++ byte ∷ last ∷ []) ≡ whole = sym (is ∙ ap fnv1a (append_assoc key (byte ∷ []) (last ∷ []))) in (
+      partition_of_hash (key ++ byte ∷ last ∷ []) partitions ∙ ap (λ h. hash_partition h partitions) hash ∙ in_partition,
+      bucket_of_hash (key ++ byte ∷ last ∷ []) buckets ∙ ap (λ h. hash_bucket h buckets) hash ∙ in_bucket,
+    )
 
 -- the write of a partition's flush
 pub one_flush : (options : Options) (flush : Flush) (is_alone : Bool) (old new : Sessions) (partition : ℕ) (key : List ℕ) (outcome : Outcome) (stamp : ℕ) → begins_with_feed key ≡ true
-    → flush_in key ≡ flush → partition_of key options.partitions ≡ partition
+    → flush_in key ≡ flush → partition_of key options.partitions ≡ partition → bucket_of key options.buckets ≡ 0
     → Writes options is_alone (old (partition_of key options.partitions)) (record { write = write_of Del key []; outcome = outcome; stamp = stamp })
     (new (partition_of key options.partitions))
     → ChangesOnly (partition_of key options.partitions) old new
     → (answered : Answered) × FlushesOne options flush partition answered × Answers options is_alone old answered new × (is_accepted outcome ≡ accepts answered)
-one_flush options flush is_alone old new partition key outcome stamp feed says at written others =
+one_flush options flush is_alone old new partition key outcome stamp feed says at first written others =
     let step : RunStep = record { write = write_of Del key []; outcome = outcome; stamp = stamp } in
-    (wrote step, (feed, says, at), record { one = written; others = others }, refl)
+    (wrote step, ((λ i. (first i == 0) && true && feed i), says, at), record { one = written; others = others }, refl)

@@ -24,6 +24,8 @@ use Rattle.mica_fronts.specs.Answered.{Answered, changed, kept, count_of_writes}
 use Rattle.mica_fronts.specs.Changing.{Becoming, count_of, stays, becomes, goes, write_for, write_by, IsFound, DoesWrite, ComesTo}
 use Rattle.mica_fronts.specs.Looks.{Look}
 use Rattle.mica_fronts.specs.Session.{Sessions, AnswersOne, ChangesOnly}
+use Rattle.mica_fronts.proofs.WhenLaws.{alike, told_all}
+use Rattle.memcached_changes.proofs.Becomings.{says_alike}
 use Rattle.memcached_fronts.specs.AskAnswers.{order_of, said_of}
 use Rattle.memcached_fronts.specs.Going.{AnswersAt, value_found}
 use Rattle.memcached_fronts.specs.Counting.{noted_if, noted_by}
@@ -75,28 +77,38 @@ module _ (options : Options) (is_alone : Bool) (base second : ℕ) (asked : Aske
       → ComesTo options is_alone second asked.key (looks asked.ask) (becoming_by (order_of base asked)) (old (partition_of asked.key options.partitions)) c buffer
       (new (partition_of asked.key options.partitions))
       → ChangesOnly (partition_of asked.key options.partitions) old new → IsAnsweredBy c buffer
-  answered_by c buffer comes others = go (write_by (becoming_by order) asked.key look) c.outcome refl refl comes.does
+  answered_by c buffer comes others = go (write_by becoming asked.key look) c.outcome refl refl comes.does
     where
       order : Order
       order = order_of base asked
 
-      look : Look
-      look = record { when = c.when; value = comes.value }
+      becoming : When → Option (List ℕ) → Becoming
+      becoming = becoming_by order
 
-      go : (write : Option Write) (outcome : Option Outcome) → write_by (becoming_by order) asked.key look ≡ write → c.outcome ≡ outcome
+      look : Look
+      look = comes.look
+
+      -- what is said by what is told of it
+      said : (outcome : Option Outcome) → c.outcome ≡ outcome → says_by order c.when (value_found c.found buffer) c.outcome ≡ says_by order look.when look.value outcome
+      said outcome is =
+          says_stored order c.when c.found buffer look.value c.outcome comes.found
+          ∙ says_alike order c.when look.when look.value c.outcome (alike becoming c.when look.when comes.tells) ∙ ap (says_by order look.when look.value) is
+
+      go : (write : Option Write) (outcome : Option Outcome) → write_by becoming asked.key look ≡ write → c.outcome ≡ outcome
           → DoesWrite options is_alone (old (partition_of asked.key options.partitions)) asked.key write outcome c.stamp look (new (partition_of asked.key options.partitions))
           → IsAnsweredBy c buffer
       go None None writes is does = record {
         answered = kept asked.key c.stamp look;
         at = record { one = record { one = does; others = others }; to_ask = (refl, writes); at = ap Some comes.at };
-        said = says_stored order c.when c.found buffer comes.value c.outcome comes.found ∙ ap (says_by order c.when comes.value) is;
+        said = said None is;
         count = sym (ap count_of is);
         noted = λ partitions tally. ap (λ o. noted_if partitions asked.key c.when o c.stamp tally) is;
       }
       go None (Some outcome) writes is does = absurd does
       go (Some write) None writes is does = absurd does
       go (Some write) (Some outcome) writes is does =
-          let key = key_for asked.key comes.value (becoming_by order c.when comes.value) write writes in
+          let key = key_for asked.key look.value (becoming look.when look.value) write writes in
+          let when = told_all becoming c.when asked.key look write writes comes.tells in
           let step : RunStep = record { write = write; outcome = outcome; stamp = c.stamp } in record {
             answered = changed step look;
             at = record {
@@ -108,7 +120,7 @@ module _ (options : Options) (is_alone : Bool) (base second : ℕ) (asked : Aske
               to_ask = writes;
               at = ap Some comes.at;
             };
-            said = says_stored order c.when c.found buffer comes.value c.outcome comes.found ∙ ap (says_by order c.when comes.value) is;
+            said = said (Some outcome) is;
             count = sym (ap count_of is);
-            noted = λ partitions tally i. noted_if partitions (sym key i) c.when (is i) c.stamp tally;
+            noted = λ partitions tally i. noted_if partitions (sym key i) (when i) (is i) c.stamp tally;
           }

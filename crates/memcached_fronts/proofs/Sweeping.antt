@@ -83,7 +83,7 @@ module _ (options : Options) (is_alone : Bool) (base : ℕ) where
     one_swept comes others few = go (write_by (sweeping base) key look) c.outcome refl refl comes.does
       where
         look : Look
-        look = record { when = c.when; value = comes.value }
+        look = comes.look
 
         go : (write : Option Write) (outcome : Option Outcome) → write_by (sweeping base) key look ≡ write → c.outcome ≡ outcome
             → DoesWrite options is_alone (old (partition_of key options.partitions)) key write outcome c.stamp look (new (partition_of key options.partitions))
@@ -93,7 +93,7 @@ module _ (options : Options) (is_alone : Bool) (base : ℕ) where
         go None (Some outcome) writes is does = absurd does
         go (Some write) None writes is does = absurd does
         go (Some write) (Some outcome) writes is does =
-            let t = takes base c.when key comes.value write writes in
+            let t = takes base look.when key look.value write writes in
             let same : write.key ≡ key = ap (λ (w : Write). w.key) t.0 in
             let step : RunStep = record { write = write; outcome = outcome; stamp = c.stamp } in
             one_by (changed step look) (record {

@@ -187,7 +187,8 @@ fn answer_asks<'a, R: Threads + Wait + Sync, F: Changes, C: Clock>(
         × AnswersFirst (F.options front.old) F.is_alone base asks.old (F.sessions front.old) (C.view clock.old) (F.sessions front.new) (C.view clock.new) answers
         × IfOk result (λ count. RepliesFirst base style.quiet style.unique asks.old limits answers out.old.items out.new.items count asks.new)
         × (F.left front.old ≤ F.left front.new + count_of_writes answers)
-        × (buffers.new.tally ≡ tally_after_all base partitions asks.old answers buffers.old.tally) }
+        × (buffers.new.tally ≡ tally_after_all base partitions asks.old answers buffers.old.tally)
+        × (length answers ≤ limits.asks) }
     ensures part { (text : List ℕ) × (out.new.items ≡ out.old.items ++ text) }
     ensures left { F.left front.old ≤ F.left front.new + limits.asks }
     ensures options { F.options front.new ≡ F.options front.old }
@@ -235,7 +236,8 @@ pub fn answer_next<'a, R: Threads + Wait + Sync, F: Changes, C: Clock>(
         × GoesOn (F.options front.old) F.is_alone numbering.base next.entry done (F.sessions front.old) (C.view clock.old) (F.sessions front.new) (C.view clock.new) answers
         × IfOk result (Replies (F.options front.old) numbering.base next.entry done limits answers out.old.items out.new.items)
         × (F.left front.old ≤ F.left front.new + count_of_writes answers)
-        × (buffers.new.tally ≡ tally_after_next numbering.base numbering.partitions next.entry done answers buffers.old.tally) }
+        × (buffers.new.tally ≡ tally_after_next numbering.base numbering.partitions next.entry done answers buffers.old.tally)
+        × (length answers ≤ limits.asks + numbering.partitions) }
     ensures err { OnErr result (out.new.items ≡ out.old.items) }
     ensures left { F.left front.old ≤ F.left front.new + limits.asks + numbering.partitions }
     ensures options { F.options front.new ≡ F.options front.old }

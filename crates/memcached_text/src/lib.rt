@@ -35,5 +35,6 @@ pub use lifetime::{Due, Lifetime};
 pub use limits::{HEADER_LEN, MAX_KEY_LEN, MAX_LINE_LEN, MAX_TEXT_LEN, MAX_WAITING_LEN};
 pub use next::{Next, next_command};
 pub use reply::{Reply, fault_line, put_last_value, put_number, put_stat, put_value, reply_line};
+pub use spelled::spelled_key;
 pub use text::Text;
 pub use words::Words;

@@ -9,14 +9,28 @@ use crate::limits::{MAX_KEY_LEN, MAX_TEXT_LEN};
 use crate::{Command, Direction, Lifetime, Wants};
 use memchr::memchr2;
 
-// What stands before the first space or line feed, and the text from there on. None where neither stands near.
+/// Most keys end within so many bytes, and these are looked through in half the time of more.
+const NEAR_LEN: usize = 32;
+
+// What stands before the first space or line feed, and the text from there on. None where neither is among so many bytes.
+#[inline(always)]
+fn part_within(text: &[u8], most: usize) -> Option<(&[u8], &[u8])>
+    ensures { IfSome result (λ parts. (text.now ≡ parts.0.now ++ parts.1.now) × Lacks 32 parts.0.now × Lacks 10 parts.0.now) }
+{
+    let near = &text[..text.len().min(most)];
+    let end = memchr2(b' ', b'\n', near)?;
+    Some(text.split_at(end))
+}
+
+// The same, where a part may have as many bytes as a key and the end of its line.
 #[inline(always)]
 fn first_part(text: &[u8]) -> Option<(&[u8], &[u8])>
     ensures { IfSome result (λ parts. (text.now ≡ parts.0.now ++ parts.1.now) × Lacks 32 parts.0.now × Lacks 10 parts.0.now) }
 {
-    let near = &text[..text.len().min(MAX_KEY_LEN + 2)];
-    let end = memchr2(b' ', b'\n', near)?;
-    Some(text.split_at(end))
+    match part_within(text, NEAR_LEN) {
+        Some(parts) => Some(parts),
+        None => part_within(text, MAX_KEY_LEN + 2),
+    }
 }
 
 // What stands behind this byte, where it is the first.
@@ -182,6 +196,16 @@ pub fn spelled_set(from: &[u8]) -> Option<SpelledSet>
         quiet,
         len: from.len() - more.len(),
     })
+}
+
+/// The key of the command that the bytes begin with, and the bytes of its text, where it is a get of one key or a set. Nothing rests on it: a command is read
+/// by `next_command`.
+pub fn spelled_key(from: &[u8]) -> Option<(&[u8], usize)> {
+    if let Some(found) = spelled_get(from) {
+        return Some(found);
+    }
+    let set = spelled_set(from)?;
+    Some((set.key, set.len))
 }
 
 impl<'a> SpelledSet<'a> {

@@ -1,4 +1,5 @@
 pub mod FlushLaws
+pub mod WhenLaws
 pub mod InOrder
 pub mod Statuses
 pub mod Replying

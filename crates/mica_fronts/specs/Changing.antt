@@ -1,5 +1,5 @@
 -- What becomes of a value that is looked at and written with nothing between.
-use Rattle.std.specs.Prelude.{◌≡◌, ℕ, Bool, false, List, [], Option, Some, None, ⊤}
+use Rattle.std.specs.Prelude.{◌≡◌, ◌⊎◌, ℕ, Bool, false, List, [], Option, Some, None, ⊤}
 use Rattle.partition_model.specs.declared.options.Options.{Options}
 use Rattle.partition_model.specs.declared.write.Op.TheVariants.{Put, Del}
 use Rattle.partition_model.specs.declared.write.Write.{Write}
@@ -27,11 +27,13 @@ IsChange (becomes value) Become next = next ≡ value
 IsChange goes Go next = ⊤
 IsChange _ _ _ = ⊥
 
--- the key gets no value of it
-abbrev pub GivesNothing : Becoming → Type 0
-GivesNothing stays = ⊤
-GivesNothing (becomes value) = ⊥
-GivesNothing goes = ⊤
+-- The decision leaves whatever is found, and goes by nothing that it is told.
+abbrev pub OnlyReads : (When → Option (List ℕ) → Becoming) → Type 0
+OnlyReads becoming = (when : When) (found : Option (List ℕ)) → becoming when found ≡ stays
+
+-- What is told of when a value was looked at: all of it. Of a decision that only reads it need not be told how many writes there were.
+abbrev pub TellsWhen : (When → Option (List ℕ) → Becoming) → When → When → Type 0
+TellsWhen becoming told when = (told ≡ when) ⊎ (OnlyReads becoming × (told ≡ record when { written = told.written }))
 
 -- The write that it is, if any. A put does also where the key has no value, and what is not there is not deleted.
 abbrev pub write_for : List ℕ → Option (List ℕ) → Becoming → Option Write
@@ -70,8 +72,8 @@ DoesWrite _ _ _ _ _ _ _ _ _ = ⊥
 -- What a change came to: the value was looked at at this second, and what was decided of it was done.
 pub record ComesTo (options : Options) (is_alone : Bool) (second : ℕ) (key : List ℕ) (needs : Bool) (becoming : When → Option (List ℕ) → Becoming) (old : Session)
     (changed : Changed) (buffer : List ℕ) (new : Session) : Type 0 where
-  pub value : Option (List ℕ)
-  pub found : IsFound needs changed.found buffer value
-  pub at : changed.when.second ≡ second
-  pub does : DoesWrite options is_alone old key (write_by becoming key (record { when = changed.when; value = value })) changed.outcome changed.stamp
-      (record { when = changed.when; value = value }) new
+  pub look : Look
+  pub found : IsFound needs changed.found buffer look.value
+  pub at : look.when.second ≡ second
+  pub tells : TellsWhen becoming changed.when look.when
+  pub does : DoesWrite options is_alone old key (write_by becoming key look) changed.outcome changed.stamp look new

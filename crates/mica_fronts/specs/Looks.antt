@@ -11,15 +11,15 @@ pub record Look : Type 0 where
   pub value : Option (List ℕ)
 
 -- a second, with the counts behind this history
-abbrev pub when_after : ℕ → History → When
-when_after second history = record {
+abbrev pub when_after : Options → ℕ → History → When
+when_after options second history = record {
   second = second;
   written = length history;
-  flushed = flushed_at second (flushes_in history);
-  until = waits_at second (flushes_in history);
+  flushed = flushed_at second (flushes_in options.buckets history);
+  until = waits_at second (flushes_in options.buckets history);
 }
 
 -- it is what the machine has behind this history
 pub record IsLookAt (options : Options) (history : History) (key : List ℕ) (look : Look) : Type 0 where
-  pub when : look.when ≡ when_after look.when.second history
+  pub when : look.when ≡ when_after options look.when.second history
   pub value : look.value ≡ answer_of options history key

@@ -5,7 +5,7 @@ ghost use Rattle.mica_words.specs.Item.{KeyFits};
 ghost use Rattle.partition_model.specs.declared.write.Op.TheVariants.{Del, Touch};
 ghost use Rattle.partition_model.specs.Write.{write_of};
 ghost use Rattle.mica_fronts.specs.Session.{ChangesOnly, Writes};
-ghost use Rattle.mica_fronts.specs.Changing.{Becoming, GivesNothing, IsChange, ComesTo, count_of};
+ghost use Rattle.mica_fronts.specs.Changing.{Becoming, OnlyReads, IsChange, ComesTo, count_of};
 
 use crate::front::Front;
 use partition_model::{Answer, Change, ItemBuf, Outcome};
@@ -38,9 +38,9 @@ pub trait Decide {
         ensures needs { result ≡ needs self.now }
         ensures blind { result ≡ false → (when : When) (one other : Option (List ℕ)) → becoming self.now when one ≡ becoming self.now when other };
 
-    /// Whether it gives the key no value, and mostly leaves what it finds. A front may then try it without a hold first.
+    /// Whether it leaves whatever it finds. A front may then look without a hold first.
     fn only_reads(&self) -> bool
-        ensures { result ≡ true → (when : When) (found : Option (List ℕ)) → GivesNothing (becoming self.now when found) }
+        ensures { result ≡ true → OnlyReads (becoming self.now) }
     {
         false
     }
@@ -53,6 +53,7 @@ pub trait Decide {
 /// What a change came to.
 #[derive(Clone, Copy, Debug, PartialEq, Eq)]
 pub struct Changed {
+    /// When the value was looked at. How many writes there were is that of an earlier look where the decision only reads.
     pub when: When,
     /// The answer to a get of the value, where it was looked at: always where the decision needs it. The buffer has the value of a hit.
     pub found: Option<Answer>,
@@ -64,6 +65,11 @@ pub struct Changed {
 
 /// A front that looks at a value, decides, and writes what was decided, with nothing between. Where nothing is to be written, it may look without a hold.
 pub trait Changes: Front {
+    /// How many buckets each of its partitions has.
+    fn buckets(&self) -> u32
+        ensures some { 0 < result }
+        ensures is { result ≡ (Self.options self.now).buckets };
+
     fn change<R: Threads + Wait + Sync, D: Decide>(
         &mut self,
         rt: &R,

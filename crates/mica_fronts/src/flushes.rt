@@ -1,8 +1,12 @@
 //! Flushes of a partition.
-ghost use Rattle.std.specs.Prelude.{◌≡◌};
-ghost use Rattle.mica_fronts.specs.Flushes.{flush_in, flushed_at, waits_at, flushes_then, no_flushes};
+ghost use Rattle.std.specs.Prelude.{◌≡◌, ◌<◌, ◌&&◌, ℕ, List, []};
+ghost use Rattle.mica_words.specs.Hash.{fnv1a};
+ghost use Rattle.partition_model.specs.Write.{write_of};
+ghost use Rattle.mica_fronts.specs.Flushes.{AreKept, begins_with_feed, flush_in, flushed_at, flushes_then, is_delete, kept_then, no_flushes, waits_at};
 
 use byteorder::{ByteOrder, LittleEndian};
+use mica_words::bucket_of;
+use partition_model::Op;
 
 /// How long a key is that says when it flushes, at the least.
 pub const FLUSH_LEN: usize = 17;
@@ -20,6 +24,21 @@ pub struct Flushes {
     pub before: u64,
     pub due: u64,
     pub after: u64,
+}
+
+/// What the flushes of a partition of so many buckets come to, and how many of its writes are in bucket 0, where all flushes are.
+#[derive(Clone, Copy)]
+pub struct KeptFlushes {
+    pub buckets: u32,
+    pub in_first: u64,
+    pub flushes: Flushes,
+}
+
+// Whether a write in bucket 0 is a flush.
+fn is_flush(op: Op, key: &[u8]) -> bool
+    ensures { result ≡ (is_delete op && begins_with_feed key.now) }
+{
+    op == Op::Del && !key.is_empty() && key[0] == b'\n'
 }
 
 /// When a key of a flush flushes its partition.
@@ -74,6 +93,42 @@ impl Flushes {
             before: self.flushed_at(flush.asked),
             due: flush.due,
             after: count,
+        }
+    }
+}
+
+impl KeptFlushes {
+    /// Nothing was written.
+    pub fn none(buckets: u32) -> KeptFlushes
+        requires { 0 < buckets }
+        ensures { AreKept buckets [] result }
+    {
+        KeptFlushes {
+            buckets,
+            in_first: 0,
+            flushes: Flushes::none(),
+        }
+    }
+
+    /// One write more was accepted, with which there are so many.
+    pub fn and_then(&self, count: u64, op: Op, key: &[u8], hash: u64) -> KeptFlushes
+        requires hashed { hash ≡ fnv1a key.now }
+        requires some { 0 < self.now.buckets }
+        requires few { self.now.in_first < count }
+        ensures { (value : List ℕ) → result ≡ kept_then count (write_of op key.now value) self.now }
+    {
+        if bucket_of(hash, self.buckets) != 0 {
+            return *self;
+        }
+        let flushes = if is_flush(op, key) {
+            self.flushes.and_then(count, flush_in(key))
+        } else {
+            self.flushes
+        };
+        KeptFlushes {
+            buckets: self.buckets,
+            in_first: self.in_first + 1,
+            flushes,
         }
     }
 }

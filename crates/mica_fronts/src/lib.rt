@@ -21,11 +21,12 @@ pub mod seat_loads;
 mod solo;
 mod totals;
 
+pub use ahead::load_all;
 pub use batch::serve_batch;
 pub use changing::{Changed, Changes, Decide, When};
 pub use counting::Counts;
 pub use end::serve_end;
-pub use flushes::{FLUSH_LEN, Flush, Flushes, flush_in};
+pub use flushes::{FLUSH_LEN, Flush, Flushes, KeptFlushes, flush_in};
 pub use front::Front;
 pub use glancing::{Glances, Glimpse};
 pub use owner_work::serve_owner;

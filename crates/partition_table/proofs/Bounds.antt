@@ -1,6 +1,7 @@
 -- Places lie inside the table.
 use Rattle.std.proofs.Common.{◌≡◌, ℕ, ◌%◌, ◌<◌, true, refl, sym, ap, ◌∙◌, subst, arith}
 use Rattle.std.proofs.Math.Nat.{mod-lt}
+use Rattle.std.proofs.lemmas.Nat.{pow_pos}
 use Rattle.std.proofs.Math.Logic.{∥∥₁_elim}
 use Rattle.std.proofs.Props.{props}
 use Rattle.epoch_core.specs.declared.shape.Shape.{Shape}
@@ -27,6 +28,10 @@ word_there shape valid (Item p) is = let least = (possible_in_range shape valid)
 
 pub word_inside : (shape : Shape) (at : WordAt) (i n : ℕ) → is_in_range shape ≡ true → IsInside shape at → i ≡ place_at shape at → n ≡ word_count shape → i < n
 word_inside shape at i n valid is place wide = let there = word_there shape valid at is in omega arith
+
+-- there is a first bucket
+pub first_main : (shape : Shape) → is_in_range shape ≡ true → IsMain shape 0
+first_main shape valid = let ranges = (possible_in_range shape valid).ranges in subst (λ (z : ℕ). 0 < z) (sym ranges.buckets.2) (pow_pos ranges.buckets.0)
 
 -- the word of an event
 pub event_there : (o : OwnerState) (shape : Shape) (e : Event) (i n : ℕ) → ∥ Kept o ∥₁ → o.shape ≡ shape → i ≡ place_of shape e → n ≡ word_count shape → IsAllowed e o → i < n

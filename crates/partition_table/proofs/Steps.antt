@@ -33,7 +33,8 @@ use Rattle.epoch_core.proofs.JoinKeeps.{lends, notes, meet_grows, meets, tells_o
 use Rattle.partition_table.specs.declared.rule.View.{View}
 use Rattle.partition_table.specs.declared.rule.View.TheVariants.{Owns, Reads, Spent}
 use Rattle.partition_table.specs.Rule.{Seated, ViewKept, IsLawful, is_owner, owner_in, is_reader, reader_in, view_lent, view_met}
-use Rattle.partition_table.specs.Plays.{tells_word, happened, opens, looks, follows, stamps, shuts}
+use Rattle.partition_table.specs.Plays.{tells_word, happened, opens, looks, follows, stamps, tallies, shuts}
+use Rattle.partition_table.proofs.Tallying.{most_seen}
 
 owner_is : (v : View) → is_owner v ≡ true → v ≡ Owns (owner_in v)
 owner_is (Owns o) e = refl
@@ -239,6 +240,20 @@ module _ (slots id : ℕ) (me : Seated) (reader : is_reader me.0 ≡ true) where
         tt,
         becomes (epoch_at b) s k at (shut n r) (λ f. subst (λ (z : ℕ). ReaderKept k.owner (shut z r)) now (shuts_keep k.owner k.kept r f b is)),
         (refl, subst (λ (z : ℕ). Tells z r) now (tells k.owner k.kept r f b is)),
+      )
+
+  pub tallies_here : (b i : ℕ) → i ≡ epoch_at b → IsMain r.shape b → Allows IsLawful slots id me i (λ n. n) (tallies (step slots i 0 0 none) me)
+  tallies_here b i is main s k _ at _ =
+      let most = most_seen k.owner k.kept r (reader_fits s k id me.0 reader at) b main in (
+        me.0,
+        keeps,
+        tt,
+        stays s k i id me.1 me.0 at,
+        (
+          refl,
+          λ c there. let same : b ≡ c = omega (arith, is, there) in subst (λ (y : ℕ × ℕ). 2 * writes_to_bucket (options_of r.shape) r.seen y.0 ≤ y.1 + 1)
+              (λ j. (same j, (ap (λ (z : ℕ). get_or k.owner.words z 0) (sym is) ∙ word_now s k i) j)) most,
+        ),
       )
 
   pub opens_here : (b i : ℕ) → i ≡ epoch_at b → IsMain r.shape b → Allows IsLawful slots id me i (λ n. n) (opens (step slots i 0 0 none) me)

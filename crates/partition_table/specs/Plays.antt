@@ -1,6 +1,6 @@
 -- What each kind of step tells: of the seat before, the number found or stored, and the seat after.
 -- A look ahead (`ReaderSeat::peek`) is no such step: it is a load outside every try, of which no view keeps anything and no play tells. So nothing rests on what it finds.
-use Rattle.std.specs.Prelude.{◌≡◌, ℕ, ◌*◌, ◌≤◌, ◌⊎◌, slice_index}
+use Rattle.std.specs.Prelude.{◌≡◌, ℕ, ◌+◌, ◌*◌, ◌≤◌, ◌⊎◌, slice_index}
 use Rattle.atomic_table.specs.Table.{Step}
 use Rattle.partition_model.specs.History.{History, IsPrefix, stamp_of, writes_to_bucket}
 use Rattle.epoch_core.specs.declared.event.Event.{Event}
@@ -40,6 +40,11 @@ abbrev pub stamps : Step (Unit {0}) → Seated → ℕ → Seated → Type 0
 stamps step me n now = let r : ReaderState = reader_in me.0 in (history : History)
     × Becomes me (stamped history r) now × IsPrefix r.seen history
     × (n ≡ stamp_of (options_of r.shape) history) × MetKept r
+
+-- An epoch is loaded outside every try: of the writes that were seen no more are to the bucket than it tells.
+abbrev pub tallies : Step (Unit {0}) → Seated → ℕ → Seated → Type 0
+tallies step me n now = let r : ReaderState = reader_in me.0 in (now ≡ me)
+    × ((b : ℕ) → step.word ≡ epoch_at b → 2 * writes_to_bucket (options_of r.shape) r.seen b ≤ n + 1)
 
 abbrev pub shuts : Step (Unit {0}) → Seated → ℕ → Seated → Type 0
 shuts step me n now = Becomes me (shut n (reader_in me.0)) now × Tells n (reader_in me.0)

@@ -2,7 +2,7 @@
 ghost use Rattle.partition_table.specs.Rule.{view_lent, view_met};
 ghost use Rattle.epoch_core.specs.declared.event.Event.{Event};
 ghost use Rattle.partition_table.specs.declared.rule.View.TheVariants.{Reads, Spent};
-ghost use Rattle.partition_table.specs.Plays.{tells_word, happened, opens, looks, follows, stamps, shuts};
+ghost use Rattle.partition_table.specs.Plays.{tells_word, happened, opens, looks, follows, stamps, tallies, shuts};
 
 use crate::rule::View;
 use atomic_table::{Join, Play, Split};
@@ -61,6 +61,13 @@ pub(crate) struct Stamps;
 
 impl Play<(), View> for Stamps {
     ghost then = { stamps };
+}
+
+/// A reader's load of an epoch outside every try.
+pub(crate) struct Tallies;
+
+impl Play<(), View> for Tallies {
+    ghost then = { tallies };
 }
 
 /// A reader's last epoch load.

@@ -1,16 +1,16 @@
 //! A seat that reads, a note of what one has seen, and what one has set aside.
-ghost use Rattle.std.specs.Prelude.{◌≡◌, ◌+◌, ◌^◌, ◌<◌, true, [], Some, None};
+ghost use Rattle.std.specs.Prelude.{◌≡◌, ◌+◌, ◌*◌, ◌^◌, ◌<◌, ◌≤◌, true, [], Some, None};
 ghost use Rattle.std.specs.Arc.{arc_value};
-ghost use Rattle.partition_model.specs.History.{IsPrefix};
+ghost use Rattle.partition_model.specs.History.{IsPrefix, writes_to_bucket};
 ghost use Rattle.epoch_core.specs.declared.reader.Try.{Try};
-ghost use Rattle.epoch_core.specs.Shape.{is_in_range, IsMain};
+ghost use Rattle.epoch_core.specs.Shape.{is_in_range, options_of, IsMain};
 ghost use Rattle.epoch_core.specs.Layout.{word_count, IsInside};
 ghost use Rattle.epoch_core.specs.ReaderState.{stamped, loaded_items};
 ghost use Rattle.epoch_core.specs.Joins.{note_of, told};
 ghost use Rattle.partition_table.specs.Rule.{is_reader, reader_in};
 
 use crate::places::Places;
-use crate::plays::{Follows, Lends, Looks, Meets, Opens, Shuts, Stamps};
+use crate::plays::{Follows, Lends, Looks, Meets, Opens, Shuts, Stamps, Tallies};
 use crate::rule::{PartitionTable, View};
 use atomic_table::Seat;
 use epoch_core::{ReaderWords, Shape, WordAt};
@@ -103,6 +103,29 @@ impl ReaderSeat {
             seat,
             bucket: self.bucket,
         }
+    }
+
+    /// Goes on with what it had set aside, and with all that it has seen since. What it tried since is told nowhere.
+    pub fn take_up_seen(&mut self, aside: Aside)
+        requires home { aside_home aside ≡ reader_home self.old }
+        requires shape { (aside_state aside).shape ≡ (reader_state self.old).shape }
+        ensures state { reader_state self.new ≡ told (aside_state aside) (note_of (reader_state self.old)) }
+        ensures home { reader_home self.new ≡ reader_home self.old }
+    {
+        let Note { seat: seen } = self.note();
+        self.take_up(aside);
+        self.table.shared.join_seat::<Meets>(&mut self.seat, seen);
+    }
+
+    /// The epoch of bucket 0, loaded outside every try. It tells how many of the writes that the seat has seen are to that bucket, at the most: each raised it
+    /// by two, but for one that has not ended.
+    pub fn epoch_of_first(&mut self) -> u64
+        ensures most { 2 * writes_to_bucket (options_of (reader_state self.old).shape) (reader_state self.old).seen 0 ≤ result + 1 }
+        ensures same { reader_state self.new ≡ reader_state self.old }
+        ensures home { reader_home self.new ≡ reader_home self.old }
+    {
+        let place = self.places.of(WordAt::Epoch(0));
+        self.table.shared.load::<Tallies>(&mut self.seat, place)
     }
 
     /// Goes on with what it had set aside, and forgets all since.

@@ -1,20 +1,29 @@
 -- Commands that bytes spell are answered one after another.
-use Rattle.std.proofs.Common.{◌≡◌, ℕ, ◌+◌, ◌-◌, ◌≤◌, ◌<◌, Bool, List, [], ◌++◌, length, drop, sym, ap, ◌∙◌, subst, arith, length-drop}
+use Rattle.std.proofs.Common.{◌≡◌, ℕ, ◌+◌, ◌-◌, ◌*◌, ◌≤◌, ◌<◌, Bool, List, [], ◌++◌, length, drop, sym, ap, ◌∙◌, subst, arith, length-append, length-drop}
 use Rattle.std.specs.Prelude.{MatchResult, Result, Err}
+use Rattle.std.proofs.Math.Nat.{add-mul, mul-le-mul_right, one-mul}
 use Rattle.std.proofs.lemmas.List.{drop-drop, drop_all}
 use Rattle.mica_clock.specs.Seconds.{ClockView}
 use Rattle.partition_model.specs.declared.options.Options.{Options}
 use Rattle.memcached_text.specs.Next.{next_of}
 use Rattle.mica_fronts.specs.Answered.{Answered}
 use Rattle.mica_fronts.specs.Session.{Sessions}
+use Rattle.stream_fronts.specs.declared.answer.TheConstants.{MOST_COMMANDS}
 use Rattle.stream_fronts.specs.declared.answer.Answered.{Answered as HowFar}
 use Rattle.stream_fronts.specs.declared.answer.Said.{Said}
 use Rattle.stream_fronts.specs.declared.answer.Stand.{Stand}
 use Rattle.stream_fronts.specs.declared.answer.Stand.TheVariants.{Needs, Leaves}
 use Rattle.stream_fronts.specs.Going.{GoesByThese, GoesBySome}
 use Rattle.stream_fronts.specs.Reached.{Place, place_at, place_in, Reaches, Ends, GoesOnTo, ReachesAfter, SpokeFrom, StandsAs}
+use Rattle.stream_fronts.specs.Turns.{most_to_one, most_answers}
 use Rattle.stream_fronts.proofs.Going.{these_then}
 use Rattle.stream_fronts.proofs.Reaching.{on_then, on_as, spoke_then, stands_more, nothing_next}
+
+times_more : (n k a b : ℕ) → a ≤ n * k → b ≤ k → a + b ≤ (n + 1) * k
+times_more n k a b first second = let sum = add-mul n 1 k in let one = one-mul k in omega (arith, sum, one, first, second)
+
+times_most : (n m k a : ℕ) → n ≤ m → a ≤ n * k → a ≤ m * k
+times_most n m k a within few = let most = mul-le-mul_right k within in omega (arith, most, few)
 
 module _ (options : Options) (is_alone : Bool) (base : ℕ) where
   -- sessions went on by their answers under equal options
@@ -22,41 +31,52 @@ module _ (options : Options) (is_alone : Bool) (base : ℕ) where
       → GoesByThese options is_alone old left told answers new left_after tells
   these_cast {o} {old} {new} {left} {left_after} {told} {tells} {answers} same these = subst (λ (x : Options). GoesByThese x is_alone old left told answers new left_after tells) same these
 
+  few_then : (count : ℕ) (one two : List Answered) → length one ≤ count * most_to_one options → length two ≤ most_to_one options → length (one ++ two) ≤ (count + 1) * most_to_one options
+  few_then count one two first second =
+      subst (λ n. n ≤ (count + 1) * most_to_one options) (sym (length-append one two)) (times_more count (most_to_one options) (length one) (length two) first second)
+
+  few_in_all : (answers : List Answered) (count : ℕ) → count ≤ MOST_COMMANDS → length answers ≤ count * most_to_one options → length answers ≤ most_answers options
+  few_in_all answers count within few = times_most count MOST_COMMANDS (most_to_one options) (length answers) within few
+
   module _ {old between new : Sessions} {left then_left left_after : ℕ} {told then tells : ClockView} where
     -- a command more was answered
     pub answers_then : (one two : List Answered) (o : Options) → o ≡ options → GoesByThese options is_alone old left told one between then_left then → GoesByThese o is_alone between then_left then two new left_after tells
         → GoesByThese options is_alone old left told (one ++ two) new left_after tells
     answers_then one two o same first second = these_then options is_alone first (these_cast same second)
 
-    pub on_said : (place : Place) (bytes rest : List ℕ) (done : ℕ) (before here after : List ℕ) (o : Options) (said is : Said) → rest ≡ bytes → o ≡ options → said ≡ is
-        → GoesBySome options is_alone old left told between then_left then (λ answers. GoesOnTo options base place answers before here (Reaches options base (place_at bytes done)))
-        → GoesBySome o is_alone between then_left then new left_after tells (λ answers. GoesOnTo o base (place_at rest done) answers here after (ReachesAfter o base rest done said))
-        → GoesBySome options is_alone old left told new left_after tells (λ answers. GoesOnTo options base place answers before after (ReachesAfter options base bytes done is))
-    on_said place bytes rest done before here after o said is rest_is same said_is first second =
-        let one = subst (λ (x : Options). GoesBySome x is_alone between then_left then new left_after tells (λ answers. GoesOnTo x base (place_at rest done) answers here after (ReachesAfter x base rest done said)))
+    pub on_said : (count : ℕ) (place : Place) (bytes rest : List ℕ) (done : ℕ) (before here after : List ℕ) (o : Options) (said is : Said) → rest ≡ bytes → o ≡ options → said ≡ is
+        → GoesBySome options is_alone old left told between then_left then (λ answers. (length answers ≤ count * most_to_one options) × GoesOnTo options base place answers before here (Reaches options base (place_at bytes done)))
+        → GoesBySome o is_alone between then_left then new left_after tells (λ answers. (length answers ≤ most_to_one o) × GoesOnTo o base (place_at rest done) answers here after (ReachesAfter o base rest done said))
+        → GoesBySome options is_alone old left told new left_after tells (λ answers. (length answers ≤ (count + 1) * most_to_one options) × GoesOnTo options base place answers before after (ReachesAfter options base bytes done is))
+    on_said count place bytes rest done before here after o said is rest_is same said_is first second =
+        let one = subst (λ (x : Options). GoesBySome x is_alone between then_left then new left_after tells (λ answers. (length answers ≤ most_to_one x) × GoesOnTo x base (place_at rest done) answers here after (ReachesAfter x base rest done said)))
         same second in
         let by_said = subst (λ (s : Said). GoesBySome options is_alone between then_left then new left_after tells
-        (λ answers. GoesOnTo options base (place_at rest done) answers here after (ReachesAfter options base rest done s))) said_is one in
+        (λ answers. (length answers ≤ most_to_one options) × GoesOnTo options base (place_at rest done) answers here after (ReachesAfter options base rest done s))) said_is one in
         let all = subst (λ r. GoesBySome options is_alone between then_left then new left_after tells
-        (λ answers. GoesOnTo options base (place_at r done) answers here after (ReachesAfter options base r done is))) rest_is by_said in
-        (first.0 ++ all.0, these_then options is_alone first.1 all.1, on_then options base first.2 all.2)
+        (λ answers. (length answers ≤ most_to_one options) × GoesOnTo options base (place_at r done) answers here after (ReachesAfter options base r done is))) rest_is by_said in
+        (first.0 ++ all.0, these_then options is_alone first.1 all.1, (few_then count first.0 all.0 first.2.0 all.2.0, on_then options base first.2.1 all.2.1))
 
     -- memory lacked
-    pub spoke_on : (most : ℕ) (place : Place) (bytes rest : List ℕ) (done : ℕ) (before here : List ℕ) (o : Options) → rest ≡ bytes → o ≡ options → length bytes ≤ most
-        → GoesBySome options is_alone old left told between then_left then (λ answers. GoesOnTo options base place answers before here (Reaches options base (place_at bytes done)))
-        → GoesBySome o is_alone between then_left then new left_after tells (λ answers. SpokeFrom o base (length rest) (place_at rest done) answers)
-        → GoesBySome options is_alone old left told new left_after tells (λ answers. SpokeFrom options base most place answers)
-    spoke_on most place bytes rest done before here o rest_is same less first second =
-        let one = subst (λ (x : Options). GoesBySome x is_alone between then_left then new left_after tells (λ answers. SpokeFrom x base (length rest) (place_at rest done) answers)) same second in
-        let all = subst (λ r. GoesBySome options is_alone between then_left then new left_after tells (λ answers. SpokeFrom options base (length r) (place_at r done) answers)) rest_is one in
-        (first.0 ++ all.0, these_then options is_alone first.1 all.1, spoke_then options base less first.2 all.2)
+    pub spoke_on : (count : ℕ) → count + 1 ≤ MOST_COMMANDS → (most : ℕ) (place : Place) (bytes rest : List ℕ) (done : ℕ) (before here : List ℕ) (o : Options) → rest ≡ bytes → o ≡ options → length bytes ≤ most
+        → GoesBySome options is_alone old left told between then_left then (λ answers. (length answers ≤ count * most_to_one options) × GoesOnTo options base place answers before here (Reaches options base (place_at bytes done)))
+        → GoesBySome o is_alone between then_left then new left_after tells (λ answers. (length answers ≤ most_to_one o) × SpokeFrom o base (length rest) (place_at rest done) answers)
+        → GoesBySome options is_alone old left told new left_after tells (λ answers. (length answers ≤ most_answers options) × SpokeFrom options base most place answers)
+    spoke_on count within most place bytes rest done before here o rest_is same less first second =
+        let one = subst (λ (x : Options). GoesBySome x is_alone between then_left then new left_after tells (λ answers. (length answers ≤ most_to_one x) × SpokeFrom x base (length rest) (place_at rest done) answers)) same second in
+        let all = subst (λ r. GoesBySome options is_alone between then_left then new left_after tells (λ answers. (length answers ≤ most_to_one options) × SpokeFrom options base (length r) (place_at r done) answers)) rest_is one in (
+          first.0 ++ all.0,
+          these_then options is_alone first.1 all.1,
+          (few_in_all (first.0 ++ all.0) (count + 1) within (few_then count first.0 all.0 first.2.0 all.2.0), spoke_then options base less first.2.1 all.2.1),
+        )
 
   -- by the same answers, more is said of where the talk came to
-  pub some_as : {old new : Sessions} {left left_after : ℕ} {told tells : ClockView} (place : Place) (before after : List ℕ) (P Q : List ℕ → List Answered → List ℕ → Type 0)
+  pub some_as : {old new : Sessions} {left left_after : ℕ} {told tells : ClockView} (few most : ℕ) → few ≤ most → (place : Place) (before after : List ℕ) (P Q : List ℕ → List Answered → List ℕ → Type 0)
       → ((received : List ℕ) (given : List Answered) (due : List ℕ) → P received given due → Q received given due)
-      → GoesBySome options is_alone old left told new left_after tells (λ answers. GoesOnTo options base place answers before after P)
-      → GoesBySome options is_alone old left told new left_after tells (λ answers. GoesOnTo options base place answers before after Q)
-  some_as place before after P Q as_q some = (some.0, some.1, on_as options base {P = P} {Q = Q} as_q some.2)
+      → GoesBySome options is_alone old left told new left_after tells (λ answers. (length answers ≤ few * most_to_one options) × GoesOnTo options base place answers before after P)
+      → GoesBySome options is_alone old left told new left_after tells (λ answers. (length answers ≤ most * most_to_one options) × GoesOnTo options base place answers before after Q)
+  some_as few most less place before after P Q as_q some =
+      (some.0, some.1, (times_most few most (most_to_one options) (length some.0) less some.2.0, on_as options base {P = P} {Q = Q} as_q some.2.1))
 
   -- Where bytes were answered to
 

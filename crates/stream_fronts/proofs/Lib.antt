@@ -13,6 +13,7 @@ pub mod Moving
 pub mod Tending
 pub mod Talking
 pub mod Moments
+pub mod Turning
 pub mod Drying
 pub mod Making
 pub mod Staying

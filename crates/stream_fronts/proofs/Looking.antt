@@ -38,37 +38,37 @@ module _ (options : Options) (base : ℕ) where
       omega (arith, there, kept, m)
 
   -- A command that was answered in part is answered further.
-  pub looks_further : (client now : Client) (stand : Stand) (answers : List Answered) (replies : List ℕ) → IsOpenAt (next_of client.kept.items) client.done → 0 < client.done
-      → length client.kept.items ≤ MAX_WAITING_LEN
-      → GoesOnTo options base (place_at client.kept.items client.done) answers [] replies (StandsAs options base (length client.kept.items) stand (place_of now))
+  pub looks_further : (client now : Client) (stand : Stand) (answers : List Answered) (replies : List ℕ) → IsOpenAt (next_of client.kept) client.done → 0 < client.done
+      → length client.kept ≤ MAX_WAITING_LEN
+      → GoesOnTo options base (place_at client.kept client.done) answers [] replies (StandsAs options base (length client.kept) stand (place_of now))
       → GoesOnTo options base (place_of client) answers [] replies (StandsAs options base MAX_WAITING_LEN stand (place_of now))
   looks_further client now stand answers replies stands some short goes = record {
     text = goes.text;
     appended = goes.appended;
     on = λ received given due r.
         let none : client.dropping ≡ 0 = none_dropped r stands some in
-        let at = subst (λ n. Reaches options base (record { bytes = client.kept.items; done = client.done; dropping = n }) received given due) none r in
-        stands_more options base stand (place_of now) (length client.kept.items) MAX_WAITING_LEN received (given ++ answers) (due ++ goes.text) short (goes.on received given due at);
+        let at = subst (λ n. Reaches options base (record { bytes = client.kept; done = client.done; dropping = n }) received given due) none r in
+        stands_more options base stand (place_of now) (length client.kept) MAX_WAITING_LEN received (given ++ answers) (due ++ goes.text) short (goes.on received given due at);
   }
 
-  pub lacks_further : (client : Client) (answers : List Answered) → IsOpenAt (next_of client.kept.items) client.done → 0 < client.done → length client.kept.items ≤ MAX_WAITING_LEN
-      → SpokeFrom options base (length client.kept.items) (place_at client.kept.items client.done) answers → SpokeFrom options base MAX_WAITING_LEN (place_of client) answers
+  pub lacks_further : (client : Client) (answers : List Answered) → IsOpenAt (next_of client.kept) client.done → 0 < client.done → length client.kept ≤ MAX_WAITING_LEN
+      → SpokeFrom options base (length client.kept) (place_at client.kept client.done) answers → SpokeFrom options base MAX_WAITING_LEN (place_of client) answers
   lacks_further client answers stands some short spoke received given due r =
       let none : client.dropping ≡ 0 = none_dropped r stands some in
-      let at = subst (λ n. Reaches options base (record { bytes = client.kept.items; done = client.done; dropping = n }) received given due) none r in
+      let at = subst (λ n. Reaches options base (record { bytes = client.kept; done = client.done; dropping = n }) received given due) none r in
       let s = spoke received given due at in
       record { talk = s.talk; few = let f = s.few in omega (arith, f, short) }
 
   -- Bytes were read, and what is to be dropped of them is left out.
-  module _ (client : Client) (bytes more : List ℕ) (first : client.done ≡ 0) (all : bytes ≡ client.kept.items ++ more) where
+  module _ (client : Client) (bytes more : List ℕ) (first : client.done ≡ 0) (all : bytes ≡ client.kept ++ more) where
     read_at : (rest : List ℕ) {received : List ℕ} {given : List Answered} {due : List ℕ} → client.dropping ≤ length bytes → rest ≡ drop client.dropping bytes
         → Reaches options base (place_of client) received given due → Reaches options base (place_at rest 0) (received ++ more) given due
     read_at rest {received} {given} {due} come rest_is_it r =
         let same = ap length all in
-        let none : client.dropping - length (client.kept.items ++ more) ≡ 0 = omega (arith, come, same) in
-        let rest_all : drop client.dropping (client.kept.items ++ more) ≡ rest = ap (drop client.dropping) (sym all) ∙ sym rest_is_it in
+        let none : client.dropping - length (client.kept ++ more) ≡ 0 = omega (arith, come, same) in
+        let rest_all : drop client.dropping (client.kept ++ more) ≡ rest = ap (drop client.dropping) (sym all) ∙ sym rest_is_it in
         subst (λ b. Reaches options base (place_at b 0) (received ++ more) given due) rest_all
-        (subst (λ n. Reaches options base (record { bytes = drop client.dropping (client.kept.items ++ more); done = 0; dropping = n }) (received ++ more) given due) none
+        (subst (λ n. Reaches options base (record { bytes = drop client.dropping (client.kept ++ more); done = 0; dropping = n }) (received ++ more) given due) none
         (read_more options base r first more))
 
     pub looks_at : (now : Client) (stand : Stand) (answers : List Answered) (replies rest : List ℕ) → client.dropping ≤ length bytes → length bytes ≤ MAX_WAITING_LEN → rest ≡ drop client.dropping bytes
@@ -93,24 +93,24 @@ module _ (options : Options) (base : ℕ) where
     -- All of them are left out.
     pub looks_at_none : (after : List ℕ) → after ≡ [] → length bytes < client.dropping
         → GoesOnTo options base (place_of client) [] [] after (λ received given due. StandsAs options base MAX_WAITING_LEN Needs
-        (record { bytes = client.kept.items; done = client.done; dropping = client.dropping - length bytes }) (received ++ more) given due)
+        (record { bytes = client.kept; done = client.done; dropping = client.dropping - length bytes }) (received ++ more) given due)
     looks_at_none after none some = record {
       text = [];
       appended = none;
       on = λ received given due r.
           let same = ap length all in
-          let less : length (client.kept.items ++ more) < client.dropping = omega (arith, some, same) in
-          let empty : client.kept.items ≡ [] = none_kept options base r first more less in
-          let place : record { bytes = drop client.dropping (client.kept.items ++ more); done = 0; dropping = client.dropping - length (client.kept.items ++ more) }
-          ≡ record { bytes = client.kept.items; done = client.done; dropping = client.dropping - length bytes } =
+          let less : length (client.kept ++ more) < client.dropping = omega (arith, some, same) in
+          let empty : client.kept ≡ [] = none_kept options base r first more less in
+          let place : record { bytes = drop client.dropping (client.kept ++ more); done = 0; dropping = client.dropping - length (client.kept ++ more) }
+          ≡ record { bytes = client.kept; done = client.done; dropping = client.dropping - length bytes } =
           λ i. record {
-            bytes = (drop_all client.dropping (client.kept.items ++ more) (omega (arith, less)) ∙ sym empty) i;
+            bytes = (drop_all client.dropping (client.kept ++ more) (omega (arith, less)) ∙ sym empty) i;
             done = sym first i;
             dropping = client.dropping - sym same i;
           } in
           let at = subst (λ (p : Place). Reaches options base p (received ++ more) given due) place (read_more options base r first more) in (
-            subst (λ g. Reaches options base (record { bytes = client.kept.items; done = client.done; dropping = client.dropping - length bytes }) (received ++ more) g (due ++ [])) (sym (append-nil given))
-                (subst (λ d. Reaches options base (record { bytes = client.kept.items; done = client.done; dropping = client.dropping - length bytes }) (received ++ more) given d) (sym (append-nil due)) at),
+            subst (λ g. Reaches options base (record { bytes = client.kept; done = client.done; dropping = client.dropping - length bytes }) (received ++ more) g (due ++ [])) (sym (append-nil given))
+                (subst (λ d. Reaches options base (record { bytes = client.kept; done = client.done; dropping = client.dropping - length bytes }) (received ++ more) given d) (sym (append-nil due)) at),
             ap next_of empty ∙ nothing_next,
           );
     }

@@ -71,18 +71,25 @@ module _ (options : Options) (base most : ℕ) where
         by true is = subst (λ e. TalksWithOne options base most lacking e (received_of e new) (sent_of e new) (given_to e now)) (eqb-true c d is) here
         by false is = let s = same d is in talks_same d s.came s.went s.given (before d)
 
+  -- Memory lacked for one more
+  talks_lacking : (x c : ℕ) (lacking came went : List ℕ) (answers : List Answered) → TalksWithOne options base most lacking c came went answers → TalksWithOne options base most (x ∷ lacking) c came went answers
+  talks_lacking x c lacking came went answers talks = elim talks as (λ _. TalksWithOne options base most (x ∷ lacking) c came went answers) [
+    | inl t ↦ inl t
+    | inr kept ↦ inr (among_more x c lacking kept.0, kept.1)
+  ]
+
+  -- for some more
+  pub all_lacking : (more lacking : List ℕ) (entries : List Entry) (all : List Given) → TalksWithAll options base most lacking entries all → TalksWithAll options base most (more ++ lacking) entries all
+  all_lacking [] lacking entries all talks = talks
+  all_lacking (x ∷ more) lacking entries all talks = λ c.
+      talks_lacking x c (more ++ lacking) (received_of c entries) (sent_of c entries) (given_to c all) (all_lacking more lacking entries all talks c)
+
   module _ (schedule : List Step) (lacking : List ℕ) where
     pub last_moment : (entries : List Entry) (all : List Given) → TalksThrough options base most schedule lacking entries all → TalksWithAll options base most lacking entries all
     last_moment [] all through = through
     last_moment (e ∷ entries) all through = through.0
 
     -- Memory lacked for one more
-
-    talks_lacking : (x c : ℕ) (came went : List ℕ) (answers : List Answered) → TalksWithOne options base most lacking c came went answers → TalksWithOne options base most (x ∷ lacking) c came went answers
-    talks_lacking x c came went answers talks = elim talks as (λ _. TalksWithOne options base most (x ∷ lacking) c came went answers) [
-      | inl t ↦ inl t
-      | inr kept ↦ inr (among_more x c lacking kept.0, kept.1)
-    ]
 
     cause_lacking : (x : ℕ) (entry : Entry) (entries : List Entry) (all : List Given) → HasCause options base schedule lacking entry entries all → HasCause options base schedule (x ∷ lacking) entry entries all
     cause_lacking x (closed c) entries all cause = elim cause as (λ _. HasCause options base schedule (x ∷ lacking) (closed c) entries all) [
@@ -98,9 +105,9 @@ module _ (options : Options) (base most : ℕ) where
 
     pub through_lacking : (x : ℕ) (entries : List Entry) (all : List Given) → TalksThrough options base most schedule lacking entries all
         → TalksThrough options base most schedule (x ∷ lacking) entries all
-    through_lacking x [] all through = λ c. talks_lacking x c [] [] (given_to c all) (through c)
+    through_lacking x [] all through = λ c. talks_lacking x c lacking [] [] (given_to c all) (through c)
     through_lacking x (e ∷ entries) all through = (
-      λ c. talks_lacking x c (received_of c (e ∷ entries)) (sent_of c (e ∷ entries)) (given_to c all) (through.0 c),
+      λ c. talks_lacking x c lacking (received_of c (e ∷ entries)) (sent_of c (e ∷ entries)) (given_to c all) (through.0 c),
       (through.1.0, through.1.1, cause_lacking x e entries through.1.0 through.1.2, through_lacking x entries through.1.0 through.1.3),
     )
 

@@ -1,6 +1,6 @@
 -- Visits of one connection, one after another.
-use Rattle.std.proofs.Common.{◌≡◌, ℕ, List, [], ◌++◌, sym, ap, ◌∙◌, subst, append_assoc}
-use Rattle.std.proofs.lemmas.List.{append-nil, map-append}
+use Rattle.std.proofs.Common.{◌≡◌, ℕ, ◌*◌, ◌≤◌, List, [], ◌++◌, length, sym, ap, ◌∙◌, subst, arith, append_assoc, length-append}
+use Rattle.std.proofs.lemmas.List.{map-append}
 use Rattle.partition_model.specs.declared.options.Options.{Options}
 use Rattle.stream_io.specs.declared.schedule.Step.{Step}
 use Rattle.stream_io.specs.Log.{Log}
@@ -11,25 +11,35 @@ use Rattle.stream_fronts.specs.declared.visit.After.{After}
 use Rattle.stream_fronts.specs.declared.visit.After.TheVariants.{Again}
 use Rattle.stream_fronts.specs.Given.{Given, given_to}
 use Rattle.stream_fronts.specs.Moments.{TalksThrough}
+use Rattle.stream_fronts.specs.Turns.{most_answers}
 use Rattle.stream_fronts.specs.Held.{Holds, all_to, Becomes, Visits, VisitLacks}
 use Rattle.stream_fronts.proofs.Moments.{given_more}
-use Rattle.stream_fronts.proofs.Staying.{passes_same, passes_then}
+use Rattle.stream_fronts.proofs.Staying.{passes_fewer, passes_then}
 
 module _ (options : Options) (base c : ℕ) where
-  pub visits_none : (client : Client) (log : Log) → Visits options base client [] client Again c log log
-  visits_none client log = record {
-    passes = passes_same c log;
-    talks = λ lacking all holds through. (
-      subst (λ l. TalksThrough options base MOST_UNSENT log.schedule lacking log.entries l) (sym (append-nil all)) through,
-      subst (λ g. Holds options base MOST_UNSENT c log g client) (sym (append-nil (given_to c all))) holds,
-    );
-  }
+  -- one look is not more than two
+  pub visits_once : {client now : Client} {answers : List Answered} {old new : Log} (becomes : After) → Visits options base 1 client answers now becomes c old new
+      → Visits options base 2 client answers now becomes c old new
+  visits_once becomes visit =
+      record { passes = passes_fewer (omega arith) visit.passes; few_answers = let few = visit.few_answers in omega (arith, few); talks = visit.talks }
+
+  pub lacks_once : {client : Client} {answers : List Answered} {old new : Log} → VisitLacks options base 1 client answers c old new → VisitLacks options base 2 client answers c old new
+  lacks_once visit = record { passes = passes_fewer (omega arith) visit.passes; few_answers = let few = visit.few_answers in omega (arith, few); talks = visit.talks }
+
+  -- it is given up
+  pub visits_up : {client now : Client} {answers : List Answered} {old new : Log} (becomes : After) → Visits options base 2 client answers now becomes c old new
+      → VisitLacks options base 2 client answers c old new
+  visits_up becomes visit =
+      record { passes = visit.passes; few_answers = visit.few_answers; talks = λ lacking all among holds through. (visit.talks lacking all holds through).0 }
 
   -- answers of both, to the same
   all_both : (all : List Given) (one two : List Answered) → (all ++ all_to c one) ++ all_to c two ≡ all ++ all_to c (one ++ two)
   all_both all one two = append_assoc all (all_to c one) (all_to c two) ∙ ap (λ l. all ++ l) (sym (map-append (λ (a : Answered). record { to = c; answered = a }) one two))
 
-  module _ {client between : Client} {one : List Answered} {old mid : Log} (first : Visits options base client one between Again c old mid) where
+  module _ {client between : Client} {one : List Answered} {old mid : Log} (first : Visits options base 1 client one between Again c old mid) where
+    few_both : (two : List Answered) → length two ≤ 1 * most_answers options → length (one ++ two) ≤ 2 * most_answers options
+    few_both two few = let all = length-append one two in let fewer = first.few_answers in omega (arith, all, few, fewer)
+
     through_both : (two : List Answered) (new : Log) (lacking : List ℕ) (all : List Given) → TalksThrough options base MOST_UNSENT mid.schedule lacking new.entries ((all ++ all_to c one) ++ all_to c two)
         → TalksThrough options base MOST_UNSENT old.schedule lacking new.entries (all ++ all_to c (one ++ two))
     through_both two new lacking all through =
@@ -45,9 +55,10 @@ module _ (options : Options) (base c : ℕ) where
       through_between =
           subst (λ (s : List Step). TalksThrough options base MOST_UNSENT s lacking mid.entries (all ++ all_to c one)) (sym first.passes.schedule) (first.talks lacking all holds through).0
 
-    pub visits_then : {now : Client} {two : List Answered} {new : Log} (becomes : After) → Visits options base between two now becomes c mid new → Visits options base client (one ++ two) now becomes c old new
+    pub visits_then : {now : Client} {two : List Answered} {new : Log} (becomes : After) → Visits options base 1 between two now becomes c mid new → Visits options base 2 client (one ++ two) now becomes c old new
     visits_then {now} {two} {new} becomes second = record {
       passes = passes_then first.passes second.passes;
+      few_answers = few_both two second.few_answers;
       talks = λ lacking all holds through.
           let s = second.talks lacking (all ++ all_to c one) (held_between lacking all holds through) (through_between lacking all holds through) in (
             through_both two new lacking all s.0,
@@ -56,9 +67,10 @@ module _ (options : Options) (base c : ℕ) where
     }
 
     -- memory lacked behind them
-    pub visits_lack : {two : List Answered} {new : Log} → VisitLacks options base between two c mid new → VisitLacks options base client (one ++ two) c old new
+    pub visits_lack : {two : List Answered} {new : Log} → VisitLacks options base 1 between two c mid new → VisitLacks options base 2 client (one ++ two) c old new
     visits_lack {two} {new} second = record {
       passes = passes_then first.passes second.passes;
+      few_answers = few_both two second.few_answers;
       talks = λ lacking all among holds through.
           through_both two new lacking all (second.talks lacking (all ++ all_to c one) among (held_between lacking all holds through) (through_between lacking all holds through));
     }

@@ -1,7 +1,7 @@
 -- What serving a report makes of what stands.
-use Rattle.std.proofs.Common.{◌≡◌, ◌≢◌, inl, inr, ℕ, true≢false, List, [], ◌∷◌, ◌++◌, length, refl, sym, ap, ◌∙◌, subst, arith}
+use Rattle.std.proofs.Common.{◌≡◌, ◌≢◌, inl, inr, ℕ, ◌*◌, ◌≤◌, true≢false, List, [], ◌∷◌, ◌++◌, length, refl, sym, ap, ◌∙◌, subst, arith}
 use Rattle.std.specs.Prelude.{slice_get, Option, None, Some, is_some, IfSome}
-use Rattle.std.proofs.lemmas.List.{append-nil}
+use Rattle.std.proofs.lemmas.List.{append-nil, length-map}
 use Rattle.std.proofs.lemmas.Option.{none-some}
 use Rattle.partition_model.specs.declared.options.Options.{Options}
 use Rattle.stream_io.specs.declared.connections.Event.TheVariants.{Ready}
@@ -19,6 +19,7 @@ use Rattle.stream_fronts.specs.Clients.{at}
 use Rattle.stream_fronts.specs.Closing.{MayClose}
 use Rattle.stream_fronts.specs.Traffic.{OnHeld}
 use Rattle.stream_fronts.specs.Reached.{place_of}
+use Rattle.stream_fronts.specs.Turns.{most_answers}
 use Rattle.stream_fronts.specs.Held.{Holds, Visits, VisitLacks, all_to}
 use Rattle.stream_fronts.specs.Standing.{Stands, StandsBut, StandsOn}
 use Rattle.stream_fronts.specs.Resting.{Rests}
@@ -27,6 +28,7 @@ use Rattle.stream_fronts.proofs.Staying.{passes_under}
 use Rattle.stream_fronts.proofs.Moving.{moves_then, moves_asked, asked_comes}
 use Rattle.stream_fronts.proofs.Tending.{tends_served, tends_closed}
 use Rattle.stream_fronts.proofs.Moments.{given_more}
+use Rattle.stream_fronts.proofs.Turning.{grows_none, grows_call}
 use Rattle.stream_fronts.proofs.Visited.{held_sent}
 use Rattle.stream_fronts.proofs.Standing.{answers_all_to, stays_asked, under_asked, holds_at, stands_lacking, stands_less, stands_put, stands_asked, stands_closed, stands_visited}
 
@@ -47,7 +49,7 @@ answers_by number (Some log) answers = answers_all_to (place_under (held number 
 
 -- what a visit made of the connection under a number, by what became of it
 abbrev pub VisitsTo : Options → ℕ → ℕ → Client → List Answered → Client → Option Log → Option Log → After → Type 0
-VisitsTo options base number client answers now old new after = OnLogs (OnHeld number (Visits options base client answers now after)) old new
+VisitsTo options base number client answers now old new after = OnLogs (OnHeld number (Visits options base 2 client answers now after)) old new
 
 module _ (options : Options) (base : ℕ) where
   pub stands_none : (lacking : List ℕ) (log : Log) (all : List Given) (now : List (Option Client)) → Stands options base lacking log all now → StandsBut options base lacking 0 log (all ++ []) now
@@ -64,6 +66,8 @@ module _ (options : Options) (base : ℕ) where
     serves_none none (Some log) = record {
       schedule = refl;
       piece = refl;
+      few_calls = grows_none 2 log.entries;
+      few_answers = omega arith;
       on = λ lacking all new stands. stands_none lacking log all taken (stands_less options base lacking less_held stands);
       tends = λ lacking all stands but. record {
         apart = but.apart;
@@ -74,6 +78,9 @@ module _ (options : Options) (base : ℕ) where
     }
 
     module _ (client : Client) (is_held : at clients number ≡ Some client) (answers : List Answered) where
+      few_to : (c : ℕ) → length answers ≤ 2 * most_answers options → length (all_to c answers) ≤ 2 * most_answers options
+      few_to c few = let same = length-map answers (λ (a : Answered). record { to = c; answered = a }) in omega (arith, same, few)
+
       serves_to : (c count : ℕ) (now : List (Option Client)) (old new : Log) → held number (connections_of old) ≡ Some c
           → StandsOn options base (Ready number) clients count (all_to c answers) now old new
           → StandsOn options base (Ready number) clients count (all_to (place_under (held number (connections_of old))) answers) now old new
@@ -85,11 +92,13 @@ module _ (options : Options) (base : ℕ) where
         others_new : (n : ℕ) → n ≢ number → at new n ≡ at clients n
         others_new n other = others_put n other ∙ others n other
 
-        waits_at : (c : ℕ) (a b : Log) → held number (connections_of a) ≡ Some c → at new number ≡ Some now → Visits options base client answers now Waits c a b
+        waits_at : (c : ℕ) (a b : Log) → held number (connections_of a) ≡ Some c → at new number ≡ Some now → Visits options base 2 client answers now Waits c a b
             → StandsOn options base (Ready number) clients 0 (all_to c answers) new a b
         waits_at c a b here put visit = record {
           schedule = visit.passes.schedule;
           piece = visit.passes.piece;
+          few_calls = visit.passes.few_calls;
+          few_answers = few_to c visit.few_answers;
           on = λ lacking all is_new stands.
               let t = visit.talks lacking all (holds_at options base c here (stands.holds number client is_held)) stands.through in
               let s = stands_visited options base lacking {old = a} {new = b} all clients taken number c here others gone visit.passes.schedule (passes_under visit.passes) visit.passes.others answers t.0 stands in (
@@ -107,22 +116,24 @@ module _ (options : Options) (base : ℕ) where
               (record { client = now; is_held = put; rests = subst (λ p. Rests now c p (state_of b)) visit.passes.piece t.1.1 });
         }
 
-        pub serves_waits : (before after : Option Log) → at new number ≡ Some now → IfSome before (IsOpen number asks) → OnLogs (OnHeld number (Visits options base client answers now Waits)) before after
+        pub serves_waits : (before after : Option Log) → at new number ≡ Some now → IfSome before (IsOpen number asks) → OnLogs (OnHeld number (Visits options base 2 client answers now Waits)) before after
             → OnLogs (StandsOn options base (Ready number) clients 0 (given_by number before answers) new) before after
         serves_waits None after put stands visits = tt
         serves_waits (Some a) None put stands visits = visits
         serves_waits (Some a) (Some b) put stands visits =
             let here = stands.1.0 in
-            serves_to stands.0 0 new a b here (waits_at stands.0 a b here put (found (λ d. Visits options base client answers now Waits d a b) (held number (connections_of a)) stands.0 here visits))
+            serves_to stands.0 0 new a b here (waits_at stands.0 a b here put (found (λ d. Visits options base 2 client answers now Waits d a b) (held number (connections_of a)) stands.0 here visits))
 
         -- It is asked for again
 
         module _ (last : Client) (place : place_of last ≡ place_of now) (leaving : last.leaving ≡ now.leaving) (unsent : last.unsent ≡ now.unsent) where
-          again_at : (c : ℕ) (a b : Log) → held number (connections_of a) ≡ Some c → at new number ≡ Some last → Visits options base client answers now Again c a b
+          again_at : (c : ℕ) (a b : Log) → held number (connections_of a) ≡ Some c → at new number ≡ Some last → Visits options base 2 client answers now Again c a b
               → StandsOn options base (Ready number) clients 0 (all_to c answers) new a (logged (asked c) b)
           again_at c a b here put visit = record {
             schedule = visit.passes.schedule;
             piece = visit.passes.piece;
+            few_calls = grows_call (asked c) refl refl visit.passes.few_calls;
+            few_answers = few_to c visit.few_answers;
             on = λ lacking all is_new stands.
                 let t = visit.talks lacking all (holds_at options base c here (stands.holds number client is_held)) stands.through in
                 let s = stands_visited options base lacking {old = a} {new = b} all clients taken number c here others gone visit.passes.schedule (passes_under visit.passes) visit.passes.others answers t.0 stands in
@@ -143,25 +154,27 @@ module _ (options : Options) (base : ℕ) where
           }
 
           pub serves_again : (before between after : Option Log) → at new number ≡ Some last → IfSome before (IsOpen number asks)
-              → OnLogs (OnHeld number (Visits options base client answers now Again)) before between → IfSome between (λ l. Asks number l after)
+              → OnLogs (OnHeld number (Visits options base 2 client answers now Again)) before between → IfSome between (λ l. Asks number l after)
               → OnLogs (StandsOn options base (Ready number) clients 0 (given_by number before answers) new) before after
           serves_again None between after put stands visits asks = tt
           serves_again (Some a) None after put stands visits asks = absurd visits
           serves_again (Some a) (Some b) after put stands visits asks =
               let c = stands.0 in
               let here = stands.1.0 in
-              let visit = found (λ d. Visits options base client answers now Again d a b) (held number (connections_of a)) c here visits in
+              let visit = found (λ d. Visits options base 2 client answers now Again d a b) (held number (connections_of a)) c here visits in
               let is = found (λ d. after ≡ Some (logged (asked d) b)) (held number (connections_of b)) c (passes_under visit.passes number c here) asks in
               subst (λ o. OnLogs (StandsOn options base (Ready number) clients 0 (given_by number (Some a) answers) new) (Some a) o) (sym is)
               (serves_to c 0 new a (logged (asked c) b) here (again_at c a b here put visit))
 
       -- It is closed
 
-      over_at : (now : Client) (c : ℕ) (a b : Log) → held number (connections_of a) ≡ Some c → Visits options base client answers now Over c a b
+      over_at : (now : Client) (c : ℕ) (a b : Log) → held number (connections_of a) ≡ Some c → Visits options base 2 client answers now Over c a b
           → StandsOn options base (Ready number) clients 0 (all_to c answers) taken a (logged (closed c) b)
       over_at now c a b here visit = record {
         schedule = visit.passes.schedule;
         piece = visit.passes.piece;
+        few_calls = grows_call (closed c) refl refl visit.passes.few_calls;
+        few_answers = few_to c visit.few_answers;
         on = λ lacking all is_new stands.
             let t = visit.talks lacking all (holds_at options base c here (stands.holds number client is_held)) stands.through in
             let s = stands_visited options base lacking {old = a} {new = b} all clients taken number c here others gone visit.passes.schedule (passes_under visit.passes) visit.passes.others answers t.0 stands in
@@ -170,11 +183,13 @@ module _ (options : Options) (base : ℕ) where
         tends = λ lacking all stands but. tends_closed a.script.piece number c clients taken here visit.passes.moves others but.apart but.each;
       }
 
-      lacks_at : (c : ℕ) (a b : Log) → held number (connections_of a) ≡ Some c → VisitLacks options base client answers c a b
+      lacks_at : (c : ℕ) (a b : Log) → held number (connections_of a) ≡ Some c → VisitLacks options base 2 client answers c a b
           → StandsOn options base (Ready number) clients 1 (all_to c answers) taken a (logged (closed c) b)
       lacks_at c a b here visit = record {
         schedule = visit.passes.schedule;
         piece = visit.passes.piece;
+        few_calls = grows_call (closed c) refl refl visit.passes.few_calls;
+        few_answers = few_to c visit.few_answers;
         on = λ lacking all is_new before.
             let stands = stands_lacking options base c before in
             let through = visit.talks (c ∷ lacking) all ([], lacking, refl) (holds_at options base c here (stands.holds number client is_held)) stands.through in
@@ -198,13 +213,13 @@ module _ (options : Options) (base : ℕ) where
           (serves_to c count taken a (logged (closed c) b) here (serves c a b here visit))
 
       pub serves_over : (now : Client) (asks : ℕ) (before between after : Option Log) → IfSome before (IsOpen number asks)
-          → OnLogs (OnHeld number (Visits options base client answers now Over)) before between → IfSome between (λ l. Closes number l after)
+          → OnLogs (OnHeld number (Visits options base 2 client answers now Over)) before between → IfSome between (λ l. Closes number l after)
           → OnLogs (StandsOn options base (Ready number) clients 0 (given_by number before answers) taken) before after
       serves_over now asks before between after stands visits closes =
-          closes_at (Visits options base client answers now Over) 0 asks before between after (λ c a b v here. passes_under v.passes number c here) (over_at now) stands visits closes
+          closes_at (Visits options base 2 client answers now Over) 0 asks before between after (λ c a b v here. passes_under v.passes number c here) (over_at now) stands visits closes
 
       pub serves_lacks : (asks : ℕ) (before between after : Option Log) → IfSome before (IsOpen number asks)
-          → OnLogs (OnHeld number (VisitLacks options base client answers)) before between → IfSome between (λ l. Closes number l after)
+          → OnLogs (OnHeld number (VisitLacks options base 2 client answers)) before between → IfSome between (λ l. Closes number l after)
           → OnLogs (StandsOn options base (Ready number) clients 1 (given_by number before answers) taken) before after
       serves_lacks asks before between after stands visits closes =
-          closes_at (VisitLacks options base client answers) 1 asks before between after (λ c a b v here. passes_under v.passes number c here) lacks_at stands visits closes
+          closes_at (VisitLacks options base 2 client answers) 1 asks before between after (λ c a b v here. passes_under v.passes number c here) lacks_at stands visits closes

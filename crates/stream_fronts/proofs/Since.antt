@@ -2,15 +2,15 @@
 use Rattle.std.proofs.Common.{◌≡◌, ℕ, ◌+◌, ◌<◌, Bool, true, false, true≢false, List, [], ◌++◌, length, inl, refl, sym, ◌∙◌, subst, arith, length-append}
 use Rattle.std.specs.Prelude.{min, Option, None, Some, is_some, IfSome, option_map}
 use Rattle.std.proofs.lemmas.List.{append-nil, map-append}
-use Rattle.std.proofs.lemmas.Option.{none-some}
+use Rattle.std.proofs.lemmas.Option.{none-some, same_Some}
 use Rattle.mica_clock.specs.Seconds.{ClockView}
 use Rattle.partition_model.specs.declared.options.Options.{Options}
 use Rattle.mica_io.specs.Faults.{LAST_COUNT}
 use Rattle.stream_io.specs.declared.schedule.Step.{Step}
 use Rattle.stream_io.specs.declared.connections.Event.{Event}
 use Rattle.stream_io.specs.State.{Entry, state_after}
-use Rattle.stream_io.specs.Log.{Log, state_of, called}
-use Rattle.stream_io.specs.Calls.{ReportsNext, IsOver}
+use Rattle.stream_io.specs.Log.{Log, state_of, called, logged}
+use Rattle.stream_io.specs.Calls.{ReportsNext, IsOver, entry_of}
 use Rattle.mica_fronts.specs.Answered.{Answered}
 use Rattle.mica_fronts.specs.Session.{Sessions}
 use Rattle.memcached_fronts.specs.Sweeps.{HasSweeps, SweepsBy}
@@ -20,21 +20,25 @@ use Rattle.stream_fronts.specs.Given.{Given, answers_in}
 use Rattle.stream_fronts.specs.Going.{GoesByThese}
 use Rattle.stream_fronts.specs.Open.{OnLogs}
 use Rattle.stream_fronts.specs.Moments.{TalksThrough}
+use Rattle.stream_fronts.specs.Turns.{TakesTurns}
 use Rattle.stream_fronts.specs.Clients.{AreOpen}
 use Rattle.stream_fronts.specs.Resting.{Tends, TendsBut}
 use Rattle.stream_fronts.specs.Serving.{FrontAt, IsDone, ServesLog, ServesFromNone}
 use Rattle.stream_fronts.specs.Standing.{IsUntouched, Stands, StandsOn, GoesByGiven}
 use Rattle.stream_fronts.proofs.Going.{these_none, these_then}
 use Rattle.stream_fronts.proofs.Sweeping.{unswept, only_swept, has_both, these_sweeps}
+use Rattle.stream_fronts.proofs.Moments.{last_moment}
+use Rattle.stream_fronts.proofs.Turning.{turns_none, turns_more}
 use Rattle.stream_fronts.proofs.Reported.{event_told}
 use Rattle.stream_fronts.proofs.Settling.{done_all}
 
--- All stands by these answers, for so many connections memory lacked, and each waits.
+-- All stands by these answers, which were given in turns; for so many connections memory lacked, and each waits.
 pub record StandsBy (options : Options) (base had lacked : ℕ) (clients : List (Option Client)) (before now : Log) (given : List Given) : Type 0 where
   pub schedule : now.schedule ≡ before.schedule
   pub lacking : List ℕ
   pub counted : min lacked LAST_COUNT ≡ min (had + length lacking) LAST_COUNT
   pub stands : Stands options base lacking now given clients
+  pub turns : TakesTurns options base MOST_UNSENT lacking now.entries given
   pub tends : Tends now.script.piece (state_of now) clients
 
 -- They went on by answers that were given to clients and by sweeps, and of the first P holds.
@@ -77,6 +81,7 @@ module _ (options : Options) (is_alone : Bool) (base : ℕ) (old : Sessions) (le
       lacking = [];
       counted = omega arith;
       stands = begun_stands log clients empty none;
+      turns = turns_none options base MOST_UNSENT [] log.entries none;
       tends = begun_tends log.script.piece log.schedule log.entries clients none;
     },
   )
@@ -110,6 +115,9 @@ module _ (options : Options) (is_alone : Bool) (base : ℕ) (old : Sessions) (le
             lacking = s.0 ++ by.lacking;
             counted = let len = length-append s.0 by.lacking in let counted = by.counted in omega (arith, len, counted, s.1, more_lacked);
             stands = s.2;
+            turns = turns_more options base MOST_UNSENT s.0 by.lacking event y.entries z.entries w.entries f.0 second.0
+                (ap (λ (l : Log). l.entries) (same_Some z (logged (entry_of event) (called y)) reports.result)) second.2.few_calls second.2.few_answers
+                (last_moment options base MOST_UNSENT y.schedule by.lacking y.entries f.0 by.stands.through) by.turns;
             tends = subst (λ p. Tends p (state_of w) now) (sym piece)
                 (subst (λ p. Tends p (state_of w) now) t.piece (second.2.tends by.lacking f.0 t.stands (subst (λ p. TendsBut event p (state_of z) clients) (sym t.piece) (t.tends by.tends))));
           },
@@ -158,6 +166,7 @@ module _ (options : Options) (is_alone : Bool) (base : ℕ) (old : Sessions) (le
             counted = by.counted;
             through = subst (λ (s : List Step). TalksThrough options base MOST_UNSENT s by.lacking after.entries f.0) (sym schedule)
                 (subst (λ (e : List Entry). TalksThrough options base MOST_UNSENT now.schedule by.lacking e f.0) (sym entries) by.stands.through);
+            turns = subst (λ (e : List Entry). TakesTurns options base MOST_UNSENT by.lacking e f.0) (sym entries) by.turns;
             done = done;
           };
         }

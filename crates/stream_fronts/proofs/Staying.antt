@@ -1,5 +1,5 @@
 -- Of the other connections nothing moves.
-use Rattle.std.proofs.Common.{◌≡◌, ℕ, ◌==◌, false, cond, List, [], ◌∷◌, ◌++◌, length, drop, refl, sym, ap, ◌∙◌, subst}
+use Rattle.std.proofs.Common.{◌≡◌, ℕ, ◌+◌, ◌≤◌, ◌==◌, false, cond, List, [], ◌∷◌, ◌++◌, length, drop, refl, sym, ap, ◌∙◌, subst}
 use Rattle.std.specs.Prelude.{slice_get, Some, IfSome}
 use Rattle.std.specs.List.{AllByRecursion}
 use Rattle.std.proofs.Math.Seq.{drop-nil}
@@ -8,8 +8,10 @@ use Rattle.stream_io.specs.Connection.{Connection, after_read}
 use Rattle.stream_io.specs.State.{Entry, opened, reported, met, received, sent, asked, closed, held, state_after}
 use Rattle.stream_io.specs.Log.{Log, connections_of, state_of, received_of, sent_of}
 use Rattle.stream_fronts.specs.Traffic.{IsSend, Sends, Reads, HasEnded, after_receiving}
+use Rattle.stream_fronts.specs.Turns.{GrowsBy}
 use Rattle.stream_fronts.specs.Held.{StaysAs, Passes}
 use Rattle.stream_fronts.proofs.Traffic.{sends_received, mets_sent, mets_received, mets_send}
+use Rattle.stream_fronts.proofs.Turning.{grows_none, grows_then, grows_fewer, grows_sends, grows_read}
 use Rattle.stream_fronts.proofs.Drying.{sends_ended, ended_sends, in_changed}
 use Rattle.stream_fronts.proofs.Making.{made_sends, made_reads}
 use Rattle.stream_fronts.proofs.Moving.{moves_none, moves_then, moves_sends, moves_reads}
@@ -78,23 +80,41 @@ stays_read {c} {bytes} {old} {new} reads d other = record {
 
 -- Of all of them
 
-pub passes_same : (c : ℕ) (log : Log) → Passes c log log
-passes_same c log = record { schedule = refl; piece = refl; moves = moves_none c (state_of log); others = λ d other. stays_same d log }
+pub passes_same : (reads c : ℕ) (log : Log) → Passes reads c log log
+passes_same reads c log =
+    record { schedule = refl; piece = refl; few_calls = grows_none reads log.entries; moves = moves_none c (state_of log); others = λ d other. stays_same d log }
 
-pub passes_then : {c : ℕ} {old between new : Log} → Passes c old between → Passes c between new → Passes c old new
+pub passes_then : {reads more c : ℕ} {old between new : Log} → Passes reads c old between → Passes more c between new → Passes (reads + more) c old new
 passes_then first second = record {
   schedule = second.schedule ∙ first.schedule;
   piece = second.piece ∙ first.piece;
+  few_calls = grows_then first.few_calls second.few_calls;
   moves = moves_then first.moves second.moves;
   others = λ d other. stays_then (first.others d other) (second.others d other);
 }
 
-pub passes_sends : {c : ℕ} {text : List ℕ} {old new : Log} → Sends c text old new → Passes c old new
-passes_sends sends = record { schedule = sends.schedule; piece = sends.piece; moves = moves_sends sends; others = stays_sent sends }
+pub passes_fewer : {reads more c : ℕ} {old new : Log} → reads ≤ more → Passes reads c old new → Passes more c old new
+passes_fewer less passes =
+    record { schedule = passes.schedule; piece = passes.piece; few_calls = grows_fewer less passes.few_calls; moves = passes.moves; others = passes.others }
 
-pub passes_reads : {c : ℕ} {bytes : List ℕ} {old new : Log} → Reads c bytes old new → Passes c old new
-passes_reads reads = record { schedule = reads.schedule; piece = reads.piece; moves = moves_reads reads; others = stays_read reads }
+pub passes_sends : (reads : ℕ) {c : ℕ} {text : List ℕ} {old new : Log} → Sends c text old new → Passes reads c old new
+passes_sends reads {c} {text} {old} sends = record {
+  schedule = sends.schedule;
+  piece = sends.piece;
+  few_calls = subst (λ (e : List Entry). GrowsBy reads old.entries e) (sym sends.entries) (grows_sends reads c sends.more old.entries sends.each);
+  moves = moves_sends sends;
+  others = stays_sent sends;
+}
+
+pub passes_reads : {c : ℕ} {bytes : List ℕ} {old new : Log} → Reads c bytes old new → Passes 1 c old new
+passes_reads {c} {bytes} {old} reads = record {
+  schedule = reads.schedule;
+  piece = reads.piece;
+  few_calls = subst (λ (e : List Entry). GrowsBy 1 old.entries e) (sym reads.entries) (grows_read c bytes reads.mets old.entries (mets_send c reads.mets reads.each));
+  moves = moves_reads reads;
+  others = stays_read reads;
+}
 
 -- what is under a number is there still
-pub passes_under : {c : ℕ} {old new : Log} → Passes c old new → (n d : ℕ) → held n (connections_of old) ≡ Some d → held n (connections_of new) ≡ Some d
+pub passes_under : {reads c : ℕ} {old new : Log} → Passes reads c old new → (n d : ℕ) → held n (connections_of old) ≡ Some d → held n (connections_of new) ≡ Some d
 passes_under passes n d is = passes.moves.same n ∙ is

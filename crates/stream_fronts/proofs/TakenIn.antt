@@ -20,6 +20,7 @@ use Rattle.stream_fronts.specs.Standing.{IsUntouched, HoldsUnder, Stands, Stands
 use Rattle.stream_fronts.specs.Resting.{idle}
 use Rattle.stream_fronts.proofs.Opening.{found}
 use Rattle.stream_fronts.proofs.Moving.{moves_none}
+use Rattle.stream_fronts.proofs.Turning.{grows_none, grows_call}
 use Rattle.stream_fronts.proofs.Tending.{tends_served, tends_closed}
 use Rattle.stream_fronts.proofs.Visiting.{if_some}
 use Rattle.stream_fronts.proofs.Standing.{stands_lacking, stands_less, stands_put, stands_closed}
@@ -41,12 +42,14 @@ module _ (options : Options) (base number : ℕ) (clients : List (Option Client)
       }
 
   pub takes_in : (now : List (Option Client)) (client : Client) → ((n : ℕ) → n ≢ number → at now n ≡ at clients n) → at now number ≡ Some client → client.leaving ≡ false → client.unsent ≡ []
-      → Reaches options base (place_of client) [] [] [] → next_of client.kept.items ≡ More → (log : Option Log) → IfSome log (IsOpen number 0)
+      → Reaches options base (place_of client) [] [] [] → next_of client.kept ≡ More → (log : Option Log) → IfSome log (IsOpen number 0)
       → OnLogs (StandsOn options base (Opened number) clients 0 [] now) log log
   takes_in now client others put reading none talk waits None stands = tt
   takes_in now client others put reading none talk waits (Some log) is_open = record {
     schedule = refl;
     piece = refl;
+    few_calls = grows_none 2 log.entries;
+    few_answers = omega arith;
     on = λ lacking all is_new stands.
         let c = is_open.0 in
         stands_none options base lacking log all now (stands_put options base lacking number client others put (holds_new client reading none talk c log all is_open.1.0 (is_new c is_open.1.0)) stands);
@@ -71,6 +74,8 @@ module _ (options : Options) (base number : ℕ) (clients : List (Option Client)
       subst (λ o. OnLogs (StandsOn options base (Opened number) clients 1 [] taken) (Some log) o) (sym is) (record {
         schedule = refl;
         piece = refl;
+        few_calls = grows_call (closed c) refl refl (grows_none 2 log.entries);
+        few_answers = omega arith;
         on = λ lacking all is_new stands.
             let less = stands_less options base lacking {now = taken}
             (λ n x held_so. sym (others n (λ same. none-some x (sym gone ∙ subst (λ m. at taken m ≡ Some x) same held_so))) ∙ held_so) stands in (

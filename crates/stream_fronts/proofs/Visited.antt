@@ -1,5 +1,5 @@
 -- What a visit makes of a talk, by what each part of it did.
-use Rattle.std.proofs.Common.{◌≡◌, ◌≢◌, ℕ, ◌≤◌, inl, inr, Bool, true, false, true≢false, List, [], ◌++◌, length, take, drop, refl, sym, ap, ◌∙◌, subst, arith, length-append}
+use Rattle.std.proofs.Common.{◌≡◌, ◌≢◌, ℕ, ◌*◌, ◌≤◌, inl, inr, Bool, true, false, true≢false, List, [], ◌++◌, length, take, drop, refl, sym, ap, ◌∙◌, subst, arith, length-append}
 use Rattle.std.specs.Prelude.{slice_get, Option, Some, None, IfSome, Result, Ok, Err}
 use Rattle.std.proofs.lemmas.List.{append-nil, take-append-drop}
 use Rattle.partition_model.specs.declared.options.Options.{Options}
@@ -22,6 +22,7 @@ use Rattle.stream_fronts.specs.Given.{Given, given_to}
 use Rattle.stream_fronts.specs.Reached.{Place, Reaches, Ends, StandsAs, Spoke, place_of}
 use Rattle.stream_fronts.specs.Closing.{MayClose}
 use Rattle.stream_fronts.specs.Moments.{TalksThrough}
+use Rattle.stream_fronts.specs.Turns.{most_answers}
 use Rattle.stream_fronts.specs.Clients.{IsClient}
 use Rattle.stream_fronts.specs.Traffic.{Sends, SendsFrom, Reads, IsIn, IsShutIn, HasEnded, EndsBy}
 use Rattle.stream_fronts.specs.Resting.{shut, idle, Rests}
@@ -38,10 +39,10 @@ for_any None then = tt
 for_any (Some x) then = then x
 
 looks_passes : (options : Options) (base : ℕ) (client : Client) (answers : List Answered) (replies : List ℕ) (now : Client) (r : Result (Stand × Option Input) Broken) (c : ℕ) (old new : Log)
-    → Looks options base client answers replies now r c old new → Passes c old new
+    → Looks options base client answers replies now r c old new → Passes 1 c old new
 looks_passes options base client answers replies now (Err broken) c old new looks = passes_reads looks.2
-looks_passes options base client answers replies now (Ok r) c old new looks = elim looks as (λ _. Passes c old new) [
-  | inl further ↦ subst (λ (l : Log). Passes c old l) (sym further.same) (passes_same c old)
+looks_passes options base client answers replies now (Ok r) c old new looks = elim looks as (λ _. Passes 1 c old new) [
+  | inl further ↦ subst (λ (l : Log). Passes 1 c old l) (sym further.same) (passes_same 1 c old)
   | inr reads ↦ passes_reads reads.reads
 ]
 
@@ -165,7 +166,7 @@ module _ (options : Options) (base : ℕ) where
       -- it was broken, and nothing was read
       pub stage_unread : {log : Log} → client.done ≡ 0 → Reads c [] mid log → IsClient client → Stage options base most c schedule lacking log all []
       stage_unread first reads is =
-          stage_read options base most c client stage reads at first (let len = ap length (append-nil client.kept.items) in let s = is.short in omega (arith, len, s))
+          stage_read options base most c client stage reads at first (let len = ap length (append-nil client.kept) in let s = is.short in omega (arith, len, s))
 
       module _ (log : Log) (answers : List Answered) (replies : List ℕ) {now : Client} (is_now : IsClient now) (few : length replies ≤ most) where
         due_now : {text : List ℕ} → replies ≡ [] ++ text → sent_of c log.entries ≡ sent_of c mid.entries → sent_of c log.entries ++ replies ≡ (sent_of c mid.entries ++ []) ++ text
@@ -203,9 +204,10 @@ module _ (options : Options) (base : ℕ) where
     module _ {old mid : Log} {client : Client} (is : IsClient client) where
       -- replies that waited were not all sent
       pub visit_breaks : (now : Client) (broken : Broken) → SendsFrom {X = Bool} client.unsent now.unsent (Err broken) c old mid
-          → Visits options base client [] now Over c old mid
+          → Visits options base 1 client [] now Over c old mid
       visit_breaks now broken sends = record {
-        passes = passes_sends sends.0.1;
+        passes = passes_sends 1 sends.0.1;
+        few_answers = omega arith;
         talks = λ lacking all holds through.
             let most = MOST_UNSENT in
             let stage = stage_unsent most c lacking all client refl is holds through (drop sends.0.0 client.unsent) sends.0.1 (sym (take-append-drop sends.0.0 client.unsent)) in
@@ -222,18 +224,20 @@ module _ (options : Options) (base : ℕ) where
           stage_then : Stage options base most c old.schedule lacking mid all now.unsent
           stage_then = stage_unsent most c lacking all client refl is holds through now.unsent sends.1 sends.2
 
-        pub visit_waits : now.unsent ≢ [] → Visits options base client [] now Waits c old mid
+        pub visit_waits : now.unsent ≢ [] → Visits options base 1 client [] now Waits c old mid
         visit_waits some = record {
-          passes = passes_sends sends.1;
+          passes = passes_sends 1 sends.1;
+          few_answers = omega arith;
           talks = λ lacking all holds through.
               let most = MOST_UNSENT in
               let stage = stage_then most lacking all holds through in
               (still_through most mid old.schedule lacking all stage.through, still_becomes most mid (given_to c all) now Waits (held_then most lacking all holds through, rests_shut now c mid some (sends.3 some)));
         }
 
-        pub visit_leaves : IsClient now → now.leaving ≡ true → now.unsent ≡ [] → Visits options base client [] now Over c old mid
+        pub visit_leaves : IsClient now → now.leaving ≡ true → now.unsent ≡ [] → Visits options base 1 client [] now Over c old mid
         visit_leaves is_now ends none = record {
-          passes = passes_sends sends.1;
+          passes = passes_sends 1 sends.1;
+          few_answers = omega arith;
           talks = λ lacking all holds through.
               let most = MOST_UNSENT in
               let stage = stage_then most lacking all holds through in (
@@ -244,23 +248,25 @@ module _ (options : Options) (base : ℕ) where
 
         module _ (is_now : IsClient now) (reading : now.leaving ≡ false) (none : now.unsent ≡ []) {log : Log} (then : Client) (replies : List ℕ) {answers : List Answered} where
           -- it was broken as it was read
-          pub visit_unread : (broken : Broken) → Looks options base now answers replies then (Err broken) c mid log → Visits options base client answers then Over c old log
+          pub visit_unread : (broken : Broken) → Looks options base now answers replies then (Err broken) c mid log → Visits options base 1 client answers then Over c old log
           visit_unread broken looks =
-              let still : Visits options base client [] then Over c old log = record {
-                passes = passes_then (passes_sends sends.1) (passes_reads looks.2);
+              let still : Visits options base 1 client [] then Over c old log = record {
+                passes = passes_then (passes_sends 0 sends.1) (passes_reads looks.2);
+                few_answers = omega arith;
                 talks = λ lacking all holds through.
                     let most = MOST_UNSENT in
                     let before = subst (λ r. Stage options base most c old.schedule lacking mid all r) none (stage_then most lacking all holds through) in
                     let stage = stage_unread most c now before (held_then most lacking all holds through) reading none looks.1 looks.2 is_now in
                     (still_through most log old.schedule lacking all stage.through, still_becomes most log (given_to c all) then Over (stage_breaks options base most c stage looks.3));
               } in
-              subst (λ a. Visits options base client a then Over c old log) (sym looks.0) still
+              subst (λ a. Visits options base 1 client a then Over c old log) (sym looks.0) still
 
           -- memory lacked as it was looked at
-          pub visit_lacks : Lacks options base now answers c mid log → VisitLacks options base client answers c old log
-          visit_lacks lacks = elim lacks as (λ _. VisitLacks options base client answers c old log) [
+          pub visit_lacks : Lacks options base now answers c mid log → VisitLacks options base 1 client answers c old log
+          visit_lacks lacks = elim lacks as (λ _. VisitLacks options base 1 client answers c old log) [
             | inl further ↦ record {
-              passes = subst (λ (l : Log). Passes c old l) (sym further.same) (passes_sends sends.1);
+              passes = subst (λ (l : Log). Passes 1 c old l) (sym further.same) (passes_sends 1 sends.1);
+              few_answers = let few = further.few_answers in omega (arith, few);
               talks = λ lacking all among holds through.
                   let most = MOST_UNSENT in
                   let before = subst (λ s. Stage options base most c old.schedule lacking mid all s) none (stage_then most lacking all holds through) in
@@ -269,7 +275,8 @@ module _ (options : Options) (base : ℕ) where
                   subst (λ (l : Log). TalksThrough options base most old.schedule lacking l.entries (all ++ all_to c answers)) (sym further.same) all_through;
             }
             | inr read ↦ record {
-              passes = passes_then (passes_sends sends.1) (passes_reads read.reads);
+              passes = passes_then (passes_sends 0 sends.1) (passes_reads read.reads);
+              few_answers = let few = read.few_answers in omega (arith, few);
               talks = λ lacking all among holds through.
                   let most = MOST_UNSENT in
                   let before = subst (λ s. Stage options base most c old.schedule lacking mid all s) none (stage_then most lacking all holds through) in
@@ -296,23 +303,31 @@ module _ (options : Options) (base : ℕ) where
             looks_few : length replies ≤ MOST_UNSENT
             looks_few = elim looks as (λ _. length replies ≤ MOST_UNSENT) [ inl further ↦ further.few | inr reads ↦ reads.few ]
 
-            looked_passes : Passes c old log
-            looked_passes = passes_then (passes_sends sends.1) (looks_passes options base now answers replies then (Ok r) c mid log looks)
+            answers_few : length answers ≤ 1 * most_answers options
+            answers_few = elim looks as (λ _. length answers ≤ 1 * most_answers options) [
+              | inl further ↦ let few = further.few_answers in omega (arith, few)
+              | inr reads ↦ let few = reads.few_answers in omega (arith, few)
+            ]
+
+            looked_passes : Passes 1 c old log
+            looked_passes = passes_then (passes_sends 0 sends.1) (looks_passes options base now answers replies then (Ok r) c mid log looks)
 
             module _ {new : Log} (last : Client) where
               -- memory lacked for those that were not taken
-              pub visit_keeps_none : (n : ℕ) → Sends c (take n replies) log new → VisitLacks options base client answers c old new
+              pub visit_keeps_none : (n : ℕ) → Sends c (take n replies) log new → VisitLacks options base 1 client answers c old new
               visit_keeps_none n then_sends = record {
-                passes = passes_then looked_passes (passes_sends then_sends);
+                passes = passes_then looked_passes (passes_sends 0 then_sends);
+                few_answers = answers_few;
                 talks = λ lacking all among holds through.
                     let most = MOST_UNSENT in
                     let f = found most lacking all looks_few holds through in
                     (stage_sent options base most c (drop n replies) f.stage then_sends (sym (take-append-drop n replies))).through;
               }
 
-              pub visit_unsent : (broken : Broken) → SendsFrom {X = Bool} replies last.unsent (Err broken) c log new → Visits options base client answers last Over c old new
+              pub visit_unsent : (broken : Broken) → SendsFrom {X = Bool} replies last.unsent (Err broken) c log new → Visits options base 1 client answers last Over c old new
               visit_unsent broken then_sends = record {
-                passes = passes_then looked_passes (passes_sends then_sends.0.1);
+                passes = passes_then looked_passes (passes_sends 0 then_sends.0.1);
+                few_answers = answers_few;
                 talks = λ lacking all holds through.
                     let most = MOST_UNSENT in
                     let f = found most lacking all looks_few holds through in
@@ -351,28 +366,31 @@ module _ (options : Options) (base : ℕ) where
                       | inr silent ↦ inr (λ moving. if_some (slice_get (connections_of new) c) (λ x e. idle none_left reading (ap (λ (p : Place). next_of p.bytes) place_is ∙ more) e) silent)
                     ]
 
-                visit_goes_on : (becomes : After) → becomes ≢ Over → WaitsFor becomes → Visits options base client answers last becomes c old new
+                visit_goes_on : (becomes : After) → becomes ≢ Over → WaitsFor becomes → Visits options base 1 client answers last becomes c old new
                 visit_goes_on Over other rests = absurd (other refl)
                 visit_goes_on Waits other rests = record {
-                  passes = passes_then looked_passes (passes_sends then_sends.1);
+                  passes = passes_then looked_passes (passes_sends 0 then_sends.1);
+                  few_answers = answers_few;
                   talks = λ lacking all holds through.
                       let most = MOST_UNSENT in
                       let stage = stage_end most lacking all looks_few holds through in
                       (stage.through, (held_end most lacking all looks_few holds through, rests refl lacking all (end most lacking all looks_few holds through)));
                 }
                 visit_goes_on Again other rests = record {
-                  passes = passes_then looked_passes (passes_sends then_sends.1);
+                  passes = passes_then looked_passes (passes_sends 0 then_sends.1);
+                  few_answers = answers_few;
                   talks = λ lacking all holds through.
                       let most = MOST_UNSENT in
                       let stage = stage_end most lacking all looks_few holds through in (stage.through, held_end most lacking all looks_few holds through);
                 }
 
-                pub visit_shut : last.unsent ≢ [] → Visits options base client answers last Waits c old new
+                pub visit_shut : last.unsent ≢ [] → Visits options base 1 client answers last Waits c old new
                 visit_shut some = visit_goes_on Waits waits_not_over (λ is lacking all looked. rests_shut last c new some (then_sends.3 some))
 
-                pub visit_ends : IsClient last → last.leaving ≡ true → last.unsent ≡ [] → Visits options base client answers last Over c old new
+                pub visit_ends : IsClient last → last.leaving ≡ true → last.unsent ≡ [] → Visits options base 1 client answers last Over c old new
                 visit_ends is_last over none_left = record {
-                  passes = passes_then looked_passes (passes_sends then_sends.1);
+                  passes = passes_then looked_passes (passes_sends 0 then_sends.1);
+                  few_answers = answers_few;
                   talks = λ lacking all holds through.
                       let most = MOST_UNSENT in
                       let stage = stage_end most lacking all looks_few holds through in
@@ -380,9 +398,9 @@ module _ (options : Options) (base : ℕ) where
                 }
 
                 pub visit_after : (becomes : After) → (last.leaving ≡ true → becomes ≡ Over) → (last.leaving ≡ false → becomes ≢ Over) → (becomes ≡ Waits → (r.0 ≡ Needs) × (r.1 ≡ Some Later))
-                    → IsClient last → last.unsent ≡ [] → Visits options base client answers last becomes c old new
+                    → IsClient last → last.unsent ≡ [] → Visits options base 1 client answers last becomes c old new
                 visit_after becomes over stays waits is_last none_left = by last.leaving refl
                   where
-                    by : (b : Bool) → last.leaving ≡ b → Visits options base client answers last becomes c old new
-                    by true is_over = subst (λ (a : After). Visits options base client answers last a c old new) (sym (over is_over)) (visit_ends is_last is_over none_left)
+                    by : (b : Bool) → last.leaving ≡ b → Visits options base 1 client answers last becomes c old new
+                    by true is_over = subst (λ (a : After). Visits options base 1 client answers last a c old new) (sym (over is_over)) (visit_ends is_last is_over none_left)
                     by false is_open = visit_goes_on becomes (stays is_open) (waits_idle becomes is_open none_left waits)

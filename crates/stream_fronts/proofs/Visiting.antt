@@ -119,7 +119,7 @@ module _ (options : Options) (base most c : ℕ) where
 
     module _ (client : Client) {old new : Log} {bytes : List ℕ} (stage : Stage schedule lacking old all []) (reads : Reads c bytes old new)
         (at : Reaches options base (place_of client) (received_of c old.entries) (given_to c all) (sent_of c old.entries ++ []))
-        (first : client.done ≡ 0) (short : length (client.kept.items ++ bytes) ≤ MAX_WAITING_LEN) where
+        (first : client.done ≡ 0) (short : length (client.kept ++ bytes) ≤ MAX_WAITING_LEN) where
       entries_received : (b : List ℕ) (entries : List Entry) → received_of c (after_receiving c b entries) ≡ received_of c entries ++ b
       entries_received [] entries = sym (append-nil (received_of c entries))
       entries_received (byte ∷ b) entries = own_received c (byte ∷ b) entries
@@ -131,12 +131,12 @@ module _ (options : Options) (base most c : ℕ) where
       pub sent_now : sent_of c new.entries ≡ sent_of c old.entries
       sent_now = ap (sent_of c) reads.entries ∙ receiving_sent c c bytes (reads.mets ++ old.entries) ∙ mets_sent c reads.mets old.entries reads.each
 
-      reached : Reaches options base (record { bytes = drop client.dropping (client.kept.items ++ bytes); done = 0; dropping = client.dropping - length (client.kept.items ++ bytes) })
+      reached : Reaches options base (record { bytes = drop client.dropping (client.kept ++ bytes); done = 0; dropping = client.dropping - length (client.kept ++ bytes) })
           (received_of c old.entries ++ bytes) (given_to c all) (sent_of c old.entries ++ [])
       reached = read_more options base at first bytes
 
       told_now : (sent : List ℕ) → IsBeginning sent (sent_of c old.entries ++ []) → Told options base (received_of c old.entries ++ bytes) sent (given_to c all) (sent_of c old.entries ++ []) MAX_WAITING_LEN
-      told_now sent begins = told_few (let len = length-drop client.dropping (client.kept.items ++ bytes) in omega (arith, len, short)) (talk_at options base reached (inl refl) sent begins)
+      told_now sent begins = told_few (let len = length-drop client.dropping (client.kept ++ bytes) in omega (arith, len, short)) (talk_at options base reached (inl refl) sent begins)
 
       -- after the steps that were met
       met_through : TalksThrough options base most schedule lacking (reads.mets ++ old.entries) all

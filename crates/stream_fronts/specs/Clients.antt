@@ -9,8 +9,8 @@ use Rattle.stream_fronts.specs.Open.{IsOpen}
 
 -- no more is kept than the longest that waits, and the command that it begins with is not answered, or in part
 pub record IsClient (client : Client) : Type 0 where
-  pub short : length client.kept.items ≤ MAX_WAITING_LEN
-  pub begun : IsOpenAt (next_of client.kept.items) client.done
+  pub short : length client.kept ≤ MAX_WAITING_LEN
+  pub begun : IsOpenAt (next_of client.kept) client.done
 
 abbrev pub flat : Option (Option Client) → Option Client
 flat None = None

@@ -1,5 +1,5 @@
 -- What is held of a client beside its talk, and what a visit makes of both.
-use Rattle.std.specs.Prelude.{◌≡◌, ◌⊎◌, ℕ, ◌==◌, ◌≤◌, Bool, true, false, List, [], ◌++◌, length, map, take, drop, slice_get, Option, None, Some, IfSome, Result, Ok, Err}
+use Rattle.std.specs.Prelude.{◌≡◌, ◌⊎◌, ℕ, ◌==◌, ◌*◌, ◌≤◌, Bool, true, false, List, [], ◌++◌, length, map, take, drop, slice_get, Option, None, Some, IfSome, Result, Ok, Err}
 use Rattle.partition_model.specs.declared.options.Options.{Options}
 use Rattle.memcached_text.specs.declared.next.Next.TheVariants.{More}
 use Rattle.memcached_text.specs.declared.limits.TheConstants.{MAX_WAITING_LEN}
@@ -19,6 +19,7 @@ use Rattle.stream_fronts.specs.Given.{Given, given_to}
 use Rattle.stream_fronts.specs.Reached.{Reaches, Ends, GoesOnTo, SpokeFrom, SpokeBehind, StandsAs, place_of}
 use Rattle.stream_fronts.specs.Closing.{MayClose}
 use Rattle.stream_fronts.specs.Moments.{IsAmong, TalksThrough}
+use Rattle.stream_fronts.specs.Turns.{GrowsBy, most_answers}
 use Rattle.stream_fronts.specs.Traffic.{Reads, IsIn, IsBroken, HasEnded, EndsBy}
 use Rattle.stream_fronts.specs.Resting.{Moves, Rests}
 
@@ -30,7 +31,7 @@ pub data Holds (options : Options) (base most c : ℕ) (log : Log) (answers : Li
   left : client.leaving ≡ true → length client.unsent ≤ most
       → Ends options base MAX_WAITING_LEN (received_of c log.entries) answers (sent_of c log.entries ++ client.unsent) → Holds options base most c log answers client
   ended : client.leaving ≡ true → length client.unsent ≤ most
-      → Reaches options base (place_of client) (received_of c log.entries) answers (sent_of c log.entries ++ client.unsent) → next_of client.kept.items ≡ More
+      → Reaches options base (place_of client) (received_of c log.entries) answers (sent_of c log.entries ++ client.unsent) → next_of client.kept ≡ More
       → IsIn HasEnded c log → Holds options base most c log answers client
 
 -- these were given to the c-th connection
@@ -51,17 +52,19 @@ pub record StaysAs (d : ℕ) (old new : Log) : Type 0 where
   pub over : IsIn HasEnded d old → IsIn HasEnded d new
   pub made : slice_get (connections_of new) d ≡ None → slice_get (connections_of old) d ≡ None
 
--- Calls were made for the c-th connection, and for no other.
-pub record Passes (c : ℕ) (old new : Log) : Type 0 where
+-- Calls were made for the c-th connection, and for no other, of which so many reads at most gave bytes.
+pub record Passes (reads c : ℕ) (old new : Log) : Type 0 where
   pub schedule : new.schedule ≡ old.schedule
   pub piece : new.script.piece ≡ old.script.piece
+  pub few_calls : GrowsBy reads old.entries new.entries
   pub moves : Moves c (state_of old) (state_of new)
   pub others : (d : ℕ) → (c == d) ≡ false → StaysAs d old new
 
--- The c-th connection was visited, where this was held of its client. Where the front had talked with all clients before, at each moment, it has with these
--- answers to this one.
-pub record Visits (options : Options) (base : ℕ) (client : Client) (answers : List Answered) (now : Client) (becomes : After) (c : ℕ) (old new : Log) : Type 0 where
-  pub passes : Passes c old new
+-- The c-th connection was looked at so often at most, where this was held of its client. Where the front had talked with all clients before, at each moment, it
+-- has with these answers to this one.
+pub record Visits (options : Options) (base looks : ℕ) (client : Client) (answers : List Answered) (now : Client) (becomes : After) (c : ℕ) (old new : Log) : Type 0 where
+  pub passes : Passes looks c old new
+  pub few_answers : length answers ≤ looks * most_answers options
   pub talks : (lacking : List ℕ) (all : List Given) → Holds options base MOST_UNSENT c old (given_to c all) client
       → TalksThrough options base MOST_UNSENT old.schedule lacking old.entries all
       → TalksThrough options base MOST_UNSENT old.schedule lacking new.entries (all ++ all_to c answers)
@@ -81,6 +84,7 @@ pub record GoesFurther (options : Options) (base : ℕ) (client : Client) (answe
   pub same : new ≡ old
   pub goes : GoesOnTo options base (place_of client) answers [] replies (StandsAs options base MAX_WAITING_LEN r.0 (place_of now))
   pub few : length replies ≤ MOST_UNSENT
+  pub few_answers : length answers ≤ most_answers options
   pub ends : EndsBy r.1 c new
 
 -- The connection was read once, and what had come was answered.
@@ -88,11 +92,12 @@ pub record ReadsOn (options : Options) (base : ℕ) (client : Client) (answers :
     : Type 0 where
   pub first : client.done ≡ 0
   pub bytes : List ℕ
-  pub short : length (client.kept.items ++ bytes) ≤ MAX_WAITING_LEN
+  pub short : length (client.kept ++ bytes) ≤ MAX_WAITING_LEN
   pub reads : Reads c bytes old new
   pub goes : GoesOnTo options base (place_of client) answers [] replies
       (λ received given due. StandsAs options base MAX_WAITING_LEN r.0 (place_of now) (received ++ bytes) given due)
   pub few : length replies ≤ MOST_UNSENT
+  pub few_answers : length answers ≤ most_answers options
   pub ends : EndsBy r.1 c new
 
 -- Either; or the connection is broken, and nothing was answered.
@@ -108,21 +113,24 @@ Looks options base client answers replies now (Err broken) c old new =
 pub record LacksFurther (options : Options) (base : ℕ) (client : Client) (answers : List Answered) (old new : Log) : Type 0 where
   pub same : new ≡ old
   pub spoke : SpokeFrom options base MAX_WAITING_LEN (place_of client) answers
+  pub few_answers : length answers ≤ most_answers options
 
 -- The connection was read once, and what had come may have been answered.
 pub record LacksRead (options : Options) (base : ℕ) (client : Client) (answers : List Answered) (c : ℕ) (old new : Log) : Type 0 where
   pub first : client.done ≡ 0
   pub bytes : List ℕ
-  pub short : length (client.kept.items ++ bytes) ≤ MAX_WAITING_LEN
+  pub short : length (client.kept ++ bytes) ≤ MAX_WAITING_LEN
   pub reads : Reads c bytes old new
   pub spoke : SpokeBehind options base MAX_WAITING_LEN (place_of client) bytes answers
+  pub few_answers : length answers ≤ most_answers options
 
 abbrev pub Lacks : Options → ℕ → Client → List Answered → ℕ → Log → Log → Type 0
 Lacks options base client answers c old new = LacksFurther options base client answers old new ⊎ LacksRead options base client answers c old new
 
--- The c-th connection was visited, and memory lacked for it. At each moment the front had talked with all clients all the same.
-pub record VisitLacks (options : Options) (base : ℕ) (client : Client) (answers : List Answered) (c : ℕ) (old new : Log) : Type 0 where
-  pub passes : Passes c old new
+-- The c-th connection was looked at so often at most, and memory lacked for it. At each moment the front had talked with all clients all the same.
+pub record VisitLacks (options : Options) (base looks : ℕ) (client : Client) (answers : List Answered) (c : ℕ) (old new : Log) : Type 0 where
+  pub passes : Passes looks c old new
+  pub few_answers : length answers ≤ looks * most_answers options
   pub talks : (lacking : List ℕ) (all : List Given) → IsAmong c lacking → Holds options base MOST_UNSENT c old (given_to c all) client
       → TalksThrough options base MOST_UNSENT old.schedule lacking old.entries all
       → TalksThrough options base MOST_UNSENT old.schedule lacking new.entries (all ++ all_to c answers)

@@ -1,8 +1,10 @@
+pub mod Buffers
 pub mod Given
 pub mod Talk
 pub mod Reached
 pub mod Closing
 pub mod Moments
+pub mod Turns
 pub mod Serving
 pub mod Open
 pub mod Calls

@@ -81,7 +81,7 @@ StandsAs options base most Leaves place received answers due = Ends options base
 
 -- what is kept of a client
 abbrev pub place_of : Client → Place
-place_of client = record { bytes = client.kept.items; done = client.done; dropping = client.dropping }
+place_of client = record { bytes = client.kept; done = client.done; dropping = client.dropping }
 
 abbrev pub leaves : Stand → Bool
 leaves Leaves = true

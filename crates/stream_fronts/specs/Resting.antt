@@ -14,7 +14,7 @@ use Rattle.stream_fronts.specs.Traffic.{IsSilent, IsShut, IsToCome}
 -- nothing whole waits.
 pub data IsAtRest (client : Client) (connection : Connection) : Type 0 where
   shut : client.unsent ≢ [] → IsShut connection → IsAtRest client connection
-  idle : client.unsent ≡ [] → client.leaving ≡ false → next_of client.kept.items ≡ More → IsSilent connection → IsAtRest client connection
+  idle : client.unsent ≡ [] → client.leaving ≡ false → next_of client.kept ≡ More → IsSilent connection → IsAtRest client connection
 
 -- A report of the c-th connection is to come; or it waits, where a call moves so many bytes at most, and some.
 abbrev pub Rests : Client → ℕ → ℕ → State → Type 0

@@ -12,6 +12,7 @@ use Rattle.stream_fronts.specs.declared.answer.TheConstants.{LIMITS}
 use Rattle.stream_fronts.specs.Given.{Given, answers_in, given_to}
 use Rattle.stream_fronts.specs.Closing.{IsSettled}
 use Rattle.stream_fronts.specs.Moments.{TalksThrough}
+use Rattle.stream_fronts.specs.Turns.{TakesTurns}
 
 -- What contracts see of a front, its clock and its port at one moment: among them how many writes it may still be given; and a count of connections that there
 -- was no memory for.
@@ -37,8 +38,8 @@ pub record IsDone (options : Options) (base : ℕ) (log : Log) (all : List Given
       (λ connection. IsSettled options base connection (received_of c log.entries) (sent_of c log.entries) (given_to c all))
 
 -- All answers of the front are one list: its sessions went on by them in this order, and the clock told their seconds; it was given no writes but those among
--- them. They are those to clients, and between them sweeps and nothing else. At each moment of the log those to clients are what it talked with them. For some
--- connections there was no memory, as many as were counted. Where the end came, and calls can move bytes at all, the front is done.
+-- them. They are those to clients, and between them sweeps and nothing else. At each moment of the log those to clients are what it talked with them, and they
+-- were given in short turns, one for each report. For some connections there was no memory, as many as were counted. Where the end came, and calls can move bytes at all, the front is done.
 pub record AnswersClients (options : Options) (is_alone : Bool) (base most : ℕ) (old new : FrontAt) (log : Log) (all : List Given) : Type 0 where
   pub answers : List Answered
   pub sweeps : HasSweeps options base (answers_in all) answers
@@ -48,6 +49,7 @@ pub record AnswersClients (options : Options) (is_alone : Bool) (base most : ℕ
   pub lacking : List ℕ
   pub counted : min new.lacked LAST_COUNT ≡ min (old.lacked + length lacking) LAST_COUNT
   pub through : TalksThrough options base most log.schedule lacking log.entries all
+  pub turns : TakesTurns options base most lacking log.entries all
   pub done : new.has_ended ≡ true → 0 < log.script.piece → IsDone options base log all
 
 -- The log goes on, and the front served what it tells.

@@ -4,6 +4,7 @@ ghost use Rattle.memcached_text.specs.Next.{next_of};
 ghost use Rattle.memcached_fronts.specs.Exchange.{IsOpenAt};
 ghost use Rattle.stream_fronts.specs.declared.answer.TheConstants.{LIMITS};
 ghost use Rattle.stream_fronts.specs.Parts.{IsPart};
+ghost use Rattle.stream_fronts.specs.Turns.{most_answers, most_to_one};
 ghost use Rattle.stream_fronts.specs.Going.{GoesBy, GoesBySome};
 ghost use Rattle.stream_fronts.specs.Reached.{GoesOnTo, ReachesAfter, SpokeFrom, StandsAs, place_at, place_in};
 
@@ -91,7 +92,7 @@ fn answer_one<R: Threads + Wait + Sync, F: Counts, K: Clock>(
     requires left { LIMITS.asks + numbering.partitions ≤ F.left front.old }
     ensures part { IfOk result (IsPart (next_of bytes.now)) }
     ensures talk { GoesBySome (F.options front.old) F.is_alone (F.sessions front.old) (F.left front.old) (K.view clock.old) (F.sessions front.new) (F.left front.new) (K.view clock.new)
-        (λ answers. MatchResult result (λ said. GoesOnTo (F.options front.old) numbering.base (place_at bytes.now done) answers out.old.items out.new.items
+        (λ answers. (length answers ≤ most_to_one (F.options front.old)) × MatchResult result (λ said. GoesOnTo (F.options front.old) numbering.base (place_at bytes.now done) answers out.old.items out.new.items
         (ReachesAfter (F.options front.old) numbering.base bytes.now done said))
         (λ _. SpokeFrom (F.options front.old) numbering.base (length bytes.now) (place_at bytes.now done) answers)) }
     ensures goes { GoesBy (F.options front.old) F.is_alone (F.sessions front.old) (F.left front.old) (K.view clock.old) (F.sessions front.new) (F.left front.new) (K.view clock.new) }
@@ -131,7 +132,7 @@ pub fn answer_bytes<R: Threads + Wait + Sync, F: Counts, K: Clock>(
     ensures within { IfOk result (λ a. a.taken ≤ length bytes.now) }
     ensures open { IfOk result (λ a. IsOpenAt (next_of (drop a.taken bytes.now)) a.done) }
     ensures talk { GoesBySome (F.options front.old) F.is_alone (F.sessions front.old) (F.left front.old) (K.view clock.old) (F.sessions front.new) (F.left front.new) (K.view clock.new)
-        (λ answers. MatchResult result (λ a. GoesOnTo (F.options front.old) numbering.base (place_at bytes.now done) answers out.old.items out.new.items
+        (λ answers. (length answers ≤ most_answers (F.options front.old)) × MatchResult result (λ a. GoesOnTo (F.options front.old) numbering.base (place_at bytes.now done) answers out.old.items out.new.items
         (StandsAs (F.options front.old) numbering.base (length bytes.now) a.stand (place_in bytes.now a)))
         (λ _. SpokeFrom (F.options front.old) numbering.base (length bytes.now) (place_at bytes.now done) answers)) }
     ensures goes { GoesBy (F.options front.old) F.is_alone (F.sessions front.old) (F.left front.old) (K.view clock.old) (F.sessions front.new) (F.left front.new) (K.view clock.new) }

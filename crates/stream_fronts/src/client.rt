@@ -6,14 +6,14 @@ ghost use Rattle.memcached_text.specs.Next.{next_of};
 ghost use Rattle.stream_fronts.specs.Clients.{IsClient};
 ghost use Rattle.stream_fronts.specs.Reached.{Reaches, place_of};
 
+use crate::kept::Kept;
 use crate::unsent::Unsent;
-use std::alloc::Global;
 
-/// What a front holds of one connection. It takes no memory while no command and no reply is unfinished.
+/// What a front holds of one connection. It has no buffer while nothing is kept and nothing is unsent.
 #[derive(Drop)]
 pub struct Client {
     /// What was received and is no whole command, or waits for those before it.
-    pub kept: Vec<u8>,
+    pub kept: Kept,
     /// How many answers were given to the command that this begins with.
     pub done: usize,
     /// So many bytes of what is to be dropped have not come.
@@ -27,20 +27,20 @@ pub struct Client {
 
 impl Client {
     /// One that said nothing yet.
-    pub fn new(alloc: Global) -> Client
+    pub fn new() -> Client
         ensures client { IsClient result }
         ensures asks { result.asks ≡ 0 }
         ensures reading { result.leaving ≡ false }
         ensures unsent { result.unsent ≡ [] }
-        ensures waits { next_of result.kept.items ≡ More }
+        ensures waits { next_of result.kept ≡ More }
         ensures talk { (options : Options) (base : ℕ) → Reaches options base (place_of result) [] [] [] }
     {
         Client {
-            kept: Vec::new(alloc),
+            kept: Kept::nothing(),
             done: 0,
             dropping: 0,
             leaving: false,
-            unsent: Unsent::new(alloc),
+            unsent: Unsent::new(),
             asks: 0,
         }
     }

@@ -12,13 +12,15 @@
 //! just the answers that it gave, the front's sessions and the clock went on by these and no others, and the text that it appends is what is due to them
 //! (`specs/Reached`). `look_at` keeps what is left of a connection's bytes, no more than the longest that waits. The calls of a connection keep open what is
 //! open, ask for a connection again no more often than its bytes allow, and tell what was received and sent (`specs/Traffic`). `visit_once` sends what waits,
-//! receives once and answers; `visit_on` goes on so until there is no more to do at once, or the connection may be asked for again. What is held under a number
-//! is what was held there last.
+//! receives once and answers; `visit_on` does so twice at most. What is held under a number is what was held there last, and of a client of whom nothing is
+//! kept and nothing is unsent there is no buffer (`Kept`, `Unsent`).
 //!
 //! Which bytes a client gets is proved, too (`specs/Serving`). Where nothing had been done with the port before, all answers of the front are one list, each
 //! given to one client; and at each moment of the port's log the front had talked with each client by those that were given then: what was received spells
 //! what was answered, and what was sent is a beginning of what is due to that (`specs/Talk`, `specs/Moments`). A connection is closed where there is a cause
 //! for it, or no memory (`specs/Closing`). Of one visit this says `specs/Held`, and of what is held of all clients between visits `specs/Standing`.
+//!
+//! No client keeps the others waiting: for one report bytes are read twice at most, and few answers are given (`specs/Turns`).
 //!
 //! Where the end came, each is settled (`IsDone`): it is closed, or waits for its peer to take replies or to send more. Of a connection and its client that is
 //! `specs/Resting`, which goes on as others are served. Connections that there was no memory for are counted.
@@ -29,6 +31,7 @@ mod calls;
 mod client;
 mod clients;
 mod desk;
+mod kept;
 mod look;
 mod next;
 mod ports;
@@ -42,6 +45,7 @@ pub use calls::{ask_again, close, receive, send};
 pub use client::Client;
 pub use clients::Clients;
 pub use desk::{Desk, LONGEST_REPLY, MOST_UNSENT};
+pub use kept::Kept;
 pub use look::look_at;
 pub use ports::{MOST_STREAM_FRONTS, StreamPorts};
 pub use serve::serve_connections;

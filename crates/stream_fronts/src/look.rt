@@ -6,12 +6,14 @@ ghost use Rattle.memcached_fronts.specs.Exchange.{IsOpenAt};
 ghost use Rattle.stream_fronts.specs.declared.desk.TheConstants.{MOST_UNSENT};
 ghost use Rattle.stream_fronts.specs.Clients.{IsClient};
 ghost use Rattle.stream_fronts.specs.Going.{GoesBy, GoesBySome};
+ghost use Rattle.stream_fronts.specs.Turns.{most_answers};
 ghost use Rattle.stream_fronts.specs.Reached.{GoesOnTo, SpokeFrom, StandsAs, leaves, place_at, place_of};
 
 use crate::answer::{Stand, answer_bytes};
 use crate::client::Client;
 use crate::desk::MOST_UNSENT;
-use memcached_fronts::{Buffers, Numbering};
+use crate::kept::Kept;
+use memcached_fronts::{Buffers, Numbering, load_ahead};
 use mica_clock::Clock;
 use mica_fronts::Counts;
 use mica_io::NoMemory;
@@ -25,17 +27,13 @@ impl Client {
         requires short { length bytes.now ≤ MAX_WAITING_LEN }
         requires open { IsOpenAt (next_of bytes.now) done }
         ensures client { IfOk result (λ _. IsClient self.new) }
-        ensures kept { OnOk result ((self.new.kept.items ≡ bytes.now) × (self.new.done ≡ done)) }
+        ensures kept { OnOk result ((self.new.kept ≡ bytes.now) × (self.new.done ≡ done)) }
         ensures dropping { self.new.dropping ≡ self.old.dropping }
         ensures leaving { self.new.leaving ≡ self.old.leaving }
         ensures unsent { self.new.unsent ≡ self.old.unsent }
         ensures asks { self.new.asks ≡ self.old.asks }
     {
-        self.kept = if bytes.is_empty() {
-            Vec::new(alloc)
-        } else {
-            Vec::from_slice(alloc, bytes)?
-        };
+        self.kept = Kept::copy_of(alloc, bytes)?;
         self.done = done;
         Ok(())
     }
@@ -64,7 +62,7 @@ pub fn look_at<R: Threads + Wait + Sync, F: Counts, K: Clock>(
     ensures unsent { client.new.unsent ≡ client.old.unsent }
     ensures asks { client.new.asks ≡ client.old.asks }
     ensures talk { GoesBySome (F.options front.old) F.is_alone (F.sessions front.old) (F.left front.old) (K.view clock.old) (F.sessions front.new) (F.left front.new) (K.view clock.new)
-        (λ answers. MatchResult result (λ stand. GoesOnTo (F.options front.old) numbering.base (place_at bytes.now done) answers [] replies.new.items
+        (λ answers. (length answers ≤ most_answers (F.options front.old)) × MatchResult result (λ stand. GoesOnTo (F.options front.old) numbering.base (place_at bytes.now done) answers [] replies.new.items
         (StandsAs (F.options front.old) numbering.base (length bytes.now) stand (place_of client.new)))
         (λ _. SpokeFrom (F.options front.old) numbering.base (length bytes.now) (place_at bytes.now done) answers)) }
     ensures goes { GoesBy (F.options front.old) F.is_alone (F.sessions front.old) (F.left front.old) (K.view clock.old) (F.sessions front.new) (F.left front.new) (K.view clock.new) }
@@ -73,6 +71,7 @@ pub fn look_at<R: Threads + Wait + Sync, F: Counts, K: Clock>(
     ensures stands { F.stands front.new ≡ F.stands front.old }
 {
     replies.clear();
+    load_ahead(front, bytes);
     let answered = answer_bytes(rt, front, clock, numbering, buffers, bytes, done, replies)?;
     if replies.len() > MOST_UNSENT {
         return Err(NoMemory);

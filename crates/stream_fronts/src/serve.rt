@@ -105,12 +105,7 @@ fn count_event(event: Event, lacked: u64, tally: &mut Tally) {
 }
 
 /// Holds a new connection. Where there is no memory for it, it is closed. Says for how many there was none.
-fn take_in<C: Connections>(
-    alloc: Global,
-    connections: &mut C,
-    number: u32,
-    clients: &mut Clients,
-) -> u64
+fn take_in<C: Connections>(connections: &mut C, number: u32, clients: &mut Clients) -> u64
     requires clients { AreOpen clients.old.held.items (C.log connections.old) }
     requires open { IfSome (C.log connections.old) (IsOpen number 0) }
     ensures clients { AreOpen clients.new.held.items (C.log connections.new) }
@@ -120,7 +115,7 @@ fn take_in<C: Connections>(
 {
     match clients.make_room(number) {
         Ok(()) => {
-            clients.put(number, Client::new(alloc));
+            clients.put(number, Client::new());
             0
         }
         Err(NoMemory) => {
@@ -156,7 +151,7 @@ fn serve_event<R: Threads + Wait + Sync, F: Counts, K: Clock, C: Connections>(
         (λ given. OnLogs (StandsOn (F.options front.old) numbering.base event clients.old.held.items result given clients.new.held.items) (C.log connections.old) (C.log connections.new)) }
 {
     match event {
-        Event::Opened(number) => take_in(alloc, connections, number, clients),
+        Event::Opened(number) => take_in(connections, number, clients),
         Event::Ready(number) => visit_held(
             rt,
             alloc,
@@ -172,7 +167,7 @@ fn serve_event<R: Threads + Wait + Sync, F: Counts, K: Clock, C: Connections>(
 }
 
 /// Serves the connections of a port, to its end, or until the front may be given fewer writes than one command may need. A connection that there is no memory for is closed,
-/// and `lacked` counts it. What the front counts is shown in this place of the board. After each report it sweeps a few places of the partitions, and touches old items that were used.
+/// and `lacked` counts it. For one report a connection is read twice at most, and few of its commands are answered. What the front counts is shown in this place of the board. After each report it sweeps a few places of the partitions, and touches old items that were used.
 #[tactic(auto, using(crate::proofs::Going::by_none))]
 pub fn serve_connections<R: Threads + Wait + Sync, F: Glances, K: Clock, C: Connections>(
     rt: &R,

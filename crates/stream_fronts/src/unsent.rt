@@ -1,35 +1,36 @@
 //! Replies that a peer has not taken yet.
 ghost use Rattle.std.specs.Prelude.{◌≡◌, ◌≤◌, [], length, drop, OnOk, OnErr};
 
+use crate::kept::Kept;
 use mica_io::NoMemory;
 use std::alloc::Global;
 use std::marker::Model;
 
-/// Replies that a peer has not taken yet. There is no buffer where there are none. Clauses see the list of their bytes.
+/// Replies that a peer has not taken yet. There is a buffer only where there are any. Clauses see the list of their bytes.
 #[derive(Drop)]
 pub struct Unsent {
-    text: Vec<u8>,
+    text: Kept,
     /// So many bytes of the text were taken.
     sent: usize,
 }
 
 impl Model for Unsent {
-    ghost use Rattle.std.specs.Prelude.{List, ℕ, ◌≤◌, drop, vec_len};
+    ghost use Rattle.std.specs.Prelude.{◌≡◌, ◌⊎◌, ◌<◌, List, ℕ, [], length, drop};
 
     ghost Value = { List ℕ };
 
-    ghost view = { λ u. drop u.sent u.text.items };
+    ghost view = { λ u. drop u.sent u.text };
 
-    ghost invariant = { λ u. u.sent ≤ vec_len u.text };
+    ghost invariant = { λ u. (u.text ≡ []) × (u.sent ≡ 0) ⊎ (u.sent < length u.text) };
 }
 
 impl Unsent {
     /// Nothing to be sent.
-    pub fn new(alloc: Global) -> Unsent
+    pub fn new() -> Unsent
         ensures { result ≡ [] }
     {
         Unsent {
-            text: Vec::new(alloc),
+            text: Kept::nothing(),
             sent: 0,
         }
     }
@@ -38,7 +39,7 @@ impl Unsent {
     pub fn bytes(&self) -> &[u8]
         ensures { result.now ≡ self.now }
     {
-        &self.text[self.sent..]
+        &self.text.bytes()[self.sent..]
     }
 
     /// So many bytes more were taken.
@@ -46,19 +47,20 @@ impl Unsent {
         requires { count ≤ length self.old }
         ensures { self.new ≡ drop count self.old }
     {
+        let len = self.text.bytes().len();
         self.sent += count;
-        if self.sent == self.text.len() {
-            self.text = Vec::new(*self.text.allocator());
+        if self.sent == len {
+            self.text = Kept::nothing();
             self.sent = 0;
         }
     }
 
     /// Keeps these instead. When out of memory, it is as it was.
-    pub fn keep(&mut self, text: &[u8]) -> Result<(), NoMemory>
+    pub fn keep(&mut self, alloc: Global, text: &[u8]) -> Result<(), NoMemory>
         ensures ok { OnOk result (self.new ≡ text.now) }
         ensures err { OnErr result (self.new ≡ self.old) }
     {
-        self.text = Vec::from_slice(*self.text.allocator(), text)?;
+        self.text = Kept::copy_of(alloc, text)?;
         self.sent = 0;
         Ok(())
     }

@@ -4,6 +4,7 @@ ghost use Rattle.memcached_text.specs.declared.limits.TheConstants.{MAX_WAITING_
 ghost use Rattle.stream_fronts.specs.declared.desk.TheConstants.{MOST_UNSENT};
 ghost use Rattle.stream_fronts.specs.Clients.{IsClient};
 ghost use Rattle.stream_fronts.specs.Going.{GoesBy, GoesBySome};
+ghost use Rattle.stream_fronts.specs.Turns.{most_answers};
 ghost use Rattle.stream_fronts.specs.Reached.{GoesOnTo, SpokeBehind, StandsAs, leaves, place_of};
 ghost use Rattle.stream_fronts.specs.Traffic.{OnHeld, ReadsTo, SendsFrom, SendsSome};
 ghost use Rattle.stream_fronts.specs.Held.{Lacks, Looks, VisitLacks, Visits, filled_bytes, leaves_by};
@@ -13,6 +14,7 @@ use crate::answer::Stand;
 use crate::calls::{receive, send};
 use crate::client::Client;
 use crate::desk::Desk;
+use crate::kept::Kept;
 use crate::look::look_at;
 use memcached_fronts::{Buffers, Numbering};
 use memcached_stats::{Counter, Tally};
@@ -68,6 +70,7 @@ fn send_unsent<C: Connections>(
 /// Sends new replies, and keeps those that are not taken. Says whether all were.
 #[tactic(auto, using(crate::proofs::Opening::still_open))]
 fn send_new<C: Connections>(
+    alloc: Global,
     connections: &mut C,
     number: u32,
     client: &mut Client,
@@ -97,7 +100,7 @@ fn send_new<C: Connections>(
     };
     tally.raise(Counter::Sent, sent as u64);
     if sent < replies.len() {
-        client.unsent.keep(&replies[sent..])?;
+        client.unsent.keep(alloc, &replies[sent..])?;
         return Ok(Ok(false));
     }
     Ok(Ok(true))
@@ -123,8 +126,8 @@ fn fill<C: Connections>(
     requires open { IfSome (C.log connections.old) (IsOpen number client.old.asks) }
     ensures room { length room.new ≡ MAX_WAITING_LEN }
     ensures fits { IfOk result (λ filled. filled.0 ≤ MAX_WAITING_LEN) }
-    ensures kept { IfOk result (λ filled. take filled.0 room.new ≡ client.old.kept.items ++ drop (length client.old.kept.items) (take filled.0 room.new)) }
-    ensures reads { OnLogs (OnHeld number (ReadsTo (λ filled. filled.1) (filled_bytes (length client.old.kept.items) room.new result) result))
+    ensures kept { IfOk result (λ filled. take filled.0 room.new ≡ client.old.kept ++ drop (length client.old.kept) (take filled.0 room.new)) }
+    ensures reads { OnLogs (OnHeld number (ReadsTo (λ filled. filled.1) (filled_bytes (length client.old.kept) room.new result) result))
         (C.log connections.old) (C.log connections.new) }
     ensures client { IsClient client.new }
     ensures place { place_of client.new ≡ place_of client.old }
@@ -137,8 +140,9 @@ fn fill<C: Connections>(
     ensures faults { C.faults connections.new ≡ C.faults connections.old }
     ensures port { C.port connections.new ≡ C.port connections.old }
 {
-    let had = client.kept.len();
-    room[..had].copy_from_slice(client.kept.as_slice());
+    let kept = client.kept.bytes();
+    let had = kept.len();
+    room[..had].copy_from_slice(kept);
     if had == room.len() {
         return Ok((had, None));
     }
@@ -167,7 +171,7 @@ fn look_at_room<R: Threads + Wait + Sync, F: Counts, K: Clock>(
     requires first { client.old.done ≡ 0 }
     requires reading { client.old.leaving ≡ false }
     requires short { length bytes.now ≤ MAX_WAITING_LEN }
-    requires kept { bytes.now ≡ client.old.kept.items ++ drop (length client.old.kept.items) bytes.now }
+    requires kept { bytes.now ≡ client.old.kept ++ drop (length client.old.kept) bytes.now }
     requires partitions { numbering.partitions ≡ (F.options front.old).partitions }
     ensures client { IfOk result (λ _. IsClient client.new) }
     ensures leaving { IfOk result (λ stand. client.new.leaving ≡ leaves stand) }
@@ -175,10 +179,10 @@ fn look_at_room<R: Threads + Wait + Sync, F: Counts, K: Clock>(
     ensures unsent { client.new.unsent ≡ client.old.unsent }
     ensures asks { client.new.asks ≡ client.old.asks }
     ensures talk { GoesBySome (F.options front.old) F.is_alone (F.sessions front.old) (F.left front.old) (K.view clock.old) (F.sessions front.new) (F.left front.new) (K.view clock.new)
-        (λ answers. MatchResult result (λ stand. GoesOnTo (F.options front.old) numbering.base (place_of client.old) answers [] replies.new.items
+        (λ answers. (length answers ≤ most_answers (F.options front.old)) × MatchResult result (λ stand. GoesOnTo (F.options front.old) numbering.base (place_of client.old) answers [] replies.new.items
         (λ received given due. StandsAs (F.options front.old) numbering.base MAX_WAITING_LEN stand (place_of client.new)
-        (received ++ drop (length client.old.kept.items) bytes.now) given due))
-        (λ _. SpokeBehind (F.options front.old) numbering.base MAX_WAITING_LEN (place_of client.old) (drop (length client.old.kept.items) bytes.now) answers)) }
+        (received ++ drop (length client.old.kept) bytes.now) given due))
+        (λ _. SpokeBehind (F.options front.old) numbering.base MAX_WAITING_LEN (place_of client.old) (drop (length client.old.kept) bytes.now) answers)) }
     ensures goes { GoesBy (F.options front.old) F.is_alone (F.sessions front.old) (F.left front.old) (K.view clock.old) (F.sessions front.new) (F.left front.new) (K.view clock.new) }
     ensures options { F.options front.new ≡ F.options front.old }
     ensures number { F.number front.new ≡ F.number front.old }
@@ -238,9 +242,9 @@ fn answer_more<R: Threads + Wait + Sync, F: Counts, K: Clock, C: Connections>(
         buffers,
     } = desk;
     if client.done > 0 {
-        let kept = mem::replace(&mut client.kept, Vec::new(alloc));
+        let kept = mem::replace(&mut client.kept, Kept::nothing());
         let done = client.done;
-        let bytes = kept.as_slice();
+        let bytes = kept.bytes();
         let stand = look_at(
             rt, alloc, front, clock, numbering, client, bytes, done, buffers, replies,
         )?;
@@ -305,8 +309,8 @@ pub fn visit_once<R: Threads + Wait + Sync, F: Counts, K: Clock, C: Connections>
     ensures client { IfOk result (λ _. IsClient client.new) }
     ensures talks { GoesBySome (F.options front.old) F.is_alone (F.sessions front.old) (F.left front.old) (K.view clock.old) (F.sessions front.new) (F.left front.new) (K.view clock.new)
         (λ answers. MatchResult result
-        (λ after. OnLogs (OnHeld number (Visits (F.options front.old) numbering.base client.old answers client.new after)) (C.log connections.old) (C.log connections.new))
-        (λ _. OnLogs (OnHeld number (VisitLacks (F.options front.old) numbering.base client.old answers)) (C.log connections.old) (C.log connections.new))) }
+        (λ after. OnLogs (OnHeld number (Visits (F.options front.old) numbering.base 1 client.old answers client.new after)) (C.log connections.old) (C.log connections.new))
+        (λ _. OnLogs (OnHeld number (VisitLacks (F.options front.old) numbering.base 1 client.old answers)) (C.log connections.old) (C.log connections.new))) }
     ensures open { IfSome (C.log connections.new) (IsOpen number client.new.asks) }
     ensures keeps { OnLogs Keeps (C.log connections.old) (C.log connections.new) }
     ensures told { is_some (C.log connections.new) ≡ is_some (C.log connections.old) }
@@ -343,7 +347,14 @@ pub fn visit_once<R: Threads + Wait + Sync, F: Counts, K: Clock, C: Connections>
     };
     client.leaving = leaves_by(stand, input);
     let tally = &mut desk.buffers.tally;
-    match send_new(connections, number, client, desk.replies.as_slice(), tally)? {
+    match send_new(
+        alloc,
+        connections,
+        number,
+        client,
+        desk.replies.as_slice(),
+        tally,
+    )? {
         Err(Broken) => Ok(After::Over),
         Ok(false) => Ok(After::Waits),
         Ok(true) => Ok(after_all(client.leaving, stand, input)),

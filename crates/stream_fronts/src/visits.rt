@@ -1,4 +1,4 @@
-//! Visits of a connection, one after another.
+//! What is done for a connection that was reported.
 ghost use Rattle.std.specs.Prelude.{◌≡◌, true, false, ◌<◌, ◌≤◌, IfOk, IfSome, MatchResult, vec_len};
 ghost use Rattle.memcached_text.specs.declared.limits.TheConstants.{MAX_WAITING_LEN};
 ghost use Rattle.stream_fronts.specs.Calls.{LeavesPort, MovesFront};
@@ -20,16 +20,16 @@ use std::sync::Wait;
 use std::thread::Threads;
 use stream_io::Connections;
 
-// Whether a connection is left: nothing is to be done at once, or it was visited twice and may be asked for again.
-fn is_left(after: After, is_again: bool, asks: u64) -> bool
-    ensures left { result ≡ true → after ≡ After.Again → 0 < asks }
-    ensures again { result ≡ false → after ≡ After.Again }
+// Whether there may be more to do at once, and it may not be asked for again.
+fn is_stuck(after: After, asks: u64) -> bool
+    ensures { result ≡ false → after ≡ After.Again → 0 < asks }
 {
-    after != After::Again || is_again && asks > 0
+    after == After::Again && asks == 0
 }
 
-/// Visits until there is no more to do at once, or it may be asked for again and was visited twice. Mostly the second visit finds that nothing more came: then it
-/// need not be reported again.
+/// Visits a connection once, and once more where there may be more to do at once. Mostly the second visit finds that nothing more came: then it need not be
+/// reported again. Where there is more to do still, it is to be asked for again. If it might not be, it would be as if memory lacked; none comes to that, since
+/// whoever is left so has sent bytes, or was answered some, that allow it.
 pub fn visit_on<R: Threads + Wait + Sync, F: Counts, K: Clock, C: Connections>(
     rt: &R,
     alloc: Global,
@@ -50,30 +50,40 @@ pub fn visit_on<R: Threads + Wait + Sync, F: Counts, K: Clock, C: Connections>(
     ensures client { IfOk result (λ _. IsClient client.new) }
     ensures talks { GoesBySome (F.options front.old) F.is_alone (F.sessions front.old) (F.left front.old) (K.view clock.old) (F.sessions front.new) (F.left front.new) (K.view clock.new)
         (λ answers. MatchResult result
-        (λ after. OnLogs (OnHeld number (Visits (F.options front.old) numbering.base client.old answers client.new after)) (C.log connections.old) (C.log connections.new))
-        (λ _. OnLogs (OnHeld number (VisitLacks (F.options front.old) numbering.base client.old answers)) (C.log connections.old) (C.log connections.new))) }
+        (λ after. OnLogs (OnHeld number (Visits (F.options front.old) numbering.base 2 client.old answers client.new after)) (C.log connections.old) (C.log connections.new))
+        (λ _. OnLogs (OnHeld number (VisitLacks (F.options front.old) numbering.base 2 client.old answers)) (C.log connections.old) (C.log connections.new))) }
     ensures open { IfSome (C.log connections.new) (IsOpen number client.new.asks) }
     ensures keeps { OnLogs Keeps (C.log connections.old) (C.log connections.new) }
     ensures port { LeavesPort C.log C.has_ended C.faults C.port connections.old connections.new }
     ensures front { MovesFront F.options F.number F.stands F.is_alone F.sessions F.left K.view front.old clock.old front.new clock.new }
 {
-    let mut is_again = false;
-    for _ in rt.forever() {
-        let after = visit_once(
-            rt,
-            alloc,
-            front,
-            clock,
-            numbering,
-            connections,
-            number,
-            client,
-            desk,
-        )?;
-        if is_left(after, is_again, client.asks) {
-            return Ok(after);
-        }
-        is_again = true;
+    match visit_once(
+        rt,
+        alloc,
+        front,
+        clock,
+        numbering,
+        connections,
+        number,
+        client,
+        desk,
+    )? {
+        After::Again => {}
+        after => return Ok(after),
     }
-    Ok(After::Over)
+    let last = visit_once(
+        rt,
+        alloc,
+        front,
+        clock,
+        numbering,
+        connections,
+        number,
+        client,
+        desk,
+    )?;
+    if is_stuck(last, client.asks) {
+        return Err(NoMemory);
+    }
+    Ok(last)
 }

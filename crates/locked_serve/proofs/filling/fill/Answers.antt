@@ -1,15 +1,19 @@
-use Rattle.std.proofs.Common.{◌+◌, List, length, take, drop, refl, sym, ap, ◌∙◌, subst, arith}
+use Rattle.std.proofs.Common.{◌<◌, ◌+◌, ℕ, List, length, take, drop, refl, sym, ap, ◌∙◌, subst, arith}
 use Rattle.std.proofs.lemmas.Option.{slice_get_read}
+use Rattle.std.proofs.lemmas.Nat.{pow_pos}
 use Rattle.partition_model.specs.declared.write.Write.{Write}
 use Rattle.epoch_core.specs.declared.state.OwnerState.{OwnerState}
-use Rattle.mica_fronts.specs.Flushes.{flushes_in}
+use Rattle.mica_fronts.specs.Flushes.{AreKept}
 use Rattle.locked_serve.proofs.Fills.{FilledBy, filled_none, filled_more, refuses, taken_more, split_at}
 use Rattle.locked_serve.proofs.filling.fill.Goals as goal
+
+pub none-flushes-requires : goal.none-flushes-requires
+none-flushes-requires g c = subst (λ (n : ℕ). 0 < n) (sym c.requires.valid.buckets.2) (pow_pos c.requires.valid.buckets.0)
 
 pub loop-write-init : goal.loop-write-init
 loop-write-init g c = record {
   filled = filled_none c.args.options.now c.args.number (g.P.Partition.owner c.args.part.now) c.requires.made;
-  flushes = c.none-flushes.ensures ∙ ap (λ (o : OwnerState). flushes_in o.history) (sym c.requires.made);
+  flushes = subst (λ (o : OwnerState). AreKept o.shape.buckets o.history c.none-flushes.result) (sym c.requires.made) c.none-flushes.ensures;
 }
 
 pub loop-write-preserved : goal.loop-write-preserved

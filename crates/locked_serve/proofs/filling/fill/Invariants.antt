@@ -1,10 +1,10 @@
-use Rattle.std.proofs.Common.{◌≡◌, take}
-use Rattle.mica_fronts.specs.Flushes.{flushes_in}
+use Rattle.std.proofs.Common.{take}
+use Rattle.mica_fronts.specs.Flushes.{AreKept}
 use Rattle.locked_serve.proofs.Fills.{FilledBy}
 use Rattle.locked_serve.proofs.filling.fill.Given as goal
 
 abbrev pub invariant-loop-write : goal.invariant-loop-write
 invariant-loop-write g l = record {
   filled : FilledBy l.options l.number (take l.write-index l.filling) (g.P.Partition.owner l.part);
-  flushes : l.flushes ≡ flushes_in (g.P.Partition.owner l.part).history;
+  flushes : AreKept (g.P.Partition.owner l.part).shape.buckets (g.P.Partition.owner l.part).history l.flushes;
 }

@@ -12,7 +12,7 @@ use Rattle.locked_serve.proofs.filling.fill_one.Goals as goal
 here : (g : given.Over) (c : After-partition_of g) → partition_of c.args.write.now.key c.args.options.now.partitions ≡ c.partition_of.result
 here g c =
     partition_of_hash c.args.write.now.key c.args.options.now.partitions
-    ∙ ap (λ h. hash_partition h c.args.options.now.partitions) (sym (c.key_hash.ensures ∙ ap fnv1a c.bytes.ensures)) ∙ sym c.partition_of.ensures
+    ∙ ap (λ h. hash_partition h c.args.options.now.partitions) (sym (c.key_hash-hash.ensures ∙ ap fnv1a c.bytes-key.ensures)) ∙ sym c.partition_of.ensures
 
 pub returns-then-partition_of-number-clause-own : goal.returns-then-partition_of-number-clause-own
 returns-then-partition_of-number-clause-own g c is =
@@ -21,8 +21,8 @@ returns-then-partition_of-number-clause-own g c is =
 pub returns-clause-own : goal.returns-clause-own
 returns-clause-own g c _ =
     let given = c.args.write.now in
-    let same : write_of given.op c.bytes-2.result.now c.bytes-3.result.now ≡ given
-    = λ i. record { op = given.op; key = c.bytes-2.ensures i; value = c.bytes-3.ensures i } in (
+    let same : write_of given.op c.bytes-key.result.now c.bytes.result.now ≡ given
+    = λ i. record { op = given.op; key = c.bytes-key.ensures i; value = c.bytes.ensures i } in (
       c.write_counted.result,
       sym c.is_accepted.ensures,
       subst (λ (w : Write). IsOwnerStep (g.P.Partition.owner c.args.part.now) (g.P.Partition.owner c.write_counted.new.part) w c.write_counted.result) same c.write_counted.ensures.step,

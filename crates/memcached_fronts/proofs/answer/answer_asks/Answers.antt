@@ -1,4 +1,4 @@
-use Rattle.std.proofs.Common.{◌≡◌, ◌∷◌, ◌++◌, ◌+◌, List, [], length, drop, refl, sym, ap, ◌∙◌, subst, arith, length-append, inl}
+use Rattle.std.proofs.Common.{◌≡◌, ◌<◌, ◌≤◌, ◌∷◌, ◌++◌, ◌+◌, List, [], length, drop, refl, sym, ap, ◌∙◌, subst, arith, length-append, inl}
 use Rattle.std.specs.List.{AllByRecursion}
 use Rattle.std.proofs.lemmas.List.{append-nil, drop-drop}
 use Rattle.partition_model.specs.declared.options.Options.{Options}
@@ -25,6 +25,7 @@ loop-count-init g c =
       fit = c.requires.fit;
       text = sym (ap (λ text. c.args.out.now.items ++ text) (quiet_none c.args.style.quiet) ∙ append-nil c.args.out.now.items);
       few = omega arith;
+      few_answers = omega arith;
       left = omega arith;
       given = omega arith;
       counted = refl;
@@ -58,6 +59,9 @@ module _ (g : given.Over) (c : After-answer_ask g) where
   many : (a : Answered) → c.loop-count.count + 1 ≡ length (c.loop-count.invariant.answers ++ a ∷ [])
   many a = ap (λ n. n + 1) c.loop-count.invariant.many ∙ sym (length-append c.loop-count.invariant.answers (a ∷ []))
 
+  few_answers : (a : Answered) → c.loop-count.count < c.args.limits.asks → length (c.loop-count.invariant.answers ++ a ∷ []) ≤ c.args.limits.asks
+  few_answers a less = let all = many a in omega (arith, less, all)
+
   left_is : c.next_asked.new.self ≡ drop (c.loop-count.count + 1) asks
   left_is = left_of c.loop-count.asks c.next_asked.new.self c.next_asked.result c.next_asked.ensures ∙ ap (drop 1) c.loop-count.invariant.left_is ∙ drop-drop 1 c.loop-count.count asks
 
@@ -79,6 +83,7 @@ loop-count-preserved g c =
       text = text_more c.args.base c.args.style.quiet c.args.style.unique c.args.asks.now c.next_asked.new.self inv.answers c.in-Some.asked one.0 c.args.out.now.items
           c.loop-count.out.items c.answer_ask.new.out.items (here g z) inv.text text;
       few = let less = c.loop-count-test.true in omega (arith, less);
+      few_answers = few_answers g z one.0 (let less = c.loop-count-test.true in omega (arith, less));
       left = omega (arith, left, inv.left);
       given = omega (arith, one.3, inv.given, writes_more inv.answers one.0);
       counted = counts g z one.0 one.4;
@@ -92,7 +97,7 @@ returns-in_default-answer_ask-clause-answered g c =
     let z = (goal.at.returns-in_default-answer_ask-clause-answered g c).After-answer_ask in
     let one = c.answer_ask.ensures.answered in
     let more = writes_more c.loop-count.invariant.answers one.0 in
-    (c.loop-count.invariant.answers ++ one.0 ∷ [], first g z one.0 one.1, tt, omega (arith, one.3, c.loop-count.invariant.given, more), counts g z one.0 one.4)
+    (c.loop-count.invariant.answers ++ one.0 ∷ [], first g z one.0 one.1, tt, omega (arith, one.3, c.loop-count.invariant.given, more), counts g z one.0 one.4, few_answers g z one.0 (let less = c.loop-count-test.true in omega (arith, less)))
 
 pub returns-then-is_last-clause-answered : goal.returns-then-is_last-clause-answered
 returns-then-is_last-clause-answered g c =
@@ -112,4 +117,5 @@ returns-then-is_last-clause-answered g c =
       },
       omega (arith, one.3, inv.given, writes_more inv.answers one.0),
       counts g z one.0 one.4,
+      few_answers g z one.0 (let less = c.loop-count-test.true in omega (arith, less)),
     )

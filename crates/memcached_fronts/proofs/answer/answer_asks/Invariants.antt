@@ -19,6 +19,7 @@ invariant-loop-count g l =
       fit : AllByRecursion IsFitAsked l.asks;
       text : l.out.items ≡ l.initial.out.items ++ unless_quiet l.style.quiet (asks_text l.base l.style.unique l.initial.asks answers);
       few : l.count ≤ l.limits.asks;
+      few_answers : length answers ≤ l.limits.asks;
       left : F.left l.initial.front ≤ F.left l.front + l.count;
       given : F.left l.initial.front ≤ F.left l.front + count_of_writes answers;
       counted : l.buffers.tally ≡ tally_after_all l.base l.partitions l.initial.asks answers l.initial.buffers.tally;

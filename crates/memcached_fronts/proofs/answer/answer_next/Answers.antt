@@ -55,6 +55,7 @@ returns-then-is_flush_all-clause-answered g c =
       r.6,
       c.count.ensures ∙ ap (λ k. counted k c.args.buffers.now.tally) c.counter_by.ensures
           ∙ sym (counted_flush c.args.numbering.base c.args.numbering.partitions next done r.0 c.args.buffers.now.tally flushes),
+      omega (arith, r.4),
     )
 
 pub returns-then-is_stats-clause-answered : goal.returns-then-is_stats-clause-answered
@@ -77,6 +78,7 @@ returns-then-is_stats-clause-answered g c =
       omega arith,
       c.count.ensures ∙ ap (λ k. counted k c.args.buffers.now.tally) c.counter_by.ensures
           ∙ sym (counted_plain c.args.numbering.base c.args.numbering.partitions next c.args.done c.args.buffers.now.tally),
+      omega arith,
     )
 
 pub returns-then-is_empty-clause-answered : goal.returns-then-is_empty-clause-answered
@@ -97,6 +99,7 @@ returns-then-is_empty-clause-answered g c =
       omega arith,
       c.count.ensures ∙ ap (λ k. counted k c.args.buffers.now.tally) c.counter_by.ensures
           ∙ sym (counted_plain c.args.numbering.base c.args.numbering.partitions next c.args.done c.args.buffers.now.tally),
+      omega arith,
     )
 
 pub returns-in_default-clause-answered : goal.returns-in_default-clause-answered
@@ -113,6 +116,7 @@ returns-in_default-clause-answered g c =
       omega arith,
       c.count.ensures ∙ ap (λ k. counted k c.args.buffers.now.tally) c.counter_by.ensures
           ∙ sym (counted_plain c.args.numbering.base c.args.numbering.partitions c.args.next c.args.done c.args.buffers.now.tally),
+      omega arith,
     )
 
 module _ (next : Next) (asks : List Asked) (same : asks ≡ asks_in next) (done : ℕ) (stands : IsOpenAt next done) (some : (length asks == 0) ≡ false) where
@@ -177,6 +181,7 @@ returns-in-Ok-answer_asks-clause-answered g c =
       r.4 ∙ (λ i. tally_after_all c.args.numbering.base c.args.numbering.partitions (asks_are i) r.0
           ((c.count.ensures ∙ ap (λ k. counted k c.args.buffers.now.tally) c.counter_by.ensures) i))
           ∙ sym (counted_keyed c.args.numbering.base c.args.numbering.partitions c.args.next c.args.done r.0 c.args.buffers.now.tally keyed),
+      omega (arith, r.5),
     )
 
 pub returns-in-Err-clause-answered : goal.returns-in-Err-clause-answered
@@ -198,4 +203,5 @@ returns-in-Err-clause-answered g c =
       r.4 ∙ (λ i. tally_after_all c.args.numbering.base c.args.numbering.partitions (asks_are i) r.0
           ((c.count.ensures ∙ ap (λ k. counted k c.args.buffers.now.tally) c.counter_by.ensures) i))
           ∙ sym (counted_keyed c.args.numbering.base c.args.numbering.partitions c.args.next c.args.done r.0 c.args.buffers.now.tally keyed),
+      omega (arith, r.5),
     )

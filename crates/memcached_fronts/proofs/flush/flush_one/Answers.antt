@@ -1,5 +1,5 @@
 use Rattle.std.proofs.Common.{◌∙◌, ap, sym}
-use Rattle.mica_words.specs.Hash.{partition_of}
+use Rattle.mica_words.specs.Hash.{partition_of, bucket_of}
 use Rattle.mica_fronts.specs.Flushes.{begins_with_feed, flush_in}
 use Rattle.memcached_fronts.proofs.Flushing.{one_flush}
 use Rattle.memcached_fronts.proofs.flush.flush_one.Goals as goal
@@ -13,6 +13,7 @@ returns-clause-flushed g c =
     let same = c.value.ensures.value in
     let one = one_flush options c.args.flush F.is_alone (F.sessions c.args.front.now) (F.sessions c.delete-outcome.new.self) c.args.partition key c.delete-outcome.result.0
     c.delete-outcome.result.1 (ap begins_with_feed same ∙ made.feed) (ap flush_in same ∙ made.flush)
-    (ap (partition_of key) (sym c.requires.partitions) ∙ ap (λ k. partition_of k c.args.partitions) same ∙ made.partition) c.delete-outcome.ensures.written
+    (ap (partition_of key) (sym c.requires.partitions) ∙ ap (λ k. partition_of k c.args.partitions) same ∙ made.partition)
+    (ap (bucket_of key) (sym c.buckets.ensures.is) ∙ ap (λ k. bucket_of k c.buckets.result) same ∙ made.bucket) c.delete-outcome.ensures.written
     c.delete-outcome.ensures.others in
     (one.0, one.1, one.2, c.is_accepted.ensures ∙ one.3)

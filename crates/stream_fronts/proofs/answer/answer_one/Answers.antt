@@ -1,5 +1,6 @@
-use Rattle.std.proofs.Common.{[], sym, ◌∙◌}
+use Rattle.std.proofs.Common.{◌≤◌, [], length, sym, ◌∙◌, arith}
 use Rattle.std.proofs.lemmas.Result.{err_from_is_err_and}
+use Rattle.stream_fronts.specs.Turns.{most_to_one}
 use Rattle.stream_fronts.proofs.Going.{these_none, these_of}
 use Rattle.stream_fronts.proofs.Reaching.{on_none, on_as, spoke_of, part_of, whole_of, last_of}
 use Rattle.stream_fronts.proofs.Answering.{match_err}
@@ -9,11 +10,15 @@ pub returns-in_err-progress-clause-talk : goal.returns-in_err-progress-clause-ta
 returns-in_err-progress-clause-talk g c =
     let options = g.F.Front.options c.args.front.now in
     let r = c.in_err-progress.ensures.answered in
+    let few : length r.0 ≤ most_to_one options = omega (arith, r.5, c.requires.partitions) in
     let is = err_from_is_err_and c.from_residual.result c.from_residual.ensures.1 in (
       r.0,
       these_of options g.F.Front.is_alone r.1 r.3,
-      match_err _ _ c.from_residual.result is.0 is.1 (spoke_of options c.args.numbering.base c.args.bytes.now c.args.done c.said_next-next.result c.said_next-next.ensures.next r.1 c.in_default.not-More
-          c.requires.«open»),
+      (
+        few,
+        match_err _ _ c.from_residual.result is.0 is.1 (spoke_of options c.args.numbering.base c.args.bytes.now c.args.done c.said_next-next.result c.said_next-next.ensures.next r.1 c.in_default.not-More
+            c.requires.«open»),
+      ),
     )
 
 pub returns-in-More-clause-talk : goal.returns-in-More-clause-talk
@@ -22,30 +27,36 @@ returns-in-More-clause-talk g c =
     let more = sym c.said_next-next.ensures.next ∙ c.in-More.is in (
       [],
       these_none options g.F.Front.is_alone (g.F.Front.sessions c.args.front.now) (g.F.Front.left c.args.front.now) (g.K.Clock.view c.args.clock.now),
-      on_as options c.args.numbering.base (λ received given due r. (r, more)) (on_none options c.args.numbering.base _ c.args.out.now.items),
+      (omega arith, on_as options c.args.numbering.base (λ received given due r. (r, more)) (on_none options c.args.numbering.base _ c.args.out.now.items)),
     )
 
 pub returns-then-not-progress-clause-talk : goal.returns-then-not-progress-clause-talk
 returns-then-not-progress-clause-talk g c =
     let options = g.F.Front.options c.args.front.now in
     let r = c.in_ok-progress.ensures.answered in
-    (r.0, these_of options g.F.Front.is_alone r.1 r.3, part_of options c.args.numbering.base c.args.bytes.now c.said_next-next.result c.said_next-next.ensures.next r.1 r.2 c.if-not-progress.true)
+    let few : length r.0 ≤ most_to_one options = omega (arith, r.5, c.requires.partitions) in
+    (r.0, these_of options g.F.Front.is_alone r.1 r.3, (few, part_of options c.args.numbering.base c.args.bytes.now c.said_next-next.result c.said_next-next.ensures.next r.1 r.2 c.if-not-progress.true))
 
 pub returns-then-last-clause-talk : goal.returns-then-last-clause-talk
 returns-then-last-clause-talk g c =
     let options = g.F.Front.options c.args.front.now in
-    let r = c.in_ok-progress.ensures.answered in (
+    let r = c.in_ok-progress.ensures.answered in
+    let few : length r.0 ≤ most_to_one options = omega (arith, r.5, c.requires.partitions) in (
       r.0,
       these_of options g.F.Front.is_alone r.1 r.3,
-      last_of options c.args.numbering.base c.args.bytes.now c.said_next-next.result c.said_next-next.ensures.next r.1 r.2 c.in_default.not-More (sym c.is_last-last.ensures ∙ c.if-last.true),
+      (few, last_of options c.args.numbering.base c.args.bytes.now c.said_next-next.result c.said_next-next.ensures.next r.1 r.2 c.in_default.not-More (sym c.is_last-last.ensures ∙ c.if-last.true)),
     )
 
 pub returns-else-last-clause-talk : goal.returns-else-last-clause-talk
 returns-else-last-clause-talk g c =
     let options = g.F.Front.options c.args.front.now in
-    let r = c.in_ok-progress.ensures.answered in (
+    let r = c.in_ok-progress.ensures.answered in
+    let few : length r.0 ≤ most_to_one options = omega (arith, r.5, c.requires.partitions) in (
       r.0,
       these_of options g.F.Front.is_alone r.1 r.3,
-      whole_of options c.args.numbering.base c.args.bytes.now c.said_next-next.result c.said_next-next.ensures.next r.1 r.2 c.in_default.not-More c.if-not-progress.false
-          (sym c.is_last-last.ensures ∙ c.if-last.false) c.len_of-len.result c.len_of-len.ensures,
+      (
+        few,
+        whole_of options c.args.numbering.base c.args.bytes.now c.said_next-next.result c.said_next-next.ensures.next r.1 r.2 c.in_default.not-More c.if-not-progress.false
+            (sym c.is_last-last.ensures ∙ c.if-last.false) c.len_of-len.result c.len_of-len.ensures,
+      ),
     )

@@ -10,7 +10,7 @@ pub returns-in_err-answered-clause-talk : goal.returns-in_err-answered-clause-ta
 returns-in_err-answered-clause-talk g c =
     let r = c.in_err-answered.ensures.talk in
     let is = err_from_is_err_and c.from_residual.result c.from_residual.ensures.1 in
-    (r.0, r.1, match_err _ _ c.from_residual.result is.0 is.1 r.2)
+    (r.0, r.1, (r.2.0, match_err _ _ c.from_residual.result is.0 is.1 r.2.1))
 
 pub returns-in_err-keep-clause-talk : goal.returns-in_err-keep-clause-talk
 returns-in_err-keep-clause-talk g c =
@@ -21,8 +21,11 @@ returns-in_err-keep-clause-talk g c =
     let is = err_from_is_err_and c.from_residual-in_err-keep.result c.from_residual-in_err-keep.ensures.1 in (
       r.0,
       r.1,
-      match_err _ _ c.from_residual-in_err-keep.result is.0 is.1 (spoke_stands (g.F.Front.options c.args.front.now) c.args.numbering.base far.stand (place_at bytes c.args.done)
-          (place_in bytes far) r.0 _ _ (length bytes) c.in_ok-answered.ensures.«open» (omega (arith, len)) r.2),
+      (
+        r.2.0,
+        match_err _ _ c.from_residual-in_err-keep.result is.0 is.1 (spoke_stands (g.F.Front.options c.args.front.now) c.args.numbering.base far.stand (place_at bytes c.args.done)
+            (place_in bytes far) r.0 _ _ (length bytes) c.in_ok-answered.ensures.«open» (omega (arith, len)) r.2.1),
+      ),
     )
 
 pub returns-then-len-gt-MOST_UNSENT-clause-talk : goal.returns-then-len-gt-MOST_UNSENT-clause-talk
@@ -33,6 +36,9 @@ returns-then-len-gt-MOST_UNSENT-clause-talk g c =
     let len = length-drop far.taken bytes in (
       r.0,
       r.1,
-      spoke_stands (g.F.Front.options c.args.front.now) c.args.numbering.base far.stand (place_at bytes c.args.done) (place_in bytes far) r.0 _ _ (length bytes)
-          c.in_ok-answered.ensures.«open» (omega (arith, len)) r.2,
+      (
+        r.2.0,
+        spoke_stands (g.F.Front.options c.args.front.now) c.args.numbering.base far.stand (place_at bytes c.args.done) (place_in bytes far) r.0 _ _ (length bytes)
+            c.in_ok-answered.ensures.«open» (omega (arith, len)) r.2.1,
+      ),
     )

@@ -20,8 +20,8 @@ returns-then-client-gt0-clause-talk g c =
     let stand = c.in_ok-stand.stand in
     let replies = c.look_at.new.replies.items in
     let r = c.in_ok-stand.ensures.talk in
-    let bytes_are : c.as_slice-bytes.result.now ≡ client.kept.items = c.as_slice-bytes.ensures.value ∙ ap (λ v. v.items) c.replace-kept.ensures.value in
-    let goes = subst (λ b. GoesOnTo options base (place_at b client.done) r.0 [] replies (StandsAs options base (length b) stand (place_of now))) bytes_are r.2 in (
+    let bytes_are : c.bytes-bytes.result.now ≡ client.kept = c.bytes-bytes.ensures ∙ c.replace-kept.ensures.value in
+    let goes = subst (λ b. GoesOnTo options base (place_at b client.done) r.0 [] replies (StandsAs options base (length b) stand (place_of now))) bytes_are r.2.1 in (
       r.0,
       r.1,
       on_same c.args.number (Looks options base client r.0 replies now (Ok (stand, None))) (g.C.Connections.log c.args.connections.now)
@@ -29,6 +29,7 @@ returns-then-client-gt0-clause-talk g c =
             same = refl;
             goes = looks_further options base client now stand r.0 replies c.requires.client.begun c.if-client-gt0.true c.requires.client.short goes;
             few = c.in_ok-stand.ensures.few;
+            few_answers = r.2.0;
             ends = tt;
           })),
     )
@@ -48,16 +49,16 @@ returns-clause-talk g c =
     let room_is : c.deref.result.now ≡ room =
     c.deref.ensures.value ∙ take_at room (drop (length room) c.args.desk.now.room.items) c.args.desk.now.room.len (c.fill.ensures.room ∙ sym c.requires.room) in
     let here = subst (λ x. GoesOnTo options base (place_of between) r.0 [] replies
-    (λ received given due. StandsAs options base MAX_WAITING_LEN stand (place_of now) (received ++ drop (length between.kept.items) (take filled.0 x)) given due)) room_is r.2 in
+    (λ received given due. StandsAs options base MAX_WAITING_LEN stand (place_of now) (received ++ drop (length between.kept) (take filled.0 x)) given due)) room_is r.2.1 in
     let goes = subst (λ (p : Place). GoesOnTo options base p r.0 [] replies
     (λ received given due. StandsAs options base MAX_WAITING_LEN stand (place_of now) (received ++ drop (length p.bytes) (take filled.0 room)) given due)) c.in-Ok.ensures.place here in
     let first : client.done ≡ 0 = let none = c.if-client-gt0.false in omega (arith, none) in
-    let short : length (client.kept.items ++ drop (length client.kept.items) (take filled.0 room)) ≤ MAX_WAITING_LEN =
+    let short : length (client.kept ++ drop (length client.kept) (take filled.0 room)) ≤ MAX_WAITING_LEN =
     let kept = ap length c.in-Ok.ensures.kept in let len = length-take filled.0 room in let fits = c.in-Ok.ensures.fits in omega (arith, kept, len, fits) in (
       r.0,
       r.1,
       on_one c.args.number _ (Looks options base client r.0 replies now (Ok (stand, filled.1))) (g.C.Connections.log c.args.connections.now) (g.C.Connections.log c.fill.new.connections)
-          (λ d a b x. inr (record { first = first; bytes = drop (length client.kept.items) (take filled.0 room); short = short; reads = x.0; goes = goes; few = c.in_ok-stand-2.ensures.few; ends = x.1 })) c.in-Ok.ensures.reads,
+          (λ d a b x. inr (record { first = first; bytes = drop (length client.kept) (take filled.0 room); short = short; reads = x.0; goes = goes; few = c.in_ok-stand-2.ensures.few; few_answers = r.2.0; ends = x.1 })) c.in-Ok.ensures.reads,
     )
 
 pub returns-in_err-stand-clause-talk : goal.returns-in_err-stand-clause-talk
@@ -66,13 +67,13 @@ returns-in_err-stand-clause-talk g c =
     let base = c.args.numbering.base in
     let client = c.args.client.now in
     let r = c.in_err-stand.ensures.talk in
-    let bytes_are : c.as_slice-bytes.result.now ≡ client.kept.items = c.as_slice-bytes.ensures.value ∙ ap (λ v. v.items) c.replace-kept.ensures.value in
-    let spoke = subst (λ b. SpokeFrom options base (length b) (place_at b client.done) r.0) bytes_are r.2 in
+    let bytes_are : c.bytes-bytes.result.now ≡ client.kept = c.bytes-bytes.ensures ∙ c.replace-kept.ensures.value in
+    let spoke = subst (λ b. SpokeFrom options base (length b) (place_at b client.done) r.0) bytes_are r.2.1 in
     let is = err_from_is_err_and c.from_residual.result c.from_residual.ensures.1 in (
       r.0,
       r.1,
       match_err _ _ c.from_residual.result is.0 is.1 (on_same c.args.number (Lacks options base client r.0) (g.C.Connections.log c.args.connections.now)
-          (λ d a. inl (record { same = refl; spoke = lacks_further options base client r.0 c.requires.client.begun c.if-client-gt0.true c.requires.client.short spoke }))),
+          (λ d a. inl (record { same = refl; spoke = lacks_further options base client r.0 c.requires.client.begun c.if-client-gt0.true c.requires.client.short spoke; few_answers = r.2.0 }))),
     )
 
 pub returns-in_err-stand-2-clause-talk : goal.returns-in_err-stand-2-clause-talk
@@ -86,17 +87,17 @@ returns-in_err-stand-2-clause-talk g c =
     let room = c.fill.new.room in
     let room_is : c.deref.result.now ≡ room =
     c.deref.ensures.value ∙ take_at room (drop (length room) c.args.desk.now.room.items) c.args.desk.now.room.len (c.fill.ensures.room ∙ sym c.requires.room) in
-    let here = subst (λ x. SpokeBehind options base MAX_WAITING_LEN (place_of between) (drop (length between.kept.items) (take filled.0 x)) r.0) room_is r.2 in
+    let here = subst (λ x. SpokeBehind options base MAX_WAITING_LEN (place_of between) (drop (length between.kept) (take filled.0 x)) r.0) room_is r.2.1 in
     let spoke = subst (λ (p : Place). SpokeBehind options base MAX_WAITING_LEN p (drop (length p.bytes) (take filled.0 room)) r.0) c.in-Ok.ensures.place here in
     let first : client.done ≡ 0 = let none = c.if-client-gt0.false in omega (arith, none) in
-    let short : length (client.kept.items ++ drop (length client.kept.items) (take filled.0 room)) ≤ MAX_WAITING_LEN =
+    let short : length (client.kept ++ drop (length client.kept) (take filled.0 room)) ≤ MAX_WAITING_LEN =
     let kept = ap length c.in-Ok.ensures.kept in let len = length-take filled.0 room in let fits = c.in-Ok.ensures.fits in omega (arith, kept, len, fits) in
     let is = err_from_is_err_and c.from_residual-in_err-stand-2.result c.from_residual-in_err-stand-2.ensures.1 in (
       r.0,
       r.1,
       match_err _ _ c.from_residual-in_err-stand-2.result is.0 is.1
           (on_one c.args.number _ (Lacks options base client r.0) (g.C.Connections.log c.args.connections.now) (g.C.Connections.log c.fill.new.connections)
-          (λ d a b x. inr (record { first = first; bytes = drop (length client.kept.items) (take filled.0 room); short = short; reads = x.0; spoke = spoke })) c.in-Ok.ensures.reads),
+          (λ d a b x. inr (record { first = first; bytes = drop (length client.kept) (take filled.0 room); short = short; reads = x.0; spoke = spoke; few_answers = r.2.0 })) c.in-Ok.ensures.reads),
     )
 
 pub returns-in-Err-clause-talk : goal.returns-in-Err-clause-talk

@@ -1,4 +1,4 @@
-use Rattle.std.proofs.Common.{◌-◌, ◌++◌, length, take, drop, []}
+use Rattle.std.proofs.Common.{◌-◌, ◌++◌, length, take, drop, [], arith}
 use Rattle.std.proofs.lemmas.List.{take_rest}
 use Rattle.memcached_text.specs.declared.limits.TheConstants.{MAX_WAITING_LEN}
 use Rattle.stream_fronts.specs.Reached.{GoesOnTo, SpokeBehind, StandsAs, place_of}
@@ -13,7 +13,7 @@ returns-then-client-bytes-clause-talk g c =
     let bytes = c.args.bytes.now in (
       [],
       these_none options g.F.Front.is_alone (g.F.Front.sessions c.args.front.now) (g.F.Front.left c.args.front.now) (g.K.Clock.view c.args.clock.now),
-      looks_at_none options c.args.numbering.base client bytes (drop (length client.kept.items) bytes) c.requires.first c.requires.kept c.clear.new.self.items c.clear.ensures.items c.if-client-bytes.true,
+      (omega arith, looks_at_none options c.args.numbering.base client bytes (drop (length client.kept) bytes) c.requires.first c.requires.kept c.clear.new.self.items c.clear.ensures.items c.if-client-bytes.true),
     )
 
 pub returns-clause-talk : goal.returns-clause-talk
@@ -22,16 +22,19 @@ returns-clause-talk g c =
     let base = c.args.numbering.base in
     let client = c.args.client.now in
     let bytes = c.args.bytes.now in
-    let more = drop (length client.kept.items) bytes in
+    let more = drop (length client.kept) bytes in
     let r = c.look_at.ensures.talk in (
       r.0,
       r.1,
-      if_match _
-          (λ stand. GoesOnTo options base (place_of client) r.0 [] c.look_at.new.replies.items
-          (λ received given due. StandsAs options base MAX_WAITING_LEN stand (place_of c.look_at.new.client) (received ++ more) given due)) _
-          (λ _. SpokeBehind options base MAX_WAITING_LEN (place_of client) more r.0) c.look_at.result
-          (λ stand goes. looks_at options base client bytes more c.requires.first c.requires.kept c.look_at.new.client stand r.0 c.look_at.new.replies.items
-          (take (length bytes - client.dropping) (drop client.dropping bytes)) c.if-client-bytes.false c.requires.short (take_rest bytes client.dropping) goes)
-          (λ e spoke. lacks_at options base client bytes more c.requires.first c.requires.kept r.0 (take (length bytes - client.dropping) (drop client.dropping bytes)) c.if-client-bytes.false
-          c.requires.short (take_rest bytes client.dropping) spoke) r.2,
+      (
+        r.2.0,
+        if_match _
+            (λ stand. GoesOnTo options base (place_of client) r.0 [] c.look_at.new.replies.items
+            (λ received given due. StandsAs options base MAX_WAITING_LEN stand (place_of c.look_at.new.client) (received ++ more) given due)) _
+            (λ _. SpokeBehind options base MAX_WAITING_LEN (place_of client) more r.0) c.look_at.result
+            (λ stand goes. looks_at options base client bytes more c.requires.first c.requires.kept c.look_at.new.client stand r.0 c.look_at.new.replies.items
+            (take (length bytes - client.dropping) (drop client.dropping bytes)) c.if-client-bytes.false c.requires.short (take_rest bytes client.dropping) goes)
+            (λ e spoke. lacks_at options base client bytes more c.requires.first c.requires.kept r.0 (take (length bytes - client.dropping) (drop client.dropping bytes)) c.if-client-bytes.false
+            c.requires.short (take_rest bytes client.dropping) spoke) r.2.1,
+      ),
     )

@@ -65,7 +65,7 @@ returns-in-Ok-false-clause-talks g c =
     let now = c.send_unsent.new.client in (
       [],
       these_none options g.F.Front.is_alone (g.F.Front.sessions c.args.front.now) (g.F.Front.left c.args.front.now) (g.K.Clock.view c.args.clock.now),
-      on_one c.args.number (SendsFrom client.unsent now.unsent (Ok c.in-Ok-false.field-0)) (Visits options base client [] now Waits) (log c.args.connections.now)
+      on_one c.args.number (SendsFrom client.unsent now.unsent (Ok c.in-Ok-false.field-0)) (Visits options base 1 client [] now Waits) (log c.args.connections.now)
           (log c.send_unsent.new.connections) (λ d a b sends. visit_waits options base d c.requires.client now c.in-Ok-false.ensures.place c.in-Ok-false.ensures.leaving c.in-Ok-false.field-0 sends
           (c.in-Ok-false.ensures.some c.in-Ok-false.field-0-test)) c.in-Ok-false.ensures.sends,
     )
@@ -79,7 +79,7 @@ returns-in-Err-clause-talks g c =
     let now = c.send_unsent.new.client in (
       [],
       these_none options g.F.Front.is_alone (g.F.Front.sessions c.args.front.now) (g.F.Front.left c.args.front.now) (g.K.Clock.view c.args.clock.now),
-      on_one c.args.number (SendsFrom {X = Bool} client.unsent now.unsent (Err c.in-Err.field-0)) (Visits options base client [] now Over) (log c.args.connections.now)
+      on_one c.args.number (SendsFrom {X = Bool} client.unsent now.unsent (Err c.in-Err.field-0)) (Visits options base 1 client [] now Over) (log c.args.connections.now)
           (log c.send_unsent.new.connections) (λ d a b sends. visit_breaks options base d c.requires.client now c.in-Err.field-0 sends) c.in-Err.ensures.sends,
     )
 
@@ -93,7 +93,7 @@ returns-then-client-clause-talks g c =
     let none = c.in-Ok-true.ensures.all c.in-Ok-true.field-0-test in (
       [],
       these_none options g.F.Front.is_alone (g.F.Front.sessions c.args.front.now) (g.F.Front.left c.args.front.now) (g.K.Clock.view c.args.clock.now),
-      on_one c.args.number (SendsFrom client.unsent now.unsent (Ok c.in-Ok-true.field-0)) (Visits options base client [] now Over) (log c.args.connections.now)
+      on_one c.args.number (SendsFrom client.unsent now.unsent (Ok c.in-Ok-true.field-0)) (Visits options base 1 client [] now Over) (log c.args.connections.now)
           (log c.send_unsent.new.connections) (λ d a b sends. visit_leaves options base d c.requires.client now c.in-Ok-true.ensures.place c.in-Ok-true.ensures.leaving c.in-Ok-true.field-0 sends
           c.in-Ok-true.ensures.client c.if-client.true none) c.in-Ok-true.ensures.sends,
     )
@@ -112,7 +112,7 @@ returns-in_err-answered-clause-talks g c =
       r.0,
       r.1,
       match_err _ _ c.from_residual.result is.0 is.1 (on_two c.args.number (SendsFrom client.unsent now.unsent (Ok c.in-Ok-true.field-0)) (Lacks options base now r.0)
-          (VisitLacks options base client r.0) (log c.args.connections.now) (log c.send_unsent.new.connections) (log c.answer_more.new.connections)
+          (VisitLacks options base 1 client r.0) (log c.args.connections.now) (log c.send_unsent.new.connections) (log c.answer_more.new.connections)
           (λ d x y is one. from_held client.unsent now.unsent d x y (Ok c.in-Ok-true.field-0) one c.args.number d is)
           (λ d x y z one two. visit_lacks options base d c.requires.client now c.in-Ok-true.ensures.place c.in-Ok-true.ensures.leaving c.in-Ok-true.field-0 one c.in-Ok-true.ensures.client
           c.if-client.false none c.answer_more.new.client replies two) c.in-Ok-true.ensures.sends r.2),
@@ -136,7 +136,7 @@ returns-in_err-send_new-clause-talks g c =
       r.0,
       r.1,
       match_err _ _ c.from_residual-in_err-send_new.result is.0 is.1 (on_three c.args.number (SendsFrom client.unsent now.unsent (Ok c.in-Ok-true.field-0))
-          (Looks options base now r.0 replies then (Ok c.in-Ok.answered)) (SendsSome replies) (VisitLacks options base client r.0) (log c.args.connections.now)
+          (Looks options base now r.0 replies then (Ok c.in-Ok.answered)) (SendsSome replies) (VisitLacks options base 1 client r.0) (log c.args.connections.now)
           (log c.send_unsent.new.connections) (log c.answer_more.new.connections) (log c.send_new.new.connections)
           (λ d x y is one. from_held client.unsent now.unsent d x y (Ok c.in-Ok-true.field-0) one c.args.number d is)
           (λ d x y is two. looks_held options base now r.0 replies then (Ok c.in-Ok.answered) d x y two c.args.number d is)
@@ -160,7 +160,7 @@ returns-in-Err-answered-clause-talks g c =
       r.0,
       r.1,
       on_two c.args.number (SendsFrom client.unsent now.unsent (Ok c.in-Ok-true.field-0)) (Looks options base now r.0 replies then (Err broken))
-          (Visits options base client r.0 then Over) (log c.args.connections.now) (log c.send_unsent.new.connections) (log c.answer_more.new.connections)
+          (Visits options base 1 client r.0 then Over) (log c.args.connections.now) (log c.send_unsent.new.connections) (log c.answer_more.new.connections)
           (λ d x y is one. from_held client.unsent now.unsent d x y (Ok c.in-Ok-true.field-0) one c.args.number d is)
           (λ d x y z one two. visit_unread options base d c.requires.client now c.in-Ok-true.ensures.place c.in-Ok-true.ensures.leaving c.in-Ok-true.field-0 one c.in-Ok-true.ensures.client
           c.if-client.false none then replies broken two) c.in-Ok-true.ensures.sends looks,
@@ -185,7 +185,7 @@ returns-in-Err-2-clause-talks g c =
       r.0,
       r.1,
       on_three c.args.number (SendsFrom client.unsent now.unsent (Ok c.in-Ok-true.field-0)) (Looks options base now r.0 replies then (Ok c.in-Ok.answered))
-          (SendsFrom {X = Bool} replies last.unsent (Err c.in-Err-2.field-0)) (Visits options base client r.0 last Over) (log c.args.connections.now) (log c.send_unsent.new.connections)
+          (SendsFrom {X = Bool} replies last.unsent (Err c.in-Err-2.field-0)) (Visits options base 1 client r.0 last Over) (log c.args.connections.now) (log c.send_unsent.new.connections)
           (log c.answer_more.new.connections) (log c.send_new.new.connections)
           (λ d x y is one. from_held client.unsent now.unsent d x y (Ok c.in-Ok-true.field-0) one c.args.number d is)
           (λ d x y is two. looks_held options base now r.0 replies then (Ok c.in-Ok.answered) d x y two c.args.number d is)
@@ -213,7 +213,7 @@ returns-in-Ok-false-2-clause-talks g c =
       r.0,
       r.1,
       on_three c.args.number (SendsFrom client.unsent now.unsent (Ok c.in-Ok-true.field-0)) (Looks options base now r.0 replies then (Ok c.in-Ok.answered))
-          (SendsFrom replies last.unsent (Ok c.in-Ok-false-2.field-0)) (Visits options base client r.0 last Waits) (log c.args.connections.now) (log c.send_unsent.new.connections)
+          (SendsFrom replies last.unsent (Ok c.in-Ok-false-2.field-0)) (Visits options base 1 client r.0 last Waits) (log c.args.connections.now) (log c.send_unsent.new.connections)
           (log c.answer_more.new.connections) (log c.send_new.new.connections)
           (λ d x y is one. from_held client.unsent now.unsent d x y (Ok c.in-Ok-true.field-0) one c.args.number d is)
           (λ d x y is two. looks_held options base now r.0 replies then (Ok c.in-Ok.answered) d x y two c.args.number d is)
@@ -241,7 +241,7 @@ returns-in-Ok-true-2-clause-talks g c =
       r.0,
       r.1,
       on_three c.args.number (SendsFrom client.unsent now.unsent (Ok c.in-Ok-true.field-0)) (Looks options base now r.0 replies then (Ok c.in-Ok.answered))
-          (SendsFrom replies last.unsent (Ok c.in-Ok-true-2.field-0)) (Visits options base client r.0 last c.after_all.result) (log c.args.connections.now) (log c.send_unsent.new.connections)
+          (SendsFrom replies last.unsent (Ok c.in-Ok-true-2.field-0)) (Visits options base 1 client r.0 last c.after_all.result) (log c.args.connections.now) (log c.send_unsent.new.connections)
           (log c.answer_more.new.connections) (log c.send_new.new.connections)
           (λ d x y is one. from_held client.unsent now.unsent d x y (Ok c.in-Ok-true.field-0) one c.args.number d is)
           (λ d x y is two. looks_held options base now r.0 replies then (Ok c.in-Ok.answered) d x y two c.args.number d is)

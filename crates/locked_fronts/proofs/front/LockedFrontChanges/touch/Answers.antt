@@ -10,8 +10,8 @@ front g c = locked_view c.self.inside.options c.self.inside.number c.self.inside
 
 finds : (g : given.Over) (c : goal.After-index_mut g) → FindsPart g.J.ServerPlan.plan (front g c) c.args.self.now c.args.key.now c.partition_of-number.result c.index_mut.result.now
 finds g c =
-    finds_part g.J.ServerPlan.plan (front g c) c.args.self.now c.args.key.now c.key_hash.result c.partition_of-number.result c.index_mut.result.now c.self.invariant.0 c.self.view_is
-    c.key_hash.ensures c.partition_of-number.ensures c.index_mut.ensures.value
+    finds_part g.J.ServerPlan.plan (front g c) c.args.self.now c.args.key.now c.key_hash-hash.result c.partition_of-number.result c.index_mut.result.now c.self.invariant.0 c.self.view_is
+    c.key_hash-hash.ensures c.partition_of-number.ensures c.index_mut.ensures.value
 
 pub write-written-requires-clause-own : goal.write-written-requires-clause-own
 write-written-requires-clause-own g c = is_part (finds g (goal.at.write-written-requires-clause-own g c).After-index_mut)

@@ -2,7 +2,7 @@ use Rattle.std.proofs.Common.{◌≤◌, ◌∙◌, take, sym, subst, arith}
 use Rattle.std.proofs.lemmas.List.{length-take-le}
 use Rattle.memcached_text.specs.Lines.{Lacks}
 use Rattle.memcached_text.proofs.SpelledLaws.{lacks_before, take_within}
-use Rattle.memcached_text.proofs.spelled.first_part.Goals as goal
+use Rattle.memcached_text.proofs.spelled.part_within.Goals as goal
 
 pub returns : goal.returns
 returns c =

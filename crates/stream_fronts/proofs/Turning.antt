@@ -1,0 +1,103 @@
+-- Turns are short, one after another.
+use Rattle.std.proofs.Common.{◌≡◌, ℕ, ◌+◌, ◌*◌, ◌≤◌, true, false, cond, List, [], ◌∷◌, ◌++◌, length, refl, sym, ap, ◌∙◌, subst, arith, append_assoc, length-append}
+use Rattle.std.specs.Prelude.{filter}
+use Rattle.std.specs.List.{AllByRecursion}
+use Rattle.std.proofs.lemmas.List.Elements.{filter-append}
+use Rattle.partition_model.specs.declared.options.Options.{Options}
+use Rattle.stream_io.specs.declared.connections.Event.{Event}
+use Rattle.stream_io.specs.declared.connections.Event.TheVariants.{Opened, Ready}
+use Rattle.stream_io.specs.State.{Entry, opened, reported, met, received, sent, asked, closed}
+use Rattle.stream_io.specs.Calls.{entry_of}
+use Rattle.stream_fronts.specs.Given.{Given}
+use Rattle.stream_fronts.specs.Moments.{TalksWithAll}
+use Rattle.stream_fronts.specs.Traffic.{IsSend, after_receiving}
+use Rattle.stream_fronts.specs.Turns.{is_report, is_read, most_answers, AreFew, GrowsBy, Turn, AreShort, TakesTurns, calls_in, given_in}
+use Rattle.stream_fronts.proofs.Moments.{all_lacking}
+
+-- Few calls
+
+pub grows_none : (reads : ℕ) (entries : List Entry) → GrowsBy reads entries entries
+grows_none reads entries = ([], refl, record { unreported = tt; few_reads = omega arith })
+
+unreported_both : (one two : List Entry) → AllByRecursion (λ call. is_report call ≡ false) one → AllByRecursion (λ call. is_report call ≡ false) two
+    → AllByRecursion (λ call. is_report call ≡ false) (one ++ two)
+unreported_both [] two first second = second
+unreported_both (e ∷ one) two first second = (first.0, unreported_both one two first.1 second)
+
+pub grows_then : {reads more : ℕ} {old between new : List Entry} → GrowsBy reads old between → GrowsBy more between new → GrowsBy (reads + more) old new
+grows_then {old = old} first second = (
+  second.0 ++ first.0,
+  second.1 ∙ ap (λ e. second.0 ++ e) first.1 ∙ sym (append_assoc second.0 first.0 old),
+  record {
+    unreported = unreported_both second.0 first.0 second.2.unreported first.2.unreported;
+    few_reads = let all = ap length (filter-append is_read second.0 first.0) ∙ length-append (filter is_read second.0) (filter is_read first.0) in
+        let one = first.2.few_reads in let two = second.2.few_reads in omega (arith, all, one, two);
+  },
+)
+
+pub grows_fewer : {reads more : ℕ} {old new : List Entry} → reads ≤ more → GrowsBy reads old new → GrowsBy more old new
+grows_fewer less grows = (grows.0, grows.1, record { unreported = grows.2.unreported; few_reads = let few = grows.2.few_reads in omega (arith, few, less) })
+
+-- a call more, which neither was a report nor gave bytes
+pub grows_call : {reads : ℕ} {old new : List Entry} (call : Entry) → is_report call ≡ false → is_read call ≡ false → GrowsBy reads old new → GrowsBy reads old (call ∷ new)
+grows_call {reads} call unreported unread grows = (
+  call ∷ grows.0,
+  ap (λ e. call ∷ e) grows.1,
+  record {
+    unreported = (unreported, grows.2.unreported);
+    few_reads = subst (λ t. length (cond t (call ∷ filter is_read grows.0) (filter is_read grows.0)) ≤ reads) (sym unread) grows.2.few_reads;
+  },
+)
+
+sends_few : (c : ℕ) (more : List Entry) → AllByRecursion (IsSend c) more → AreFew 0 more
+sends_few c [] each = record { unreported = tt; few_reads = omega arith }
+sends_few c (met ∷ more) each = let few = sends_few c more each.1 in record { unreported = (refl, few.unreported); few_reads = few.few_reads }
+sends_few c (sent e bytes ∷ more) each = let few = sends_few c more each.1 in record { unreported = (refl, few.unreported); few_reads = few.few_reads }
+sends_few c (opened n ∷ more) each = absurd each.0
+sends_few c (reported n ∷ more) each = absurd each.0
+sends_few c (received e bytes ∷ more) each = absurd each.0
+sends_few c (asked e ∷ more) each = absurd each.0
+sends_few c (closed e ∷ more) each = absurd each.0
+
+-- bytes were sent, or nothing was done
+pub grows_sends : (reads c : ℕ) (more old : List Entry) → AllByRecursion (IsSend c) more → GrowsBy reads old (more ++ old)
+grows_sends reads c more old each = grows_fewer {reads = 0} (omega arith) (more, refl, sends_few c more each)
+
+-- and a read behind that
+pub grows_read : (c : ℕ) (bytes : List ℕ) (mets old : List Entry) → AllByRecursion (IsSend c) mets → GrowsBy 1 old (after_receiving c bytes (mets ++ old))
+grows_read c [] mets old each = grows_sends 1 c mets old each
+grows_read c (byte ∷ bytes) mets old each =
+    let few = sends_few c mets each in
+    (received c (byte ∷ bytes) ∷ mets, refl, record { unreported = (refl, few.unreported); few_reads = let f = few.few_reads in omega (arith, f) })
+
+-- Turns
+
+begins : (event : Event) → is_report (entry_of event) ≡ true
+begins (Opened number) = refl
+begins (Ready number) = refl
+
+module _ (options : Options) (base most : ℕ) where
+  pub turns_none : (lacking : List ℕ) (entries : List Entry) → entries ≡ [] → TakesTurns options base most lacking entries []
+  turns_none lacking entries none = record { turns = []; calls = sym none; given = refl; short = tt }
+
+  short_lacking : (more lacking : List ℕ) (turns : List Turn) → AreShort options base most lacking turns → AreShort options base most (more ++ lacking) turns
+  short_lacking more lacking [] short = tt
+  short_lacking more lacking (turn ∷ earlier) short =
+      (short.0, all_lacking options base most more lacking (calls_in earlier) (given_in earlier) short.1, short_lacking more lacking earlier short.2)
+
+  -- one turn more
+  pub turns_more : (more lacking : List ℕ) (event : Event) (old between new : List Entry) (all given : List Given) → between ≡ entry_of event ∷ old → GrowsBy 2 between new
+      → length given ≤ 2 * most_answers options → TalksWithAll options base most lacking old all → TakesTurns options base most lacking old all
+      → TakesTurns options base most (more ++ lacking) new (all ++ given)
+  turns_more more lacking event old between new all given reports grows few talks before = record {
+    turns = record { report = entry_of event; calls = grows.0; given = given } ∷ before.turns;
+    calls = ap (λ e. grows.0 ++ entry_of event ∷ e) before.calls ∙ ap (λ e. grows.0 ++ e) (sym reports) ∙ sym grows.1;
+    given = ap (λ g. g ++ given) before.given;
+    short = (
+      record { begins = begins event; few_calls = grows.2; few_answers = few },
+      all_lacking options base most more lacking (calls_in before.turns) (given_in before.turns)
+          (subst (λ e. TalksWithAll options base most lacking e (given_in before.turns)) (sym before.calls)
+          (subst (λ g. TalksWithAll options base most lacking old g) (sym before.given) talks)),
+      short_lacking more lacking before.turns before.short,
+    );
+  }

@@ -1,0 +1,72 @@
+-- How much a front does for one report of its port.
+use Rattle.std.specs.Prelude.{◌≡◌, ⊤, ℕ, ◌+◌, ◌*◌, ◌≤◌, Bool, true, false, List, [], ◌∷◌, ◌++◌, length, filter}
+use Rattle.std.specs.List.{AllByRecursion}
+use Rattle.partition_model.specs.declared.options.Options.{Options}
+use Rattle.stream_io.specs.State.{Entry, opened, reported, received}
+use Rattle.stream_fronts.specs.declared.answer.TheConstants.{LIMITS, MOST_COMMANDS}
+use Rattle.stream_fronts.specs.Given.{Given}
+use Rattle.stream_fronts.specs.Moments.{TalksWithAll}
+
+-- a connection was reported
+abbrev pub is_report : Entry → Bool
+is_report (opened number) = true
+is_report (reported number) = true
+is_report _ = false
+
+-- a read gave bytes
+abbrev pub is_read : Entry → Bool
+is_read (received c bytes) = true
+is_read _ = false
+
+-- how many answers are given to one command at one look, at most
+abbrev pub most_to_one : Options → ℕ
+most_to_one options = LIMITS.asks + options.partitions
+
+-- and to one connection
+abbrev pub most_answers : Options → ℕ
+most_answers options = MOST_COMMANDS * most_to_one options
+
+-- none of these calls was a report, and in them reads gave bytes so often at most
+pub record AreFew (reads : ℕ) (calls : List Entry) : Type 0 where
+  pub unreported : AllByRecursion (λ call. is_report call ≡ false) calls
+  pub few_reads : length (filter is_read calls) ≤ reads
+
+-- they were made between two moments of a log
+abbrev pub GrowsBy : ℕ → List Entry → List Entry → Type 0
+GrowsBy reads old new = (calls : List Entry) × (new ≡ calls ++ old) × AreFew reads calls
+
+-- a report, what calls did from there to the next one, the last of them first, and the answers that were given meanwhile
+pub record Turn : Type 0 where
+  pub report : Entry
+  pub calls : List Entry
+  pub given : List Given
+
+-- It reads bytes at most twice, and gives no more answers than two looks do.
+pub record IsShort (options : Options) (turn : Turn) : Type 0 where
+  pub begins : is_report turn.report ≡ true
+  pub few_calls : AreFew 2 turn.calls
+  pub few_answers : length turn.given ≤ 2 * most_answers options
+
+-- what calls did in these turns, the last of which is first
+abbrev pub calls_in : List Turn → List Entry
+calls_in [] = []
+calls_in (turn ∷ earlier) = turn.calls ++ turn.report ∷ calls_in earlier
+
+-- the answers that were given in them, in order
+abbrev pub given_in : List Turn → List Given
+given_in [] = []
+given_in (turn ∷ earlier) = given_in earlier ++ turn.given
+
+-- Each is short; and as it began, the front had talked with each client by the answers of the turns before it.
+abbrev pub AreShort : Options → ℕ → ℕ → List ℕ → List Turn → Type 0
+AreShort options base most lacking [] = ⊤
+AreShort options base most lacking (turn ∷ earlier) =
+    IsShort options turn × TalksWithAll options base most lacking (calls_in earlier) (given_in earlier) × AreShort options base most lacking earlier
+
+-- All that calls did and all answers came in short turns, one for each report. So a client that sent much is answered in many turns, and each other that is
+-- reported meanwhile has one between them.
+pub record TakesTurns (options : Options) (base most : ℕ) (lacking : List ℕ) (entries : List Entry) (all : List Given) : Type 0 where
+  pub turns : List Turn
+  pub calls : calls_in turns ≡ entries
+  pub given : given_in turns ≡ all
+  pub short : AreShort options base most lacking turns
