@@ -121,9 +121,14 @@ impl<'a, J: ServerPlan, P: LendPartition<Reader = ReaderSeat, Note = Note> + Dro
         seat_loads::load_bucket(&self.parts[at].seat, hash);
     }
 
-    fn load_item(&self, hash: u64) {
+    fn entry_of(&self, hash: u64) -> u64 {
         let at = partition_of(hash, self.options.partitions) as usize;
-        seat_loads::load_item(&self.parts[at].seat, hash);
+        seat_loads::entry_of(&self.parts[at].seat, hash)
+    }
+
+    fn load_item(&self, hash: u64, entry: u64) {
+        let at = partition_of(hash, self.options.partitions) as usize;
+        seat_loads::load_item(&self.parts[at].seat, entry);
     }
 
     fn write<R: Threads + Wait + Sync>(

@@ -6,6 +6,7 @@
 //! few places of an index, and deletes what is over there, in store mode. In cache mode it touches old items that commands used.
 #![tactic(auto)]
 
+mod ahead;
 mod answer;
 mod ask;
 mod buffers;
@@ -16,6 +17,7 @@ mod pace;
 mod plain;
 mod sweeper;
 
+pub use ahead::load_ahead;
 pub use answer::{Limits, Numbering, Progress, answer_next};
 pub use buffers::Buffers;
 pub use laws::spells_on;

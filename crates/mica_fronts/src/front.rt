@@ -40,8 +40,11 @@ pub trait Front {
     /// Loads the bucket of a key with this hash, so that it is at hand.
     fn load_bucket(&self, hash: u64);
 
-    /// Loads the item of an entry of that bucket with this hash's tag, so that it is at hand.
-    fn load_item(&self, hash: u64);
+    /// The first entry of that bucket with this hash's tag; 0 where none has it.
+    fn entry_of(&self, hash: u64) -> u64;
+
+    /// Loads the item of such an entry, so that it is at hand.
+    fn load_item(&self, hash: u64, entry: u64);
 
     /// The outcome of a write, and the stamp after it.
     fn write<R: Threads + Wait + Sync>(

@@ -21,6 +21,7 @@ pub mod seat_loads;
 mod solo;
 mod totals;
 
+pub use ahead::load_all;
 pub use batch::serve_batch;
 pub use changing::{Changed, Changes, Decide, When};
 pub use counting::Counts;

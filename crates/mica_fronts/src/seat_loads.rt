@@ -19,6 +19,9 @@ const CACHED_WORDS: usize = 1 << 21;
 /// A cache line has so many words.
 const LINE_WORDS: u32 = 8;
 
+/// The last word of an item with a key of 16 bytes and a value of 64, of which a client of memcached's stores 80.
+const LAST_WORD: u64 = 13;
+
 /// Whether the tables of all partitions together are larger than the caches.
 pub fn are_large(options: &Options) -> bool
     requires { options.now.partitions ≤ MOST_PARTITIONS }
@@ -35,19 +38,25 @@ pub fn load_bucket(seat: &ReaderSeat, hash: u64) {
     seat.peek(WordAt::Entry(bucket, SLOTS - 1));
 }
 
-/// Loads the first lines of the item behind the first entry with this hash's tag.
-pub fn load_item(seat: &ReaderSeat, hash: u64) {
+/// The first entry of this hash's bucket with its tag; 0 where none has it.
+pub fn entry_of(seat: &ReaderSeat, hash: u64) -> u64 {
     let bucket = bucket_of(hash, seat.shape().buckets);
     let tag = tag_of(hash);
     for slot in 0..SLOTS {
         let entry = seat.peek(WordAt::Entry(bucket, slot));
         if entry_tag(entry) == tag {
-            let offset = entry_offset(entry);
-            seat.peek(WordAt::Item(offset));
-            seat.peek(WordAt::Item(offset + u64::from(LINE_WORDS)));
-            return;
+            return entry;
         }
     }
+    0
+}
+
+/// Loads the lines of the item of an entry, of a longer one the first.
+pub fn load_item(seat: &ReaderSeat, entry: u64) {
+    let offset = entry_offset(entry);
+    seat.peek(WordAt::Item(offset));
+    seat.peek(WordAt::Item(offset + u64::from(LINE_WORDS)));
+    seat.peek(WordAt::Item(offset + LAST_WORD));
 }
 
 /// So many bytes of a value are loaded at a glance.

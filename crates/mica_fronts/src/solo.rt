@@ -124,7 +124,11 @@ impl Front for SoloFront {
 
     fn load_bucket(&self, _hash: u64) {}
 
-    fn load_item(&self, _hash: u64) {}
+    fn entry_of(&self, _hash: u64) -> u64 {
+        0
+    }
+
+    fn load_item(&self, _hash: u64, _entry: u64) {}
 
     fn write<R: Threads + Wait + Sync>(
         &mut self,

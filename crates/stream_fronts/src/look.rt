@@ -11,7 +11,7 @@ ghost use Rattle.stream_fronts.specs.Reached.{GoesOnTo, SpokeFrom, StandsAs, lea
 use crate::answer::{Stand, answer_bytes};
 use crate::client::Client;
 use crate::desk::MOST_UNSENT;
-use memcached_fronts::{Buffers, Numbering};
+use memcached_fronts::{Buffers, Numbering, load_ahead};
 use mica_clock::Clock;
 use mica_fronts::Counts;
 use mica_io::NoMemory;
@@ -73,6 +73,7 @@ pub fn look_at<R: Threads + Wait + Sync, F: Counts, K: Clock>(
     ensures stands { F.stands front.new ≡ F.stands front.old }
 {
     replies.clear();
+    load_ahead(front, bytes);
     let answered = answer_bytes(rt, front, clock, numbering, buffers, bytes, done, replies)?;
     if replies.len() > MOST_UNSENT {
         return Err(NoMemory);
