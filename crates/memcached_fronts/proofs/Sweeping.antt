@@ -1,10 +1,10 @@
 -- Sweeps that are made one after another.
-use Rattle.std.proofs.Common.{◌≡◌, ◌≤◌, ◌+◌, ℕ, Bool, true, false, cond, List, [], ◌∷◌, ◌++◌, length, Option, Some, None, refl, sym, ap, ◌∙◌, subst, arith, length-append}
-use Rattle.std.specs.List.{AllByRecursion}
+use Rattle.std.proofs.Common.{◌≡◌, ◌≤◌, ◌+◌, ◌==◌, ◌&&◌, ℕ, Bool, true, false, cond, List, [], ◌∷◌, ◌++◌, length, Option, Some, None, refl, sym, ap, ◌∙◌, subst, arith, length-append}
+use Rattle.std.specs.List.{AllByRecursion, cons_option}
 use Rattle.std.proofs.lemmas.List.Elements.{filter_map-append}
 use Rattle.std.proofs.lemmas.Option.{same_Some}
 use Rattle.mica_clock.specs.Seconds.{ClockView}
-use Rattle.mica_words.specs.Hash.{partition_of}
+use Rattle.mica_words.specs.Hash.{partition_of, bucket_of}
 use Rattle.partition_model.specs.declared.options.Options.{Options}
 use Rattle.partition_model.specs.declared.options.Mode.TheVariants.{Cache}
 use Rattle.partition_model.specs.declared.write.Op.TheVariants.{Del, Touch}
@@ -16,11 +16,12 @@ use Rattle.memcached_changes.specs.Over.{is_over, sweeping}
 use Rattle.mica_fronts.specs.declared.changing.Changed.{Changed}
 use Rattle.mica_fronts.specs.declared.changing.When.{When}
 use Rattle.mica_fronts.specs.Answered.{Answered, wrote, changed, kept, step_in, steps_of, count_of_writes}
+use Rattle.mica_fronts.specs.Flushes.{begins_with_feed, flush_in}
 use Rattle.mica_fronts.specs.Changing.{stays, goes, write_for, write_by, DoesWrite, ComesTo, count_of}
 use Rattle.mica_fronts.specs.Looks.{Look}
 use Rattle.mica_fronts.specs.Session.{Sessions, Answers, AnswersOne, ChangesOnly, Writes}
 use Rattle.mica_fronts.proofs.InOrder.{answers_append}
-use Rattle.memcached_fronts.specs.Seconds.{second_in, ToldFrom}
+use Rattle.memcached_fronts.specs.Seconds.{second_asked, second_in, ToldFrom}
 use Rattle.memcached_fronts.specs.Sweeps.{IsSweep, SweepsBy}
 use Rattle.memcached_fronts.proofs.AskLaws.{one_second, seconds_then}
 
@@ -38,6 +39,11 @@ takes base when key (Some stored) write is = go (is_over base when stored) refl 
 all_both : (P : Answered → Type 0) (one two : List Answered) → AllByRecursion P one → AllByRecursion P two → AllByRecursion P (one ++ two)
 all_both P [] two first then = then
 all_both P (a ∷ one) two first then = (first.0, all_both P one two first.1 then)
+
+-- a touch is no flush, in whatever bucket
+never_flushes : (first feed told : Bool) → ((first && false && feed) && told) ≡ false
+never_flushes true feed told = refl
+never_flushes false feed told = refl
 
 module _ (options : Options) (is_alone : Bool) (base : ℕ) where
   pub none_swept : (old : Sessions) (left : ℕ) (told : ClockView) → SweepsBy options is_alone base old left told old left told
@@ -58,13 +64,16 @@ module _ (options : Options) (is_alone : Bool) (base : ℕ) where
   pub one_touched : (old new : Sessions) (left left_after : ℕ) (key : List ℕ) (outcome : Outcome) (stamp : ℕ) → options.mode ≡ Cache
       → Writes options is_alone (old (partition_of key options.partitions)) (record { write = write_of Touch key []; outcome = outcome; stamp = stamp }) (new (partition_of key options.partitions))
       → ChangesOnly (partition_of key options.partitions) old new → left ≤ left_after + 1 → (told : ClockView) → SweepsBy options is_alone base old left told new left_after told
-  one_touched old new left left_after key outcome stamp mode writes others few told = record {
-    answers = wrote (record { write = write_of Touch key []; outcome = outcome; stamp = stamp }) ∷ [];
-    sweeps = ((mode, refl), tt);
-    in_order = (new, record { one = writes; others = others }, λ q. refl);
-    seconds = refl;
-    few = few;
-  }
+  one_touched old new left left_after key outcome stamp mode writes others few told =
+      let a : Answered = wrote (record { write = write_of Touch key []; outcome = outcome; stamp = stamp }) in
+      let none : second_in options a ≡ None =
+      ap (λ t. cond t (second_asked (flush_in key)) None) (never_flushes (bucket_of key options.buckets == 0) (begins_with_feed key) (partition_of key options.partitions == 0)) in record {
+        answers = a ∷ [];
+        sweeps = ((mode, refl), tt);
+        in_order = (new, record { one = writes; others = others }, λ q. refl);
+        seconds = subst (λ s. ToldFrom told s told) (sym (ap (λ o. cons_option o []) none)) refl;
+        few = few;
+      }
 
   -- a key that was looked at
   module _ (old new : Sessions) (left left_after : ℕ) (told tells : ClockView) (second : ℕ) (key : List ℕ) (c : Changed) (buffer : List ℕ) (read : ToldFrom told (second ∷ []) tells) where

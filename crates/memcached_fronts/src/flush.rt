@@ -66,7 +66,7 @@ fn seek_end(hash: u64, partitions: u32, buckets: u32, partition: u32) -> Option<
     for number in 0..256u32 {
         let byte = number as u8;
         let between = hash_on(hash, byte);
-        let last = between as u8;
+        let last = (between & 0xff) as u8;
         let whole = hash_on(between, last);
         if bucket_of(whole, buckets) == 0 && partition_of(whole, partitions) == partition {
             return Some([byte, last]);

@@ -1,15 +1,21 @@
 -- Of the other connections nothing moves.
-use Rattle.std.proofs.Common.{◌≡◌, ℕ, ◌+◌, ◌≤◌, ◌==◌, false, cond, List, [], ◌∷◌, ◌++◌, length, drop, refl, sym, ap, ◌∙◌, subst}
-use Rattle.std.specs.Prelude.{slice_get, Some, IfSome}
+use Rattle.std.proofs.Common.{inl, inr, ◌≡◌, ℕ, ◌+◌, ◌≤◌, ◌==◌, false, cond, List, [], ◌∷◌, ◌++◌, length, drop, refl, sym, ap, ◌∙◌, subst}
+use Rattle.std.specs.Prelude.{slice_get, Option, Some, IfSome, Result, Ok, Err}
 use Rattle.std.specs.List.{AllByRecursion}
 use Rattle.std.proofs.Math.Seq.{drop-nil}
+use Rattle.partition_model.specs.declared.options.Options.{Options}
 use Rattle.stream_io.specs.declared.schedule.Step.{Step}
+use Rattle.stream_io.specs.declared.connections.Broken.{Broken}
+use Rattle.stream_io.specs.declared.connections.Input.{Input}
 use Rattle.stream_io.specs.Connection.{Connection, after_read}
 use Rattle.stream_io.specs.State.{Entry, opened, reported, met, received, sent, asked, closed, held, state_after}
 use Rattle.stream_io.specs.Log.{Log, connections_of, state_of, received_of, sent_of}
+use Rattle.mica_fronts.specs.Answered.{Answered}
+use Rattle.stream_fronts.specs.declared.answer.Stand.{Stand}
+use Rattle.stream_fronts.specs.declared.client.Client.{Client}
 use Rattle.stream_fronts.specs.Traffic.{IsSend, Sends, Reads, HasEnded, after_receiving}
 use Rattle.stream_fronts.specs.Turns.{GrowsBy}
-use Rattle.stream_fronts.specs.Held.{StaysAs, Passes}
+use Rattle.stream_fronts.specs.Held.{StaysAs, Passes, Looks}
 use Rattle.stream_fronts.proofs.Traffic.{sends_received, mets_sent, mets_received, mets_send}
 use Rattle.stream_fronts.proofs.Turning.{grows_none, grows_then, grows_fewer, grows_sends, grows_read}
 use Rattle.stream_fronts.proofs.Drying.{sends_ended, ended_sends, in_changed}
@@ -118,3 +124,17 @@ passes_reads {c} {bytes} {old} reads = record {
 -- what is under a number is there still
 pub passes_under : {reads c : ℕ} {old new : Log} → Passes reads c old new → (n d : ℕ) → held n (connections_of old) ≡ Some d → held n (connections_of new) ≡ Some d
 passes_under passes n d is = passes.moves.same n ∙ is
+
+-- One look
+
+pub looks_passes : (options : Options) (base : ℕ) (client : Client) (answers : List Answered) (replies : List ℕ) (now : Client) (r : Result (Stand × Option Input) Broken) (c : ℕ) (old new : Log)
+    → Looks options base client answers replies now r c old new → Passes 1 c old new
+looks_passes options base client answers replies now (Err broken) c old new looks = passes_reads looks.2
+looks_passes options base client answers replies now (Ok r) c old new looks = elim looks as (λ _. Passes 1 c old new) [
+  | inl further ↦ subst (λ (l : Log). Passes 1 c old l) (sym further.same) (passes_same 1 c old)
+  | inr reads ↦ passes_reads reads.reads
+]
+
+pub looks_held : (options : Options) (base : ℕ) (client : Client) (answers : List Answered) (replies : List ℕ) (now : Client) (r : Result (Stand × Option Input) Broken) (c : ℕ) (old new : Log)
+    → Looks options base client answers replies now r c old new → (n d : ℕ) → held n (connections_of old) ≡ Some d → held n (connections_of new) ≡ Some d
+looks_held options base client answers replies now r c old new looks = passes_under (looks_passes options base client answers replies now r c old new looks)

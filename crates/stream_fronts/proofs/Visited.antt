@@ -9,7 +9,6 @@ use Rattle.stream_io.specs.declared.schedule.Step.{Step}
 use Rattle.stream_io.specs.declared.connections.Broken.{Broken}
 use Rattle.stream_io.specs.declared.connections.Input.{Input}
 use Rattle.stream_io.specs.declared.connections.Input.TheVariants.{Bytes, Later, Ended}
-use Rattle.stream_io.specs.State.{held}
 use Rattle.stream_io.specs.Log.{Log, state_of, connections_of, received_of, sent_of}
 use Rattle.mica_fronts.specs.Answered.{Answered}
 use Rattle.stream_fronts.specs.declared.answer.Stand.{Stand}
@@ -28,7 +27,7 @@ use Rattle.stream_fronts.specs.Traffic.{Sends, SendsFrom, Reads, IsIn, IsShutIn,
 use Rattle.stream_fronts.specs.Resting.{shut, idle, Rests}
 use Rattle.stream_fronts.specs.Held.{Passes, Holds, goes_on, left, ended, all_to, Becomes, Visits, leaves_by, Looks, Lacks, VisitLacks}
 use Rattle.stream_fronts.proofs.Talking.{may_leave, may_end}
-use Rattle.stream_fronts.proofs.Staying.{passes_same, passes_then, passes_sends, passes_reads, passes_under}
+use Rattle.stream_fronts.proofs.Staying.{passes_then, passes_sends, passes_reads, looks_passes}
 use Rattle.stream_fronts.proofs.Moving.{moves_sends}
 use Rattle.stream_fronts.proofs.Drying.{sends_ended}
 use Rattle.stream_fronts.proofs.Moments.{given_more}
@@ -37,18 +36,6 @@ use Rattle.stream_fronts.proofs.Visiting.{if_some, Stage, stage_held, stage_sent
 for_any : {X : Type 0} {Q : X → Type 0} (o : Option X) → ((x : X) → Q x) → IfSome o Q
 for_any None then = tt
 for_any (Some x) then = then x
-
-looks_passes : (options : Options) (base : ℕ) (client : Client) (answers : List Answered) (replies : List ℕ) (now : Client) (r : Result (Stand × Option Input) Broken) (c : ℕ) (old new : Log)
-    → Looks options base client answers replies now r c old new → Passes 1 c old new
-looks_passes options base client answers replies now (Err broken) c old new looks = passes_reads looks.2
-looks_passes options base client answers replies now (Ok r) c old new looks = elim looks as (λ _. Passes 1 c old new) [
-  | inl further ↦ subst (λ (l : Log). Passes 1 c old l) (sym further.same) (passes_same 1 c old)
-  | inr reads ↦ passes_reads reads.reads
-]
-
-pub looks_held : (options : Options) (base : ℕ) (client : Client) (answers : List Answered) (replies : List ℕ) (now : Client) (r : Result (Stand × Option Input) Broken) (c : ℕ) (old new : Log)
-    → Looks options base client answers replies now r c old new → (n d : ℕ) → held n (connections_of old) ≡ Some d → held n (connections_of new) ≡ Some d
-looks_held options base client answers replies now r c old new looks = passes_under (looks_passes options base client answers replies now r c old new looks)
 
 -- an end that a read told stays
 ends_on : (input : Option Input) {c : ℕ} {text : List ℕ} {old new : Log} → Sends c text old new → EndsBy input c old → EndsBy input c new

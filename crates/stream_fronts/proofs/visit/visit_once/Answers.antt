@@ -9,7 +9,8 @@ use Rattle.stream_fronts.proofs.Going.{these_none}
 use Rattle.stream_fronts.proofs.Answering.{match_err}
 use Rattle.stream_fronts.proofs.Traffic.{on_one, on_two, on_three, from_held}
 use Rattle.stream_fronts.proofs.Opening.{keeps_on}
-use Rattle.stream_fronts.proofs.Visited.{looks_held, visit_breaks, visit_waits, visit_leaves, visit_unread, visit_unsent, visit_shut, visit_after, visit_lacks, visit_keeps_none}
+use Rattle.stream_fronts.proofs.Staying.{looks_held}
+use Rattle.stream_fronts.proofs.Visited.{visit_breaks, visit_waits, visit_leaves, visit_unread, visit_unsent, visit_shut, visit_after, visit_lacks, visit_keeps_none}
 use Rattle.stream_fronts.proofs.visit.visit_once.Goals as goal
 
 pub returns-in_err-answered-clause-keeps : goal.returns-in_err-answered-clause-keeps
