@@ -79,7 +79,7 @@ module _ (options : Options) (base : ℕ) where
 
     module _ (client : Client) (is_held : at clients number ≡ Some client) (answers : List Answered) where
       few_to : (c : ℕ) → length answers ≤ 2 * most_answers options → length (all_to c answers) ≤ 2 * most_answers options
-      few_to c few = let same = length-map answers (λ (a : Answered). record { to = c; answered = a }) in omega (arith, same, few)
+      few_to c few = let same = length-map {B = Given} answers (λ (a : Answered). record { to = c; answered = a }) in omega (arith, same, few)
 
       serves_to : (c count : ℕ) (now : List (Option Client)) (old new : Log) → held number (connections_of old) ≡ Some c
           → StandsOn options base (Ready number) clients count (all_to c answers) now old new

@@ -9,7 +9,7 @@ use Rattle.stream_fronts.proofs.visit.fill.Goals as goal
 
 pub returns-in-Bytes-clause-kept : goal.returns-in-Bytes-clause-kept
 returns-in-Bytes-clause-kept g c =
-    filled_kept c.args.client.now.kept c.copy_from_slice.new.self (drop c.len-had.result c.args.room.now) c.receive.new.out _ c.len-had.result c.in-Bytes.count (search rules) (search rules)
+    filled_kept c.args.client.now.kept c.copy_from_slice.new.self (drop _ c.args.room.now) c.receive.new.out _ _ c.in-Bytes.count (search rules) (search rules)
 
 pub returns-in-Bytes-clause-reads : goal.returns-in-Bytes-clause-reads
 returns-in-Bytes-clause-reads g c =
@@ -20,7 +20,7 @@ returns-in-Bytes-clause-reads g c =
     on_one c.args.number _ _ (log c.args.connections.now) (log c.receive.new.connections)
     (λ d a b x. (
       subst (λ bytes. Reads d bytes a b)
-          (filled_read c.args.client.now.kept c.copy_from_slice.new.self (drop c.len-had.result c.args.room.now) c.receive.new.out _ c.len-had.result c.in-Bytes.count (search rules) (search rules)
+          (filled_read c.args.client.now.kept c.copy_from_slice.new.self (drop _ c.args.room.now) c.receive.new.out _ _ c.in-Bytes.count (search rules) (search rules)
           few) x.0,
       tt,
     ))
