@@ -8,8 +8,22 @@ use Rattle.stream_fronts.specs.Traffic.{OnHeld}
 use Rattle.stream_fronts.proofs.Going.{these_goes}
 use Rattle.stream_fronts.proofs.Opening.{keeps_on}
 use Rattle.stream_fronts.proofs.Answering.{match_err}
-use Rattle.stream_fronts.proofs.GoingOn.{goes_up, goes_then, goes_lack}
+use Rattle.stream_fronts.proofs.GoingOn.{goes_once, goes_lack_once, goes_up, goes_then, goes_lack}
 use Rattle.stream_fronts.proofs.visits.visit_on.Goals as goal
+
+pub returns-in_err-after-clause-talks : goal.returns-in_err-after-clause-talks
+returns-in_err-after-clause-talks g c =
+    let log = g.C.Connections.log in
+    let lack = goes_lack_once (g.F.Front.options c.args.front.now) g.F.Front.is_alone c.args.numbering.base c.args.number c.args.client.now (log c.args.connections.now) (log c.visit_once.new.connections)
+    c.in_err-after.ensures.talks in
+    let is = err_from_is_err_and c.from_residual.result c.from_residual.ensures.1 in
+    (lack.0, lack.1, match_err _ _ c.from_residual.result is.0 is.1 lack.2)
+
+pub returns-in_default-clause-talks : goal.returns-in_default-clause-talks
+returns-in_default-clause-talks g c =
+    let log = g.C.Connections.log in
+    goes_once (g.F.Front.options c.args.front.now) g.F.Front.is_alone c.args.numbering.base c.args.number c.args.client.now (log c.args.connections.now) (log c.visit_once.new.connections)
+    c.visit_once.new.client c.in_ok-after.after c.in_ok-after.ensures.talks
 
 pub returns-in_err-last-clause-talks : goal.returns-in_err-last-clause-talks
 returns-in_err-last-clause-talks g c =
