@@ -183,14 +183,6 @@ fn look_by_two<
     let mut second = front_of(options, locks.as_slice(), 1, second);
     let (one, mut two) = (Room::new(alloc)?, Room::new(alloc)?);
     look_in_turn(rt, &mut first, &mut second, &mut two)?;
-    write_one(rt, &mut second, Op::Put, KEY, b"held")?;
-    // No lock is taken for a look, also where another front wrote: while it is held, one that waited for it would wait for ever.
-    if let Some(lock) = locks.as_slice().get(0) {
-        let held = lock.lock(rt);
-        expect_look(rt, &mut first, &mut two, Some(b"held"), 4);
-        drop(held);
-    }
-    write_one(rt, &mut second, Op::Del, KEY, b"")?;
     let (_, rose) = join(
         rt,
         move ||
