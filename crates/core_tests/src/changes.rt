@@ -296,7 +296,7 @@ fn open_and_change<P: OnTable + LendPartition<Reader = ReaderSeat, Note = Note> 
     requires rows { length rows.now ≤ 100 }
 {
     assert!(rt; options.is_possible());
-    let opened = open_parts::<P>(rt.alloc(), options, &[]);
+    let opened = open_parts::<_, P>(rt, rt.alloc(), options, &[]);
     assert!(rt; opened.is_ok());
     if let Ok(parts) = opened {
         change_by_two::<Brand, _, P>(rt, options, rows, parts)?;

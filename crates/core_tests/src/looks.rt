@@ -244,7 +244,7 @@ fn open_and_look<P: OnTable + LendPartition<Reader = ReaderSeat, Note = Note> + 
     requires mode { options.now.mode ≡ P.mode }
 {
     assert!(rt; options.is_possible());
-    let opened = open_parts::<P>(rt.alloc(), options, &[]);
+    let opened = open_parts::<_, P>(rt, rt.alloc(), options, &[]);
     assert!(rt; opened.is_ok());
     if let Ok(parts) = opened {
         look_by_two::<Brand, _, P>(rt, options, parts)?;

@@ -191,7 +191,7 @@ fn open_and_sweep<P: OnTable + LendPartition<Reader = ReaderSeat, Note = Note> +
     requires one { options.now.partitions ≡ 1 }
 {
     assert!(rt; options.is_possible());
-    let opened = open_parts::<P>(rt.alloc(), options, &[]);
+    let opened = open_parts::<_, P>(rt, rt.alloc(), options, &[]);
     assert!(rt; opened.is_ok());
     if let Ok(parts) = opened {
         sweep_by_one::<Brand, _, P>(rt, options, parts)?;

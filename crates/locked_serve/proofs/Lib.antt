@@ -1,4 +1,5 @@
 mod Fills
+mod Opened
 pub mod Named
 pub mod Lending
 mod Joined

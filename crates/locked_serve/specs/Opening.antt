@@ -1,5 +1,5 @@
 -- What partitions and the fronts' parts of them are before any front runs.
-use Rattle.std.specs.Prelude.{◌≡◌, ◌+◌, ℕ, List, [], length, slice_get, Option, Some, None}
+use Rattle.std.specs.Prelude.{◌≡◌, ◌+◌, ℕ, List, [], length, slice_get, Option, Some, None, Result, IfOk, IsErrOf}
 use Rattle.atomic_table.specs.Seated.{TableId}
 use Rattle.partition_model.specs.declared.options.Options.{Options}
 use Rattle.partition_model.specs.declared.write.Write.{Write}
@@ -16,7 +16,9 @@ use Rattle.locked_fronts.specs.Counts.{counts_after}
 use Rattle.locked_fronts.specs.Parts.{IsPartOf}
 use Rattle.mica_fronts.specs.declared.flushes.KeptFlushes.{KeptFlushes}
 use Rattle.mica_fronts.specs.Flushes.{AreKept}
-use Rattle.locked_serve.specs.Filled.{IsFilledOwner, origin_of}
+use Rattle.locked_serve.specs.declared.filling.OpenFault.{OpenFault}
+use Rattle.locked_serve.specs.declared.filling.OpenFault.TheVariants.{Refused}
+use Rattle.locked_serve.specs.Filled.{IsFilledOwner, RefusesFilling, origin_of}
 use Rattle.locked_serve.specs.declared.opening.FilledPart.{FilledPart}
 
 -- the table, the owner's state, the book, and what is kept of its flushes
@@ -41,6 +43,15 @@ pub record IsFilled (options : Options) (writes : List Write) (p : ℕ) (filled 
 pub record AreFilled (options : Options) (writes : List Write) (all : List FilledView) : Type 0 where
   pub many : length all ≡ options.partitions
   pub each : (p : ℕ) (filled : FilledView) → slice_get all p ≡ Some filled → IsFilled options writes p filled
+
+-- what the making of a partition came to: it is filled, or why it could not be
+pub record IsOpened {P : Type 0} (view : FilledPart P → FilledView) (options : Options) (writes : List Write) (p : ℕ) (made : Result (FilledPart P) OpenFault) : Type 0 where
+  pub filled : IfOk made (λ part. IsFilled options writes p (view part))
+  pub refused : IsErrOf made Refused → RefusesFilling options writes
+
+-- so each, in order
+abbrev pub AreOpened : {P : Type 0} → (FilledPart P → FilledView) → Options → List Write → List (Result (FilledPart P) OpenFault) → Type 0
+AreOpened {P = P} view options writes all = (p : ℕ) (made : Result (FilledPart P) OpenFault) → slice_get all p ≡ Some made → IsOpened view options writes p made
 
 -- What they are, by number
 

@@ -10,7 +10,7 @@ ghost use Rattle.mica_fronts.specs.Flushes.{AreKept};
 ghost use Rattle.locked_fronts.specs.Owned.{NotesAre};
 ghost use Rattle.locked_serve.specs.declared.serve.TheConstants.{MOST_FRONTS};
 ghost use Rattle.locked_serve.specs.Filled.{RefusesFilling};
-ghost use Rattle.locked_serve.specs.Opening.{IsFilled, AreFilled, ArePlanned, LendsOne, AreNewParts, AreNewHands, filled_view};
+ghost use Rattle.locked_serve.specs.Opening.{IsFilled, AreFilled, IsOpened, AreOpened, ArePlanned, LendsOne, AreNewParts, AreNewHands, filled_view};
 
 use crate::filling::{OpenFault, fill};
 use epoch_core::{LendPartition, Partition, Shape};
@@ -21,8 +21,12 @@ use partition_model::{Options, Write};
 use partition_table::{Note, ReaderSeat, zeros_for};
 use seated_partition::OnTable;
 use std::alloc::Global;
-use std::sync::Mutex;
+use std::sync::{Mutex, Wait};
+use std::thread::{Threads, for_each_mut};
 use turn_book::TurnBook;
+
+// The most threads that make partitions side by side.
+const MOST_MAKERS: u32 = 8;
 
 /// A partition as filled, with its book.
 #[derive(Drop)]
@@ -57,8 +61,59 @@ fn open_part<P: OnTable + LendPartition<Reader = ReaderSeat, Note = Note>>(
     })
 }
 
-/// All partitions, filled.
-pub fn open_parts<P: OnTable + LendPartition<Reader = ReaderSeat, Note = Note>>(
+/// How many threads make the partitions side by side: one for each, and no more than eight.
+pub(crate) fn makers_of(options: &Options) -> u32
+    requires { IsPossible options.now }
+    ensures { 0 < result }
+{
+    options.partitions.min(MOST_MAKERS)
+}
+
+// What the making of each partition came to, side by side in threads.
+fn make_parts<
+    W: Threads + Wait + Sync,
+    P: OnTable + LendPartition<Reader = ReaderSeat, Note = Note> + Send,
+>(
+    rt: &W,
+    alloc: Global,
+    options: &Options,
+    filling: &[Write],
+) -> Result<Vec<Result<FilledPart<P>, OpenFault>>, NoMemory>
+    requires valid { IsPossible options.now }
+    requires mode { options.now.mode ≡ P.mode }
+    requires same { (p : P) → P.state p ≡ P.owner p }
+    requires filling { All IsWrite filling.now }
+    ensures many { IfOk result (λ made. length made.items ≡ options.now.partitions) }
+    ensures each { IfOk result (λ made. AreOpened (λ f. filled_view P.owner P.home f) options.now filling.now made.items) }
+{
+    let count = options.partitions as usize;
+    let zeros = zeros_for(alloc, &Shape::of(options))?;
+    let zeros = zeros.as_slice();
+    let mut made = Vec::with_capacity(alloc, count)?;
+    for _ in 0..count {
+        made.push_reserved(Err(OpenFault::NoMemory));
+    }
+    for_each_mut(
+        rt,
+        made.as_mut_slice(),
+        makers_of(options) as usize,
+        &|at, part|
+            requires { IsPossible options.now × (options.now.mode ≡ P.mode) × ((p : P) → P.state p ≡ P.owner p)
+                × (zeros.now ≡ (as_made (shape_of options.now)).words) × All IsWrite filling.now × (at < options.now.partitions) }
+            ensures { IsOpened (λ f. filled_view P.owner P.home f) options.entry.now filling.entry.now at part.exit.now }
+        {
+            *part = open_part(alloc, options, zeros, filling, at as u32);
+        },
+    );
+    Ok(made)
+}
+
+/// All partitions, made and filled side by side in threads. Where one could not be, the first such says why.
+pub fn open_parts<
+    W: Threads + Wait + Sync,
+    P: OnTable + LendPartition<Reader = ReaderSeat, Note = Note> + Send,
+>(
+    rt: &W,
     alloc: Global,
     options: &Options,
     filling: &[Write],
@@ -70,11 +125,9 @@ pub fn open_parts<P: OnTable + LendPartition<Reader = ReaderSeat, Note = Note>>(
     ensures filled { IfOk result (λ parts. AreFilled options.now filling.now (map (λ f. filled_view P.owner P.home f) parts.items)) }
     ensures refused { IsErrOf result OpenFault.Refused → RefusesFilling options.now filling.now }
 {
-    let zeros = zeros_for(alloc, &Shape::of(options))?;
-    let zeros = zeros.as_slice();
     let mut parts = Vec::with_capacity(alloc, options.partitions as usize)?;
-    for p in 0..options.partitions {
-        parts.push(open_part(alloc, options, zeros, filling, p)?)?;
+    for made in make_parts(rt, alloc, options, filling)? {
+        parts.push(made?)?;
     }
     Ok(parts)
 }

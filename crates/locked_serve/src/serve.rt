@@ -14,7 +14,7 @@ ghost use Rattle.locked_serve.specs.Server.{IsLockedServer};
 
 use crate::announce::Announce;
 use crate::listening::{listen_all, release_streams};
-use crate::opening::{FilledPart, open_parts};
+use crate::opening::{FilledPart, makers_of, open_parts};
 use crate::server::{LockedServer, serve_all};
 use crate::service::Shared;
 use crate::stop::Stop;
@@ -181,12 +181,15 @@ fn serve_on<
         (ports_at N.Net L.Listeners net.old listeners.old) (ports_at N.Net L.Listeners net.new listeners.new) announce.old announce.new }
 {
     let service = &shared.service;
-    rehearse(
+    let fronts = service.streams.fronts + service.ports.fronts;
+    let makers = makers_of(&service.options);
+    rehearse(shared.rt, shared.alloc, fronts.max(makers))?;
+    let parts = open_parts::<W, P>(
         shared.rt,
         shared.alloc,
-        service.streams.fronts + service.ports.fronts,
+        &service.options,
+        filling.as_slice(),
     )?;
-    let parts = open_parts::<P>(shared.alloc, &service.options, filling.as_slice())?;
     drop(filling);
     serve_named::<Brand, W, P, N, L, K, G, A>(
         shared, parts, net, listeners, clocks, tables, lacked, announce,

@@ -1,41 +1,22 @@
-use Rattle.std.proofs.Common.{◌+◌, ◌∷◌, [], ℕ, length, map, slice_get, inl, inr, sym, ap, ◌∙◌, subst, arith}
-use Rattle.std.proofs.lemmas.List.{length-map, length_push, map-append}
-use Rattle.std.proofs.lemmas.Option.{slice_get_within}
-use Rattle.mica_serve.proofs.Binding.{at_snoc}
+use Rattle.std.proofs.Common.{◌≡◌, ◌++◌, [], map, sym, ap, ◌∙◌, subst, arith, append-nil}
+use Rattle.std.specs.Prelude.{Ok}
+use Rattle.std.specs.Vec.Iter.{into_iter_items}
+use Rattle.std.proofs.lemmas.List.{nil_from_length}
 use Rattle.locked_serve.specs.declared.opening.FilledPart.{FilledPart}
-use Rattle.locked_serve.specs.Opening.{FilledView, IsFilled, filled_view}
+use Rattle.locked_serve.specs.Opening.{FilledView, filled_view}
+use Rattle.locked_serve.proofs.Opened.{all_filled, next_opened}
 use Rattle.locked_serve.proofs.opening.open_parts.Given as given
 use Rattle.locked_serve.proofs.opening.open_parts.Goals as goal
 
 abbrev view : (g : given.Over) → FilledPart g.row.P.Denot → FilledView
 view g f = filled_view g.P.Partition.owner g.P.Partition.home f
 
-pub loop-p-init : goal.loop-p-init
-loop-p-init g c =
-    let none = c.in_ok-parts.ensures.items in
-    record {
-      many = ap length none;
-      each = λ p filled at. absurd (let low = slice_get_within (map (view g) c.in_ok-parts.parts.items) p filled at in omega (arith, ap length (ap (map (view g)) none)));
-    }
-
-pub loop-p-preserved : goal.loop-p-preserved
-loop-p-preserved g c =
-    let i = c.loop-p.invariant in
-    let part = c.in_ok-open_part.field-0 in
-    let pushed = c.in_ok-push.ensures.items in
-    record {
-      many = ap length pushed ∙ length_push c.loop-p.parts.items part ∙ ap (λ n. n + 1) i.many;
-      each = λ p filled at.
-          elim (at_snoc (map (view g) c.loop-p.parts.items) (view g part) p filled
-          (ap (λ l. slice_get l p) (sym (ap (map (view g)) pushed ∙ map-append (view g) c.loop-p.parts.items (part ∷ []))) ∙ at))
-          as (λ _. IsFilled c.args.options.now c.args.filling.now p filled) [
-            | inl h ↦ i.each p filled h.0
-            | inr h ↦ subst (λ (y : ℕ × FilledView). IsFilled c.args.options.now c.args.filling.now y.0 y.1)
-                (λ k. (sym (h.0 ∙ length-map c.loop-p.parts.items (view g) ∙ i.many) k, h.1 k)) c.in_ok-open_part.ensures.filled
-          ];
-    }
-
 pub returns-clause-filled : goal.returns-clause-filled
 returns-clause-filled g c =
-    let i = c.loop-p.invariant in
-    record { many = omega (arith, length-map c.loop-p.parts.items (view g), i.many, c.loop-p-test.false, c.loop-p.auto.p-end); each = i.each }
+    let parts = c.loop-made.parts.items in
+    let made = c.in_ok-made-items.made-items.items in
+    let left = into_iter_items c.loop-made.made-iterator in
+    let none : left ≡ [] = nil_from_length left (omega (arith, c.in-None.ensures.steps.0, c.loop-made.made-iterator.rest.ok)) in
+    let all : map Ok parts ≡ made =
+    sym (append-nil (map Ok parts)) ∙ (ap (λ l. map Ok parts ++ l) (sym none) ∙ (c.loop-made.invariant ∙ c.into_iter-made-iterator.ensures.into_iter_gives.0)) in
+    all_filled (view g) c.args.options.now c.args.filling.now made c.in_ok-made-items.ensures.each parts all c.in_ok-made-items.ensures.many

@@ -1,0 +1,25 @@
+-- Partitions that were made side by side, taken out in order.
+use Rattle.std.proofs.Common.{◌≡◌, ◌∷◌, ◌++◌, List, length, map, Some, slice_get, sym, ap, ◌∙◌, subst}
+use Rattle.std.specs.Prelude.{Result, Ok}
+use Rattle.std.proofs.lemmas.List.{length-map}
+use Rattle.list_laws.proofs.Places.{at_map, at_seam, from_map}
+use Rattle.partition_model.specs.declared.options.Options.{Options}
+use Rattle.partition_model.specs.declared.write.Write.{Write}
+use Rattle.locked_serve.specs.declared.filling.OpenFault.{OpenFault}
+use Rattle.locked_serve.specs.declared.opening.FilledPart.{FilledPart}
+use Rattle.locked_serve.specs.Opening.{FilledView, IsFilled, AreFilled, IsOpened, AreOpened}
+
+module _ {P : Type 0} (view : FilledPart P → FilledView) (options : Options) (writes : List Write) (all : List (Result (FilledPart P) OpenFault)) (opened : AreOpened view options writes all) where
+  -- where all were filled
+  pub all_filled : (parts : List (FilledPart P)) → map Ok parts ≡ all → length all ≡ options.partitions → AreFilled options writes (map view parts)
+  all_filled parts same many = record {
+    many = length-map parts view ∙ sym (length-map parts Ok) ∙ ap length same ∙ many;
+    each = λ p filled at.
+        let part = from_map view parts p filled at in
+        subst (IsFilled options writes p) part.2 (opened p (Ok part.0) (ap (λ l. slice_get l p) (sym same) ∙ at_map Ok parts p part.0 part.1)).filled;
+  }
+
+  -- the one behind those that were
+  pub next_opened : (parts : List (FilledPart P)) (made : Result (FilledPart P) OpenFault) (later : List (Result (FilledPart P) OpenFault)) → map Ok parts ++ made ∷ later ≡ all
+      → IsOpened view options writes (length (map {Y = Result (FilledPart P) OpenFault} Ok parts)) made
+  next_opened parts made later same = opened _ made (ap (λ l. slice_get l (length (map {Y = Result (FilledPart P) OpenFault} Ok parts))) (sym same) ∙ at_seam (map Ok parts) made later)
