@@ -18,7 +18,7 @@ use partition_table::{Note, OwnerSeat, ReaderSeat};
 use seated_partition::OnTable;
 use std::marker::Brand;
 use std::process::Abort;
-use std::sync::Wait;
+use std::sync::{Mutex, Wait};
 use std::test::Fail;
 use std::thread::{Threads, join};
 use store_partition::StorePartition;
@@ -135,6 +135,42 @@ fn look_in_turn<R: Abort + AllocGlobal + Threads + Wait + Sync, F: Changes>(
     Ok(())
 }
 
+// Looks while the lock is held: a look that waited for it would wait for ever.
+fn look_while_held<R: Abort + Threads + Wait + Sync, T: Drop, F: Changes>(
+    rt: &R,
+    lock: &Mutex<T>,
+    front: &mut F,
+    room: &mut Room,
+)
+    requires { 0 < F.left front.old }
+    ensures { F.left front.old ≤ F.left front.new }
+{
+    let held = lock.lock(rt);
+    expect_look(rt, front, room, Some(b"held"), 4);
+    drop(held);
+}
+
+// One front looks at what the other wrote, while the lock is held.
+fn look_beside<R: Abort + AllocGlobal + Threads + Wait + Sync, T: Drop, F: Changes>(
+    rt: &R,
+    lock: Option<&Mutex<T>>,
+    one: &mut F,
+    two: &mut F,
+    room: &mut Room,
+) -> Result<(), Fail>
+    requires one { 0 < F.left one.old }
+    requires two { 2 ≤ F.left two.old }
+    ensures one { F.left one.old ≤ F.left one.new }
+    ensures two { F.left two.old ≤ F.left two.new + 2 }
+{
+    write_one(rt, two, Op::Put, KEY, b"held")?;
+    match lock {
+        Some(lock) => look_while_held(rt, lock, one, room),
+        None => assert!(rt; false),
+    }
+    write_one(rt, two, Op::Del, KEY, b"")
+}
+
 // Looks while another counts up: the count never falls.
 fn look_often<R: Threads + Wait + Sync, F: Changes + Drop>(rt: &R, front: F, room: Room) -> bool
     requires { TIMES ≤ F.left front }
@@ -183,6 +219,8 @@ fn look_by_two<
     let mut second = front_of(options, locks.as_slice(), 1, second);
     let (one, mut two) = (Room::new(alloc)?, Room::new(alloc)?);
     look_in_turn(rt, &mut first, &mut second, &mut two)?;
+    let lock = locks.as_slice().get(0);
+    look_beside(rt, lock, &mut first, &mut second, &mut two)?;
     let (_, rose) = join(
         rt,
         move ||
