@@ -122,18 +122,24 @@ class Ended:
     replies: list  # of a server: what each of its ports sent
 
 
+def kill(running):
+    """Kills what was started, with all that it started."""
+    with contextlib.suppress(ProcessLookupError):
+        os.killpg(running.pid, signal.SIGKILL)
+
+
 def run(runner, before, row, seconds, server_port=None):
     """Runs the row with these words before the program's, for at most so many seconds. Whatever it started is killed then."""
     port = peers.free_port(2) if row.over_tcp else formats.free_port(2) if row.is_server else server_port if row.wants_server else None
     words = [*row.words, "--memcached" if row.over_tcp else "--port", str(port)] if port else row.words
     running = runner.start([*before, str(runner.programs[row.program]), *words])
     late, serves = threading.Event(), False
-    clock = threading.Timer(seconds, lambda: (late.set(), os.killpg(running.pid, signal.SIGKILL)))
+    clock = threading.Timer(seconds, lambda: (late.set(), kill(running)))
     clock.start()
     replies = talk_to(running, port, row) if row.is_server else []
     if row.program == "micad" and running.poll() is None:
-        serves = not late.is_set()
-        os.killpg(running.pid, signal.SIGKILL)
+        serves = all(replies) and not late.is_set()
+        kill(running)
     try:
         output, errors = running.communicate(None if row.is_server else row.input)
     finally:
