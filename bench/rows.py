@@ -11,6 +11,7 @@ import socket
 import subprocess
 import threading
 
+import documents
 import formats
 import peers
 
@@ -120,6 +121,12 @@ class Ended:
     output: bytes
     errors: bytes
     replies: list  # of a server: what each of its ports sent
+
+
+def unbound_line(port="N"):
+    """What micad writes where it can't bind a port: README's line, of this port."""
+    line = next(cells[2].split("`")[1] for _, cells in documents.rows(documents.TOP / "README.md") if cells[0] == "7")
+    return re.sub(r"\d+", str(port), line).encode() + b"\n"
 
 
 def kill(running):
