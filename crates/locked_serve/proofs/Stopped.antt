@@ -1,6 +1,6 @@
 -- What a server has told, and why it stopped, where it was filled and where it was not.
-use Rattle.std.proofs.Common.{◌≡◌, ℕ, ◌⊎◌, inl, inr, List, [], Option, Some, refl, sym, ◌∙◌, subst, arith}
-use Rattle.std.specs.Prelude.{Result, Ok, Err}
+use Rattle.std.proofs.Common.{◌≡◌, ℕ, ◌⊎◌, inl, inr, List, [], Option, refl, sym, ap, ◌∙◌, subst, arith}
+use Rattle.std.specs.Prelude.{Result, Ok, Err, IsErrAnd}
 use Rattle.mica_clock.specs.Seconds.{ClockView}
 use Rattle.mica_io.specs.Faults.{Rose}
 use Rattle.partition_model.specs.declared.write.Write.{Write}
@@ -23,7 +23,12 @@ use Rattle.locked_serve.specs.Streams.{StreamFacts, ListenFacts}
 use Rattle.locked_serve.specs.Causes.{PortFacts, HasPorts, LacksPort, CameTo, ComesBeside, HasCause, stop_of, IsCauseOfStop, HasAnnounced, Leaves}
 use Rattle.locked_serve.proofs.Heard.{kept_unheard}
 use Rattle.locked_serve.proofs.Released.{none_released}
-use Rattle.locked_serve.proofs.Unheard.{no_answers, none_heard}
+use Rattle.locked_serve.proofs.Bound.{unbound}
+
+-- the answer that `?` gives with this error
+pub ended_with : {T E : Type 0} {e : E} (r : Result T E) → IsErrAnd r (λ y. y ≡ e) → r ≡ Err e
+ended_with (Ok x) is = absurd is
+ended_with (Err y) is = ap Err is
 
 -- a port could not be had
 pub lacks_port : {A : Type 0} {answer : Result Totals Stop} (says fails : A → A → Type 0) (before after : PortFacts) (a : A) → answer ≡ Err (Fault Net) → LacksPort before after
@@ -87,22 +92,7 @@ says_then {answer = answer} {before = before} same gone then it = record {
 -- there was no memory before any port was bound
 pub no_memory : {answer : Result Totals Stop} {service : Service} {origin : ℕ → History} {clocks : List ClockView} {kept : List KeptSeat} {lacked : ℕ} {all : PortFacts} → answer ≡ Err (Fault NoMemory) → kept ≡ []
     → lacked ≡ 0 → HasCause answer service origin clocks kept lacked all all
-no_memory {service = service} {origin = origin} {clocks = clocks} {kept = kept} {lacked = lacked} {all = all} is none uncounted =
-    subst (λ (r : Result Totals Stop). HasCause r service origin clocks kept lacked all all) (sym is) (record {
-      answers = no_answers service.streams.fronts;
-      counts = [];
-      olds = [];
-      news = [];
-      are = none_heard service.options service.base service.streams all.listens.ports clocks;
-      lacked_is = uncounted;
-      left = none_released all.listens.released;
-      all = tt;
-      finished = tt;
-      came = Some (Err NoMemory);
-      came_is = refl;
-      unserved = tt;
-      said = none;
-    })
+no_memory {all = all} is none uncounted = unbound NoMemory is uncounted (none_released all.listens.released) none
 
 -- a server that these writes filled
 pub cause_filled : (answer : Result Totals Stop) (writes : List Write) {service : Service} {clocks : List ClockView} {kept : List KeptSeat} {lacked : ℕ} {before after : PortFacts}

@@ -1,7 +1,7 @@
 //! What a server serves, and what all its fronts share.
 use memcached_stats::Board;
 use mica_fronts::PortOptions;
-use partition_model::Options;
+use partition_model::{Options, Write};
 use std::alloc::Global;
 use stream_fronts::StreamPorts;
 
@@ -22,4 +22,11 @@ pub struct Shared<'a, W, G> {
     pub service: Service,
     pub board: &'a Board,
     pub gate: &'a G,
+}
+
+/// What a server begins with: the writes that fill its partitions, in their order, and a clock for each front of connections.
+#[derive(Drop)]
+pub struct Start<K> {
+    pub filling: Vec<Write>,
+    pub clocks: Vec<K>,
 }

@@ -6,12 +6,12 @@ ghost use Rattle.mica_commands.specs.declared.daemon_words.TheConstants.{MOST_FR
 use crate::datagrams::{BATCH, REPLIES};
 use crate::runs::words_of;
 use crate::same_schedule::SameSchedule;
+use locked_serve::Left;
 use mica_clock::MemClock;
 use mica_cmd::Status;
 use mica_commands::MOST_FRONTS;
-use mica_daemon::{Files, MemFiles, PlacedListeners, Speaker, daemon};
+use mica_daemon::{Files, MemFiles, PlacedListeners, Process, Speaker, daemon};
 use mica_io::{Bytes, FreeGate, Gate, MemNet, MemSink, Net, NoMemory};
-use partition_table::Tables;
 use std::alloc::Global;
 use std::sync::Wait;
 use std::test::Fail;
@@ -49,24 +49,25 @@ pub fn run_whole<W: Threads + Wait + Sync, F: Files, N: Net, L: PlacedListeners,
         sink: MemSink::new(alloc, room, 1021, &[])?,
         line: String::new(alloc),
     };
-    let mut tables = Tables::new();
-    let mut lacked = 0;
-    let status = daemon(
+    let process = Process {
         rt,
         alloc,
+        gate,
+        base: 1,
+        pid: 1,
+    };
+    let mut left = Left::nothing();
+    let status = daemon(
+        &process,
         words.as_slice(),
-        &mut speaker,
+        clocks_of(alloc, seconds)?,
         files,
+        &mut speaker,
         net,
         listeners,
-        clocks_of(alloc, seconds)?,
-        1,
-        1,
-        gate,
-        &mut tables,
-        &mut lacked,
+        &mut left,
     );
-    Ok((status, speaker.sink, lacked))
+    Ok((status, speaker.sink, left.lacked))
 }
 
 /// The status and what the sink took, with no gate.

@@ -1,9 +1,9 @@
-use Rattle.std.proofs.Common.{◌+◌, ◌∷◌, [], ℕ, length, map, slice_get, inl, inr, sym, ap, ◌∙◌, subst, arith}
-use Rattle.std.proofs.lemmas.List.{length-map, length_push, map-append}
+use Rattle.std.proofs.Common.{◌+◌, length, map, ap, ◌∙◌, arith}
+use Rattle.std.proofs.lemmas.List.{length-map, length_push}
 use Rattle.std.proofs.lemmas.Option.{slice_get_within}
-use Rattle.mica_serve.proofs.Binding.{at_snoc}
 use Rattle.locked_serve.specs.declared.opening.FilledPart.{FilledPart}
 use Rattle.locked_serve.specs.Opening.{FilledView, IsFilled, filled_view}
+use Rattle.locked_serve.proofs.Joined.{each_pushed}
 use Rattle.locked_serve.proofs.opening.open_parts.Given as given
 use Rattle.locked_serve.proofs.opening.open_parts.Goals as goal
 
@@ -25,14 +25,7 @@ loop-p-preserved g c =
     let pushed = c.in_ok-push.ensures.items in
     record {
       many = ap length pushed ∙ length_push c.loop-p.parts.items part ∙ ap (λ n. n + 1) i.many;
-      each = λ p filled at.
-          elim (at_snoc (map (view g) c.loop-p.parts.items) (view g part) p filled
-          (ap (λ l. slice_get l p) (sym (ap (map (view g)) pushed ∙ map-append (view g) c.loop-p.parts.items (part ∷ []))) ∙ at))
-          as (λ _. IsFilled c.args.options.now c.args.filling.now p filled) [
-            | inl h ↦ i.each p filled h.0
-            | inr h ↦ subst (λ (y : ℕ × FilledView). IsFilled c.args.options.now c.args.filling.now y.0 y.1)
-                (λ k. (sym (h.0 ∙ length-map c.loop-p.parts.items (view g) ∙ i.many) k, h.1 k)) c.in_ok-open_part.ensures.filled
-          ];
+      each = each_pushed (IsFilled c.args.options.now c.args.filling.now) (view g) c.loop-p.parts.items part pushed i.many i.each c.in_ok-open_part.ensures.filled;
     }
 
 pub returns-clause-filled : goal.returns-clause-filled

@@ -1,7 +1,6 @@
 use Rattle.std.proofs.Common.{◌≡◌, ◌≤◌, inl, inr, [], length, vec_len, List, map, refl, sym, ap, ◌∙◌, subst, arith}
 use Rattle.std.specs.Prelude.{None, Ok, Err}
 use Rattle.std.proofs.lemmas.List.{length-map}
-use Rattle.std.proofs.lemmas.Result.{err_from_is_err_and}
 use Rattle.mica_serve.specs.Ends.{EndFacts, AreNewEnds, end_facts}
 use Rattle.mica_serve.specs.NetRun.{NetFacts, net_facts}
 use Rattle.mica_serve.proofs.Whole.{Bound, run_failed, run_left, run_served}
@@ -11,7 +10,7 @@ use Rattle.locked_serve.specs.Streams.{StreamFacts, AreNewStreams, listen_facts,
 use Rattle.locked_serve.specs.Causes.{PortFacts, ports_at}
 use Rattle.locked_serve.proofs.Bound.{unbound, unserved, came_ok, came_err, silent}
 use Rattle.locked_serve.proofs.Heard.{kept_unheard, new_untold}
-use Rattle.locked_serve.proofs.Stopped.{lacks_port, fails_to_tell, fault_told}
+use Rattle.locked_serve.proofs.Stopped.{ended_with, lacks_port, fails_to_tell, fault_told}
 use Rattle.locked_serve.proofs.serve.bind_and_serve.Given as given
 use Rattle.locked_serve.proofs.serve.bind_and_serve.Goals.{After-bind_all, After-listen_all}
 use Rattle.locked_serve.proofs.serve.bind_and_serve.Goals as goal
@@ -67,8 +66,7 @@ pub returns-in_err-bind_all-clause-served : goal.returns-in_err-bind_all-clause-
 returns-in_err-bind_all-clause-served g c =
     let z = (goal.at.returns-in_err-bind_all-clause-served g c).After-bind_all in
     let failed = c.in_err-bind_all.ensures in
-    let is = err_from_is_err_and c.from_residual.result c.from_residual.ensures.1 in
-    unbound (is.1 ∙ ap Err is.2) c.requires.uncounted (sym (ap (map (of_stream g)) c.requires.no_streams))
+    unbound Net (ended_with c.from_residual.result c.from_residual.ensures.1) c.requires.uncounted (sym (ap (map (of_stream g)) c.requires.no_streams))
     (run_failed (bound g z) c.requires.filled refl c.requires.tables failed.cause failed.refused (silent c.args.shared.now.service.streams [] []))
 
 pub returns-in_err-bind_all-clause-heard : goal.returns-in_err-bind_all-clause-heard
@@ -77,41 +75,36 @@ returns-in_err-bind_all-clause-heard g c = kept_unheard c.args.shared.now.servic
 pub returns-in_err-bind_all-clause-announced : goal.returns-in_err-bind_all-clause-announced
 returns-in_err-bind_all-clause-announced g c =
     let service = c.args.shared.now.service in
-    let is = err_from_is_err_and c.from_residual.result c.from_residual.ensures.1 in
     lacks_port (g.A.Announce.says service.ports service.streams) (g.A.Announce.fails service.ports service.streams) (ports_of g c.args.net.now c.args.listeners.now)
-    (ports_of g c.bind_all.new.net c.args.listeners.now) c.args.announce.now (is.1 ∙ ap Err is.2) (inl c.in_err-bind_all.ensures.refused)
+    (ports_of g c.bind_all.new.net c.args.listeners.now) c.args.announce.now (ended_with c.from_residual.result c.from_residual.ensures.1) (inl c.in_err-bind_all.ensures.refused)
 
 -- A port could not be listened at
 
 pub returns-in_err-listen_all-clause-served : goal.returns-in_err-listen_all-clause-served
 returns-in_err-listen_all-clause-served g c =
     let at = goal.at.returns-in_err-listen_all-clause-served g c in
-    let is = err_from_is_err_and c.from_residual-in_err-listen_all.result c.from_residual-in_err-listen_all.ensures.1 in
-    unserved (map (of_stream g) c.listen_all.new.connections.items) c.listen_all.ensures.new (heard_few g at.After-listen_all) (Fault Net) (is.1 ∙ ap Err is.2) c.requires.uncounted (inr (refl, c.in_err-listen_all.ensures.cause)) refl
+    unserved (map (of_stream g) c.listen_all.new.connections.items) c.listen_all.ensures.new (heard_few g at.After-listen_all) (Fault Net) (ended_with c.from_residual-in_err-listen_all.result c.from_residual-in_err-listen_all.ensures.1) c.requires.uncounted (inr (refl, c.in_err-listen_all.ensures.cause)) refl
     (run_left (bound g at.After-bind_all) c.requires.filled c.requires.tables (ends_long g at.After-bind_all ∙ c.in_ok-bind_all.ensures.all))
 
 pub returns-in_err-listen_all-clause-announced : goal.returns-in_err-listen_all-clause-announced
 returns-in_err-listen_all-clause-announced g c =
     let service = c.args.shared.now.service in
-    let is = err_from_is_err_and c.from_residual-in_err-listen_all.result c.from_residual-in_err-listen_all.ensures.1 in
     lacks_port (g.A.Announce.says service.ports service.streams) (g.A.Announce.fails service.ports service.streams) (ports_of g c.args.net.now c.args.listeners.now)
-    (ports_of g c.bind_all.new.net c.listen_all.new.listeners) c.args.announce.now (is.1 ∙ ap Err is.2) (inr c.in_err-listen_all.ensures.cause)
+    (ports_of g c.bind_all.new.net c.listen_all.new.listeners) c.args.announce.now (ended_with c.from_residual-in_err-listen_all.result c.from_residual-in_err-listen_all.ensures.1) (inr c.in_err-listen_all.ensures.cause)
 
 -- It could not be told
 
 pub returns-in_err-ready-clause-served : goal.returns-in_err-ready-clause-served
 returns-in_err-ready-clause-served g c =
     let at = goal.at.returns-in_err-ready-clause-served g c in
-    let is = err_from_is_err_and c.from_residual-in_err-ready.result c.from_residual-in_err-ready.ensures.1 in
-    unserved (map (of_stream g) c.listen_all.new.connections.items) c.listen_all.ensures.new (heard_few g at.After-listen_all) Unannounced (is.1 ∙ ap Err is.2) c.requires.uncounted refl refl
+    unserved (map (of_stream g) c.listen_all.new.connections.items) c.listen_all.ensures.new (heard_few g at.After-listen_all) Unannounced (ended_with c.from_residual-in_err-ready.result c.from_residual-in_err-ready.ensures.1) c.requires.uncounted refl refl
     (run_left (bound g at.After-bind_all) c.requires.filled c.requires.tables (ends_long g at.After-bind_all ∙ c.in_ok-bind_all.ensures.all))
 
 pub returns-in_err-ready-clause-announced : goal.returns-in_err-ready-clause-announced
 returns-in_err-ready-clause-announced g c =
     let service = c.args.shared.now.service in
-    let is = err_from_is_err_and c.from_residual-in_err-ready.result c.from_residual-in_err-ready.ensures.1 in
     fails_to_tell (g.A.Announce.says service.ports service.streams) (g.A.Announce.fails service.ports service.streams) (ports_of g c.args.net.now c.args.listeners.now)
-    (ports_of g c.bind_all.new.net c.listen_all.new.listeners) c.args.announce.now c.ready.new.self (is.1 ∙ ap Err is.2) c.in_err-ready.ensures.failed
+    (ports_of g c.bind_all.new.net c.listen_all.new.listeners) c.args.announce.now c.ready.new.self (ended_with c.from_residual-in_err-ready.result c.from_residual-in_err-ready.ensures.1) c.in_err-ready.ensures.failed
 
 -- A front failed
 
@@ -119,16 +112,14 @@ pub returns-in_err-totals-clause-served : goal.returns-in_err-totals-clause-serv
 returns-in_err-totals-clause-served g c =
     let at = goal.at.returns-in_err-totals-clause-served g c in
     let fault = c.in_err-totals.field-0.0 in
-    let is = err_from_is_err_and c.from_residual-in_err-totals.result c.from_residual-in_err-totals.ensures.1 in
-    came_err (map (of_stream g) c.listen_all.new.connections.items) c.listen_all.ensures.new (heard_few g at.After-listen_all) (heard_long g at.After-listen_all ∙ c.in_ok-listen_all.ensures.all) fault (is.1 ∙ ap Err is.2) c.in_err-totals.ensures refl
+    came_err (map (of_stream g) c.listen_all.new.connections.items) c.listen_all.ensures.new (heard_few g at.After-listen_all) (heard_long g at.After-listen_all ∙ c.in_ok-listen_all.ensures.all) fault (ended_with c.from_residual-in_err-totals.result c.from_residual-in_err-totals.ensures.1) c.in_err-totals.ensures refl
     (run_served (bound g at.After-bind_all) c.requires.filled (Err fault) (ends_long g at.After-bind_all ∙ c.in_ok-bind_all.ensures.all) c.in_ok-bind_all.ensures.steady c.in_err-totals.ensures.fronts)
 
 pub returns-in_err-totals-clause-announced : goal.returns-in_err-totals-clause-announced
 returns-in_err-totals-clause-announced g c =
     let service = c.args.shared.now.service in
-    let is = err_from_is_err_and c.from_residual-in_err-totals.result c.from_residual-in_err-totals.ensures.1 in
     fault_told c.in_err-totals.field-0.0 (g.A.Announce.says service.ports service.streams) (g.A.Announce.fails service.ports service.streams) (ports_of g c.args.net.now c.args.listeners.now)
-    (ports_of g c.bind_all.new.net c.listen_all.new.listeners) c.args.announce.now c.ready.new.self (is.1 ∙ ap Err is.2)
+    (ports_of g c.bind_all.new.net c.listen_all.new.listeners) c.args.announce.now c.ready.new.self (ended_with c.from_residual-in_err-totals.result c.from_residual-in_err-totals.ensures.1)
     (c.in_ok-bind_all.ensures.none_refused, c.in_ok-listen_all.ensures.steady) c.in_ok-ready.ensures.said
 
 -- All were served
