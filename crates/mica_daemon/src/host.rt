@@ -52,7 +52,7 @@ fn run_words<R: Threads + Wait + Sync + AllocGlobal + Files + Print + Sockets + 
     pid: u32,
 ) -> Result<Status, NoMemory> {
     let alloc = rt.alloc();
-    let has_failed = AtomicBool::new(false);
+    let ended = AtomicBool::new(false);
     let mut speaker = Speaker {
         sink: StdSink::new(io::writer(rt)),
         line: String::new(alloc),
@@ -63,12 +63,13 @@ fn run_words<R: Threads + Wait + Sync + AllocGlobal + Files + Print + Sockets + 
         behind_name(words),
         &mut speaker,
         &mut HostFiles::new(rt),
-        &mut UdpNet::failing_whole(rt, &has_failed),
-        &mut TcpListeners::failing_whole(rt, alloc, Ipv4Addr::LOCALHOST, 0, &has_failed),
+        &mut UdpNet::failing_whole(rt, &ended),
+        &mut TcpListeners::failing_whole(rt, alloc, Ipv4Addr::LOCALHOST, 0, &ended),
         clocks_of(rt, alloc)?,
         first_number(StdClock::new(rt).second()),
         pid,
         &FreeGate,
+        &ended,
         &mut Tables::new(),
         &mut 0,
     ))

@@ -27,6 +27,7 @@ use partition_sizes::start_bytes;
 use partition_table::Tables;
 use std::alloc::Global;
 use std::sync::Wait;
+use std::sync::atomic::AtomicBool;
 use std::thread::Threads;
 use stream_io::Listeners;
 
@@ -101,6 +102,7 @@ fn stay_up<
     base: u64,
     pid: u32,
     gate: &G,
+    ended: &AtomicBool,
     tables: &mut Tables,
     lacked: &mut u64,
 ) -> Status
@@ -144,6 +146,7 @@ fn stay_up<
                 service,
                 board: &board,
                 gate,
+                ended,
             };
             serve_aloud(
                 &shared, filling, speaker, net, listeners, clocks, tables, lacked,
@@ -166,7 +169,7 @@ fn has_memory<F: Files>(alloc: Global, files: &F, options: &Options) -> bool
 
 /// Fills the partitions from the image that the words name, and serves the ports that they give, each for as many datagrams as can be
 /// counted, and each connection until it ends. It writes one line once it has all ports, and one at its end. Where they take more memory than is free, it ends at once.
-/// `lacked` says how many connections were closed since there was no memory for them.
+/// `ended` is set once one port has ended or a partition bears no more writes. `lacked` says how many connections were closed since there was no memory for them.
 pub fn daemon<
     W: Threads + Wait + Sync,
     F: Files,
@@ -187,6 +190,7 @@ pub fn daemon<
     base: u64,
     pid: u32,
     gate: &G,
+    ended: &AtomicBool,
     tables: &mut Tables,
     lacked: &mut u64,
 ) -> Status
@@ -214,7 +218,7 @@ pub fn daemon<
     match filling_of(alloc, files, image, &mut speaker.sink) {
         Ok(filling) => stay_up(
             rt, alloc, &options, &ports, &streams, filling, speaker, net, listeners, clocks, base,
-            pid, gate, tables, lacked,
+            pid, gate, ended, tables, lacked,
         ),
         Err(status) => status,
     }

@@ -14,6 +14,7 @@ use mica_io::{Bytes, FreeGate, Gate, MemNet, MemSink, Net, NoMemory};
 use partition_table::Tables;
 use std::alloc::Global;
 use std::sync::Wait;
+use std::sync::atomic::AtomicBool;
 use std::test::Fail;
 use std::thread::Threads;
 use stream_io::{Change, Step};
@@ -39,6 +40,7 @@ pub fn run_whole<W: Threads + Wait + Sync, F: Files, N: Net, L: PlacedListeners,
     listeners: &mut L,
     seconds: &[Option<u64>],
     gate: &G,
+    ended: &AtomicBool,
     line: &str,
     room: u32,
 ) -> Result<(Status, MemSink, u64), NoMemory>
@@ -63,6 +65,7 @@ pub fn run_whole<W: Threads + Wait + Sync, F: Files, N: Net, L: PlacedListeners,
         1,
         1,
         gate,
+        ended,
         &mut tables,
         &mut lacked,
     );
@@ -89,6 +92,7 @@ pub fn run_listening<W: Threads + Wait + Sync, F: Files, N: Net, L: PlacedListen
         listeners,
         &[],
         &FreeGate,
+        &AtomicBool::new(false),
         line,
         room,
     )?;
@@ -116,6 +120,7 @@ pub fn run_gated<W: Threads + Wait + Sync, F: Files, N: Net, G: Gate>(
         &mut listeners,
         &[],
         gate,
+        &AtomicBool::new(false),
         line,
         room,
     )?;
@@ -229,6 +234,7 @@ fn closes_no_connection_for_want_of_memory(rt: HostRuntime) -> Result<(), Fail> 
         &mut listeners,
         &[],
         &FreeGate,
+        &AtomicBool::new(false),
         "--mode store --partitions 1 --memcached 11211 --memcached-fronts 2",
         100,
     )?;
