@@ -73,7 +73,7 @@ fn serve_aloud<
     match serve_locked(
         shared, filling, net, listeners, clocks, tables, lacked, speaker,
     ) {
-        Ok(totals) => print_totals(shared.alloc, totals, &mut speaker.sink),
+        Ok(totals) => print_totals(shared.alloc, totals, Status::UsedUp, &mut speaker.sink),
         Err(Stop::Refused) => write_due(&mut speaker.sink, b"pair refused\n", Status::ImageRefused),
         Err(Stop::Fault(fault)) => write_fault(fault, &mut speaker.sink),
         Err(Stop::Unannounced) => Status::WriteFault,

@@ -85,7 +85,7 @@ fn is_heard(
         words,
         100,
     )?;
-    assert!(rt; status == Status::Done && lacked == 0);
+    assert!(rt; status == Status::UsedUp && lacked == 0);
     assert!(rt; listeners.heard() == heard);
     Ok(())
 }

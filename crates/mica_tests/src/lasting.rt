@@ -164,7 +164,7 @@ fn says_that_it_is_ready(rt: HostRuntime) -> Result<(), Fail> {
     net.add_port(alloc, 9_001, 100, &[], &[])?;
     net.add_datagram(alloc, 9_000, BATCH)?;
     let (status, sink) = run_unfilled(&rt, alloc, &mut net, WORDS, 100)?;
-    assert!(rt; status == Status::Done);
+    assert!(rt; status == Status::UsedUp);
     assert!(rt; sink.taken() == b"ready 9000 to 9001\nbatches 1 requests 2 bad 0\n".as_slice());
     assert!(rt; net.sent(9_000, 0) == Some(REPLIES));
     Ok(())
@@ -179,7 +179,7 @@ fn says_the_ports_of_both_kinds(rt: HostRuntime) -> Result<(), Fail> {
     net.add_datagram(alloc, 9_000, BATCH)?;
     let words = format!(in alloc; "{WORDS} --memcached 11211 --memcached-fronts 2")?;
     let (status, sink) = run_unfilled(&rt, alloc, &mut net, words.as_str(), 100)?;
-    assert!(rt; status == Status::Done);
+    assert!(rt; status == Status::UsedUp);
     let said = b"ready 9000 to 9001 memcached 11211 to 11212\nbatches 1 requests 2 bad 0\n";
     assert!(rt; sink.taken() == said.as_slice());
     assert!(rt; net.sent(9_000, 0) == Some(REPLIES));
@@ -192,7 +192,7 @@ fn needs_no_port_of_datagrams(rt: HostRuntime) -> Result<(), Fail> {
     let mut net = MemNet::new(alloc, &[])?;
     let words = "--mode cache --partitions 1 --memcached 11211";
     let (status, sink) = run_unfilled(&rt, alloc, &mut net, words, 100)?;
-    assert!(rt; status == Status::Done);
+    assert!(rt; status == Status::UsedUp);
     let said = b"ready memcached 11211 to 11211\nbatches 0 requests 0 bad 0\n";
     assert!(rt; sink.taken() == said.as_slice());
     Ok(())
@@ -238,7 +238,7 @@ fn closes_no_connection_for_want_of_memory(rt: HostRuntime) -> Result<(), Fail> 
         "--mode store --partitions 1 --memcached 11211 --memcached-fronts 2",
         100,
     )?;
-    assert!(rt; status == Status::Done && lacked == 0);
+    assert!(rt; status == Status::UsedUp && lacked == 0);
     let said = b"ready memcached 11211 to 11212\nbatches 0 requests 0 bad 0\n";
     assert!(rt; sink.taken() == said.as_slice());
     Ok(())
