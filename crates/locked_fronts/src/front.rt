@@ -19,6 +19,7 @@ use partition_model::{Answer, ItemBuf, Mode, Op, Options, Outcome};
 use partition_table::{Note, ReaderSeat};
 use std::alloc::Global;
 use std::marker::Model;
+use std::sync::atomic::{AtomicBool, Ordering};
 use std::sync::{Mutex, Wait};
 use std::thread::Threads;
 
@@ -29,6 +30,13 @@ fn count_of(outcome: Option<Outcome>) -> u64
     match outcome {
         Some(_) => 1,
         None => 0,
+    }
+}
+
+// Tells the other fronts where a write found that its partition bears no more.
+fn tell_worn(ended: &AtomicBool, outcome: Option<Outcome>) {
+    if matches!(outcome, Some(Outcome::Worn)) {
+        ended.store(true, Ordering::Relaxed);
     }
 }
 
@@ -45,6 +53,8 @@ pub struct LockedFront<
     parts: Vec<LockedPart>,
     // How many writes it may still be given.
     left: u64,
+    // Set once a partition bears no more writes.
+    ended: &'a AtomicBool,
 }
 
 impl<'a, J: ServerPlan, P: LendPartition<Reader = ReaderSeat, Note = Note> + Drop> Model
@@ -65,12 +75,13 @@ impl<'a, J: ServerPlan, P: LendPartition<Reader = ReaderSeat, Note = Note> + Dro
     J,
     P,
 > {
-    /// A front that has taken no turn. The locks are those of the partitions, in order.
+    /// A front that has taken no turn. The locks are those of the partitions, in order. It sets `ended` once a write finds its partition worn.
     pub fn new(
         options: &Options,
         locks: &'a [Mutex<OwnedPartition<J, P>>],
         number: u32,
         parts: Vec<LockedPart>,
+        ended: &'a AtomicBool,
     ) -> LockedFront<'a, J, P>
         requires options { options.now ≡ J.plan.options }
         requires valid { IsPossible options.now }
@@ -87,6 +98,7 @@ impl<'a, J: ServerPlan, P: LendPartition<Reader = ReaderSeat, Note = Note> + Dro
             number,
             parts,
             left: u64::MAX,
+            ended,
         }
     }
 
@@ -109,6 +121,7 @@ impl<'a, J: ServerPlan, P: LendPartition<Reader = ReaderSeat, Note = Note> + Dro
         let lock = &self.locks[at];
         let written = self.parts[at].write(rt, lock, number, op, key, hash, value);
         self.left -= 1;
+        tell_worn(self.ended, Some(written.0));
         written
     }
 
@@ -204,6 +217,7 @@ impl<'a, J: ServerPlan, P: LendPartition<Reader = ReaderSeat, Note = Note> + Dro
             rt, lock, number, second, key, hash, decide, found, next,
         );
         self.left -= count_of(changed.outcome);
+        tell_worn(self.ended, changed.outcome);
         changed
     }
 

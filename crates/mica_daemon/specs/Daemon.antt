@@ -20,7 +20,7 @@ use Rattle.locked_serve.specs.Causes.{IsCauseOfStop, Leaves, PortFacts}
 use Rattle.mica_commands.specs.declared.stream_words.StreamOptions.{StreamOptions}
 use Rattle.mica_commands.specs.DaemonWords.{Service}
 use Rattle.mica_cmd.specs.declared.status.Status.{Status}
-use Rattle.mica_cmd.specs.declared.status.Status.TheVariants.{Done, Usage, NoMemory, NetFault, WriteFault, ImageRefused}
+use Rattle.mica_cmd.specs.declared.status.Status.TheVariants.{Usage, NoMemory, NetFault, WriteFault, ImageRefused, UsedUp}
 use Rattle.mica_cmd.specs.Outside.{SinkFacts}
 use Rattle.mica_cmd.specs.Promise.{IsWritten, IsUnwritten, WritesDue, IsTold}
 use Rattle.mica_cmd.specs.Promises.{totals_text}
@@ -56,7 +56,7 @@ daemon_outside sink ports tables lacked = record { sink = sink; ports = ports; t
 
 -- what is written last, by what the server came to, and the status
 abbrev pub WritesLast : Result Totals Stop → SinkFacts → SinkFacts → Status → Type 0
-WritesLast (Ok totals) old new status = IsTold Done (totals_text totals) old new status
+WritesLast (Ok totals) old new status = IsTold UsedUp (totals_text totals) old new status
 WritesLast (Err (Fault Net)) old new status = IsWritten NetFault (with_line_feed (codes "net fault")) old new status
 WritesLast (Err (Fault NoRoom)) old new status = (status ≡ NoMemory) × (new ≡ old)
 WritesLast (Err Refused) old new status = IsWritten ImageRefused (with_line_feed (codes "pair refused")) old new status

@@ -52,7 +52,7 @@ fn run_words<R: Threads + Wait + Sync + AllocGlobal + Files + Print + Sockets + 
     pid: u32,
 ) -> Result<Status, NoMemory> {
     let alloc = rt.alloc();
-    let has_failed = AtomicBool::new(false);
+    let ended = AtomicBool::new(false);
     let mut speaker = Speaker {
         sink: StdSink::new(io::writer(rt)),
         line: String::new(alloc),
@@ -61,6 +61,7 @@ fn run_words<R: Threads + Wait + Sync + AllocGlobal + Files + Print + Sockets + 
         rt,
         alloc,
         gate: &FreeGate,
+        ended: &ended,
         base: first_number(StdClock::new(rt).second()),
         pid,
     };
@@ -70,8 +71,8 @@ fn run_words<R: Threads + Wait + Sync + AllocGlobal + Files + Print + Sockets + 
         clocks_of(rt, alloc)?,
         &mut HostFiles::new(rt),
         &mut speaker,
-        &mut UdpNet::failing_whole(rt, &has_failed),
-        &mut TcpListeners::failing_whole(rt, alloc, Ipv4Addr::LOCALHOST, 0, &has_failed),
+        &mut UdpNet::failing_whole(rt, &ended),
+        &mut TcpListeners::failing_whole(rt, alloc, Ipv4Addr::LOCALHOST, 0, &ended),
         &mut Left::nothing(),
     ))
 }

@@ -68,7 +68,7 @@ fn serve_aloud<
         (daemon_outside (sink_facts K.Sink speaker.new.sink) (ports_at N.Net L.Listeners net.new listeners.new) left.new.tables left.new.lacked) result }
 {
     match serve_locked(shared, start, net, listeners, speaker, left) {
-        Ok(totals) => print_totals(shared.alloc, totals, &mut speaker.sink),
+        Ok(totals) => print_totals(shared.alloc, totals, Status::UsedUp, &mut speaker.sink),
         Err(Stop::Refused) => write_due(&mut speaker.sink, b"pair refused\n", Status::ImageRefused),
         Err(Stop::Fault(fault)) => write_fault(fault, &mut speaker.sink),
         Err(Stop::Unannounced) => Status::WriteFault,
@@ -134,6 +134,7 @@ fn stay_up<
                 service,
                 board: &board,
                 gate: process.gate,
+                ended: process.ended,
             };
             serve_aloud(&shared, start, speaker, net, listeners, left)
         }

@@ -14,6 +14,7 @@ use mica_daemon::{Files, MemFiles, PlacedListeners, Process, Speaker, daemon};
 use mica_io::{Bytes, FreeGate, Gate, MemNet, MemSink, Net, NoMemory};
 use std::alloc::Global;
 use std::sync::Wait;
+use std::sync::atomic::AtomicBool;
 use std::test::Fail;
 use std::thread::Threads;
 use stream_io::{Change, Step};
@@ -39,6 +40,7 @@ pub fn run_whole<W: Threads + Wait + Sync, F: Files, N: Net, L: PlacedListeners,
     listeners: &mut L,
     seconds: &[Option<u64>],
     gate: &G,
+    ended: &AtomicBool,
     line: &str,
     room: u32,
 ) -> Result<(Status, MemSink, u64), NoMemory>
@@ -53,6 +55,7 @@ pub fn run_whole<W: Threads + Wait + Sync, F: Files, N: Net, L: PlacedListeners,
         rt,
         alloc,
         gate,
+        ended,
         base: 1,
         pid: 1,
     };
@@ -90,6 +93,7 @@ pub fn run_listening<W: Threads + Wait + Sync, F: Files, N: Net, L: PlacedListen
         listeners,
         &[],
         &FreeGate,
+        &AtomicBool::new(false),
         line,
         room,
     )?;
@@ -117,6 +121,7 @@ pub fn run_gated<W: Threads + Wait + Sync, F: Files, N: Net, G: Gate>(
         &mut listeners,
         &[],
         gate,
+        &AtomicBool::new(false),
         line,
         room,
     )?;
@@ -160,7 +165,7 @@ fn says_that_it_is_ready(rt: HostRuntime) -> Result<(), Fail> {
     net.add_port(alloc, 9_001, 100, &[], &[])?;
     net.add_datagram(alloc, 9_000, BATCH)?;
     let (status, sink) = run_unfilled(&rt, alloc, &mut net, WORDS, 100)?;
-    assert!(rt; status == Status::Done);
+    assert!(rt; status == Status::UsedUp);
     assert!(rt; sink.taken() == b"ready 9000 to 9001\nbatches 1 requests 2 bad 0\n".as_slice());
     assert!(rt; net.sent(9_000, 0) == Some(REPLIES));
     Ok(())
@@ -175,7 +180,7 @@ fn says_the_ports_of_both_kinds(rt: HostRuntime) -> Result<(), Fail> {
     net.add_datagram(alloc, 9_000, BATCH)?;
     let words = format!(in alloc; "{WORDS} --memcached 11211 --memcached-fronts 2")?;
     let (status, sink) = run_unfilled(&rt, alloc, &mut net, words.as_str(), 100)?;
-    assert!(rt; status == Status::Done);
+    assert!(rt; status == Status::UsedUp);
     let said = b"ready 9000 to 9001 memcached 11211 to 11212\nbatches 1 requests 2 bad 0\n";
     assert!(rt; sink.taken() == said.as_slice());
     assert!(rt; net.sent(9_000, 0) == Some(REPLIES));
@@ -188,7 +193,7 @@ fn needs_no_port_of_datagrams(rt: HostRuntime) -> Result<(), Fail> {
     let mut net = MemNet::new(alloc, &[])?;
     let words = "--mode cache --partitions 1 --memcached 11211";
     let (status, sink) = run_unfilled(&rt, alloc, &mut net, words, 100)?;
-    assert!(rt; status == Status::Done);
+    assert!(rt; status == Status::UsedUp);
     let said = b"ready memcached 11211 to 11211\nbatches 0 requests 0 bad 0\n";
     assert!(rt; sink.taken() == said.as_slice());
     Ok(())
@@ -230,10 +235,11 @@ fn closes_no_connection_for_want_of_memory(rt: HostRuntime) -> Result<(), Fail> 
         &mut listeners,
         &[],
         &FreeGate,
+        &AtomicBool::new(false),
         "--mode store --partitions 1 --memcached 11211 --memcached-fronts 2",
         100,
     )?;
-    assert!(rt; status == Status::Done && lacked == 0);
+    assert!(rt; status == Status::UsedUp && lacked == 0);
     let said = b"ready memcached 11211 to 11212\nbatches 0 requests 0 bad 0\n";
     assert!(rt; sink.taken() == said.as_slice());
     Ok(())
