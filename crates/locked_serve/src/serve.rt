@@ -85,8 +85,12 @@ fn bind_and_serve<
 {
     let ports = &shared.service.ports;
     let streams = &shared.service.streams;
-    bind_all(net, ports, ends)?;
-    listen_all(listeners, streams, connections)?;
+    let Ok(()) = bind_all(net, ports, ends) else {
+        return Err(Stop::Unbound(ports.port + ends.len() as u16));
+    };
+    let Ok(()) = listen_all(listeners, streams, connections) else {
+        return Err(Stop::Unbound(streams.port + connections.len() as u16));
+    };
     announce.ready(ports, streams, ends.as_slice(), connections.as_slice())?;
     let totals = serve_all(shared, server, ends, connections, clocks, left)?;
     Ok(totals)

@@ -2,7 +2,7 @@
 ghost use Rattle.std.specs.Prelude.{◌≡◌, ◌≤◌, [], All, length, map, string_bytes, Err, IsTrue};
 ghost use Rattle.partition_model.specs.Options.{IsPossible};
 ghost use Rattle.partition_model.specs.Write.{IsWrite};
-ghost use Rattle.locked_serve.specs.declared.stop.Stop.TheVariants.{Fault};
+ghost use Rattle.locked_serve.specs.declared.stop.Stop.TheVariants.{Unbound, Fault};
 ghost use Rattle.locked_serve.specs.Service.{IsPossibleService};
 ghost use Rattle.locked_serve.specs.Causes.{ports_at};
 ghost use Rattle.mica_commands.specs.declared.daemon_words.TheConstants.{MOST_FRONTS};
@@ -40,6 +40,16 @@ fn write_fault<K: Sink>(fault: ServeFault, sink: &mut K) -> Status
     }
 }
 
+// Writes the line that names a port which was not had.
+fn write_unbound<K: Sink>(alloc: Global, port: u16, sink: &mut K) -> Status
+    ensures { WritesLast (Err (Unbound port)) (sink_facts K.Sink sink.old) (sink_facts K.Sink sink.new) result }
+{
+    match format!(in alloc; "port {port} not bound\n") {
+        Ok(line) => write_due(sink, line.as_bytes(), Status::NetFault),
+        Err(_) => Status::NoMemory,
+    }
+}
+
 // Serves, with the line to be written at hand.
 fn serve_aloud<
     W: Threads + Wait + Sync,
@@ -70,6 +80,7 @@ fn serve_aloud<
     match serve_locked(shared, start, net, listeners, speaker, left) {
         Ok(totals) => print_totals(shared.alloc, totals, Status::UsedUp, &mut speaker.sink),
         Err(Stop::Refused) => write_due(&mut speaker.sink, b"pair refused\n", Status::ImageRefused),
+        Err(Stop::Unbound(port)) => write_unbound(shared.alloc, port, &mut speaker.sink),
         Err(Stop::Fault(fault)) => write_fault(fault, &mut speaker.sink),
         Err(Stop::Unannounced) => Status::WriteFault,
     }

@@ -13,6 +13,7 @@ use mica_commands::MOST_FRONTS;
 use mica_daemon::{Files, MemFiles, PlacedListeners, Process, Speaker, daemon};
 use mica_io::{Bytes, FreeGate, Gate, MemNet, MemSink, Net, NoMemory};
 use std::alloc::Global;
+use std::process::Abort;
 use std::sync::Wait;
 use std::sync::atomic::AtomicBool;
 use std::test::Fail;
@@ -260,7 +261,7 @@ fn is_not_ready_where_it_cannot_listen(rt: HostRuntime) -> Result<(), Fail> {
         "--mode store --memcached 11211 --memcached-fronts 2",
         100,
     )?;
-    assert!(rt; status == Status::NetFault && sink.taken() == b"net fault\n".as_slice());
+    assert!(rt; status == Status::NetFault && sink.taken() == b"port 11212 not bound\n".as_slice());
     Ok(())
 }
 
@@ -271,8 +272,44 @@ fn is_not_ready_where_a_bind_fails(rt: HostRuntime) -> Result<(), Fail> {
     let mut net = MemNet::new(alloc, &[])?;
     net.add_port(alloc, 9_000, 100, &[], &[])?;
     let (status, sink) = run_unfilled(&rt, alloc, &mut net, WORDS, 100)?;
-    assert!(rt; status == Status::NetFault && sink.taken() == b"net fault\n".as_slice());
+    assert!(rt; status == Status::NetFault && sink.taken() == b"port 9001 not bound\n".as_slice());
     Ok(())
+}
+
+// The words ask for three ports of each kind, and those of datagrams are all there.
+fn expect_unbound(
+    rt: &(impl Abort + AllocGlobal + Threads + Wait + Sync),
+    fails: &[u32],
+    taken: Option<u16>,
+    said: &[u8],
+) -> Result<(), Fail> {
+    let alloc = rt.alloc();
+    let mut net = MemNet::new(alloc, fails)?;
+    net.add_port(alloc, 9_000, 100, &[], &[])?;
+    net.add_port(alloc, 9_001, 100, &[], &[])?;
+    net.add_port(alloc, 9_002, 100, &[], &[])?;
+    let mut listeners = SameSchedule::new(alloc, &[], taken);
+    let (status, sink) = run_listening(
+        rt,
+        alloc,
+        &mut MemFiles::new(alloc),
+        &mut net,
+        &mut listeners,
+        "--mode store --partitions 1 --port 9000 --fronts 3 --memcached 11211 --memcached-fronts 3",
+        100,
+    )?;
+    assert!(rt; status == Status::NetFault && sink.taken() == said);
+    Ok(())
+}
+
+// The second of three ports is taken, or the first or the last one.
+#[test]
+fn names_the_port_that_is_taken(rt: HostRuntime) -> Result<(), Fail> {
+    expect_unbound(&rt, &[2], None, b"port 9001 not bound\n")?;
+    expect_unbound(&rt, &[1], None, b"port 9000 not bound\n")?;
+    expect_unbound(&rt, &[3], Some(11_211), b"port 9002 not bound\n")?;
+    expect_unbound(&rt, &[], Some(11_212), b"port 11212 not bound\n")?;
+    expect_unbound(&rt, &[4], Some(11_213), b"port 11213 not bound\n")
 }
 
 // The sink has no room for the line, so nothing is received.

@@ -48,6 +48,8 @@ mod served;
 #[cfg(test)]
 mod silence;
 #[cfg(test)]
+mod taken;
+#[cfg(test)]
 mod tcp;
 #[cfg(test)]
 mod turns;

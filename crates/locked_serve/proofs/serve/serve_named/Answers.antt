@@ -79,7 +79,7 @@ returns-clause-leaves g c =
           (listens_at g c.release_streams.new.listeners) (omega (arith, ap length served.left, served.are.served.many, served.are.within)) c.bind_and_serve-answer.ensures.heard c.release_streams.ensures;
       announced = still_told c.bind_and_serve-answer.result (g.A.Announce.says service.ports service.streams) (g.A.Announce.fails service.ports service.streams)
           (ports_of g c.args.net.now c.args.listeners.now) (ports_of g c.bind_and_serve-answer.new.net c.bind_and_serve-answer.new.listeners) (ports_of g c.release_all.new.net c.release_streams.new.listeners)
-          c.args.announce.now c.bind_and_serve-answer.new.announce c.release_all.ensures.refused c.release_streams.ensures.faults c.bind_and_serve-answer.ensures.announced;
+          c.args.announce.now c.bind_and_serve-answer.new.announce c.release_all.ensures c.release_streams.ensures.faults c.bind_and_serve-answer.ensures.announced;
     }
 
 pub returns-in_err-server-clause-cause : goal.returns-in_err-server-clause-cause
