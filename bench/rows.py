@@ -1,20 +1,27 @@
-"""Runs of the program that the scripts of faults share: words, input, the output that is due, and how many threads are at work at once."""
+"""Runs of both programs that the scripts of faults share: words, input, the output that is due, and how many threads are at work at once."""
+import contextlib
 import dataclasses
 import os
 import pathlib
 import pwd
+import re
 import shutil
 import signal
+import socket
 import subprocess
 import threading
 
+import documents
 import formats
+import peers
 
 TRACE = b"put a 1\nadd b 2\nsync\nget a\nget b\nget c\nsync\ntouch a\ndel b\n"
 GETS = b"get a\nget b\nget c\n"
 SMALL = ["--partitions", "2", "--buckets", "16", "--spares", "4", "--words", "1024"]
 READERS = ["--readers", "2"]
 GENERATED = ["--ops", "200", "--keys", "20", "--gets", "50"]
+SERVES = "serves"  # in place of a status, of a server that stays up and has answered at each of its ports
+PROGRAMS = {"mica": formats.MICA, "micad": formats.MICAD}
 BATCH = formats.batch_of(2, 7, [(formats.PUT, 1, b"a", b"1"), (formats.GET, 2, b"a", b"")])
 
 
@@ -24,12 +31,27 @@ class Row:
     words: list
     input: bytes = b""
     wants_server: bool = False  # a server is to be there, whose first port the words lack
-    is_server: bool = False  # it is sent one batch
+    is_server: bool = False  # it is sent one batch at each port
+    program: str = "mica"  # or micad, which is killed once it has answered
+    over_tcp: bool = False  # it is a server of memcached's protocol
     threads: int = 0  # how many threads it asks for before its first worker starts: two for each worker
     wanted: tuple = ()
 
 
 def all_rows():
+    """A row for each command and mode, of the programs that are there."""
+    return [*(rows_of_mica() if formats.MICA.exists() else ()), *(rows_of_micad() if formats.MICAD.exists() else ())]
+
+
+def rows_of_micad():
+    """Servers of two ports, of each kind and mode."""
+    for mode in ("store", "cache"):
+        words = ["--mode", mode, *SMALL]
+        yield Row(f"micad, datagrams, {mode}", [*words, "--fronts", "2"], is_server=True, program="micad", threads=2 * 2)
+        yield Row(f"micad, connections, {mode}", [*words, "--memcached-fronts", "2"], is_server=True, program="micad", over_tcp=True, threads=2 * 2)
+
+
+def rows_of_mica():
     """A row for each command and mode that this build has."""
     rows = []
     for mode in ("store", "cache"):
@@ -66,9 +88,9 @@ def plain(words, text):
 
 
 class Myself:
-    """Runs the program as whoever runs the script."""
+    """Runs the programs as whoever runs the script."""
 
-    program = formats.MICA
+    programs = PROGRAMS
     who = {}
 
     def start(self, command):
@@ -77,7 +99,7 @@ class Myself:
 
 
 class Another(Myself):
-    """Runs a copy of the program as a user that has no other process."""
+    """Runs copies of the programs as a user that has no other process."""
 
     def __init__(self, folder):
         if os.getuid():
@@ -85,50 +107,78 @@ class Another(Myself):
         taken = {entry.pw_uid for entry in pwd.getpwall()} | {path.stat().st_uid for path in pathlib.Path("/proc").glob("[0-9]*")}
         number = next(number for number in range(54_321, 60_000) if number not in taken)
         self.who = {"user": number, "group": number, "extra_groups": []}
-        self.program = pathlib.Path(folder) / "mica"
-        shutil.copy(formats.MICA, self.program)
+        self.programs = {name: pathlib.Path(folder) / name for name in PROGRAMS}
         pathlib.Path(folder).chmod(0o755)
-        self.program.chmod(0o755)
+        for name, program in PROGRAMS.items():
+            if program.exists():
+                shutil.copy(program, self.programs[name])
+                self.programs[name].chmod(0o755)
 
 
 @dataclasses.dataclass
 class Ended:
-    status: int | None  # None where it did not end in time
+    status: int | str | None  # None where it did not end in time, or had not answered
     output: bytes
     errors: bytes
     replies: list  # of a server: what each of its ports sent
 
 
+def unbound_line(port="N"):
+    """What micad writes where it can't bind a port: README's line, of this port."""
+    line = next(cells[2].split("`")[1] for _, cells in documents.rows(documents.TOP / "README.md") if cells[0] == "7")
+    return re.sub(r"\d+", str(port), line).encode() + b"\n"
+
+
+def kill(running):
+    """Kills what was started, with all that it started."""
+    with contextlib.suppress(ProcessLookupError):
+        os.killpg(running.pid, signal.SIGKILL)
+
+
 def run(runner, before, row, seconds, server_port=None):
     """Runs the row with these words before the program's, for at most so many seconds. Whatever it started is killed then."""
-    port = formats.free_port(2) if row.is_server else server_port if row.wants_server else None
-    words = [*row.words, "--port", str(port)] if port else row.words
-    running = runner.start([*before, str(runner.program), *words])
-    late = threading.Event()
-    clock = threading.Timer(seconds, lambda: (late.set(), os.killpg(running.pid, signal.SIGKILL)))
+    port = peers.free_port(2) if row.over_tcp else formats.free_port(2) if row.is_server else server_port if row.wants_server else None
+    words = [*row.words, "--memcached" if row.over_tcp else "--port", str(port)] if port else row.words
+    running = runner.start([*before, str(runner.programs[row.program]), *words])
+    late, serves = threading.Event(), False
+    clock = threading.Timer(seconds, lambda: (late.set(), kill(running)))
     clock.start()
-    replies = talk_to(running, port) if row.is_server else []
+    replies = talk_to(running, port, row) if row.is_server else []
+    if row.program == "micad" and running.poll() is None:
+        serves = all(replies) and not late.is_set()
+        kill(running)
     try:
         output, errors = running.communicate(None if row.is_server else row.input)
     finally:
         clock.cancel()
-    return Ended(None if late.is_set() else running.returncode, output, errors, replies)
+    if row.program == "micad":
+        output = re.sub(rb"\d+", b"N", output)
+    return Ended(SERVES if serves else None if late.is_set() else running.returncode, output, errors, replies)
 
 
-def talk_to(running, port):
-    """One batch to each of two ports, sent again each half second until the server ends or has answered."""
-    clients = [formats.Client(port + front, 0.5) for front in (0, 1)]
-    replies = [b"", b""]
-    ends = threading.Event()
+def ask_datagram(client):
+    client.socket.send(BATCH)
+    return client.receive()
+
+
+def ask_connection(port):
+    with socket.create_connection((formats.HOST, port), timeout=0.5) as connection:
+        connection.sendall(b"mn\r\n")
+        return connection.recv(64)
+
+
+def talk_to(running, port, row):
+    """Asks each of two ports, again each half second until the server ends or has answered: what each of them answered."""
+    clients = [] if row.over_tcp else [formats.Client(port + front, 0.5) for front in (0, 1)]
+    asks = [lambda front=front: ask_connection(port + front) if row.over_tcp else ask_datagram(clients[front]) for front in (0, 1)]
+    replies, ends = [b"", b""], threading.Event()
     threading.Thread(target=lambda: (running.wait(), ends.set()), daemon=True).start()
     while not ends.is_set() and not all(replies):
-        for front, client in enumerate(clients):
+        for front, ask in enumerate(asks):
             if not replies[front]:
-                try:
-                    client.socket.send(BATCH)
-                    replies[front] = client.receive()
-                except (TimeoutError, ConnectionError):
-                    ends.wait(0.05)
+                with contextlib.suppress(OSError):
+                    replies[front] = ask()
+                ends.wait(0 if replies[front] else 0.05)
     for client in clients:
         client.close()
     return replies

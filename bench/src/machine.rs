@@ -38,7 +38,7 @@ pub struct Options {
     pub words: usize,
     pub readers: usize,
     pub wear: u64,
-    /// How often an end of a queue that waits gives its core away before it sleeps.
+    /// How often an end of a queue that waits lets other threads run before it sleeps.
     pub yields: u32,
 }
 

@@ -1,4 +1,4 @@
-//! A bounded queue. An end that has to wait gives its core away so many times before it sleeps.
+//! A bounded queue. An end that has to wait lets other threads run so many times before it sleeps.
 
 use std::sync::mpsc::{self, SyncSender, TryRecvError, TrySendError, sync_channel};
 use std::thread;

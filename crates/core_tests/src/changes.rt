@@ -21,6 +21,7 @@ use seated_partition::OnTable;
 use std::alloc::Global;
 use std::marker::Brand;
 use std::process::Abort;
+use std::sync::atomic::AtomicBool;
 use std::sync::{Mutex, Wait};
 use std::test::Fail;
 use std::thread::{Threads, join};
@@ -65,7 +66,7 @@ impl<'a> Decide for Fixed<'a> {
 
 /// A count of one more.
 #[derive(Clone, Copy)]
-struct CountUp;
+pub(crate) struct CountUp;
 
 impl Decide for CountUp {
     ghost use Rattle.std.specs.Prelude.{true};
@@ -112,7 +113,7 @@ fn two_bytes(count: u32) -> [u8; 2]
 static LONG: [u8; 8_192] = [b'x'; 8_192];
 
 // What the key has.
-fn expect_value<R: Abort + Threads + Wait + Sync, F: Front>(
+pub(crate) fn expect_value<R: Abort + Threads + Wait + Sync, F: Front>(
     rt: &R,
     front: &mut F,
     out: &mut ItemBuf,
@@ -237,6 +238,7 @@ pub(crate) fn front_of<
     locks: &'a [Mutex<OwnedPartition<J, P>>],
     number: u32,
     hand: Vec<LockedPart>,
+    ended: &'a AtomicBool,
 ) -> LockedFront<'a, J, P>
     requires valid { IsPossible options.now }
     requires named { options.now ≡ J.plan.options }
@@ -245,7 +247,7 @@ pub(crate) fn front_of<
     requires hand { AreNewParts J.plan number hand.items }
     ensures { turns_left result.parts ≡ most_turns }
 {
-    LockedFront::new(options, locks, number, hand)
+    LockedFront::new(options, locks, number, hand, ended)
 }
 
 // Two fronts before one partition: the rows by the first, and then both count.
@@ -266,8 +268,9 @@ fn change_by_two<
     let first = lend_hand::<J, P>(alloc, &mut parts, 0)?;
     let second = lend_hand::<J, P>(alloc, &mut parts, 1)?;
     let locks = lock_parts::<J, P>(alloc, parts)?;
-    let mut first = front_of(options, locks.as_slice(), 0, first);
-    let second = front_of(options, locks.as_slice(), 1, second);
+    let ended = AtomicBool::new(false);
+    let mut first = front_of(options, locks.as_slice(), 0, first, &ended);
+    let second = front_of(options, locks.as_slice(), 1, second, &ended);
     expect_rows(rt, &mut first, rows)?;
     let (one, two) = (Room::new(alloc)?, Room::new(alloc)?);
     let (mut first, _) = join(

@@ -57,3 +57,5 @@ mod torn_get;
 mod traces;
 #[cfg(test)]
 mod words;
+#[cfg(test)]
+mod worn;

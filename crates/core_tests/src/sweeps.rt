@@ -22,6 +22,7 @@ use seated_partition::OnTable;
 use std::marker::Brand;
 use std::process::Abort;
 use std::sync::Wait;
+use std::sync::atomic::AtomicBool;
 use std::test::Fail;
 use std::thread::Threads;
 use store_partition::StorePartition;
@@ -173,7 +174,8 @@ fn sweep_by_one<
     let mut parts = parts;
     let hand = lend_hand::<J, P>(alloc, &mut parts, 0)?;
     let locks = lock_parts::<J, P>(alloc, parts)?;
-    let mut front = front_of(options, locks.as_slice(), 0, hand);
+    let ended = AtomicBool::new(false);
+    let mut front = front_of(options, locks.as_slice(), 0, hand, &ended);
     match options.mode {
         Mode::Cache => what_is_used_stays(rt, &mut front),
         Mode::Store => what_is_over_goes(rt, &mut front),

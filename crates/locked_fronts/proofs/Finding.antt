@@ -26,9 +26,9 @@ pub record FindsPart (plan : Plan) (front view : LockedView) (key : List ℕ) (a
   pub below : at < front.options.partitions
   pub here : slice_get front.parts at ≡ Some part
 
-pub finds_part : (plan : Plan) (front view : LockedView) (key : List ℕ) (hash at : ℕ) (part : LockedPart) → IsLockedFront plan front → front ≡ view → hash ≡ fnv1a key
+pub finds_part : {plan : Plan} {front view : LockedView} {key : List ℕ} {hash at : ℕ} {part : LockedPart} → IsLockedFront plan front → front ≡ view → hash ≡ fnv1a key
     → at ≡ hash_partition hash front.options.partitions → part ≡ get_or front.parts at part → FindsPart plan front view key at part
-finds_part plan front view key hash at part lawful view_is hash_is at_is read =
+finds_part {front = front} {key = key} {at = at} {part = part} lawful view_is hash_is at_is read =
     let number = at_is ∙ ap (λ h. hash_partition h front.options.partitions) hash_is ∙ sym (partition_of_hash key front.options.partitions) in
     let low = partition_of-below key front.options.partitions lawful.valid.partitions.0 in
     record {

@@ -34,6 +34,7 @@ use Rattle.locked_fronts.specs.Plan.{Plan}
 use Rattle.locked_fronts.specs.Counts.{counts_after, when_by}
 use Rattle.locked_fronts.specs.Owned.{run_step}
 use Rattle.locked_fronts.specs.Parts.{IsPartOf, PartChanges, PartRests, PartLooks, answer_in, session_of}
+use Rattle.locked_fronts.proofs.Telling.{tells_look}
 
 -- Tries that are told nowhere
 
@@ -182,19 +183,8 @@ module _ (plan : Plan) (number : ℕ) (old new : LockedPart) (key : List ℕ) (a
       done = subst (IsPrefix (reader_state old.seat).done) (sym looks.done) (prefix_same (reader_state old.seat).done);
       order = let up = prefix_rises plan.options (reader_state old.seat).seen seen looks.seen in omega (arith, up, part.last, part.newest, at.0);
       last = looks.last;
-      told = (
-        0,
-        ap Some (λ i. record {
-          steps = map run_step (looks.taker i).mine;
-          tried = looks.tried i;
-          failed = (ap length looks.fails ∙ none_more) i;
-          closed = looks.closed i;
-        }),
-      );
+      told = tells_look (reader_state old.seat) (reader_state new.seat) {more = []} (ap (λ (t : TakerView Step). map run_step t.mine) looks.taker) looks.tried (looks.fails ∙ sym (append-nil (reader_state old.seat).fails)) looks.closed;
     }
-      where
-        none_more : length (reader_state old.seat).fails ≡ length (reader_state old.seat).fails + 0
-        none_more = omega arith
 
     pub looks_on : (needs : Bool) (becoming : When → Option (List ℕ) → Becoming) → OnlyReads becoming
         → PartChanges plan number second key needs becoming old (record { when = when; found = Some answer; outcome = None; stamp = stamp }) buffer new

@@ -1,6 +1,5 @@
 -- What a front knows once it has learned under a hold, and once its seat has answered a get.
-use Rattle.std.proofs.Common.{◌≡◌, ℕ, ◌+◌, ◌<◌, ◌≤◌, Bool, true, false, List, [], ◌∷◌, ◌++◌, length, map, Option, Some, None, inl, cond, refl, sym, ap, ◌∙◌, subst, append-nil, length-append, arith}
-use Rattle.std.specs.List.{cons_option}
+use Rattle.std.proofs.Common.{◌≡◌, ℕ, ◌+◌, ◌≤◌, Bool, false, List, [], ◌∷◌, ◌++◌, length, map, Option, Some, None, inl, refl, sym, ap, ◌∙◌, subst, append-nil, length-append, arith}
 use Rattle.std.proofs.lemmas.Bool.{true≢false}
 use Rattle.std.proofs.lemmas.List.{map-append, length_push}
 use Rattle.partition_model.specs.declared.options.Options.{Options}
@@ -10,9 +9,10 @@ use Rattle.partition_model.specs.declared.write.Outcome.{Outcome}
 use Rattle.partition_model.specs.declared.write.Write.{Write}
 use Rattle.partition_model.specs.Answer.{IsAnswer}
 use Rattle.partition_model.specs.Write.{is_accepted}
-use Rattle.partition_model.specs.History.{History, IsPrefix, IsCut, MayGive, stamp_of}
+use Rattle.partition_model.specs.History.{History, IsPrefix, IsCut, stamp_of}
 use Rattle.partition_model.specs.Run.{RunStep, history_of}
-use Rattle.partition_model.proofs.Rises.{prefix_rises, stamp_rises, proper_prefix_lower}
+use Rattle.partition_model.proofs.Rises.{prefix_rises, proper_prefix_lower}
+use Rattle.epoch_core.specs.declared.state.Failure.{Failure}
 use Rattle.epoch_core.specs.declared.reader.ReaderState.{ReaderState}
 use Rattle.epoch_core.specs.Shape.{options_of}
 use Rattle.epoch_core.specs.ReaderState.{stamped}
@@ -23,12 +23,12 @@ use Rattle.optimistic_get.specs.declared.getting.Got.{Got}
 use Rattle.optimistic_get.specs.declared.getting.Got.TheVariants.{Hit as GotHit, Miss as GotMiss}
 use Rattle.optimistic_get.specs.Asked.{IsReadAt, IsRead}
 use Rattle.optimistic_get.proofs.Repeated.{same_answer}
-use Rattle.owner_queue.specs.Acked.{IsReplyAt}
 use Rattle.mica_fronts.specs.declared.changing.Changed.{Changed}
 use Rattle.mica_fronts.specs.declared.changing.When.{When}
 use Rattle.std.proofs.lemmas.Option.{same_Some}
 use Rattle.mica_fronts.specs.Looks.{Look, IsLookAt}
-use Rattle.mica_fronts.specs.Session.{Writes, Changes, Keeps}
+use Rattle.mica_fronts.specs.Session.{Writes, Changes, Keeps, TellsLook}
+use Rattle.mica_fronts.specs.SeatSession.{session_at}
 use Rattle.mica_fronts.specs.Changing.{Becoming, stays, becomes, goes, DoesWrite, write_for, write_by, count_of}
 use Rattle.turn_book.specs.Entries.{TakerView}
 use Rattle.locked_fronts.specs.declared.owned.Step.{Step}
@@ -38,7 +38,8 @@ use Rattle.locked_fronts.specs.declared.part.LockedPart.{LockedPart}
 use Rattle.locked_fronts.specs.Plan.{Plan}
 use Rattle.locked_fronts.specs.Owned.{step_by, run_step, HasSeen, TookTurn, LeftAll, TookOrLeft, TookLook}
 use Rattle.locked_fronts.specs.Parts.{IsPartOf, HasLearned, PartWrites, PartChanges, PartReads, session_of}
-use Rattle.locked_fronts.proofs.Turning.{plan_stamp}
+use Rattle.mica_fronts.proofs.OneStep.{stamp_as, replied_at, raised}
+use Rattle.mica_fronts.proofs.Telling.{was_read}
 
 -- Histories
 
@@ -51,17 +52,6 @@ older_begins options all a b s t le = longer_as (λ _. IsPrefix a b) all a b s t
     no_longer (write ∷ later) is =
         let lower = proper_prefix_lower options a b (write ∷ later, is) (λ e. let n = ap length (e ∙ is) in absurd (omega (arith, length-append b (write ∷ later)))) in
         absurd (omega (arith, le, lower))
-
--- the reply of a step at the history that it leaves
-replied_at : (options : Options) (before : History) (write : Write) (outcome : Outcome) (b : Bool) → MayGive options before write outcome
-    → IsReplyAt b options (before ++ cons_option (cond b (Some write) None) []) write outcome
-replied_at options before write outcome true may = (before, refl, may)
-replied_at options before write outcome false may = subst (λ h. MayGive options h write outcome) (sym (append-nil before)) may
-
--- an accepted step raises the stamp
-raised : (options : Options) (before : History) (write : Write) (b : Bool) → b ≡ true → stamp_of options before < stamp_of options (before ++ cons_option (cond b (Some write) None) [])
-raised options before write true is = stamp_rises options before write
-raised options before write false is = absurd (true≢false (sym is))
 
 -- What was learned
 
@@ -87,6 +77,12 @@ has_learned old new mid learned taker last counts home one two seen further done
       fails = ap (λ (r : ReaderState). r.fails) two ∙ ap (λ (r : ReaderState). r.fails) one;
     }
 
+-- what is told where nothing was answered, and the list of failed tries may be longer
+pub tells_look : (old new : ReaderState) {steps steps_now : List RunStep} {more : List Failure} → steps_now ≡ steps → new.tried ≡ old.tried → new.fails ≡ old.fails ++ more → new.closed ≡ old.closed
+    → TellsLook (session_at old steps 0).told (session_at new steps_now 0).told
+tells_look old new {more = more} steps tried fails closed =
+    (length more, ap Some (λ i. record { steps = steps i; tried = tried i; failed = (ap length fails ∙ length-append old.fails more) i; closed = closed i }))
+
 -- A hold: `held` is the part as it was, but with the token that took the turn
 
 -- what was known under the lock, and where it was let go
@@ -105,7 +101,7 @@ module _ (plan : Plan) (number : ℕ) (old held new : LockedPart) (learned : Lea
   knows = subst (λ (p : LockedPart). HasLearned p learned new) same learns
 
   newest_is : new.newest ≡ stamp_of plan.options (reader_state new.seat).seen
-  newest_is = knows.newest ∙ plan_stamp plan.options (reader_state old.seat).shape (reader_state new.seat).seen part.shape
+  newest_is = knows.newest ∙ stamp_as plan.options (reader_state old.seat).shape (reader_state new.seat).seen part.shape
 
   module _ (hold : Hold plan number old held learned) where
     stamped_at : learned.counts.stamp ≡ stamp_of plan.options hold.history
@@ -208,15 +204,7 @@ module _ (plan : Plan) (number : ℕ) (old held new : LockedPart) (learned : Lea
       done = knows.done.0;
       order = order by_none;
       last = knows.last;
-      told = (
-        length (note_state learned.note).fails,
-        ap Some (λ i. record {
-          steps = map run_step ((knows.taker ∙ left.entered) i).mine;
-          tried = knows.tried i;
-          failed = (ap length knows.fails ∙ length-append (reader_state old.seat).fails (note_state learned.note).fails) i;
-          closed = knows.closed i;
-        }),
-      );
+      told = tells_look (reader_state old.seat) (reader_state new.seat) (ap (λ (t : TakerView Step). map run_step t.mine) (knows.taker ∙ left.entered)) knows.tried knows.fails knows.closed;
     }
 
   -- what was decided was done
@@ -287,22 +275,7 @@ module _ (plan : Plan) (number : ℕ) (old new : LockedPart) (key : List ℕ) (s
         taken = taker;
         value = value;
         is = is;
-        read = record {
-          grows = seat.seen;
-          answer = at;
-          done = seat.done;
-          last = last;
-          alone = λ off. absurd (true≢false (sym off));
-          told = (
-            length seat.more,
-            ap Some (λ i. record {
-              steps = map run_step (taker i).mine;
-              tried = seat.tried i;
-              failed = (ap length seat.fails ∙ length-append (reader_state old.seat).fails seat.more) i;
-              closed = seat.closed i;
-            }),
-          );
-        };
+        read = was_read part.shape (ap (λ (t : TakerView Step). map run_step t.mine) taker) last read;
       }
 
   pub reads_hit : (got : Got) → got ≡ GotHit stamp → IsRead (reader_state old.seat) key got buffer (reader_state new.seat) → PartReads plan number old key Hit stamp buffer new

@@ -6,7 +6,7 @@ use Rattle.partition_model.specs.declared.options.Options.{Options}
 use Rattle.partition_model.specs.declared.write.Outcome.{Outcome}
 use Rattle.partition_model.specs.declared.write.Write.{Write}
 use Rattle.partition_model.specs.Write.{is_accepted}
-use Rattle.partition_model.specs.History.{History, MayGive, stamp_in, value_in, stamp_of, answer_of, writes_to_bucket}
+use Rattle.partition_model.specs.History.{History, MayGive, stamp_of, answer_of, writes_to_bucket}
 use Rattle.partition_model.specs.Run.{RunStep, history_of, IsRunFrom}
 use Rattle.partition_model.proofs.Runs.{history-append, run-append}
 use Rattle.epoch_core.specs.declared.shape.Shape.{Shape}
@@ -18,7 +18,7 @@ use Rattle.epoch_core.specs.Shape.{shape_of, options_of}
 use Rattle.epoch_core.specs.OwnerState.{options_in}
 use Rattle.epoch_core.specs.OwnerStep.{IsOwnerStep}
 use Rattle.epoch_core.specs.Joins.{lent, ended_in}
-use Rattle.epoch_core.proofs.SameMachine.{same_state, same_may_give}
+use Rattle.epoch_core.proofs.SameMachine.{same_may_give}
 use Rattle.partition_table.specs.Seats.{note_state, note_home}
 use Rattle.owner_queue.proofs.Gains.{step_gains}
 use Rattle.mica_fronts.specs.declared.changing.Changed.{Changed}
@@ -28,6 +28,7 @@ use Rattle.mica_fronts.specs.Changing.{Becoming, IsFound, write_by}
 use Rattle.mica_fronts.specs.declared.flushes.KeptFlushes.{KeptFlushes}
 use Rattle.mica_fronts.specs.Flushes.{flushes_in, AreKept, kept_then}
 use Rattle.mica_fronts.proofs.FlushLaws.{kept_push}
+use Rattle.mica_fronts.proofs.OneStep.{stamp_as, answer_as}
 use Rattle.turn_book.specs.declared.rule.Entry.{Entry}
 use Rattle.turn_book.specs.Entries.{BookView, TakerView, entry, book_view, taker_view}
 use Rattle.locked_fronts.specs.declared.owned.Step.{Step}
@@ -37,22 +38,14 @@ use Rattle.locked_fronts.specs.Plan.{Plan}
 use Rattle.locked_fronts.specs.Counts.{counts_after}
 use Rattle.locked_fronts.specs.Owned.{Owned, owned_as, step_by, run_step, run_in, IsOwned, IsHere, IsElsewhere, HasSeen, TookTurn, LeftAll, TookOrLeft, TookLook}
 
--- the stamp by the options of a shape is that by the options
-pub plan_stamp : (options : Options) (shape : Shape) (history : History) → shape ≡ shape_of options → stamp_of (options_of shape) history ≡ stamp_of options history
-plan_stamp options shape history is = ap (λ s. stamp_of (options_of s) history) is ∙ ap stamp_in (same_state options history)
-
--- what is counted, and the value of a key likewise
-
+-- what is counted by the shape is what is counted by the options
 pub plan_counts : (options : Options) (shape : Shape) (history : History) → shape ≡ shape_of options → counts_after (options_of shape) history ≡ counts_after options history
 plan_counts options shape history is = (λ i. record {
-  stamp = plan_stamp options shape history is i;
+  stamp = stamp_as options shape history is i;
   written = length history;
   in_first = writes_to_bucket (options_of (is i)) history 0;
   flushes = flushes_in (is i).buckets history;
 })
-
-plan_answer : (options : Options) (shape : Shape) (history : History) (key : List ℕ) → shape ≡ shape_of options → answer_of (options_of shape) history key ≡ answer_of options history key
-plan_answer options shape history key is = ap (λ s. answer_of (options_of s) history key) is ∙ ap (λ s. value_in s key) (same_state options history)
 
 -- A partition that is the one that was asked for
 
@@ -61,11 +54,11 @@ pub here_now : (plan : Plan) (owned : Owned) (number least stamp : ℕ) → IsOw
 here_now plan owned number least stamp law is stamped le = record {
   number_is = is;
   book = law.book ∙ ap plan.books is;
-  come = let same = stamped ∙ plan_stamp plan.options owned.owner.shape owned.owner.history law.shape in omega (arith, le, same);
+  come = let same = stamped ∙ stamp_as plan.options owned.owner.shape owned.owner.history law.shape in omega (arith, le, same);
 }
 
 pub not_yet : (plan : Plan) (owned : Owned) (number least stamp : ℕ) → IsOwned plan owned → stamp ≡ stamp_of (options_in owned.owner) owned.owner.history → stamp < least → IsElsewhere plan number least owned
-not_yet plan owned number least stamp law stamped lt = inr (let same = stamped ∙ plan_stamp plan.options owned.owner.shape owned.owner.history law.shape in omega (arith, lt, same))
+not_yet plan owned number least stamp law stamped lt = inr (let same = stamped ∙ stamp_as plan.options owned.owner.shape owned.owner.history law.shape in omega (arith, lt, same))
 
 -- the stamp that it has come to
 abbrev least_of : Plan → Owned → ℕ
@@ -116,7 +109,7 @@ looks plan was owner second key needs becoming old new changed buffer learned wr
   at = ap (λ (w : When). w.second) when;
   looked = record {
     when = when ∙ (λ i. when_after (options_of (law.shape i)) (ap (λ (w : When). w.second) (sym when) i) was.owner.history);
-    value = plan_answer plan.options was.owner.shape was.owner.history key law.shape;
+    value = answer_as plan.options was.owner.shape was.owner.history key law.shape;
   };
   does = subst (λ (y : Option Write × History). TookOrLeft plan was.number (stamp_of plan.options y.1) y.1 old new y.0 changed.outcome learned)
       (λ i. (is i, ap (λ (o : OwnerState). o.history) same i)) did;
@@ -165,7 +158,7 @@ module _ (plan : Plan) (old : Owned) (owner : OwnerState) (home : TableId) (book
   may = same_may_give plan.options old.owner.history write outcome (subst (λ (s : Shape). MayGive (options_of s) old.owner.history write outcome) law.shape step.allowed)
 
   stamp_is : learned.counts.stamp ≡ stamp_of plan.options (old.owner.history ++ history_of (one ∷ []))
-  stamp_is = ap (λ (c : HistoryCounts). c.stamp) counted ∙ plan_stamp plan.options owner.shape owner.history shape ∙ ap (stamp_of plan.options) longer
+  stamp_is = ap (λ (c : HistoryCounts). c.stamp) counted ∙ stamp_as plan.options owner.shape owner.history shape ∙ ap (stamp_of plan.options) longer
 
   run_is : run_in book.entries ≡ steps ++ one ∷ []
   run_is = ap (λ (b : BookView Step). run_in b.entries) book_is ∙ map-append (λ (e : Entry Step). run_step e.what) old.book.entries (entry taker.number (step_by write outcome learned) ∷ [])

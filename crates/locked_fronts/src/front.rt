@@ -1,9 +1,13 @@
 //! A front that owns each partition in turn.
-ghost use Rattle.std.specs.Prelude.{◌≡◌, ◌<◌, ℕ, Some, length, slice_get, vec_len};
+ghost use Rattle.std.specs.Prelude.{◌≡◌, ◌+◌, ◌<◌, ◌≤◌, ℕ, false, Some, length, slice_get, vec_len};
+ghost use Rattle.mica_words.specs.Hash.{partition_of};
+ghost use Rattle.mica_words.specs.Item.{KeyFits};
 ghost use Rattle.partition_model.specs.Options.{IsPossible};
+ghost use Rattle.partition_model.specs.Write.{HasValueOf, write_of};
+ghost use Rattle.mica_fronts.specs.Session.{ChangesOnly, Writes};
 ghost use Rattle.mica_fronts.specs.Changing.{count_of};
 ghost use Rattle.locked_fronts.specs.declared.part.LockedPart.{LockedPart};
-ghost use Rattle.locked_fronts.specs.Parts.{IsPartOf, IsLockedFront, locked_view, turns_taken};
+ghost use Rattle.locked_fronts.specs.Parts.{IsPartOf, IsLockedFront, locked_view, sessions_of, turns_left, turns_taken};
 
 use crate::owned::{OwnedPartition, ServerPlan};
 use crate::part::LockedPart;
@@ -15,6 +19,7 @@ use partition_model::{Answer, ItemBuf, Mode, Op, Options, Outcome};
 use partition_table::{Note, ReaderSeat};
 use std::alloc::Global;
 use std::marker::Model;
+use std::sync::atomic::{AtomicBool, Ordering};
 use std::sync::{Mutex, Wait};
 use std::thread::Threads;
 
@@ -25,6 +30,13 @@ fn count_of(outcome: Option<Outcome>) -> u64
     match outcome {
         Some(_) => 1,
         None => 0,
+    }
+}
+
+// Tells the other fronts where a write found that its partition bears no more.
+fn tell_worn(ended: &AtomicBool, outcome: Option<Outcome>) {
+    if matches!(outcome, Some(Outcome::Worn)) {
+        ended.store(true, Ordering::Relaxed);
     }
 }
 
@@ -41,6 +53,8 @@ pub struct LockedFront<
     parts: Vec<LockedPart>,
     // How many writes it may still be given.
     left: u64,
+    // Set once a partition bears no more writes.
+    ended: &'a AtomicBool,
 }
 
 impl<'a, J: ServerPlan, P: LendPartition<Reader = ReaderSeat, Note = Note> + Drop> Model
@@ -61,12 +75,13 @@ impl<'a, J: ServerPlan, P: LendPartition<Reader = ReaderSeat, Note = Note> + Dro
     J,
     P,
 > {
-    /// A front that has taken no turn. The locks are those of the partitions, in order.
+    /// A front that has taken no turn. The locks are those of the partitions, in order. It sets `ended` once a write finds its partition worn.
     pub fn new(
         options: &Options,
         locks: &'a [Mutex<OwnedPartition<J, P>>],
         number: u32,
         parts: Vec<LockedPart>,
+        ended: &'a AtomicBool,
     ) -> LockedFront<'a, J, P>
         requires options { options.now ≡ J.plan.options }
         requires valid { IsPossible options.now }
@@ -83,7 +98,31 @@ impl<'a, J: ServerPlan, P: LendPartition<Reader = ReaderSeat, Note = Note> + Dro
             number,
             parts,
             left: u64::MAX,
+            ended,
         }
+    }
+
+    // Takes a turn of the key's partition, for one write.
+    fn write_in_turn<R: Wait>(&mut self, rt: &R, op: Op, key: &[u8], value: &[u8]) -> (Outcome, u64)
+        requires key { KeyFits key.now }
+        requires value { HasValueOf op value.now }
+        requires left { 0 < turns_left self.old.parts }
+        ensures written { let p = partition_of key.entry.now self.old.options.partitions in
+            Writes self.old.options false (sessions_of self.old.parts p)
+            (record { write = write_of op key.entry.now value.entry.now; outcome = result.0; stamp = result.1 }) (sessions_of self.new.parts p) }
+        ensures others { ChangesOnly (partition_of key.entry.now self.old.options.partitions) (sessions_of self.old.parts) (sessions_of self.new.parts) }
+        ensures left { turns_left self.old.parts ≤ turns_left self.new.parts + 1 }
+        ensures options { self.new.options ≡ self.old.options }
+        ensures number { self.new.number ≡ self.old.number }
+    {
+        let hash = key_hash(key);
+        let number = partition_of(hash, self.options.partitions);
+        let at = number as usize;
+        let lock = &self.locks[at];
+        let written = self.parts[at].write(rt, lock, number, op, key, hash, value);
+        self.left -= 1;
+        tell_worn(self.ended, Some(written.0));
+        written
     }
 
     /// What it has of each partition, in order.
@@ -139,13 +178,7 @@ impl<'a, J: ServerPlan, P: LendPartition<Reader = ReaderSeat, Note = Note> + Dro
         key: &[u8],
         value: &[u8],
     ) -> Result<(Outcome, u64), NoMemory> {
-        let hash = key_hash(key);
-        let number = partition_of(hash, self.options.partitions);
-        let at = number as usize;
-        let lock = &self.locks[at];
-        let written = self.parts[at].write(rt, lock, number, op, key, hash, value);
-        self.left -= 1;
-        Ok(written)
+        Ok(self.write_in_turn(rt, op, key, value))
     }
 
     fn read<R: Threads + Wait + Sync>(
@@ -184,27 +217,16 @@ impl<'a, J: ServerPlan, P: LendPartition<Reader = ReaderSeat, Note = Note> + Dro
             rt, lock, number, second, key, hash, decide, found, next,
         );
         self.left -= count_of(changed.outcome);
+        tell_worn(self.ended, changed.outcome);
         changed
     }
 
     fn delete<R: Threads + Wait + Sync>(&mut self, rt: &R, key: &[u8]) -> (Outcome, u64) {
-        let hash = key_hash(key);
-        let number = partition_of(hash, self.options.partitions);
-        let at = number as usize;
-        let lock = &self.locks[at];
-        let written = self.parts[at].write(rt, lock, number, Op::Del, key, hash, &[]);
-        self.left -= 1;
-        written
+        self.write_in_turn(rt, Op::Del, key, &[])
     }
 
     fn touch<R: Threads + Wait + Sync>(&mut self, rt: &R, key: &[u8]) -> (Outcome, u64) {
-        let hash = key_hash(key);
-        let number = partition_of(hash, self.options.partitions);
-        let at = number as usize;
-        let lock = &self.locks[at];
-        let written = self.parts[at].write(rt, lock, number, Op::Touch, key, hash, &[]);
-        self.left -= 1;
-        written
+        self.write_in_turn(rt, Op::Touch, key, &[])
     }
 }
 

@@ -228,48 +228,8 @@ impl LockedPart {
         (outcome, stamp)
     }
 
-    // Owns the partition of the number for one look and what is decided of it, and tells the seat its note.
-    fn change_held<
-        R: Wait,
-        J: ServerPlan,
-        P: LendPartition<Reader = ReaderSeat, Note = Note> + Drop,
-        D: Decide,
-    >(
-        &mut self,
-        rt: &R,
-        lock: &Mutex<OwnedPartition<J, P>>,
-        number: u32,
-        second: u64,
-        key: &[u8],
-        hash: u64,
-        decide: &D,
-        found: &mut ItemBuf,
-        next: &mut ItemBuf,
-    ) -> Changed
-        requires key { KeyFits key.now }
-        requires hashed { hash ≡ fnv1a key.now }
-        requires own { IsPartOf J.plan number self.old.taker.number self.old }
-        ensures { PartChanges J.plan number second key.entry.now (D.needs decide.entry.now) (D.becoming decide.entry.now) self.old result found.new self.new }
-    {
-        let (changed, learned) = change_under_lock(
-            rt,
-            lock,
-            &mut self.taker,
-            number,
-            self.newest,
-            second,
-            key,
-            hash,
-            decide,
-            found,
-            next,
-        );
-        self.learn(learned);
-        changed
-    }
-
     /// Looks at the key's value and does what is decided of it: without a hold where that only reads and nothing was written in the bucket of flushes since
-    /// the last one, else under one.
+    /// the last one; else it owns the partition of the number for that, and tells the seat its note.
     pub(crate) fn change<
         R: Wait,
         J: ServerPlan,
@@ -294,7 +254,23 @@ impl LockedPart {
     {
         match self.look_on::<J, D>(number, second, key, hash, decide, found) {
             Some(changed) => changed,
-            None => self.change_held(rt, lock, number, second, key, hash, decide, found, next),
+            None => {
+                let (changed, learned) = change_under_lock(
+                    rt,
+                    lock,
+                    &mut self.taker,
+                    number,
+                    self.newest,
+                    second,
+                    key,
+                    hash,
+                    decide,
+                    found,
+                    next,
+                );
+                self.learn(learned);
+                changed
+            }
         }
     }
 

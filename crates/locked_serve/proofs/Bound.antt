@@ -1,26 +1,21 @@
 -- What a server came to once its ports were bound, by what of its fronts of connections is known.
-use Rattle.std.proofs.Common.{◌≡◌, ℕ, ◌≤◌, inl, List, [], length, Option, Some, None, refl, sym, ◌∙◌, subst, arith}
-use Rattle.std.specs.Prelude.{Result, Ok, Err}
+use Rattle.std.proofs.Common.{◌≡◌, ℕ, ◌≤◌, List, [], length, Option, Some, None, refl, sym, ◌∙◌, subst, arith}
+use Rattle.std.specs.Prelude.{Result, Ok, Err, OnOk}
 use Rattle.std.proofs.lemmas.Option.{slice_get_within}
 use Rattle.mica_clock.specs.Seconds.{ClockView}
 use Rattle.partition_model.specs.History.{History}
 use Rattle.partition_table.specs.declared.tables.KeptSeat.{KeptSeat}
 use Rattle.mica_fronts.specs.declared.totals.Totals.{Totals}
 use Rattle.mica_fronts.specs.declared.totals.ServeFault.{ServeFault}
-use Rattle.mica_fronts.specs.declared.totals.ServeFault.TheVariants.{Net, NoMemory}
 use Rattle.stream_fronts.specs.declared.ports.StreamPorts.{StreamPorts}
 use Rattle.mica_serve.specs.Others.{Others, HaveAnsweredNothing}
 use Rattle.mica_serve.specs.Ends.{EndFacts}
 use Rattle.locked_serve.specs.declared.service.Service.{Service}
 use Rattle.locked_serve.specs.declared.stop.Stop.{Stop}
 use Rattle.locked_serve.specs.declared.stop.Stop.TheVariants.{Fault}
-use Rattle.locked_serve.specs.Streams.{StreamFacts, ListenFacts, AreNewStreams, AreStreams, ServesBeside, others_of}
+use Rattle.locked_serve.specs.Streams.{StreamFacts, ListenFacts, AreNewStreams, AreStreams, HaveFinished, ServesBeside, others_of}
 use Rattle.locked_serve.specs.Causes.{CameTo, ComesBeside}
 use Rattle.locked_serve.proofs.Unheard.{no_answers, no_counts, none_answered, none_counted, as_heard, none_heard}
-
-came_to_fault : (before after : ℕ) (fault : ServeFault) → CameTo (Err (Fault fault)) before after (Some (Err fault))
-came_to_fault before after Net = inl refl
-came_to_fault before after NoMemory = refl
 
 -- those that have no port answered nothing
 pub silent : (streams : StreamPorts) (olds news : List StreamFacts) → HaveAnsweredNothing (others_of (no_answers streams.fronts) olds news)
@@ -40,10 +35,10 @@ module _ (service : Service) (before : ListenFacts) {clocks : List ClockView} (h
 
 module _ {says : Others → Option (Result Totals ServeFault) → Type 0} {leaves : List StreamFacts → Type 0} {answer : Result Totals Stop} {service : Service} {clocks : List ClockView}
     {lacked : ℕ} {before after : ListenFacts} where
-  -- a port of datagrams could not be bound
-  pub unbound : answer ≡ Err (Fault Net) → lacked ≡ 0 → leaves [] → says (others_of (no_answers service.streams.fronts) [] []) (Some (Err Net))
-      → ComesBeside says leaves answer service clocks lacked before after
-  unbound is uncounted left said = subst (λ (a : Result Totals Stop). ComesBeside says leaves a service clocks lacked before after) (sym is) (record {
+  -- it stopped before any port was listened at, since this fault came
+  pub unbound : (stop : Stop) (fault : ServeFault) → answer ≡ Err stop → CameTo (Err stop) service.streams [] before.faults after.faults (Some (Err fault)) → lacked ≡ 0 → leaves []
+      → says (others_of (no_answers service.streams.fronts) [] []) (Some (Err fault)) → ComesBeside says leaves answer service clocks lacked before after
+  unbound stop fault is came uncounted left said = subst (λ (a : Result Totals Stop). ComesBeside says leaves a service clocks lacked before after) (sym is) (record {
     answers = no_answers service.streams.fronts;
     counts = [];
     olds = [];
@@ -53,15 +48,15 @@ module _ {says : Others → Option (Result Totals ServeFault) → Type 0} {leave
     left = left;
     all = tt;
     finished = tt;
-    came = Some (Err Net);
-    came_is = inl refl;
+    came = Some (Err fault);
+    came_is = came;
     unserved = tt;
     said = said;
   })
 
   module _ (heard : List StreamFacts) (new : AreNewStreams before.ports service.streams.port heard) (within : length heard ≤ service.streams.fronts) where
     -- these were listened at, and nothing was served, whatever stopped it
-    pub unserved : (stop : Stop) → answer ≡ Err stop → lacked ≡ 0 → CameTo (Err stop) before.faults after.faults None → leaves heard
+    pub unserved : (stop : Stop) → answer ≡ Err stop → lacked ≡ 0 → CameTo (Err stop) service.streams heard before.faults after.faults None → leaves heard
         → says (others_of (no_answers service.streams.fronts) heard heard) None → ComesBeside says leaves answer service clocks lacked before after
     unserved stop is uncounted came left said = subst (λ (a : Result Totals Stop). ComesBeside says leaves a service clocks lacked before after) (sym is) (record {
       answers = no_answers service.streams.fronts;
@@ -81,9 +76,11 @@ module _ {says : Others → Option (Result Totals ServeFault) → Type 0} {leave
 
     -- all fronts were served
     module _ {origin : ℕ → History} {batches : ℕ} {kept : List KeptSeat} {ends_before ends_after : List EndFacts} {news : List StreamFacts} (full : length heard ≡ service.streams.fronts) where
-      pub came_ok : (totals : Totals) → answer ≡ Ok totals → (b : ServesBeside service.options origin batches service.base clocks (Ok totals) kept lacked ends_before ends_after heard news)
-          → leaves news → says (others_of b.answers heard news) (Some (Ok totals)) → ComesBeside says leaves answer service clocks lacked before after
-      came_ok totals is b left said = subst (λ (a : Result Totals Stop). ComesBeside says leaves a service clocks lacked before after) (sym is) (record {
+      came_beside : {whole : Result Totals Stop} {came : Result Totals ServeFault} → answer ≡ whole
+          → (b : ServesBeside service.options origin batches service.base clocks came kept lacked ends_before ends_after heard news) → OnOk whole (length heard ≡ service.streams.fronts)
+          → OnOk whole (HaveFinished service.options b.answers news) → CameTo whole service.streams heard before.faults after.faults (Some came) → leaves news → says (others_of b.answers heard news) (Some came)
+          → ComesBeside says leaves answer service clocks lacked before after
+      came_beside {came = came} is b all finished came_is left said = subst (λ (a : Result Totals Stop). ComesBeside says leaves a service clocks lacked before after) (sym is) (record {
         answers = b.answers;
         counts = b.counts;
         olds = heard;
@@ -91,28 +88,18 @@ module _ {says : Others → Option (Result Totals ServeFault) → Type 0} {leave
         are = are service before heard new within full b;
         lacked_is = b.lacked_is;
         left = left;
-        all = full;
-        finished = b.finished;
-        came = Some (Ok totals);
-        came_is = refl;
+        all = all;
+        finished = finished;
+        came = Some came;
+        came_is = came_is;
         unserved = tt;
         said = said;
       })
 
+      pub came_ok : (totals : Totals) → answer ≡ Ok totals → (b : ServesBeside service.options origin batches service.base clocks (Ok totals) kept lacked ends_before ends_after heard news)
+          → leaves news → says (others_of b.answers heard news) (Some (Ok totals)) → ComesBeside says leaves answer service clocks lacked before after
+      came_ok totals is b = came_beside is b full b.finished refl
+
       pub came_err : (fault : ServeFault) → answer ≡ Err (Fault fault) → (b : ServesBeside service.options origin batches service.base clocks (Err fault) kept lacked ends_before ends_after heard news)
           → leaves news → says (others_of b.answers heard news) (Some (Err fault)) → ComesBeside says leaves answer service clocks lacked before after
-      came_err fault is b left said = subst (λ (a : Result Totals Stop). ComesBeside says leaves a service clocks lacked before after) (sym is) (record {
-        answers = b.answers;
-        counts = b.counts;
-        olds = heard;
-        news = news;
-        are = are service before heard new within full b;
-        lacked_is = b.lacked_is;
-        left = left;
-        all = tt;
-        finished = tt;
-        came = Some (Err fault);
-        came_is = came_to_fault before.faults after.faults fault;
-        unserved = tt;
-        said = said;
-      })
+      came_err fault is b = came_beside is b tt tt refl

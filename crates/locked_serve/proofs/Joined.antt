@@ -1,7 +1,9 @@
 -- One list behind another, and what two kinds of fronts have in hand together.
-use Rattle.std.proofs.Common.{◌≡◌, ℕ, zero, suc, ◌+◌, ◌⊎◌, inl, inr, List, [], ◌∷◌, ◌++◌, length, Some, slice_get, refl, ap, ◌∙◌, subst, arith, length-append}
+use Rattle.std.proofs.Common.{◌≡◌, ℕ, zero, suc, ◌+◌, ◌⊎◌, inl, inr, List, [], ◌∷◌, ◌++◌, length, map, Some, slice_get, refl, sym, ap, ◌∙◌, subst, arith, length-append}
 use Rattle.std.specs.Prelude.{sum_by}
+use Rattle.std.proofs.lemmas.List.{length-map, map-append}
 use Rattle.std.proofs.lemmas.List.Sums.{sum_by-cons}
+use Rattle.mica_serve.proofs.Binding.{at_snoc}
 use Rattle.locked_fronts.specs.declared.part.LockedPart.{LockedPart}
 use Rattle.locked_fronts.specs.Plan.{Plan}
 use Rattle.locked_serve.specs.Opening.{AreNewParts, AreNewHands}
@@ -28,6 +30,15 @@ at_either (x ∷ xs) ys (suc n) z at =
     elim (at_either xs ys n z at) as (λ _. (slice_get xs n ≡ Some z) ⊎ ((k : ℕ) × (suc (length xs) + k ≡ suc n) × (slice_get ys k ≡ Some z))) [
       | inl left ↦ inl left
       | inr right ↦ inr (right.0, omega (arith, right.1), right.2)
+    ]
+
+-- what holds of each view, and of that of one element more behind them
+pub each_pushed : {A B : Type 0} (P : ℕ → B → Type 0) (view : A → B) (xs : List A) (x : A) {n : ℕ} {all : List A} → all ≡ xs ++ x ∷ [] → length xs ≡ n
+    → ((p : ℕ) (y : B) → slice_get (map view xs) p ≡ Some y → P p y) → P n (view x) → (p : ℕ) (y : B) → slice_get (map view all) p ≡ Some y → P p y
+each_pushed {B = B} P view xs x pushed many each here p y at =
+    elim (at_snoc (map view xs) (view x) p y (ap (λ l. slice_get l p) (sym (ap (map view) pushed ∙ map-append view xs (x ∷ []))) ∙ at)) as (λ _. P p y) [
+      | inl h ↦ each p y h.0
+      | inr h ↦ subst (λ (z : ℕ × B). P z.0 z.1) (λ k. (sym (h.0 ∙ length-map xs view ∙ many) k, h.1 k)) here
     ]
 
 -- a sum over one list is that over another of the same length, place by place

@@ -9,7 +9,7 @@ use Rattle.epoch_core.specs.declared.state.OwnerState.{OwnerState}
 use Rattle.epoch_core.specs.declared.reader.ReaderState.{ReaderState}
 use Rattle.epoch_core.proofs.Prefixes.{prefix_same}
 use Rattle.partition_model.specs.History.{IsPrefix, stamp_of}
-use Rattle.mica_fronts.proofs.SoloSteps.{same_stamp}
+use Rattle.mica_fronts.proofs.OneStep.{stamp_as}
 use Rattle.turn_book.specs.Entries.{BookView, TakerView, book_view}
 use Rattle.locked_fronts.specs.declared.owned.Step.{Step}
 use Rattle.locked_fronts.specs.declared.part.LockedPart.{LockedPart}
@@ -38,7 +38,7 @@ lent_part plan k p old new part was lends = record {
     home = lends.home ∙ was.home;
     shape = ap (λ (r : ReaderState). r.shape) lends.seat ∙ ap (λ (o : OwnerState). o.shape) was.owner.state;
     book = ap (λ (t : TakerView Step). t.table) lends.taker ∙ ap (λ (b : BookView Step). b.table) was.book;
-    newest = lends.newest ∙ same_stamp plan.options old.owner (ap (λ (o : OwnerState). o.shape) was.owner.state)
+    newest = lends.newest ∙ stamp_as plan.options old.owner.shape old.owner.history (ap (λ (o : OwnerState). o.shape) was.owner.state)
         ∙ ap (λ (r : ReaderState). stamp_of plan.options r.seen) (sym lends.seat);
     last = omega (arith, lends.unanswered);
     counts = record {

@@ -167,7 +167,7 @@ module _ {plan : Plan} {olds news : List (List LockedPart)} {lefts afters : List
       (after.0, l.0, l.1, l.2, after.2)
 
   pub idle : (p : ℕ) (after : Owned) → slice_get afters p ≡ Some after → after.owner.phase ≡ Idle
-  idle p after at = let l = after_at p after at in l.2.phase ∙ l.1.is.idle
+  idle p after at = let l = after_at p after at in ap (λ (v : Owned). v.owner.phase) l.2.is ∙ l.1.is.idle
 
   -- each partition's machine ran on the fronts' writes alone
   pub runs_all : RunsPartitions plan.options plan.origin plan.fronts placed
@@ -191,14 +191,14 @@ module _ {plan : Plan} {olds news : List (List LockedPart)} {lefts afters : List
   pub shapes : HaveShapes plan.options kept
   shapes = record {
     many = length-map afters (λ (v : Owned). kept_seat_in v.owner) ∙ afters_long;
-    shapes = λ p entry at. let k = kept_at p entry at in sym (ap (λ (e : KeptSeat). e.shape) k.4) ∙ k.3.shape ∙ k.2.is.shape;
+    shapes = λ p entry at. let k = kept_at p entry at in sym (ap (λ (e : KeptSeat). e.shape) k.4) ∙ ap (λ (v : Owned). v.owner.shape) k.3.is ∙ k.2.is.shape;
   }
 
   pub histories : (p : ℕ) (entry : KeptSeat) → slice_get kept p ≡ Some entry → entry.history ≡ plan.origin p ++ history_in (placed p)
-  histories p entry at = let k = kept_at p entry at in sym (ap (λ (e : KeptSeat). e.history) k.4) ∙ k.3.history ∙ history_run k.2
+  histories p entry at = let k = kept_at p entry at in sym (ap (λ (e : KeptSeat). e.history) k.4) ∙ ap (λ (v : Owned). v.owner.history) k.3.is ∙ history_run k.2
 
   pub closes : (p : ℕ) (entry : KeptSeat) → slice_get kept p ≡ Some entry → entry.closed ≡ sum_by (closed_at p) news
-  closes p entry at = let k = kept_at p entry at in omega (arith, ap (λ (e : KeptSeat). e.closed) k.4, k.3.closed_is, k.2.is.closed)
+  closes p entry at = let k = kept_at p entry at in omega (arith, ap (λ (e : KeptSeat). e.closed) k.4, ap (λ (v : Owned). v.owner.closed) k.3.is, k.2.is.closed)
 
 -- what the fronts have in hand may be taken in
 module _ (plan : Plan) (news : List (List LockedPart)) (lefts : List Owned) (are : AreHands plan news) (many : length lefts ≡ plan.options.partitions) (back : AreTakenBack plan lefts) where

@@ -1,6 +1,6 @@
 -- What a server has told, and why it stopped, where it was filled and where it was not.
-use Rattle.std.proofs.Common.{◌≡◌, ℕ, ◌⊎◌, inl, inr, List, [], Option, Some, refl, sym, ◌∙◌, subst, arith}
-use Rattle.std.specs.Prelude.{Result, Ok, Err}
+use Rattle.std.proofs.Common.{◌≡◌, ℕ, inl, inr, List, [], Option, Some, refl, sym, ap, ◌∙◌, subst, arith}
+use Rattle.std.specs.Prelude.{Result, Ok, Err, IsErrAnd}
 use Rattle.mica_clock.specs.Seconds.{ClockView}
 use Rattle.mica_io.specs.Faults.{Rose}
 use Rattle.partition_model.specs.declared.write.Write.{Write}
@@ -12,23 +12,25 @@ use Rattle.mica_fronts.specs.declared.totals.ServeFault.{ServeFault}
 use Rattle.mica_fronts.specs.declared.totals.ServeFault.TheVariants.{Net, NoMemory}
 use Rattle.stream_fronts.specs.declared.ports.StreamPorts.{StreamPorts}
 use Rattle.mica_serve.specs.Others.{Others}
+use Rattle.mica_serve.specs.Ends.{EndFacts}
+use Rattle.mica_serve.specs.NetRun.{ReleasesNet}
 use Rattle.mica_serve.proofs.Whole.{net_kept}
 use Rattle.locked_serve.specs.declared.service.Service.{Service}
 use Rattle.locked_serve.specs.declared.filling.OpenFault.{OpenFault}
 use Rattle.locked_serve.specs.declared.filling.OpenFault.TheVariants as open_fault
 use Rattle.locked_serve.specs.declared.stop.Stop.{Stop}
-use Rattle.locked_serve.specs.declared.stop.Stop.TheVariants.{Refused, Unannounced, Fault}
+use Rattle.locked_serve.specs.declared.stop.Stop.TheVariants.{Refused, Unbound, Unannounced, Fault}
 use Rattle.locked_serve.specs.Filled.{origin_of, RefusesFilling}
 use Rattle.locked_serve.specs.Streams.{StreamFacts, ListenFacts}
-use Rattle.locked_serve.specs.Causes.{PortFacts, HasPorts, LacksPort, CameTo, ComesBeside, HasCause, stop_of, IsCauseOfStop, HasAnnounced, Leaves}
+use Rattle.locked_serve.specs.Causes.{PortFacts, LacksPort, CameTo, ComesBeside, HasCause, stop_of, IsCauseOfStop, HasAnnounced, Leaves}
 use Rattle.locked_serve.proofs.Heard.{kept_unheard}
 use Rattle.locked_serve.proofs.Released.{none_released}
-use Rattle.locked_serve.proofs.Unheard.{no_answers, none_heard}
+use Rattle.locked_serve.proofs.Bound.{unbound}
 
--- a port could not be had
-pub lacks_port : {A : Type 0} {answer : Result Totals Stop} (says fails : A → A → Type 0) (before after : PortFacts) (a : A) → answer ≡ Err (Fault Net) → LacksPort before after
-    → HasAnnounced says fails answer before after a a
-lacks_port says fails before after a is lacks = subst (λ (r : Result Totals Stop). HasAnnounced says fails r before after a a) (sym is) (inl (lacks, refl))
+-- the answer that `?` gives with this error
+pub ended_with : {T E : Type 0} {e : E} (r : Result T E) → IsErrAnd r (λ y. y ≡ e) → r ≡ Err e
+ended_with (Ok x) is = absurd is
+ended_with (Err y) is = ap Err is
 
 -- it could not be told
 pub fails_to_tell : {A : Type 0} {answer : Result Totals Stop} (says fails : A → A → Type 0) (before after : PortFacts) (old new : A) → answer ≡ Err Unannounced → fails old new
@@ -41,34 +43,32 @@ pub fault_told : {A : Type 0} {answer : Result Totals Stop} (fault : ServeFault)
 fault_told fault says fails before after old new is all said = subst (λ (r : Result Totals Stop). HasAnnounced says fails r before after old new) (sym is) (at fault)
   where
     at : (f : ServeFault) → HasAnnounced says fails (Err (Fault f)) before after old new
-    at Net = inr (all, said)
+    at Net = (all, said)
     at NoMemory = inr said
 
 -- and what was told stands when the ends are released
-pub still_told : {A : Type 0} (answer : Result Totals Stop) (says fails : A → A → Type 0) (before mid after : PortFacts) (old new : A) → after.net.refused ≡ mid.net.refused
-    → after.listens.faults ≡ mid.listens.faults → HasAnnounced says fails answer before mid old new → HasAnnounced says fails answer before after old new
-still_told (Ok totals) says fails before mid after old new refused faults told = told
-still_told (Err Refused) says fails before mid after old new refused faults told = told
-still_told (Err Unannounced) says fails before mid after old new refused faults told = told
-still_told (Err (Fault Net)) says fails before mid after old new refused faults told =
-    elim told as (λ _. (LacksPort before after × (new ≡ old)) ⊎ (HasPorts before after × says old new)) [
-      | inl h ↦ inl (
-        elim h.0 as (λ _. LacksPort before after) [
-          | inl unbound ↦ inl (omega (arith, unbound, refused))
-          | inr rose ↦ inr (subst (Rose before.listens.faults) (sym faults) rose)
-        ],
-        h.1,
-      )
-      | inr h ↦ inr ((refused ∙ h.0.0, faults ∙ h.0.1), h.1)
-    ]
-still_told (Err (Fault NoMemory)) says fails before mid after old new refused faults told = told
+pub still_told : {A : Type 0} (answer : Result Totals Stop) (says fails : A → A → Type 0) (before mid after : PortFacts) (old new : A) {first : ℕ} {ends : List EndFacts}
+    → ReleasesNet first ends mid.net after.net → after.listens.faults ≡ mid.listens.faults → HasAnnounced says fails answer before mid old new
+    → HasAnnounced says fails answer before after old new
+still_told (Ok totals) says fails before mid after old new net faults told = told
+still_told (Err Refused) says fails before mid after old new net faults told = told
+still_told (Err (Unbound port)) says fails before mid after old new net faults told = (
+  elim told.0 as (λ _. LacksPort port before after) [
+    | inl unbound ↦ inl (net.refused ∙ unbound.0, omega (arith, unbound.1, net.binds, net.first_is))
+    | inr unheard ↦ inr (net.refused ∙ unheard.0, subst (Rose before.listens.faults) (sym faults) unheard.1)
+  ],
+  told.1,
+)
+still_told (Err Unannounced) says fails before mid after old new net faults told = told
+still_told (Err (Fault Net)) says fails before mid after old new net faults told = ((net.refused ∙ told.0.0, faults ∙ told.0.1), told.1)
+still_told (Err (Fault NoMemory)) says fails before mid after old new net faults told = told
 
 -- what is said of the fronts of datagrams and of the ports that are left, said otherwise once these were let go
 pub says_then : {P Q : Others → Option (Result Totals ServeFault) → Type 0} {A B : List StreamFacts → Type 0} {answer : Result Totals Stop} {service : Service}
     {clocks : List ClockView} {lacked : ℕ} {before between after : ListenFacts} → after.faults ≡ between.faults → ((news : List StreamFacts) → A news → B news)
     → ((others : Others) (came : Option (Result Totals ServeFault)) → P others came → Q others came)
     → ComesBeside P A answer service clocks lacked before between → ComesBeside Q B answer service clocks lacked before after
-says_then {answer = answer} {before = before} same gone then it = record {
+says_then {answer = answer} {service = service} {before = before} same gone then it = record {
   answers = it.answers;
   counts = it.counts;
   olds = it.olds;
@@ -79,7 +79,7 @@ says_then {answer = answer} {before = before} same gone then it = record {
   all = it.all;
   finished = it.finished;
   came = it.came;
-  came_is = subst (λ (n : ℕ). CameTo answer before.faults n it.came) (sym same) it.came_is;
+  came_is = subst (λ (n : ℕ). CameTo answer service.streams it.olds before.faults n it.came) (sym same) it.came_is;
   unserved = it.unserved;
   said = then _ _ it.said;
 }
@@ -87,28 +87,14 @@ says_then {answer = answer} {before = before} same gone then it = record {
 -- there was no memory before any port was bound
 pub no_memory : {answer : Result Totals Stop} {service : Service} {origin : ℕ → History} {clocks : List ClockView} {kept : List KeptSeat} {lacked : ℕ} {all : PortFacts} → answer ≡ Err (Fault NoMemory) → kept ≡ []
     → lacked ≡ 0 → HasCause answer service origin clocks kept lacked all all
-no_memory {service = service} {origin = origin} {clocks = clocks} {kept = kept} {lacked = lacked} {all = all} is none uncounted =
-    subst (λ (r : Result Totals Stop). HasCause r service origin clocks kept lacked all all) (sym is) (record {
-      answers = no_answers service.streams.fronts;
-      counts = [];
-      olds = [];
-      news = [];
-      are = none_heard service.options service.base service.streams all.listens.ports clocks;
-      lacked_is = uncounted;
-      left = none_released all.listens.released;
-      all = tt;
-      finished = tt;
-      came = Some (Err NoMemory);
-      came_is = refl;
-      unserved = tt;
-      said = none;
-    })
+no_memory {all = all} is none uncounted = unbound NoMemory is uncounted (none_released all.listens.released) none
 
 -- a server that these writes filled
 pub cause_filled : (answer : Result Totals Stop) (writes : List Write) {service : Service} {clocks : List ClockView} {kept : List KeptSeat} {lacked : ℕ} {before after : PortFacts}
     → HasCause answer service (origin_of service.options writes) clocks kept lacked before after → IsCauseOfStop answer service writes clocks kept lacked before after
 cause_filled (Ok totals) writes is = is
 cause_filled (Err (Fault fault)) writes is = is
+cause_filled (Err (Unbound port)) writes is = is
 cause_filled (Err Unannounced) writes is = is
 cause_filled (Err Refused) writes is = absurd is.came_is
 

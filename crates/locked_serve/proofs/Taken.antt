@@ -6,6 +6,7 @@ use Rattle.std.proofs.lemmas.Option.{slice_get_within, same_Some}
 use Rattle.list_laws.proofs.Places.{element_at}
 use Rattle.list_laws.proofs.UpTo.{UpTo, up_one}
 use Rattle.partition_model.specs.History.{IsPrefix}
+use Rattle.epoch_core.specs.declared.state.Met.{Met}
 use Rattle.partition_table.specs.Seats.{reader_state}
 use Rattle.turn_book.specs.Entries.{entries_by}
 use Rattle.locked_fronts.specs.declared.part.LockedPart.{LockedPart}
@@ -28,26 +29,10 @@ pub record TookFrom (left : Owned) (part : LockedPart) : Type 0 where
   pub no_others : (number : ℕ) → left.book.takers ≤ number → entries_by number left.book.entries ≡ []
   pub seen : IsPrefix (reader_state part.seat).seen left.owner.history
 
--- what becomes of a partition with all that is taken in
+-- what becomes of a partition with all that is taken in: what it has met, and how many tries closed
 pub record Stays (old new : Owned) (closed : ℕ) : Type 0 where
-  pub number : new.number ≡ old.number
-  pub home : new.home ≡ old.home
-  pub book : new.book ≡ old.book
-  pub history : new.owner.history ≡ old.owner.history
-  pub shape : new.owner.shape ≡ old.owner.shape
-  pub phase : new.owner.phase ≡ old.owner.phase
-  pub closed_is : new.owner.closed ≡ old.owner.closed + closed
-
-stays_one : (old new : Owned) (part : LockedPart) → TookIn old new part → Stays old new (reader_state part.seat).closed
-stays_one old new part took = record {
-  number = ap (λ v. v.number) took.same;
-  home = ap (λ v. v.home) took.same;
-  book = ap (λ v. v.book) took.same;
-  history = ap (λ v. v.owner.history) took.same;
-  shape = ap (λ v. v.owner.shape) took.same;
-  phase = ap (λ v. v.owner.phase) took.same;
-  closed_is = ap (λ v. v.owner.closed) took.same;
-}
+  pub met : Met
+  pub is : new ≡ record old { owner = record old.owner { met = met; closed = old.owner.closed + closed } }
 
 -- the parts of the first fronts' hands at a place
 part_in : (olds news : List Owned) (parts : List LockedPart) (p : ℕ) (old : Owned) → TakesHand olds news parts → slice_get olds p ≡ Some old
@@ -60,29 +45,22 @@ part_in olds news parts p old took at =
 
 pub stays_all : (olds news : List Owned) (hands : List (List LockedPart)) → TakesHands olds news hands → (p : ℕ) (old new : Owned) → slice_get olds p ≡ Some old → slice_get news p ≡ Some new
     → Stays old new (sum_by (closed_at p) hands)
-stays_all olds news [] same p old new at at' =
-    let is : new ≡ old = same_Some _ _ (sym at' ∙ ap (λ l. slice_get l p) same ∙ at) in
-    record {
-      number = ap (λ v. v.number) is;
-      home = ap (λ v. v.home) is;
-      book = ap (λ v. v.book) is;
-      history = ap (λ v. v.owner.history) is;
-      shape = ap (λ v. v.owner.shape) is;
-      phase = ap (λ v. v.owner.phase) is;
-      closed_is = ap (λ v. v.owner.closed) is ∙ omega arith;
-    }
+stays_all olds news [] same p old new at at' = record {
+  met = old.owner.met;
+  is = same_Some _ _ (sym at' ∙ ap (λ l. slice_get l p) same ∙ at) ∙ (λ i. record old { owner = record old.owner { closed = none_more i } });
+}
+  where
+    none_more : old.owner.closed ≡ old.owner.closed + 0
+    none_more = omega arith
 stays_all olds news (parts ∷ later) took p old new at at' =
     let first = part_in olds took.0 parts p old took.1 at in
-    let one = stays_one old first.1 first.0 first.4 in
     let rest = stays_all took.0 news later took.2 p first.1 new first.3 at' in
-    record {
-      number = rest.number ∙ one.number;
-      home = rest.home ∙ one.home;
-      book = rest.book ∙ one.book;
-      history = rest.history ∙ one.history;
-      shape = rest.shape ∙ one.shape;
-      phase = rest.phase ∙ one.phase;
-      closed_is = omega (arith, rest.closed_is, one.closed_is, sum_by-cons (closed_at p) parts later, ap closed_by first.2);
+    let one = first.4.same in
+    let both : old.owner.closed + (reader_state first.0.seat).closed + sum_by (closed_at p) later ≡ old.owner.closed + sum_by (closed_at p) (parts ∷ later) =
+    omega (arith, sum_by-cons (closed_at p) parts later, ap closed_by first.2) in record {
+      met = rest.met;
+      is = rest.is ∙ (λ i. record (one i) { owner = record (one i).owner { met = rest.met; closed = (one i).owner.closed + sum_by (closed_at p) later } })
+          ∙ (λ i. record old { owner = record old.owner { met = rest.met; closed = both i } });
     }
 
 pub took_from : (olds news : List Owned) (hands : List (List LockedPart)) → TakesHands olds news hands → (f p : ℕ) (parts : List LockedPart) (part : LockedPart) (old : Owned)
@@ -95,12 +73,12 @@ took_from olds news (hand ∷ later) took zero p parts part old is at at' =
     subst (TookFrom old) here (record { own = first.4.own; no_others = first.4.no_others; seen = first.4.seen })
 took_from olds news (hand ∷ later) took (suc f) p parts part old is at at' =
     let first = part_in olds took.0 hand p old took.1 at' in
-    let one = stays_one old first.1 first.0 first.4 in
+    let one = first.4.same in
     let rest = took_from took.0 news later took.2 f p parts part first.1 is at first.3 in
     record {
-      own = ap (λ b. entries_by part.taker.number b.entries) (sym one.book) ∙ rest.own;
-      no_others = λ number high. ap (λ b. entries_by number b.entries) (sym one.book) ∙ rest.no_others number (subst (λ b. b.takers ≤ number) (sym one.book) high);
-      seen = subst (IsPrefix (reader_state part.seat).seen) one.history rest.seen;
+      own = ap (λ (v : Owned). entries_by part.taker.number v.book.entries) (sym one) ∙ rest.own;
+      no_others = λ number high. ap (λ (v : Owned). entries_by number v.book.entries) (sym one) ∙ rest.no_others number (subst (λ (v : Owned). v.book.takers ≤ number) (sym one) high);
+      seen = subst (λ (v : Owned). IsPrefix (reader_state part.seat).seen v.owner.history) one rest.seen;
     }
 
 -- what may be taken in may be still, once another front was
@@ -109,12 +87,11 @@ may_still olds news hand other took may = record {
   many = may.many ∙ sym took.many;
   numbered = λ p new at.
       let o = was p new at in
-      (stays_one o.0 new o.1 o.3).number ∙ may.numbered p o.0 o.2;
+      ap (λ v. v.number) o.3.same ∙ may.numbered p o.0 o.2;
   each = λ p new part at at'.
       let o = was p new at in
-      let one = stays_one o.0 new o.1 o.3 in
       let m = may.each p o.0 part o.2 at' in
-      record { home = m.home ∙ sym one.home; book = m.book ∙ ap (λ b. b.table) (sym one.book) };
+      record { home = m.home ∙ ap (λ v. v.home) (sym o.3.same); book = m.book ∙ ap (λ v. v.book.table) (sym o.3.same) };
 }
   where
     was : (p : ℕ) (new : Owned) → slice_get news p ≡ Some new → (old : Owned) × (part : LockedPart) × (slice_get olds p ≡ Some old) × TookIn old new part

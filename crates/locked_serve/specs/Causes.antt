@@ -1,5 +1,5 @@
 -- What each answer of a server says that was filled, and that tells once it listens at its ports.
-use Rattle.std.specs.Prelude.{◌≡◌, ◌⊎◌, ◌<◌, ℕ, List, [], length, Option, Some, None, option_map, Result, Ok, Err, OnOk}
+use Rattle.std.specs.Prelude.{◌≡◌, ◌⊎◌, ◌+◌, ◌<◌, ℕ, List, [], length, Option, Some, None, option_map, Result, Ok, Err, OnOk}
 use Rattle.mica_clock.specs.Seconds.{ClockView}
 use Rattle.mica_io.specs.Faults.{Rose}
 use Rattle.mica_io.specs.declared.net.Net.{Ghosts as NetTells}
@@ -19,7 +19,7 @@ use Rattle.locked_serve.specs.declared.service.Service.{Service}
 use Rattle.locked_serve.specs.declared.filling.OpenFault.{OpenFault}
 use Rattle.locked_serve.specs.declared.filling.OpenFault.TheVariants as open_fault
 use Rattle.locked_serve.specs.declared.stop.Stop.{Stop}
-use Rattle.locked_serve.specs.declared.stop.Stop.TheVariants.{Refused, Unannounced, Fault}
+use Rattle.locked_serve.specs.declared.stop.Stop.TheVariants.{Refused, Unbound, Unannounced, Fault}
 use Rattle.locked_serve.specs.Filled.{origin_of, RefusesFilling}
 use Rattle.locked_serve.specs.Streams.{StreamFacts, ListenFacts, HaveFinished, KeepsListeners, AreStreams, LeavesStreams, counted_by_all, listen_facts, others_of, with_ports}
 
@@ -32,13 +32,19 @@ pub record PortFacts : Type 0 where
 abbrev pub ports_at : {N E L C : Type 0} → NetTells N E → ListenersTell L C → N → L → PortFacts
 ports_at net listeners = λ n l. record { net = net_facts net n; listens = listen_facts listeners l }
 
--- What the fronts came to where a server came to this: nothing where they were not served, as where a port could not be listened at, and the faults of what listens rose.
-abbrev pub CameTo : Result Totals Stop → ℕ → ℕ → Option (Result Totals ServeFault) → Type 0
-CameTo (Ok totals) before after came = came ≡ Some (Ok totals)
-CameTo (Err (Fault Net)) before after came = (came ≡ Some (Err Net)) ⊎ ((came ≡ None) × Rose before after)
-CameTo (Err (Fault NoMemory)) before after came = came ≡ Some (Err NoMemory)
-CameTo (Err Unannounced) before after came = came ≡ None
-CameTo (Err Refused) before after came = ⊥
+-- it is the next port behind those that were listened at, and one of the service's
+abbrev pub IsNextPort : StreamPorts → List StreamFacts → ℕ → Type 0
+IsNextPort streams heard port = (length heard < streams.fronts) × (port ≡ streams.port + length heard)
+
+-- What the fronts came to where a server came to this: nothing where they were not served. Where a port was not had, either it is one of datagrams, and none was listened at;
+-- or it is the next one behind those that were listened at, and the faults of what listens rose.
+abbrev pub CameTo : Result Totals Stop → StreamPorts → List StreamFacts → ℕ → ℕ → Option (Result Totals ServeFault) → Type 0
+CameTo (Ok totals) streams heard before after came = came ≡ Some (Ok totals)
+CameTo (Err (Fault fault)) streams heard before after came = came ≡ Some (Err fault)
+CameTo (Err (Unbound port)) streams heard before after came =
+    ((came ≡ Some (Err Net)) × (heard ≡ []) × (after ≡ before)) ⊎ ((came ≡ None) × Rose before after × IsNextPort streams heard port)
+CameTo (Err Unannounced) streams heard before after came = came ≡ None
+CameTo (Err Refused) streams heard before after came = ⊥
 
 -- The fronts of connections answered this and left this of their ports, and those of datagrams came to what is said of them, beside each other. Where they came to
 -- totals, each of them all had its port, and has finished. For so many connections there was no memory.
@@ -54,7 +60,7 @@ pub record ComesBeside (says : Others → Option (Result Totals ServeFault) → 
   pub all : OnOk answer (length olds ≡ service.streams.fronts)
   pub finished : OnOk answer (HaveFinished service.options answers news)
   pub came : Option (Result Totals ServeFault)
-  pub came_is : CameTo answer before.faults after.faults came
+  pub came_is : CameTo answer service.streams olds before.faults after.faults came
   pub unserved : LeavesStreams came answers lacked olds news
   pub said : says (others_of answers olds news) came
 
@@ -74,9 +80,11 @@ abbrev pub stop_of : OpenFault → Stop
 stop_of open_fault.Refused = Refused
 stop_of open_fault.NoMemory = Fault NoMemory
 
--- a port could not be bound, or not be listened at
-abbrev pub LacksPort : PortFacts → PortFacts → Type 0
-LacksPort before after = (before.net.refused < after.net.refused) ⊎ Rose before.listens.faults after.listens.faults
+-- A port was not had: one bind failed, and it is the port of the last bind; or none failed, and a port could not be listened at.
+abbrev pub LacksPort : ℕ → PortFacts → PortFacts → Type 0
+LacksPort port before after =
+    ((after.net.refused ≡ before.net.refused + 1) × (port + 1 ≡ after.net.first + after.net.binds))
+    ⊎ ((after.net.refused ≡ before.net.refused) × Rose before.listens.faults after.listens.faults)
 
 -- all could
 abbrev pub HasPorts : PortFacts → PortFacts → Type 0
@@ -86,8 +94,9 @@ HasPorts before after = (after.net.refused ≡ before.net.refused) × (after.lis
 abbrev pub HasAnnounced : {A : Type 0} → (A → A → Type 0) → (A → A → Type 0) → Result Totals Stop → PortFacts → PortFacts → A → A → Type 0
 HasAnnounced says fails (Ok totals) before after old new = says old new
 HasAnnounced says fails (Err Refused) before after old new = new ≡ old
+HasAnnounced says fails (Err (Unbound port)) before after old new = LacksPort port before after × (new ≡ old)
 HasAnnounced says fails (Err Unannounced) before after old new = fails old new
-HasAnnounced says fails (Err (Fault Net)) before after old new = (LacksPort before after × (new ≡ old)) ⊎ (HasPorts before after × says old new)
+HasAnnounced says fails (Err (Fault Net)) before after old new = HasPorts before after × says old new
 HasAnnounced says fails (Err (Fault NoMemory)) before after old new = (new ≡ old) ⊎ says old new
 
 -- Whatever the answer: what is kept of all ports, and what became of the announcement.

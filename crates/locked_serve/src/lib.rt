@@ -7,6 +7,7 @@
 mod announce;
 mod answers;
 mod filling;
+mod left;
 mod listening;
 mod opening;
 mod serve;
@@ -19,7 +20,8 @@ mod worker;
 
 pub use announce::Announce;
 pub use filling::OpenFault;
+pub use left::Left;
 pub use opening::{FilledPart, lend_hand, lock_parts, open_parts};
 pub use serve::{MOST_FRONTS, serve_locked};
-pub use service::{Service, Shared};
+pub use service::{Service, Shared, Start};
 pub use stop::{Stop, Untold};

@@ -1,5 +1,5 @@
 //! The ports of connections, listened at one after another and let go.
-ghost use Rattle.std.specs.Prelude.{◌≡◌, ◌+◌, ◌≤◌, [], map, vec_len, vec_capacity, OnOk, OnErr};
+ghost use Rattle.std.specs.Prelude.{◌≡◌, ◌+◌, ◌<◌, ◌≤◌, [], map, vec_len, vec_capacity, OnOk, OnErr};
 ghost use Rattle.mica_io.specs.Faults.{Rose};
 ghost use Rattle.stream_fronts.specs.StreamPorts.{IsPossibleStreams};
 ghost use Rattle.locked_serve.specs.Streams.{AreNewStreams, KeepsListeners, ReleasesStreams, listen_facts, stream_facts};
@@ -24,6 +24,7 @@ pub(crate) fn listen_all<L: Listeners>(
     ensures unreleased { L.released listeners.new ≡ L.released listeners.old }
     ensures steady { OnOk result (L.faults listeners.new ≡ L.faults listeners.old) }
     ensures cause { OnErr result (Rose (L.faults listeners.old) (L.faults listeners.new)) }
+    ensures lacks { OnErr result (vec_len connections.new < streams.now.fronts) }
 {
     for k in 0..streams.fronts {
         let port = listeners.listen(streams.port + k as u16)?;

@@ -13,10 +13,11 @@ ghost use Rattle.locked_serve.specs.Opening.{ArePlanned, filled_view};
 ghost use Rattle.locked_serve.specs.Server.{IsLockedServer};
 
 use crate::announce::Announce;
+use crate::left::Left;
 use crate::listening::{listen_all, release_streams};
 use crate::opening::{FilledPart, makers_of, open_parts};
 use crate::server::{LockedServer, serve_all};
-use crate::service::Shared;
+use crate::service::{Shared, Start};
 use crate::stop::Stop;
 use cache_partition::CachePartition;
 use epoch_core::LendPartition;
@@ -25,8 +26,8 @@ use mica_clock::Clock;
 use mica_fronts::Totals;
 use mica_io::{Gate, Net};
 use mica_serve::{bind_all, release_all};
-use partition_model::{Mode, Write};
-use partition_table::{Note, OwnerSeat, ReaderSeat, Tables};
+use partition_model::Mode;
+use partition_table::{Note, OwnerSeat, ReaderSeat};
 use seated_partition::OnTable;
 use std::marker::Brand;
 use std::sync::Wait;
@@ -56,9 +57,8 @@ fn bind_and_serve<
     listeners: &mut L,
     connections: &mut Vec<L::Port>,
     clocks: Vec<K>,
-    tables: &mut Tables,
-    lacked: &mut u64,
     announce: &mut A,
+    left: &mut Left,
 ) -> Result<Totals, Stop>
     requires same { (p : P) → P.state p ≡ P.owner p }
     requires service { IsPossibleService shared.now.service }
@@ -67,16 +67,16 @@ fn bind_and_serve<
     requires filled { (p : ℕ) → p < shared.now.service.options.partitions → IsHistory shared.now.service.options (J.plan.origin p) }
     requires server { IsLockedServer J.plan shared.now.service.streams.fronts shared.now.service.ports.fronts (length server.locks.items)
         server.stream_hands.items server.hands.items server.room }
-    requires tables { tables.old ≡ [] }
-    requires uncounted { lacked.old ≡ 0 }
+    requires tables { left.old.tables ≡ [] }
+    requires uncounted { left.old.lacked ≡ 0 }
     requires unbound { N.binds net.old ≡ 0 }
     requires none { ends.old.items ≡ [] }
     requires room { shared.now.service.ports.fronts ≤ vec_capacity ends.old }
     requires no_streams { connections.old.items ≡ [] }
     requires room_of_streams { shared.now.service.streams.fronts ≤ vec_capacity connections.old }
-    ensures served { ComesBeside (λ others came. BindsAndServes others shared.now.service.options J.plan.origin shared.now.service.ports came tables.new
+    ensures served { ComesBeside (λ others came. BindsAndServes others shared.now.service.options J.plan.origin shared.now.service.ports came left.new.tables
         (net_facts N.Net net.old) (net_facts N.Net net.new) (map (end_facts N.End.Datagrams) ends.new.items))
-        (λ news. news ≡ map (stream_facts L.Port.Connections) connections.new.items) result shared.now.service (map K.view clocks.items) lacked.new
+        (λ news. news ≡ map (stream_facts L.Port.Connections) connections.new.items) result shared.now.service (map K.view clocks.items) left.new.lacked
         (listen_facts L.Listeners listeners.old) (listen_facts L.Listeners listeners.new) }
     ensures unreleased { L.released listeners.new ≡ L.released listeners.old }
     ensures heard { KeepsListeners shared.now.service.streams (listen_facts L.Listeners listeners.old) (listen_facts L.Listeners listeners.new) }
@@ -85,10 +85,14 @@ fn bind_and_serve<
 {
     let ports = &shared.service.ports;
     let streams = &shared.service.streams;
-    bind_all(net, ports, ends)?;
-    listen_all(listeners, streams, connections)?;
+    let Ok(()) = bind_all(net, ports, ends) else {
+        return Err(Stop::Unbound(ports.port + ends.len() as u16));
+    };
+    let Ok(()) = listen_all(listeners, streams, connections) else {
+        return Err(Stop::Unbound(streams.port + connections.len() as u16));
+    };
     announce.ready(ports, streams, ends.as_slice(), connections.as_slice())?;
-    let totals = serve_all(shared, server, ends, connections, clocks, tables, lacked)?;
+    let totals = serve_all(shared, server, ends, connections, clocks, left)?;
     Ok(totals)
 }
 
@@ -105,12 +109,11 @@ fn serve_named<
 >(
     shared: &Shared<W, G>,
     parts: Vec<FilledPart<P>>,
+    clocks: Vec<K>,
     net: &mut N,
     listeners: &mut L,
-    clocks: Vec<K>,
-    tables: &mut Tables,
-    lacked: &mut u64,
     announce: &mut A,
+    left: &mut Left,
 ) -> Result<Totals, Stop>
     requires notes { NotesAre P.noted P.note_home note_state note_home }
     requires same { (p : P) → P.state p ≡ P.owner p }
@@ -119,9 +122,9 @@ fn serve_named<
     requires of { ArePlanned J.plan 0 (map (λ f. filled_view P.owner P.home f) parts.items) }
     requires clocks { length clocks.items ≡ shared.now.service.streams.fronts }
     requires unbound { N.binds net.old ≡ 0 }
-    requires tables { tables.old ≡ [] }
-    requires uncounted { lacked.old ≡ 0 }
-    ensures cause { HasCause result shared.now.service J.plan.origin (map K.view clocks.items) tables.new lacked.new
+    requires tables { left.old.tables ≡ [] }
+    requires uncounted { left.old.lacked ≡ 0 }
+    ensures cause { HasCause result shared.now.service J.plan.origin (map K.view clocks.items) left.new.tables left.new.lacked
         (ports_at N.Net L.Listeners net.old listeners.old) (ports_at N.Net L.Listeners net.new listeners.new) }
     ensures leaves { Leaves A.says A.fails result shared.now.service
         (ports_at N.Net L.Listeners net.old listeners.old) (ports_at N.Net L.Listeners net.new listeners.new) announce.old announce.new }
@@ -138,9 +141,8 @@ fn serve_named<
         listeners,
         &mut connections,
         clocks,
-        tables,
-        lacked,
         announce,
+        left,
     );
     release_all(net, ends, service.ports.port);
     release_streams(listeners, connections);
@@ -158,29 +160,28 @@ fn serve_on<
     A: Announce,
 >(
     shared: &Shared<W, G>,
-    filling: Vec<Write>,
+    start: Start<K>,
     net: &mut N,
     listeners: &mut L,
-    clocks: Vec<K>,
-    tables: &mut Tables,
-    lacked: &mut u64,
     announce: &mut A,
+    left: &mut Left,
 ) -> Result<Totals, Stop>
     requires notes { NotesAre P.noted P.note_home note_state note_home }
     requires same { (p : P) → P.state p ≡ P.owner p }
     requires service { IsPossibleService shared.now.service }
     requires mode { shared.now.service.options.mode ≡ P.mode }
-    requires clocks { length clocks.items ≡ shared.now.service.streams.fronts }
-    requires filling { All IsWrite filling.items }
+    requires clocks { length start.clocks.items ≡ shared.now.service.streams.fronts }
+    requires filling { All IsWrite start.filling.items }
     requires unbound { N.binds net.old ≡ 0 }
-    requires tables { tables.old ≡ [] }
-    requires uncounted { lacked.old ≡ 0 }
-    ensures cause { IsCauseOfStop result shared.now.service filling.items (map K.view clocks.items) tables.new lacked.new
+    requires tables { left.old.tables ≡ [] }
+    requires uncounted { left.old.lacked ≡ 0 }
+    ensures cause { IsCauseOfStop result shared.now.service start.filling.items (map K.view start.clocks.items) left.new.tables left.new.lacked
         (ports_at N.Net L.Listeners net.old listeners.old) (ports_at N.Net L.Listeners net.new listeners.new) }
     ensures leaves { Leaves A.says A.fails result shared.now.service
         (ports_at N.Net L.Listeners net.old listeners.old) (ports_at N.Net L.Listeners net.new listeners.new) announce.old announce.new }
 {
     let service = &shared.service;
+    let Start { filling, clocks } = start;
     let fronts = service.streams.fronts + service.ports.fronts;
     let makers = makers_of(&service.options);
     rehearse(shared.rt, shared.alloc, fronts.max(makers))?;
@@ -191,15 +192,13 @@ fn serve_on<
         filling.as_slice(),
     )?;
     drop(filling);
-    serve_named::<Brand, W, P, N, L, K, G, A>(
-        shared, parts, net, listeners, clocks, tables, lacked, announce,
-    )
+    serve_named::<Brand, W, P, N, L, K, G, A>(shared, parts, clocks, net, listeners, announce, left)
 }
 
 /// Fills the partitions by these writes, binds a port for each front of datagrams and listens at one for each front of connections, in order, and tells
 /// so. Then all fronts run side by side, each in a thread of its own, and each is the owner of a partition for as long as one write takes. A front of
 /// connections has a clock of its own. All ends are released. The owners' seats are kept, in the order of the partitions, where no front failed. Whatever
-/// the answer, `lacked` says how many connections were closed since there was no memory for them.
+/// the answer, `left.lacked` says how many connections were closed since there was no memory for them.
 pub fn serve_locked<
     W: Threads + Wait + Sync,
     N: Net,
@@ -209,32 +208,30 @@ pub fn serve_locked<
     A: Announce,
 >(
     shared: &Shared<W, G>,
-    filling: Vec<Write>,
+    start: Start<K>,
     net: &mut N,
     listeners: &mut L,
-    clocks: Vec<K>,
-    tables: &mut Tables,
-    lacked: &mut u64,
     announce: &mut A,
+    left: &mut Left,
 ) -> Result<Totals, Stop>
     requires service { IsPossibleService shared.now.service }
-    requires clocks { length clocks.items ≡ shared.now.service.streams.fronts }
-    requires filling { All IsWrite filling.items }
+    requires clocks { length start.clocks.items ≡ shared.now.service.streams.fronts }
+    requires filling { All IsWrite start.filling.items }
     requires unbound { N.binds net.old ≡ 0 }
-    requires tables { tables.old ≡ [] }
-    requires uncounted { lacked.old ≡ 0 }
+    requires tables { left.old.tables ≡ [] }
+    requires uncounted { left.old.lacked ≡ 0 }
 
-    ensures cause { IsCauseOfStop result shared.now.service filling.items (map K.view clocks.items) tables.new lacked.new
+    ensures cause { IsCauseOfStop result shared.now.service start.filling.items (map K.view start.clocks.items) left.new.tables left.new.lacked
         (ports_at N.Net L.Listeners net.old listeners.old) (ports_at N.Net L.Listeners net.new listeners.new) }
     ensures leaves { Leaves A.says A.fails result shared.now.service
         (ports_at N.Net L.Listeners net.old listeners.old) (ports_at N.Net L.Listeners net.new listeners.new) announce.old announce.new }
 {
     match shared.service.options.mode {
         Mode::Cache => serve_on::<W, CachePartition<OwnerSeat>, N, L, K, G, A>(
-            shared, filling, net, listeners, clocks, tables, lacked, announce,
+            shared, start, net, listeners, announce, left,
         ),
         Mode::Store => serve_on::<W, StorePartition<OwnerSeat>, N, L, K, G, A>(
-            shared, filling, net, listeners, clocks, tables, lacked, announce,
+            shared, start, net, listeners, announce, left,
         ),
     }
 }

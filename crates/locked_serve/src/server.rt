@@ -16,6 +16,7 @@ ghost use Rattle.locked_serve.specs.Taking.{left_view};
 ghost use Rattle.locked_serve.specs.Server.{IsRow, IsRoom, IsLockedServer};
 
 use crate::answers::sum_up_beside;
+use crate::left::Left;
 use crate::opening::{FilledPart, lend_hands, lock_parts};
 use crate::service::{Service, Shared};
 use crate::streams::{StreamTask, pair_streams, part_streams};
@@ -26,7 +27,7 @@ use locked_fronts::{LockedPart, OwnedPartition, Returned, ServerPlan};
 use mica_clock::Clock;
 use mica_fronts::{ServeFault, Totals};
 use mica_io::{Datagrams, Gate, NoMemory};
-use partition_table::{Note, ReaderSeat, Tables};
+use partition_table::{Note, ReaderSeat};
 use seated_partition::OnTable;
 use std::alloc::Global;
 use std::mem;
@@ -243,8 +244,7 @@ pub(crate) fn serve_all<
     ends: &mut Vec<D>,
     connections: &mut Vec<C>,
     clocks: Vec<K>,
-    tables: &mut Tables,
-    lacked: &mut u64,
+    left: &mut Left,
 ) -> Result<Totals, ServeFault>
     requires same { (p : P) → P.state p ≡ P.owner p }
     requires service { IsPossibleService shared.now.service }
@@ -254,10 +254,10 @@ pub(crate) fn serve_all<
     requires filled { (p : ℕ) → p < shared.now.service.options.partitions → IsHistory shared.now.service.options (J.plan.origin p) }
     requires server { IsLockedServer J.plan (length connections.old.items) (length ends.old.items) (length server.locks.items)
         server.stream_hands.items server.hands.items server.room }
-    requires tables { tables.old ≡ [] }
+    requires tables { left.old.tables ≡ [] }
     requires unserved { AreOpen (map (end_facts D.Datagrams) ends.old.items) }
     requires fresh { AreUnserved (map (stream_facts C.Connections) connections.old.items) }
-    ensures { ServesBeside shared.now.service.options J.plan.origin shared.now.service.ports.batches shared.now.service.base (map K.view clocks.items) result tables.new lacked.new
+    ensures { ServesBeside shared.now.service.options J.plan.origin shared.now.service.ports.batches shared.now.service.base (map K.view clocks.items) result left.new.tables left.new.lacked
         (map (end_facts D.Datagrams) ends.old.items) (map (end_facts D.Datagrams) ends.new.items)
         (map (stream_facts C.Connections) connections.old.items) (map (stream_facts C.Connections) connections.new.items) }
 {
@@ -265,10 +265,10 @@ pub(crate) fn serve_all<
         parts,
         streams,
         fronts,
-        lacked: count,
+        lacked,
     } = run_all(shared, server, ends, connections, clocks);
-    *lacked = count;
+    left.lacked = lacked;
     let totals = sum_up_beside(streams.as_slice(), fronts.as_slice())?;
-    keep_all(parts, tables);
+    keep_all(parts, &mut left.tables);
     Ok(totals)
 }

@@ -1,8 +1,9 @@
 //! What a server serves, and what all its fronts share.
 use memcached_stats::Board;
 use mica_fronts::PortOptions;
-use partition_model::Options;
+use partition_model::{Options, Write};
 use std::alloc::Global;
+use std::sync::atomic::AtomicBool;
 use stream_fronts::StreamPorts;
 
 /// The partitions, the ports of both kinds, and the unique number of the first value that a partition takes from a connection.
@@ -22,4 +23,13 @@ pub struct Shared<'a, W, G> {
     pub service: Service,
     pub board: &'a Board,
     pub gate: &'a G,
+    /// Set once a front has ended or a partition bears no more writes: ports that fail together end the server then.
+    pub ended: &'a AtomicBool,
+}
+
+/// What a server begins with: the writes that fill its partitions, in their order, and a clock for each front of connections.
+#[derive(Drop)]
+pub struct Start<K> {
+    pub filling: Vec<Write>,
+    pub clocks: Vec<K>,
 }

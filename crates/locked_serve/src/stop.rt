@@ -3,7 +3,7 @@ ghost use Rattle.std.specs.Prelude.{◌≡◌};
 
 use crate::filling::OpenFault;
 use mica_fronts::ServeFault;
-use mica_io::{Failed, NoMemory};
+use mica_io::NoMemory;
 use std::alloc::AllocError;
 use std::error::Error;
 use std::fmt;
@@ -13,6 +13,8 @@ use std::fmt;
 pub enum Stop {
     /// A write that was to fill its partition was refused. No port was bound.
     Refused,
+    /// This port could not be bound, or not be listened at. Nothing was received.
+    Unbound(u16),
     /// The ports were bound, and what was to be told then could not be told. Nothing was received.
     Unannounced,
     Fault(ServeFault),
@@ -26,6 +28,7 @@ impl fmt::Display for Stop {
     fn fmt<W: fmt::Write>(&self, f: &mut fmt::Formatter<W>) -> fmt::Result {
         match self {
             Stop::Refused => fmt::Display::fmt(&OpenFault::Refused, f),
+            Stop::Unbound(port) => write!(f, "port {port} could not be bound"),
             Stop::Unannounced => fmt::Display::fmt(&Untold, f),
             Stop::Fault(fault) => fmt::Display::fmt(fault, f),
         }
@@ -84,17 +87,6 @@ impl From<NoMemory> for Stop {
 
     fn from(_: NoMemory) -> Self {
         Stop::Fault(ServeFault::NoMemory)
-    }
-}
-
-impl From<Failed> for Stop {
-    ghost use Rattle.mica_fronts.specs.declared.totals.ServeFault.TheVariants.{Net};
-    ghost use Rattle.locked_serve.specs.declared.stop.Stop.TheVariants.{Fault};
-
-    ghost from_gives = { λ _ e. e ≡ Fault Net };
-
-    fn from(_: Failed) -> Self {
-        Stop::Fault(ServeFault::Net)
     }
 }
 

@@ -13,6 +13,7 @@ use mica_fronts::ServeFault;
 use mica_io::Gate;
 use partition_table::{Note, ReaderSeat};
 use std::mem;
+use std::sync::atomic::Ordering;
 use std::sync::{Mutex, Wait};
 use std::thread::{Threads, for_each_mut};
 use stream_fronts::serve_connections;
@@ -44,7 +45,7 @@ impl<C: Connections, K: Clock> StreamTask<C, K> {
     {
         let options = &shared.service.options;
         let parts = mem::replace(&mut self.parts, Vec::new(shared.alloc));
-        let mut front = LockedFront::new(options, locks, number, parts);
+        let mut front = LockedFront::new(options, locks, number, parts, shared.ended);
         let numbering = Numbering {
             partitions: options.partitions,
             base: shared.service.base,
@@ -61,6 +62,7 @@ impl<C: Connections, K: Clock> StreamTask<C, K> {
             &mut self.port,
             &mut self.lacked,
         );
+        shared.ended.store(true, Ordering::Relaxed);
         self.parts = front.into_parts();
     }
 }

@@ -15,6 +15,7 @@ use mica_fronts::{ServeFault, Totals, serve_end};
 use mica_io::{Datagrams, Gate};
 use partition_table::{Note, ReaderSeat};
 use std::mem;
+use std::sync::atomic::Ordering;
 use std::sync::{Mutex, Wait};
 use std::thread::{Threads, for_each_mut, join_mut};
 use stream_io::Connections;
@@ -42,7 +43,7 @@ impl<D: Datagrams> FrontTask<D> {
     {
         let options = &shared.service.options;
         let parts = mem::replace(&mut self.parts, Vec::new(shared.alloc));
-        let mut front = LockedFront::new(options, locks, number, parts);
+        let mut front = LockedFront::new(options, locks, number, parts, shared.ended);
         self.answer = serve_end(
             shared.rt,
             shared.alloc,
@@ -52,6 +53,7 @@ impl<D: Datagrams> FrontTask<D> {
             shared.gate,
             options.partitions + number,
         );
+        shared.ended.store(true, Ordering::Relaxed);
         self.parts = front.into_parts();
     }
 }

@@ -9,11 +9,13 @@ use Rattle.std.specs.List.{cons_option}
 use Rattle.mica_clock.specs.Seconds.{ClockView, once_read}
 use Rattle.partition_model.specs.declared.options.Options.{Options}
 use Rattle.memcached_text.specs.Answer.{last_text}
+use Rattle.memcached_text.specs.declared.next.Next.{Next}
 use Rattle.memcached_commands.specs.declared.asks.Asked.{Asked}
 use Rattle.memcached_commands.specs.Answers.{last_of, unless_quiet}
 use Rattle.mica_fronts.specs.Answered.{Answered}
 use Rattle.memcached_fronts.specs.Seconds.{second_in, seconds_of, ToldFrom}
 use Rattle.memcached_fronts.specs.AskAnswers.{AnswersAsks, said_of, shown_text, asks_text}
+use Rattle.memcached_fronts.specs.Exchange.{is_quiet, flush_text}
 use Rattle.memcached_fronts.specs.Going.{ask_text}
 
 -- Seconds
@@ -78,6 +80,11 @@ module _ (base : ℕ) where
 pub quiet_none : (quiet : Bool) → unless_quiet quiet [] ≡ []
 quiet_none true = refl
 quiet_none false = refl
+
+-- nothing is due of a flush before it was answered
+pub none_flushed_yet : (next : Next) (t : Bool) → cond t [] (unless_quiet (is_quiet next) (flush_text t [])) ≡ []
+none_flushed_yet next true = refl
+none_flushed_yet next false = quiet_none (is_quiet next)
 
 pub quiet_both : (quiet : Bool) (one two : List ℕ) → unless_quiet quiet (one ++ two) ≡ unless_quiet quiet one ++ unless_quiet quiet two
 quiet_both true one two = refl

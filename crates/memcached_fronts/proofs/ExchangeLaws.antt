@@ -1,8 +1,7 @@
 -- An exchange goes on.
-use Rattle.std.proofs.Common.{◌≡◌, ◌<◌, ◌≤◌, ◌+◌, ◌-◌, ◌==◌, ◌⊎◌, inl, inr, ℕ, zero, suc, Bool, true, false, true≢false, cond, ltb, List, [], ◌∷◌, ◌++◌, length, drop, refl, sym, ap, ◌∙◌, subst, arith}
-use Rattle.std.proofs.Math.Dec.{eqb-suc-zero}
-use Rattle.std.proofs.lemmas.List.{append-nil, length-drop}
-use Rattle.std.proofs.lemmas.Bool.{eqb-true, eq-eqb, ltb-true, ltb-false}
+use Rattle.std.proofs.Common.{◌≡◌, ◌<◌, ◌≤◌, ◌+◌, ◌-◌, ◌==◌, ◌⊎◌, inl, inr, ℕ, Bool, true, false, true≢false, cond, ltb, List, [], ◌∷◌, ◌++◌, length, drop, refl, sym, ap, ◌∙◌, subst, arith}
+use Rattle.std.proofs.lemmas.List.{append-nil, length-drop, nil_from_length}
+use Rattle.std.proofs.lemmas.Bool.{eqb-true, eq-eqb, ne_eqb, ltb-true, ltb-false}
 use Rattle.mica_clock.specs.Seconds.{ClockView}
 use Rattle.partition_model.specs.declared.options.Options.{Options}
 use Rattle.memcached_text.specs.declared.command.Command.{Command}
@@ -26,23 +25,7 @@ use Rattle.memcached_fronts.specs.declared.answer.Limits.{Limits}
 use Rattle.memcached_fronts.specs.declared.answer.Progress.{Progress}
 use Rattle.memcached_fronts.specs.Seconds.{seconds_of, ToldFrom}
 use Rattle.memcached_fronts.specs.Going.{StandsAt, AnswersFirst, RepliesFirst, GoesOn, Replies}
-use Rattle.memcached_fronts.proofs.AskLaws.{more_answers, few_answers, more_text, quiet_both}
-
--- a number that is not another
-differs : (n m : ℕ) → n < m → (n == m) ≡ false
-differs n m less = go (n == m) refl
-  where
-    go : (t : Bool) → (n == m) ≡ t → (n == m) ≡ false
-    go false is = is
-    go true is = let same = eqb-true n m is in absurd (omega (arith, same, less))
-
-zero_or : (n : ℕ) → (n ≡ 0) ⊎ (0 < n)
-zero_or zero = inl refl
-zero_or (suc n) = inr (omega arith)
-
-not_zero : (n : ℕ) → 0 < n → (n == 0) ≡ false
-not_zero zero some = absurd (omega (arith, some))
-not_zero (suc n) some = eqb-suc-zero n
+use Rattle.memcached_fronts.proofs.AskLaws.{none_flushed_yet, more_answers, few_answers, more_text, quiet_both}
 
 not_all : (n m : ℕ) → n ≤ m → (n == m) ≡ false → n < m
 not_all n m few is = go (ltb n m) refl
@@ -89,7 +72,7 @@ module _ (options : Options) (base : ℕ) (next : Next) (done : ℕ) where
         let less = is_below next done stands some in
         let not_yet : is_answered options e ≡ false =
         ap (λ n. length e.answers == count_of_answers options n) at.next_is ∙ ap (λ t. length e.answers == cond t options.partitions (length (asks_in next))) keyed
-        ∙ differs (length e.answers) (length (asks_in next)) (omega (arith, less, at.count)) in
+        ∙ ne_eqb (length e.answers) (length (asks_in next)) (λ all. absurd (omega (arith, less, at.count, all))) in
         let before : due_before options base e ≡ unless_quiet quiet (asks_text base unique (asks_in next) e.answers) =
         ap (λ t. cond t [] (due_to options base e)) not_yet ∙ ap (λ n. unless_quiet (is_quiet n) (text_by options base e.told n e.answers)) at.next_is
         ∙ ap (unless_quiet quiet) (text_is e.told e.answers keyed some) in
@@ -162,25 +145,13 @@ fit_due nexts.LongLine fit = tt
 
 -- how many bytes are due before a flush, and after it
 module _ (options : Options) (base : ℕ) (next : Next) (flushes : is_flush_all next ≡ true) (e : Exchange) (at : StandsAt options base next 0 e) (told : Told) (answers : List Answered) where
-  none_yet : (given : List Answered) → length given ≡ 0 → given ≡ []
-  none_yet [] is = refl
-  none_yet (a ∷ given) is = absurd (omega (arith, is))
-
   empty : e.answers ≡ []
-  empty = none_yet e.answers at.count
+  empty = nil_from_length e.answers at.count
 
   pub flush_goes_on : ((second : ℕ) × FlushesFrom options (flush_at second (flush_due next)) 0 answers) → AnswersNext options base e.next (e.answers ++ answers)
   flush_goes_on is =
       subst (λ given. AnswersNext options base e.next (given ++ answers)) (sym empty)
       (subst (λ n. AnswersNext options base n answers) (sym at.next_is) (subst (λ t. AnswersBy t options base (flush_due next) (asks_in next) answers) (sym flushes) is))
-
-  nothing_due : (quiet : Bool) → unless_quiet quiet [] ≡ []
-  nothing_due true = refl
-  nothing_due false = refl
-
-  before_is : (t : Bool) → cond t [] (unless_quiet (is_quiet next) (flush_text t [])) ≡ []
-  before_is true = refl
-  before_is false = nothing_due (is_quiet next)
 
   pub flush_is_due : length answers ≡ options.partitions → due_to options base (longer e answers told) ≡ due_before options base e ++ unless_quiet (is_quiet next) (flush_text true answers)
   flush_is_due many =
@@ -195,7 +166,7 @@ module _ (options : Options) (base : ℕ) (next : Next) (flushes : is_flush_all 
       ap (λ n. cond (length e.answers == count_of_answers options n) [] (unless_quiet (is_quiet n) (text_by options base e.told n e.answers))) at.next_is
       ∙ ap (λ given. cond (length given == count_of_answers options next) [] (unless_quiet quiet (text_by options base e.told next given))) empty
       ∙ ap (λ t. cond (0 == cond t options.partitions (length (asks_in next))) [] (unless_quiet quiet (text_by options base e.told next []))) flushes
-      ∙ ap (λ text. cond (0 == options.partitions) [] (unless_quiet quiet text)) (text e.told []) ∙ before_is (0 == options.partitions) in
+      ∙ ap (λ text. cond (0 == options.partitions) [] (unless_quiet quiet text)) (text e.told []) ∙ none_flushed_yet next (0 == options.partitions) in
       after ∙ ap (λ text. text ++ unless_quiet quiet (flush_text true answers)) (sym before)
 
 -- What the server tells of itself
@@ -305,10 +276,8 @@ module _ (options : Options) (is_alone : Bool) (base : ℕ) (next : Next) (done 
             let all = eqb-true (done + count) (length (asks_in next)) is in
             eq-eqb (length (drop count (drop done (asks_in next)))) 0 (omega (arith, lens, all)) ∙ sym is
         go false is =
-            elim (zero_or (length (drop count (drop done (asks_in next))))) as (λ _. (length (drop count (drop done (asks_in next))) == 0) ≡ (done + count == length (asks_in next))) [
-              | inl none ↦ absurd (true≢false (sym (eq-eqb (done + count) (length (asks_in next)) (omega (arith, lens, none, few))) ∙ is))
-              | inr some ↦ not_zero (length (drop count (drop done (asks_in next)))) some ∙ sym is
-            ]
+            ne_eqb (length (drop count (drop done (asks_in next)))) 0 (λ none. absurd (true≢false (sym (eq-eqb (done + count) (length (asks_in next)) (omega (arith, lens, none, few))) ∙ is)))
+            ∙ sym is
 
     pub asks_reply : (limits : Limits) (before after : List ℕ) (count : ℕ) (left : List Asked) → 0 < length (asks_in next)
         → AnswersAsks base (drop done (asks_in next)) answers

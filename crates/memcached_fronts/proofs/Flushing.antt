@@ -3,6 +3,7 @@ use Rattle.std.proofs.Common.{◌≡◌, ◌<◌, ◌≤◌, ◌+◌, ◌*◌, �
 use Rattle.std.specs.Prelude.{bit_xor, if◌then◌else◌}
 use Rattle.std.specs.Int.{w64, to_le_bytes, from_le_bytes}
 use Rattle.std.specs.List.{list_all, cons_option}
+use Rattle.std.proofs.Math.Bool.{and-true}
 use Rattle.std.proofs.Math.Dec.{eqb-suc-zero}
 use Rattle.std.proofs.lemmas.Bool.{le-ltb}
 use Rattle.std.proofs.lemmas.Nat.{from_le_bytes-to_le_bytes_8}
@@ -45,10 +46,6 @@ flushes_then options flush partition count (x ∷ answers) a first many one = (
   flushes_then options flush (suc partition) (length answers) answers a first.1 refl (subst (λ (p : ℕ). FlushesOne options flush p a) (omega (arith, many)) one),
 )
 
-and_true : (t : Bool) → t ≡ (t && true)
-and_true true = refl
-and_true false = refl
-
 module _ (options : Options) (flush : Flush) (is_alone : Bool) (old between new : Sessions) (count : ℕ) (took : Bool) where
   pub flushed_more : (a : Answered) → Flushed options flush is_alone old between count took → FlushesOne options flush count a → Answers options is_alone between a new
       → Flushed options flush is_alone old new (count + 1) (took && accepts a)
@@ -59,7 +56,7 @@ module _ (options : Options) (flush : Flush) (is_alone : Bool) (old between new 
         flushes = flushes_then options flush 0 count so_far.answers a so_far.flushes so_far.many (subst (λ (n : ℕ). FlushesOne options flush n a) zero one);
         many = length-append so_far.answers (a ∷ []) ∙ ap (λ n. n + 1) so_far.many;
         took_all =
-            ap (λ t. t && accepts a) so_far.took_all ∙ ap (λ t. list_all accepts so_far.answers && t) (and_true (accepts a))
+            ap (λ t. t && accepts a) so_far.took_all ∙ ap (λ t. list_all accepts so_far.answers && t) (sym (and-true (accepts a)))
             ∙ sym (list_all-append accepts so_far.answers (a ∷ []));
       }
 

@@ -15,6 +15,7 @@ use Rattle.memcached_commands.specs.Asks.{asks_in}
 use Rattle.memcached_commands.specs.Answers.{unless_quiet}
 use Rattle.memcached_stats.specs.Stats.{Told}
 use Rattle.memcached_fronts.specs.Exchange.{Exchange, is_flush_all, is_answered, is_quiet, keyed_text, flush_text, due_to, due_before}
+use Rattle.memcached_fronts.proofs.AskLaws.{quiet_none, none_flushed_yet}
 use Rattle.memcached_fronts.specs.Spells.{Begins, MayFollow, Spells, taken_by, MayGoOn, due_to_all, answers_to_all}
 
 -- nothing stands in no bytes
@@ -90,24 +91,16 @@ module _ (options : Options) (base : ℕ) where
   pub answers_then : (es : List Exchange) (e : Exchange) → answers_to_all (es ++ e ∷ []) ≡ answers_to_all es ++ e.answers
   answers_then es e = flat_map-append (λ (x : Exchange). x.answers) es (e ∷ []) ∙ ap (λ given. answers_to_all es ++ given) (append-nil e.answers)
 
-  nothing_due : (quiet : Bool) → unless_quiet quiet [] ≡ []
-  nothing_due true = refl
-  nothing_due false = refl
-
   -- nothing was due before anything was answered
   pub nothing_before : (next : Next) (told : Told) → due_before options base (record { next = next; answers = []; told = told }) ≡ []
   nothing_before next told = go (is_flush_all next) (asks_in next)
     where
-      flush : (t : Bool) → cond t [] (unless_quiet (is_quiet next) (flush_text t [])) ≡ []
-      flush true = refl
-      flush false = nothing_due (is_quiet next)
-
       go : (flushes : Bool) (asks : List Asked)
           → cond (0 == cond flushes options.partitions (length asks)) []
           (unless_quiet (is_quiet next) (cond flushes (flush_text (0 == options.partitions) []) (keyed_text options.partitions base told next asks []))) ≡ []
-      go true asks = flush (0 == options.partitions)
+      go true asks = none_flushed_yet next (0 == options.partitions)
       go false [] = refl
-      go false (asked ∷ asks) = ap (λ t. cond t [] (unless_quiet (is_quiet next) [])) (eqb-zero-suc (length asks)) ∙ nothing_due (is_quiet next)
+      go false (asked ∷ asks) = ap (λ t. cond t [] (unless_quiet (is_quiet next) [])) (eqb-zero-suc (length asks)) ∙ quiet_none (is_quiet next)
 
   -- what is not answered had due what it has
   pub due_still : (e : Exchange) → is_answered options e ≡ false → due_before options base e ≡ due_to options base e

@@ -7,7 +7,7 @@ use Rattle.std.specs.declared.io.Error.{Error}
 use Rattle.std.specs.declared.io.ErrorKind.{ErrorKind}
 use Rattle.std.specs.declared.io.ErrorKind.TheVariants.{OutOfMemory}
 use Rattle.mica_cmd.specs.declared.status.Status.{Status}
-use Rattle.mica_cmd.specs.declared.status.Status.TheVariants.{Done, Usage, NoMemory, TraceRefused, TraceLong, ReadFault, WriteFault, NetFault, Unlawful, ReportRefused, ReplyRefused, LinkFault, ImageRefused}
+use Rattle.mica_cmd.specs.declared.status.Status.TheVariants.{Done, Usage, NoMemory, TraceRefused, TraceLong, ReadFault, WriteFault, NetFault, Unlawful, ReportRefused, ReplyRefused, LinkFault, ImageRefused, UsedUp}
 use Rattle.mica_commands.specs.Words.{Text}
 use Rattle.mica_commands.specs.CommandLine.{command_of}
 use Rattle.mica_cmd.specs.Outside.{Outside}
@@ -29,6 +29,7 @@ exit_number ReportRefused = 9
 exit_number ReplyRefused = 10
 exit_number LinkFault = 11
 exit_number ImageRefused = 12
+exit_number UsedUp = 13
 
 -- The words that the system gives, by the kind of its answer where it gives none: words that are no text count as none, which no command
 -- has. Where it found no memory for them, nothing is known of them.

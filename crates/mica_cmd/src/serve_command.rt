@@ -37,15 +37,15 @@ pub fn serve_command<W: Threads + Wait + Sync, K: Sink, N: Net, G: Gate>(
         (outside source (sink_facts K.Sink sink.new) (net_facts N.Net net.new) tables.new link) result }
 {
     match serve(rt, alloc, options, ports, net, gate, tables) {
-        Ok(totals) => print_totals(alloc, totals, sink),
+        Ok(totals) => print_totals(alloc, totals, Status::Done, sink),
         Err(ServeFault::Net) => write_due(sink, b"net fault\n", Status::NetFault),
         Err(ServeFault::NoMemory) => Status::NoMemory,
     }
 }
 
-/// Prints the line of the totals.
-pub fn print_totals<K: Sink>(alloc: Global, totals: Totals, sink: &mut K) -> Status
-    ensures { IsTold Status.Done (totals_text totals) (sink_facts K.Sink sink.old) (sink_facts K.Sink sink.new) result }
+/// Prints the line of the totals, which is due with a status.
+pub fn print_totals<K: Sink>(alloc: Global, totals: Totals, status: Status, sink: &mut K) -> Status
+    ensures { IsTold status (totals_text totals) (sink_facts K.Sink sink.old) (sink_facts K.Sink sink.new) result }
 {
     let Totals {
         batches,
@@ -53,7 +53,7 @@ pub fn print_totals<K: Sink>(alloc: Global, totals: Totals, sink: &mut K) -> Sta
         bad,
     } = totals;
     match format!(in alloc; "batches {batches} requests {requests} bad {bad}\n") {
-        Ok(line) => write_due(sink, line.as_bytes(), Status::Done),
+        Ok(line) => write_due(sink, line.as_bytes(), status),
         Err(_) => Status::NoMemory,
     }
 }

@@ -9,8 +9,8 @@ use Rattle.mica_fronts.specs.declared.totals.ServeFault.TheVariants.{Net, NoMemo
 use Rattle.mica_fronts.specs.declared.ports.PortOptions.{PortOptions}
 use Rattle.locked_serve.specs.declared.service.Service.{Service as LockedService}
 use Rattle.locked_serve.specs.declared.stop.Stop.{Stop}
-use Rattle.locked_serve.specs.declared.stop.Stop.TheVariants.{Refused, Unannounced, Fault}
-use Rattle.locked_serve.specs.Causes.{HasAnnounced, Leaves, PortFacts, LacksPort, HasPorts}
+use Rattle.locked_serve.specs.declared.stop.Stop.TheVariants.{Refused, Unbound, Unannounced, Fault}
+use Rattle.locked_serve.specs.Causes.{HasAnnounced, Leaves, PortFacts}
 use Rattle.mica_cmd.specs.declared.status.Status.{Status}
 use Rattle.mica_commands.specs.Words.{Text}
 use Rattle.mica_commands.specs.declared.stream_words.StreamOptions.{StreamOptions}
@@ -32,11 +32,8 @@ module _ {A : Type 0} (line_of : A → List ℕ) (sink_of : A → SinkFacts) (li
   announced_by (Ok totals) before after is = said is
   announced_by (Err Refused) before after is = ap sink_of is
   announced_by (Err Unannounced) before after is = subst (λ l. FailsToSay l (sink_of old) (sink_of new)) same is
-  announced_by (Err (Fault Net)) before after is =
-      elim is as (λ _. (LacksPort before after × (sink_of new ≡ sink_of old)) ⊎ (HasPorts before after × Says line (sink_of old) (sink_of new))) [
-        | inl lacks ↦ inl (lacks.0, ap sink_of lacks.1)
-        | inr told ↦ inr (told.0, said told.1)
-      ]
+  announced_by (Err (Unbound port)) before after is = (is.0, ap sink_of is.1)
+  announced_by (Err (Fault Net)) before after is = (is.0, said is.1)
   announced_by (Err (Fault NoRoom)) before after is =
       elim is as (λ _. (sink_of new ≡ sink_of old) ⊎ Says line (sink_of old) (sink_of new)) [
         | inl kept ↦ inl (ap sink_of kept)

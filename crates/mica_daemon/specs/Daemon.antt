@@ -13,14 +13,14 @@ use Rattle.mica_fronts.specs.declared.totals.Totals.{Totals}
 use Rattle.mica_fronts.specs.declared.totals.ServeFault.TheVariants.{Net, NoMemory as NoRoom}
 use Rattle.mica_fronts.specs.declared.ports.PortOptions.{PortOptions}
 use Rattle.locked_serve.specs.declared.stop.Stop.{Stop}
-use Rattle.locked_serve.specs.declared.stop.Stop.TheVariants.{Refused, Unannounced, Fault}
+use Rattle.locked_serve.specs.declared.stop.Stop.TheVariants.{Refused, Unbound, Unannounced, Fault}
 use Rattle.stream_fronts.specs.declared.ports.StreamPorts.{StreamPorts}
 use Rattle.locked_serve.specs.declared.service.Service.{Service as LockedService}
 use Rattle.locked_serve.specs.Causes.{IsCauseOfStop, Leaves, PortFacts}
 use Rattle.mica_commands.specs.declared.stream_words.StreamOptions.{StreamOptions}
 use Rattle.mica_commands.specs.DaemonWords.{Service}
 use Rattle.mica_cmd.specs.declared.status.Status.{Status}
-use Rattle.mica_cmd.specs.declared.status.Status.TheVariants.{Done, Usage, NoMemory, NetFault, WriteFault, ImageRefused}
+use Rattle.mica_cmd.specs.declared.status.Status.TheVariants.{Usage, NoMemory, NetFault, WriteFault, ImageRefused, UsedUp}
 use Rattle.mica_cmd.specs.Outside.{SinkFacts}
 use Rattle.mica_cmd.specs.Promise.{IsWritten, IsUnwritten, WritesDue, IsTold}
 use Rattle.mica_cmd.specs.Promises.{totals_text}
@@ -54,9 +54,14 @@ pub record DaemonOutside : Type 0 where
 abbrev pub daemon_outside : SinkFacts → PortFacts → List KeptSeat → ℕ → DaemonOutside
 daemon_outside sink ports tables lacked = record { sink = sink; ports = ports; tables = tables; lacked = lacked }
 
+-- the line that names a port which was not had
+abbrev pub unbound_text : ℕ → List ℕ
+unbound_text port = codes "port " ++ decimal port ++ codes " not bound" ++ 10 ∷ []
+
 -- what is written last, by what the server came to, and the status
 abbrev pub WritesLast : Result Totals Stop → SinkFacts → SinkFacts → Status → Type 0
-WritesLast (Ok totals) old new status = IsTold Done (totals_text totals) old new status
+WritesLast (Ok totals) old new status = IsTold UsedUp (totals_text totals) old new status
+WritesLast (Err (Unbound port)) old new status = IsTold NetFault (unbound_text port) old new status
 WritesLast (Err (Fault Net)) old new status = IsWritten NetFault (with_line_feed (codes "net fault")) old new status
 WritesLast (Err (Fault NoRoom)) old new status = (status ≡ NoMemory) × (new ≡ old)
 WritesLast (Err Refused) old new status = IsWritten ImageRefused (with_line_feed (codes "pair refused")) old new status

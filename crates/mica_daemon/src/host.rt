@@ -7,12 +7,12 @@ ghost use Rattle.mica_cmd.specs.Exit.{exit_number};
 ghost use Rattle.mica_commands.specs.declared.daemon_words.TheConstants.{MOST_FRONTS};
 ghost use Rattle.mica_daemon.specs.declared.host.TheConstants.{NUMBERS_OF_A_SECOND};
 
-use crate::{HostFiles, Speaker, daemon};
+use crate::{HostFiles, Process, Speaker, daemon};
+use locked_serve::Left;
 use mica_clock::{Clock, StdClock};
 use mica_cmd::{Status, all_words, behind_name, exit_code};
 use mica_commands::MOST_FRONTS;
 use mica_io::{FreeGate, NoMemory, StdSink, UdpNet};
-use partition_table::Tables;
 use std::alloc::Global;
 use std::net::{Ipv4Addr, Net as Sockets};
 use std::process::ExitCode;
@@ -52,25 +52,28 @@ fn run_words<R: Threads + Wait + Sync + AllocGlobal + Files + Print + Sockets + 
     pid: u32,
 ) -> Result<Status, NoMemory> {
     let alloc = rt.alloc();
-    let has_failed = AtomicBool::new(false);
+    let ended = AtomicBool::new(false);
     let mut speaker = Speaker {
         sink: StdSink::new(io::writer(rt)),
         line: String::new(alloc),
     };
-    Ok(daemon(
+    let process = Process {
         rt,
         alloc,
-        behind_name(words),
-        &mut speaker,
-        &mut HostFiles::new(rt),
-        &mut UdpNet::failing_whole(rt, &has_failed),
-        &mut TcpListeners::failing_whole(rt, alloc, Ipv4Addr::LOCALHOST, 0, &has_failed),
-        clocks_of(rt, alloc)?,
-        first_number(StdClock::new(rt).second()),
+        gate: &FreeGate,
+        ended: &ended,
+        base: first_number(StdClock::new(rt).second()),
         pid,
-        &FreeGate,
-        &mut Tables::new(),
-        &mut 0,
+    };
+    Ok(daemon(
+        &process,
+        behind_name(words),
+        clocks_of(rt, alloc)?,
+        &mut HostFiles::new(rt),
+        &mut speaker,
+        &mut UdpNet::failing_whole(rt, &ended),
+        &mut TcpListeners::failing_whole(rt, alloc, Ipv4Addr::LOCALHOST, 0, &ended),
+        &mut Left::nothing(),
     ))
 }
 

@@ -13,6 +13,7 @@ mod free_memory;
 mod host;
 mod listening;
 mod memory_files;
+mod process;
 mod speaker;
 mod top;
 
@@ -21,5 +22,6 @@ pub use free_memory::{SystemFiles, free_by};
 pub use host::run_on_host;
 pub use listening::PlacedListeners;
 pub use memory_files::MemFiles;
+pub use process::Process;
 pub use speaker::Speaker;
 pub use top::daemon;

@@ -1,6 +1,5 @@
 -- What one write more makes of the flushes, and which writes make nothing of them.
-use Rattle.std.proofs.Common.{◌≡◌, ℕ, zero, suc, ◌+◌, ◌≤◌, ◌<◌, ◌==◌, ◌&&◌, cond, Bool, true, false, List, [], ◌∷◌, ◌++◌, length, count_by, refl, sym, ap, ◌∙◌, arith}
-use Rattle.std.proofs.Math.Dec.{eqb-suc-zero}
+use Rattle.std.proofs.Common.{◌≡◌, ℕ, suc, ◌+◌, ◌≤◌, ◌<◌, ◌==◌, ◌&&◌, cond, Bool, true, false, List, [], ◌∷◌, ◌++◌, length, count_by, refl, sym, ap, ◌∙◌, arith, ne_eqb}
 use Rattle.std.proofs.lemmas.List.Sums.{sum_by-append}
 use Rattle.mica_words.specs.Hash.{fnv1a, hash_bucket, bucket_of}
 use Rattle.partition_model.specs.declared.write.Write.{Write}
@@ -11,17 +10,13 @@ use Rattle.mica_fronts.specs.Flushes.{is_in_first, is_delete, begins_with_feed, 
 
 -- One write more, by the hash of its key
 
-not_zero : (n : ℕ) → 0 < n → (n == 0) ≡ false
-not_zero zero some = absurd (omega (arith, some))
-not_zero (suc n) some = eqb-suc-zero n
-
 module _ (key : List ℕ) (buckets hash at : ℕ) (hashed : hash ≡ fnv1a key) (at_is : at ≡ hash_bucket hash buckets) where
   at_key : at ≡ bucket_of key buckets
   unfolding bucket_of
   at_key = at_is ∙ ap (λ h. hash_bucket h buckets) hashed
 
   pub in_another : 0 < at → (bucket_of key buckets == 0) ≡ false
-  in_another some = ap (λ n. n == 0) (sym at_key) ∙ not_zero at some
+  in_another some = ap (λ n. n == 0) (sym at_key) ∙ ne_eqb at 0 (λ none. absurd (omega (arith, some, none)))
 
   pub in_bucket_0 : at ≡ 0 → (bucket_of key buckets == 0) ≡ true
   in_bucket_0 none = ap (λ n. n == 0) (sym at_key ∙ none)

@@ -206,10 +206,11 @@ module _ (options : Options) (is_alone : Bool) where
           first then left_then (first_from (subst (λ (r : Request). RepliesTo options is_alone version now r then answered) taken.0 one)
           (subst (λ (r : Request). left_now ≤ left_then + writes_of_one r) taken.0 few) (first_none then left_then later))
 
+-- one or none
+pub one_at_most : (b : Bool) → cond b 1 0 ≤ 1
+one_at_most true = omega arith
+one_at_most false = omega arith
+
 -- a request is one write at most
 pub few_of_one : (request : Request) → writes_of_one request ≤ 1
-few_of_one request = by (is_some (write_in request))
-  where
-    by : (b : Bool) → cond b 1 0 ≤ 1
-    by true = omega arith
-    by false = omega arith
+few_of_one request = one_at_most (is_some (write_in request))

@@ -7,6 +7,7 @@ pub mod SentReplies
 pub mod Cut
 pub mod OneEnd
 pub mod Serving
+pub mod OneStep
 pub mod SoloSteps
 pub mod QueueSteps
 pub mod Telling

@@ -1,9 +1,9 @@
 -- What an owner makes of one message more.
-use Rattle.std.proofs.Common.{◌≡◌, ◌≢◌, ℕ, ◌<◌, ◌≤◌, ◌==◌, inl, inr, Bool, true, false, List, [], ◌∷◌, ◌++◌, length, map, Some, None, slice_get, slice_set, length-set, refl, sym, ap, ◌∙◌, subst, arith, cond, append-nil, eq-eqb, ne_eqb}
+use Rattle.std.proofs.Common.{◌≡◌, ◌≢◌, ℕ, ◌<◌, ◌≤◌, ◌==◌, inl, inr, List, [], ◌∷◌, ◌++◌, length, map, Some, None, get_or, slice_get, slice_set, length-set, refl, sym, ap, ◌∙◌, subst, arith, cond, append-nil, eq-eqb, ne_eqb}
 use Rattle.std.specs.List.{All, cons_option}
 use Rattle.std.proofs.lemmas.List.{map-append}
 use Rattle.std.proofs.lemmas.List.Elements.{filter_map-append, filter-append, All-nil, All-same, All-push, All-weaker, recursion_from_All}
-use Rattle.std.proofs.lemmas.Bool.{true≢false}
+use Rattle.std.proofs.lemmas.Option.{slice_get_read}
 use Rattle.list_laws.proofs.Places.{set_cases}
 use Rattle.list_laws.proofs.AllElements.{All-after, All-before, all_at}
 use Rattle.atomic_table.specs.Seated.{TableId}
@@ -22,7 +22,7 @@ use Rattle.epoch_core.specs.Shape.{options_of}
 use Rattle.epoch_core.specs.Joins.{ended_in, lent}
 use Rattle.epoch_core.proofs.Prefixes.{prefix_same}
 use Rattle.partition_table.specs.Seats.{note_state, note_home}
-use Rattle.partition_model.proofs.Rises.{stamp_rises, prefix_rises}
+use Rattle.partition_model.proofs.Rises.{prefix_rises}
 use Rattle.epoch_core.specs.OwnerState.{options_in}
 use Rattle.epoch_core.specs.OwnerStep.{IsOwnerStep}
 use Rattle.owner_queue.specs.declared.ack.Ack.{Ack}
@@ -39,6 +39,7 @@ use Rattle.mica_fronts.specs.QueueFront.{acknowledged_by}
 use Rattle.owner_queue.specs.Worked.{DoneJob, done_by, jobs_in, HasWorked}
 use Rattle.mica_fronts.specs.OwnerWork.{answers_to, IsAckBoxOf, IsNewAckBox, IsSent, HasDone, HasAnsweredJobs}
 use Rattle.owner_queue.proofs.Worked.{worked_none, worked_end, worked_job}
+use Rattle.mica_fronts.proofs.OneStep.{replied_at, raised}
 
 -- the acknowledgements to a front: those of its jobs, whose tickets nothing bounds but what bounds those of its messages
 pub record AckedTo (home : TableId) (owner : OwnerState) (front : ℕ) (taken : List Message) (box : AckBox) : Type 0 where
@@ -81,7 +82,7 @@ serves_none home o from boxes fresh new = record {
     new_at : (front : ℕ) (box : AckBox) → slice_get boxes front ≡ Some box → IsNewAckBox home o box
     new_at front box at = all_at (IsNewAckBox home o) boxes front box (recursion_from_All (IsNewAckBox home o) boxes new) at
 
-module _ (home now_home : TableId) (old mid : OwnerState) (from now to : Inbox) (before after : List AckBox) (m : Message)
+module _ {home now_home : TableId} {old mid : OwnerState} {from now to : Inbox} {before after : List AckBox} (m : Message)
     (so_far : IsServing home now_home old mid from now before after)
     (is : to ≡ inbox now.queue now.senders now.jobs (now.taken ++ m ∷ [])) (low : sender_of m < now.senders) where
   taken_is : to.taken ≡ now.taken ++ m ∷ []
@@ -112,15 +113,18 @@ module _ (home now_home : TableId) (old mid : OwnerState) (from now to : Inbox) 
     each = λ front box at. let it = so_far.each front box at in record { of = it.of; below = below_still front box it };
   }
 
-  pub front_below : (job : Job) → m ≡ kind.Job job → length before ≡ from.senders → job.sender < length after
-  front_below job job_is fronts = omega (arith, ap sender_of job_is, low_is, fronts, so_far.served.fronts)
+  pub front_below : {job : Job} → m ≡ kind.Job job → length before ≡ from.senders → job.sender < length after
+  front_below job_is fronts = omega (arith, ap sender_of job_is, low_is, fronts, so_far.served.fronts)
 
-  module _ (job : Job) (job_is : m ≡ kind.Job job) (fronts : length before ≡ from.senders) (box : AckBox) (there : slice_get after job.sender ≡ Some box) where
+  pub box_there : {job : Job} {box : AckBox} → m ≡ kind.Job job → length before ≡ from.senders → box ≡ get_or after job.sender box → slice_get after job.sender ≡ Some box
+  box_there {job = job} {box = box} job_is fronts read = slice_get_read after (length after) job.sender box refl (front_below job_is fronts) read
+
+  pub job_fits : {job : Job} → m ≡ kind.Job job → MayFollow now.jobs (sent_by (sender_of m) now.taken) m → IsWrite job.write
+  job_fits job_is may = (subst (λ (x : Message). MayFollow now.jobs (sent_by (sender_of x) now.taken) x) job_is may).fit
+
+  module _ {job : Job} {box : AckBox} (job_is : m ≡ kind.Job job) (there : slice_get after job.sender ≡ Some box) where
     here : AckedTo home mid job.sender now.taken box
     here = so_far.each job.sender box there
-
-    pub job_fits : MayFollow now.jobs (sent_by (sender_of m) now.taken) m → IsWrite job.write
-    job_fits may = (subst (λ (x : Message). MayFollow now.jobs (sent_by (sender_of x) now.taken) x) job_is may).fit
 
     pub box_of : IsAckBoxOf now_home mid box
     box_of = subst (λ (h : TableId). IsAckBoxOf h mid box) (sym so_far.home_is) here.of
@@ -128,7 +132,7 @@ module _ (home now_home : TableId) (old mid : OwnerState) (from now to : Inbox) 
     pub ticket_above : MayFollow now.jobs (sent_by (sender_of m) now.taken) m → All (λ a. a.ticket < job.ticket) box.list
     ticket_above may = here.below job.ticket ((subst (λ (x : Message). MayFollow now.jobs (sent_by (sender_of x) now.taken) x) job_is may).rises refl)
 
-    module _ (new_home : TableId) (new : OwnerState) (sent : AckBox) (did : HasDone now_home new_home mid new job box sent) where
+    module _ {new_home : TableId} {new : OwnerState} {sent : AckBox} (did : HasDone now_home new_home mid new job box sent) where
       abbrev one : DoneJob
       one = done_by job did.ack.outcome did.ack.stamp
 
@@ -236,46 +240,41 @@ module _ (home now_home : TableId) (old mid : OwnerState) (from now to : Inbox) 
 -- The acknowledgement of one step
 
 module _ (mid new : OwnerState) (write : Write) (outcome : Outcome) (stamp : ℕ) (step : IsOwnerStep mid new write outcome) (stamped : stamp ≡ stamp_of (options_in new) new.history) where
+  abbrev step_is : RunStep
+  step_is = record { write = write; outcome = outcome; stamp = stamp }
+
+  gained : new ≡ record mid { words = new.words; history = mid.history ++ history_of (step_is ∷ []) }
+  gained = step_gains mid new write outcome stamp step
+
   same_shape : new.shape ≡ mid.shape
-  same_shape = ap (λ (o : OwnerState). o.shape) (step_gains mid new write outcome stamp step)
+  same_shape = ap (λ (o : OwnerState). o.shape) gained
+
+  stamp_is : stamp ≡ stamp_of (options_in mid) (mid.history ++ history_of (step_is ∷ []))
+  stamp_is = stamped ∙ ap (λ (y : Shape × History). stamp_of (options_of y.0) y.1) (λ i. (same_shape i, ap (λ (o : OwnerState). o.history) gained i))
 
   may : MayGive (options_in new) mid.history write outcome
   may = subst (λ (s : Shape). MayGive (options_of s) mid.history write outcome) (sym same_shape) step.allowed
-
-  reply : (b : Bool) → new ≡ cond b (record mid { words = new.words; history = mid.history ++ write ∷ [] }) mid → IsReplyAt b (options_in new) new.history write outcome
-  reply true is = (mid.history, ap (λ (o : OwnerState). o.history) is, may)
-  reply false is = subst (λ (h : History). MayGive (options_in new) h write outcome) (sym (ap (λ (o : OwnerState). o.history) is)) may
 
   pub step_acked : (note : ReaderState) → note ≡ lent new → new.phase ≡ Idle → IsAcked note write outcome stamp
   step_acked note is idle = subst (λ (r : ReaderState). IsAcked r write outcome stamp) (sym is) (record {
     cut = new.history;
     is_cut = record { begins = prefix_same new.history; stamped = sym stamped };
     ended = subst (λ (p : Phase). IsPrefix new.history (ended_in p new.history)) (sym idle) (prefix_same new.history);
-    reply = reply (is_accepted outcome) step.gained;
+    reply = subst (λ (h : History). IsReplyAt (is_accepted outcome) (options_in new) h write outcome) (sym (ap (λ (o : OwnerState). o.history) gained))
+        (replied_at (options_in new) mid.history write outcome (is_accepted outcome) may);
   })
 
-  stamp_up : (b : Bool) → new ≡ cond b (record mid { words = new.words; history = mid.history ++ write ∷ [] }) mid → b ≡ true → stamp_of (options_in mid) mid.history < stamp
-  stamp_up true is _ =
-      let one = stamp_rises (options_in mid) mid.history write in
-      let here = ap (λ (y : Shape × History). stamp_of (options_of y.0) y.1) (λ i. (same_shape i, ap (λ (o : OwnerState). o.history) is i)) in
-      omega arith
-  stamp_up false is off = absurd (true≢false (sym off))
-
   stamp_no_less : stamp_of (options_in mid) mid.history ≤ stamp
-  stamp_no_less =
-      let gains = step_gains mid new write outcome stamp step in
-      let more = prefix_rises (options_in mid) mid.history (mid.history ++ history_of (record { write = write; outcome = outcome; stamp = stamp } ∷ [])) (history_of (record { write = write; outcome = outcome; stamp = stamp } ∷ []), refl) in
-      let here = ap (λ (y : Shape × History). stamp_of (options_of y.0) y.1) (λ i. (same_shape i, ap (λ (o : OwnerState). o.history) gains i)) in
-      omega arith
+  stamp_no_less = let more = prefix_rises (options_in mid) mid.history (mid.history ++ history_of (step_is ∷ [])) (history_of (step_is ∷ []), refl) in omega (arith, more, stamp_is)
 
   pub ack_may_follow : (home : TableId) (box : AckBox) (ack : Ack) → IsAckBoxOf home mid box → All (λ a. a.ticket < ack.ticket) box.list
       → note_home ack.note ≡ home → note_state ack.note ≡ lent new → ack.outcome ≡ outcome → ack.stamp ≡ stamp → AckMayFollow box.table box.shape box.list ack
-  ack_may_follow home box ack of above at_home noted outcome_is stamp_is = record {
+  ack_may_follow home box ack of above at_home noted outcome_is same_stamp = record {
     note = at_home ∙ sym of.table;
     same = ap (λ (r : ReaderState). r.shape) noted ∙ same_shape ∙ sym of.shape;
     ticket = above;
-    stamp = All-weaker (λ a. a.stamp ≤ stamp_of (options_in mid) mid.history) (λ a. a.stamp ≤ ack.stamp) (λ a le. omega (arith, le, stamp_no_less, stamp_is)) box.list of.stamps;
+    stamp = All-weaker (λ a. a.stamp ≤ stamp_of (options_in mid) mid.history) (λ a. a.stamp ≤ ack.stamp) (λ a le. omega (arith, le, stamp_no_less, same_stamp)) box.list of.stamps;
     accepted = λ yes.
-        let up = stamp_up (is_accepted outcome) step.gained (ap is_accepted (sym outcome_is) ∙ yes) in
-        All-weaker (λ a. a.stamp ≤ stamp_of (options_in mid) mid.history) (λ a. a.stamp < ack.stamp) (λ a le. omega (arith, le, up, stamp_is)) box.list of.stamps;
+        let up = raised (options_in mid) mid.history write (is_accepted outcome) (ap is_accepted (sym outcome_is) ∙ yes) in
+        All-weaker (λ a. a.stamp ≤ stamp_of (options_in mid) mid.history) (λ a. a.stamp < ack.stamp) (λ a le. omega (arith, le, up, stamp_is, same_stamp)) box.list of.stamps;
   }

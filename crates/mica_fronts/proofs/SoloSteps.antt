@@ -1,8 +1,8 @@
 -- What a step of one partition makes of a front that is alone: its history alone gains.
-use Rattle.std.proofs.Common.{◌≡◌, ℕ, zero, suc, ◌<◌, ◌≤◌, Bool, true, false, cond, List, [], ◌∷◌, ◌++◌, length, map, slice_set, slice_index_or, None, Some, refl, sym, ap, ◌∙◌, subst, arith}
+use Rattle.std.proofs.Common.{◌≡◌, ℕ, zero, suc, ◌<◌, ◌≤◌, true, List, [], ◌∷◌, ◌++◌, length, map, slice_set, slice_index_or, refl, sym, ap, ◌∙◌, subst, arith}
 use Rattle.std.specs.Prelude.{◌≢◌, Option}
 use Rattle.std.proofs.Math.Seq.{map-set_same}
-use Rattle.std.specs.List.{cons_option, AllByRecursion}
+use Rattle.std.specs.List.{AllByRecursion}
 use Rattle.std.proofs.lemmas.List.{append-nil, length-map, map-set}
 use Rattle.partition_model.specs.declared.options.Options.{Options}
 use Rattle.partition_model.specs.declared.write.Write.{Write}
@@ -10,19 +10,19 @@ use Rattle.partition_model.specs.declared.write.Outcome.{Outcome}
 use Rattle.partition_model.specs.Write.{is_accepted}
 use Rattle.partition_model.specs.declared.write.Answer.{Answer}
 use Rattle.partition_model.specs.Answer.{IsAnswer}
-use Rattle.partition_model.specs.History.{History, MayGive, stamp_of, stamp_in, value_in, answer_of}
+use Rattle.partition_model.specs.History.{History, MayGive, stamp_of, answer_of}
 use Rattle.partition_model.specs.Run.{RunStep, history_of}
-use Rattle.partition_model.proofs.Rises.{stamp_rises}
 use Rattle.epoch_core.specs.declared.state.OwnerState.{OwnerState}
 use Rattle.epoch_core.specs.declared.shape.Shape.{Shape}
 use Rattle.epoch_core.specs.Shape.{shape_of, options_of}
 use Rattle.epoch_core.specs.OwnerState.{options_in, as_made}
 use Rattle.epoch_core.specs.OwnerStep.{IsOwnerStep}
-use Rattle.epoch_core.proofs.SameMachine.{same_state, same_may_give}
-use Rattle.owner_queue.specs.Acked.{IsReplyAt}
+use Rattle.epoch_core.proofs.SameMachine.{same_may_give}
+use Rattle.owner_queue.proofs.Gains.{step_gains}
 use Rattle.mica_fronts.specs.Session.{Session, Writes, ChangesOnly}
 use Rattle.mica_fronts.specs.Solo.{Solo, StepsPartition, history_at, alone_with, sessions_in}
 use Rattle.partition_model.proofs.Rises.{prefix_rises}
+use Rattle.mica_fronts.proofs.OneStep.{stamp_as, answer_as, replied_at, raised}
 
 -- what a step makes of its owner's history, by the options
 pub record Stepped (options : Options) (old new : OwnerState) (write : Write) (outcome : Outcome) : Type 0 where
@@ -33,26 +33,9 @@ pub record Stepped (options : Options) (old new : OwnerState) (write : Write) (o
 pub stepped : (options : Options) (old new : OwnerState) (write : Write) (outcome : Outcome) → old.shape ≡ shape_of options → IsOwnerStep old new write outcome → Stepped options old new write outcome
 stepped options old new write outcome shaped step = record {
   may = same_may_give options old.history write outcome (subst (λ s. MayGive (options_of s) old.history write outcome) shaped step.allowed);
-  gained = λ stamp. ap (λ (o : OwnerState). o.history) step.gained ∙ by (is_accepted outcome);
-  shape = ap (λ (o : OwnerState). o.shape) step.gained ∙ shapes (is_accepted outcome);
+  gained = λ stamp. ap (λ (o : OwnerState). o.history) (step_gains old new write outcome stamp step);
+  shape = ap (λ (o : OwnerState). o.shape) (step_gains old new write outcome 0 step);
 }
-  where
-    by : (b : Bool) → (cond b (record old { words = new.words; history = old.history ++ write ∷ [] }) old).history
-        ≡ old.history ++ cons_option (cond b (Some write) None) []
-    by true = refl
-    by false = sym (append-nil old.history)
-
-    shapes : (b : Bool) → (cond b (record old { words = new.words; history = old.history ++ write ∷ [] }) old).shape ≡ old.shape
-    shapes true = refl
-    shapes false = refl
-
--- a stamp by the shape is that by the options
-pub same_stamp : (options : Options) (owner : OwnerState) → owner.shape ≡ shape_of options → stamp_of (options_in owner) owner.history ≡ stamp_of options owner.history
-same_stamp options owner shaped = ap (λ s. stamp_of (options_of s) owner.history) shaped ∙ ap stamp_in (same_state options owner.history)
-
--- an answer by the shape is that by the options
-pub same_answer : (options : Options) (owner : OwnerState) (key : List ℕ) → owner.shape ≡ shape_of options → answer_of (options_in owner) owner.history key ≡ answer_of options owner.history key
-same_answer options owner key shaped = ap (λ s. answer_of (options_of s) owner.history key) shaped ∙ ap (λ s. value_in s key) (same_state options owner.history)
 
 -- the history of a partition that was changed, and of another
 pub history_set : (histories : List History) (p : ℕ) (history : History) → p < length histories → history_at (slice_set histories p history) p ≡ history
@@ -97,7 +80,7 @@ module _ {P : Type 0} (owner : P → OwnerState) where
       record {
         here = omega (arith, length-map parts history_in);
         may = subst (λ (h : History). MayGive options h write outcome) (sym before) s.may;
-        stamped = stamped ∙ same_stamp options (owner new) (s.shape ∙ shaped) ∙ ap (stamp_of options) gained;
+        stamped = stamped ∙ stamp_as options (owner new).shape (owner new).history (s.shape ∙ shaped) ∙ ap (stamp_of options) gained;
         gained = ap (λ (hs : List History). record { options = options; histories = hs })
             (map-set history_in parts at new ∙ ap (λ (h : History). slice_set (map history_in parts) at h) gained);
       }
@@ -112,8 +95,8 @@ module _ {P : Type 0} (owner : P → OwnerState) where
       let here : history_in part ≡ history_at (map history_in parts) p =
       ap history_in there ∙ sym (history_map parts at part below) ∙ ap (history_at (map history_in parts)) number in (
         subst (λ (v : Option (List ℕ)). IsAnswer answer buffer v)
-            (same_answer options (owner part) key shaped ∙ ap (λ (h : History). answer_of options h key) here) is,
-        stamped ∙ ap (λ (o : OwnerState). stamp_of (options_in o) o.history) same ∙ same_stamp options (owner part) shaped ∙ ap (stamp_of options) here,
+            (answer_as options (owner part).shape (owner part).history key shaped ∙ ap (λ (h : History). answer_of options h key) here) is,
+        stamped ∙ ap (λ (o : OwnerState). stamp_of (options_in o) o.history) same ∙ stamp_as options (owner part).shape (owner part).history shaped ∙ ap (stamp_of options) here,
       )
 
   pub read_back : (parts : List P) (at : ℕ) (part after : P) → part ≡ slice_index_or parts at part → owner after ≡ owner part
@@ -131,20 +114,6 @@ module _ (old : Solo) (p : ℕ) (step : RunStep) (new : Solo) (h : StepsPartitio
   unfolding before after
   session = ap (λ (s : Solo). alone_with s.options (history_at s.histories p)) h.gained ∙ ap (alone_with old.options) (history_set old.histories p _ h.here)
 
-  reply : (b : Bool) → is_accepted step.outcome ≡ b → IsReplyAt b old.options after step.write step.outcome
-  unfolding before after
-  reply true is = (before, ap (λ b. before ++ cons_option (cond b (Some step.write) None) []) is, h.may)
-  reply false is = subst (λ (x : History). MayGive old.options x step.write step.outcome)
-      (sym (ap (λ b. before ++ cons_option (cond b (Some step.write) None) []) is ∙ append-nil before)) h.may
-
-  rises : (b : Bool) → is_accepted step.outcome ≡ b → b ≡ true → stamp_of old.options before < step.stamp
-  unfolding before after
-  rises true is _ =
-      let one = stamp_rises old.options before step.write in
-      let same = ap (λ b. before ++ cons_option (cond b (Some step.write) None) []) is in
-      omega (arith, h.stamped, ap (stamp_of old.options) same)
-  rises false is none = absurd (cc)
-
   grows : stamp_of old.options before ≤ step.stamp
   unfolding before after
   grows = omega (arith, h.stamped, prefix_rises old.options before (before ++ history_of (step ∷ [])) (history_of (step ∷ []), refl))
@@ -156,11 +125,11 @@ module _ (old : Solo) (p : ℕ) (step : RunStep) (new : Solo) (h : StepsPartitio
     grows = (history_of (step ∷ []), refl);
     cut = after;
     at = record { begins = ([], sym (append-nil after)); stamped = sym h.stamped };
-    reply = reply (is_accepted step.outcome) refl;
+    reply = replied_at old.options before step.write step.outcome (is_accepted step.outcome) h.may;
     done = (history_of (step ∷ []), refl);
     ended = ([], sym (append-nil after));
     order = grows;
-    rises = λ accepted. rises (is_accepted step.outcome) refl accepted;
+    rises = λ accepted. let up = raised old.options before step.write (is_accepted step.outcome) accepted in omega (arith, up, h.stamped);
     last = sym h.stamped;
     alone = λ _. ((h.may, h.stamped, tt), refl);
     told = refl;

@@ -10,6 +10,7 @@ use Rattle.partition_model.specs.declared.write.Write.{Write}
 use Rattle.partition_model.specs.Answer.{IsAnswer}
 use Rattle.partition_model.specs.Write.{is_accepted}
 use Rattle.partition_model.specs.History.{History, IsPrefix, stamp_in, stamp_of}
+use Rattle.partition_model.specs.Run.{RunStep}
 use Rattle.epoch_core.specs.declared.shape.Shape.{Shape}
 use Rattle.epoch_core.specs.declared.reader.ReaderState.{ReaderState}
 use Rattle.epoch_core.specs.Shape.{shape_of, options_of}
@@ -31,6 +32,7 @@ use Rattle.owner_queue.specs.AckEnds.{AckBox, ack_box}
 use Rattle.owner_queue.specs.JobEnds.{outbox}
 use Rattle.mica_fronts.specs.declared.queue_front.FrontPart.{FrontPart}
 use Rattle.mica_fronts.specs.Session.{Writes, Reads, TellsStep}
+use Rattle.mica_fronts.specs.SeatSession.{session_at}
 use Rattle.mica_fronts.specs.QueueFront.{IsOfOneTable, HasTakenMore, HasAwaited, PartWrites, PartReads, step_by, told_by, session_of}
 
 -- Acknowledgements taken
@@ -123,27 +125,20 @@ module _ (old new : FrontPart) (job : Job) (ack : Ack) (whole : IsOfOneTable old
 
 -- A get
 
-was_read : (options : Options) (old new : FrontPart) (key : List ℕ) (stamp : ℕ) (value : Option (List ℕ)) → (reader_state old.seat).shape ≡ shape_of options
-    → new.jobs ≡ old.jobs → new.acks ≡ old.acks → new.last ≡ stamp → IsReadAt (reader_state old.seat) key stamp value (reader_state new.seat)
-    → Reads options false (session_of old) key stamp value (session_of new)
-was_read options old new key stamp value shape jobs acks last read =
+-- what a seat's answer makes of a front's session
+pub was_read : {options : Options} {old new : ReaderState} {key : List ℕ} {stamp : ℕ} {value : Option (List ℕ)} {steps steps_now : List RunStep} {last last_now : ℕ} → old.shape ≡ shape_of options
+    → steps_now ≡ steps → last_now ≡ stamp → IsReadAt old key stamp value new → Reads options false (session_at old steps last) key stamp value (session_at new steps_now last_now)
+was_read {options = options} {old = old} {new = new} {key = key} {stamp = stamp} {value = value} shape steps last read =
     let seat = read.seat in
-    let failed = length-append (reader_state old.seat).fails seat.more in
-    let fails = ap length seat.fails in
     record {
       grows = seat.seen;
-      answer = same_answer options (reader_state old.seat).shape (reader_state new.seat).seen key stamp value shape read.answer;
+      answer = same_answer options old.shape new.seen key stamp value shape read.answer;
       done = seat.done;
       last = last;
       alone = λ off. absurd (true≢false (sym off));
       told = (
         length seat.more,
-        ap Some (λ i. record {
-          steps = map step_by (acks i).list;
-          tried = seat.tried i;
-          failed = (fails ∙ failed) i;
-          closed = seat.closed i;
-        }),
+        ap Some (λ i. record { steps = steps i; tried = seat.tried i; failed = (ap length seat.fails ∙ length-append old.fails seat.more) i; closed = seat.closed i }),
       );
     }
 
@@ -155,7 +150,7 @@ module _ (old new : FrontPart) (key : List ℕ) (stamp : ℕ) (buffer : List ℕ
     stays = record { shape = read.seat.shape; home = home; acks = acks ∙ ap (λ (b : AckBox). ack_box old.acks.queue old.acks.table old.acks.shape b.list) (sym acks) };
     value = value;
     is = is;
-    read = λ options shape. was_read options old new key stamp value shape jobs acks last read;
+    read = λ options shape. was_read shape (ap (λ (b : AckBox). map step_by b.list) acks) last read;
   }
 
   pub reads_hit : (got : Got) → got ≡ GotHit stamp → IsRead (reader_state old.seat) key got buffer (reader_state new.seat) → PartReads old key Hit stamp buffer new

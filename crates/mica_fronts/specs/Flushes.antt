@@ -27,7 +27,8 @@ abbrev pub is_in_first : ℕ → Write → Bool
 is_in_first buckets write = bucket_of write.key buckets == 0
 
 -- An accepted delete of a key in bucket 0 that begins with a line feed flushes its partition: what was written before it is not there any more. The machine
--- accepts it in both modes, it needs no room, and a log that has gone round does not lose it. All flushes are in one bucket, so its epoch tells who reads without a hold whether there is one more.
+-- accepts it in both modes, it needs no room, and a log that has gone round does not lose it. All flushes are in one bucket, so its epoch tells who reads
+-- without a hold whether there is one more.
 abbrev pub is_flush : ℕ → Write → Bool
 is_flush buckets write = is_in_first buckets write && is_delete write.op && begins_with_feed write.key
 

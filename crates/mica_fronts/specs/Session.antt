@@ -90,7 +90,8 @@ abbrev pub TellsLook : Option Told → Option Told → Type 0
 TellsLook None new = new ≡ None
 TellsLook (Some old) new = (n : ℕ) × (new ≡ Some (record old { failed = old.failed + n }))
 
--- The value was looked at behind a history that begins with all that the front had seen, and left. As for a get, the last write of that history may still be on its way into the words.
+-- The value was looked at behind a history that begins with all that the front had seen, and left. As for a get, the last write of that history may
+-- still be on its way into the words.
 pub record Keeps (options : Options) (old : Session) (key : List ℕ) (stamp : ℕ) (look : Look) (new : Session) : Type 0 where
   pub grows : IsPrefix old.seen new.seen
   pub cut : History

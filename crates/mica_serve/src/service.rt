@@ -45,7 +45,9 @@ pub fn bind_all<N: Net>(
     ensures none_refused { OnOk result (N.refused net.new ≡ N.refused net.old) }
     ensures steady { OnOk result (is_some (N.fails net.old) ≡ true → N.faults net.new ≡ N.faults net.old) }
     ensures cause { OnErr result (Rose (N.faults net.old) (N.faults net.new)) }
-    ensures refused { OnErr result (N.refused net.old < N.refused net.new) }
+    ensures refused { OnErr result (N.refused net.new ≡ N.refused net.old + 1) }
+    ensures lacks { OnErr result (vec_len ends.new < ports.now.fronts) }
+    ensures tried { OnErr result (N.binds net.new ≡ vec_len ends.new + 1) }
     ensures never_fall { N.faults net.old ≤ N.faults net.new }
     ensures fails { N.fails net.new ≡ N.fails net.old }
     ensures binds { N.binds net.new ≤ ports.now.fronts }

@@ -129,7 +129,7 @@ impl<'a, R: Sockets> Net for WatchedNet<'a, R> {
 }
 
 /// Waits until both ports are bound. Where the server ends before, they never are.
-fn is_bound(progress: &Progress) -> bool {
+pub fn is_bound(progress: &Progress) -> bool {
     for _ in 0..u64::MAX {
         if progress.bound.load(Ordering::SeqCst) == 2 {
             return true;

@@ -8,6 +8,7 @@ use mica_io::{Bytes, FreeGate, MemNet, NoMemory};
 use std::alloc::Global;
 use std::process::Abort;
 use std::sync::Wait;
+use std::sync::atomic::AtomicBool;
 use std::test::Fail;
 use std::thread::Threads;
 use stream_io::{Change, Step};
@@ -80,10 +81,11 @@ fn is_heard(
         &mut listeners,
         script.as_slice(),
         &FreeGate,
+        &AtomicBool::new(false),
         words,
         100,
     )?;
-    assert!(rt; status == Status::Done && lacked == 0);
+    assert!(rt; status == Status::UsedUp && lacked == 0);
     assert!(rt; listeners.heard() == heard);
     Ok(())
 }

@@ -37,7 +37,7 @@ fn has_the_pairs_of_an_image(rt: HostRuntime) -> Result<(), Fail> {
     net.add_datagram(alloc, 9_000, GETS)?;
     let words = "--mode store --partitions 1 --port 9000 --image=ab.image";
     let (status, sink) = run_lasting(&rt, alloc, &mut files, &mut net, words, 100)?;
-    assert!(rt; status == Status::Done);
+    assert!(rt; status == Status::UsedUp);
     assert!(rt; sink.taken() == b"ready 9000 to 9000\nbatches 1 requests 2 bad 0\n".as_slice());
     assert!(rt; net.sent(9_000, 0) == Some(HITS));
     Ok(())

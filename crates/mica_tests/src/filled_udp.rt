@@ -103,7 +103,7 @@ fn a_client_gets_what_an_image_has(rt: HostRuntime) -> Result<(), Fail> {
                 "ready {port} to {}\nbatches 2 requests 2 bad 0\n",
                 port + 1
             )?;
-            assert!(rt; status == Status::Done && sink.taken() == said.as_bytes());
+            assert!(rt; status == Status::UsedUp && sink.taken() == said.as_bytes());
             return Ok(());
         }
         assert!(rt; status == Status::NetFault);

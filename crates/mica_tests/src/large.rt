@@ -99,7 +99,13 @@ fn refuses_what_they_cannot(rt: HostRuntime) -> Result<(), Fail> {
 fn ends_where_too_little_is_free(rt: HostRuntime) -> Result<(), Fail> {
     let words = "--partitions 1 --buckets 1 --spares 0 --words 256";
     expect_end(&rt, words, 19_631, Status::NoMemory, b"")?;
-    expect_end(&rt, words, 19_632, Status::NetFault, b"net fault\n")
+    expect_end(
+        &rt,
+        words,
+        19_632,
+        Status::NetFault,
+        b"port 9000 not bound\n",
+    )
 }
 
 /// What the system says: of the machine, and of a control group of version 2 and of one of version 1 what it bounds its processes to,

@@ -6,14 +6,16 @@ ghost use Rattle.mica_commands.specs.declared.daemon_words.TheConstants.{MOST_FR
 use crate::datagrams::{BATCH, REPLIES};
 use crate::runs::words_of;
 use crate::same_schedule::SameSchedule;
+use locked_serve::Left;
 use mica_clock::MemClock;
 use mica_cmd::Status;
 use mica_commands::MOST_FRONTS;
-use mica_daemon::{Files, MemFiles, PlacedListeners, Speaker, daemon};
+use mica_daemon::{Files, MemFiles, PlacedListeners, Process, Speaker, daemon};
 use mica_io::{Bytes, FreeGate, Gate, MemNet, MemSink, Net, NoMemory};
-use partition_table::Tables;
 use std::alloc::Global;
+use std::process::Abort;
 use std::sync::Wait;
+use std::sync::atomic::AtomicBool;
 use std::test::Fail;
 use std::thread::Threads;
 use stream_io::{Change, Step};
@@ -39,6 +41,7 @@ pub fn run_whole<W: Threads + Wait + Sync, F: Files, N: Net, L: PlacedListeners,
     listeners: &mut L,
     seconds: &[Option<u64>],
     gate: &G,
+    ended: &AtomicBool,
     line: &str,
     room: u32,
 ) -> Result<(Status, MemSink, u64), NoMemory>
@@ -49,24 +52,26 @@ pub fn run_whole<W: Threads + Wait + Sync, F: Files, N: Net, L: PlacedListeners,
         sink: MemSink::new(alloc, room, 1021, &[])?,
         line: String::new(alloc),
     };
-    let mut tables = Tables::new();
-    let mut lacked = 0;
-    let status = daemon(
+    let process = Process {
         rt,
         alloc,
+        gate,
+        ended,
+        base: 1,
+        pid: 1,
+    };
+    let mut left = Left::nothing();
+    let status = daemon(
+        &process,
         words.as_slice(),
-        &mut speaker,
+        clocks_of(alloc, seconds)?,
         files,
+        &mut speaker,
         net,
         listeners,
-        clocks_of(alloc, seconds)?,
-        1,
-        1,
-        gate,
-        &mut tables,
-        &mut lacked,
+        &mut left,
     );
-    Ok((status, speaker.sink, lacked))
+    Ok((status, speaker.sink, left.lacked))
 }
 
 /// The status and what the sink took, with no gate.
@@ -89,6 +94,7 @@ pub fn run_listening<W: Threads + Wait + Sync, F: Files, N: Net, L: PlacedListen
         listeners,
         &[],
         &FreeGate,
+        &AtomicBool::new(false),
         line,
         room,
     )?;
@@ -116,6 +122,7 @@ pub fn run_gated<W: Threads + Wait + Sync, F: Files, N: Net, G: Gate>(
         &mut listeners,
         &[],
         gate,
+        &AtomicBool::new(false),
         line,
         room,
     )?;
@@ -159,7 +166,7 @@ fn says_that_it_is_ready(rt: HostRuntime) -> Result<(), Fail> {
     net.add_port(alloc, 9_001, 100, &[], &[])?;
     net.add_datagram(alloc, 9_000, BATCH)?;
     let (status, sink) = run_unfilled(&rt, alloc, &mut net, WORDS, 100)?;
-    assert!(rt; status == Status::Done);
+    assert!(rt; status == Status::UsedUp);
     assert!(rt; sink.taken() == b"ready 9000 to 9001\nbatches 1 requests 2 bad 0\n".as_slice());
     assert!(rt; net.sent(9_000, 0) == Some(REPLIES));
     Ok(())
@@ -174,7 +181,7 @@ fn says_the_ports_of_both_kinds(rt: HostRuntime) -> Result<(), Fail> {
     net.add_datagram(alloc, 9_000, BATCH)?;
     let words = format!(in alloc; "{WORDS} --memcached 11211 --memcached-fronts 2")?;
     let (status, sink) = run_unfilled(&rt, alloc, &mut net, words.as_str(), 100)?;
-    assert!(rt; status == Status::Done);
+    assert!(rt; status == Status::UsedUp);
     let said = b"ready 9000 to 9001 memcached 11211 to 11212\nbatches 1 requests 2 bad 0\n";
     assert!(rt; sink.taken() == said.as_slice());
     assert!(rt; net.sent(9_000, 0) == Some(REPLIES));
@@ -187,7 +194,7 @@ fn needs_no_port_of_datagrams(rt: HostRuntime) -> Result<(), Fail> {
     let mut net = MemNet::new(alloc, &[])?;
     let words = "--mode cache --partitions 1 --memcached 11211";
     let (status, sink) = run_unfilled(&rt, alloc, &mut net, words, 100)?;
-    assert!(rt; status == Status::Done);
+    assert!(rt; status == Status::UsedUp);
     let said = b"ready memcached 11211 to 11211\nbatches 0 requests 0 bad 0\n";
     assert!(rt; sink.taken() == said.as_slice());
     Ok(())
@@ -229,10 +236,11 @@ fn closes_no_connection_for_want_of_memory(rt: HostRuntime) -> Result<(), Fail> 
         &mut listeners,
         &[],
         &FreeGate,
+        &AtomicBool::new(false),
         "--mode store --partitions 1 --memcached 11211 --memcached-fronts 2",
         100,
     )?;
-    assert!(rt; status == Status::Done && lacked == 0);
+    assert!(rt; status == Status::UsedUp && lacked == 0);
     let said = b"ready memcached 11211 to 11212\nbatches 0 requests 0 bad 0\n";
     assert!(rt; sink.taken() == said.as_slice());
     Ok(())
@@ -253,7 +261,7 @@ fn is_not_ready_where_it_cannot_listen(rt: HostRuntime) -> Result<(), Fail> {
         "--mode store --memcached 11211 --memcached-fronts 2",
         100,
     )?;
-    assert!(rt; status == Status::NetFault && sink.taken() == b"net fault\n".as_slice());
+    assert!(rt; status == Status::NetFault && sink.taken() == b"port 11212 not bound\n".as_slice());
     Ok(())
 }
 
@@ -264,8 +272,44 @@ fn is_not_ready_where_a_bind_fails(rt: HostRuntime) -> Result<(), Fail> {
     let mut net = MemNet::new(alloc, &[])?;
     net.add_port(alloc, 9_000, 100, &[], &[])?;
     let (status, sink) = run_unfilled(&rt, alloc, &mut net, WORDS, 100)?;
-    assert!(rt; status == Status::NetFault && sink.taken() == b"net fault\n".as_slice());
+    assert!(rt; status == Status::NetFault && sink.taken() == b"port 9001 not bound\n".as_slice());
     Ok(())
+}
+
+// The words ask for three ports of each kind, and those of datagrams are all there.
+fn expect_unbound(
+    rt: &(impl Abort + AllocGlobal + Threads + Wait + Sync),
+    fails: &[u32],
+    taken: Option<u16>,
+    said: &[u8],
+) -> Result<(), Fail> {
+    let alloc = rt.alloc();
+    let mut net = MemNet::new(alloc, fails)?;
+    net.add_port(alloc, 9_000, 100, &[], &[])?;
+    net.add_port(alloc, 9_001, 100, &[], &[])?;
+    net.add_port(alloc, 9_002, 100, &[], &[])?;
+    let mut listeners = SameSchedule::new(alloc, &[], taken);
+    let (status, sink) = run_listening(
+        rt,
+        alloc,
+        &mut MemFiles::new(alloc),
+        &mut net,
+        &mut listeners,
+        "--mode store --partitions 1 --port 9000 --fronts 3 --memcached 11211 --memcached-fronts 3",
+        100,
+    )?;
+    assert!(rt; status == Status::NetFault && sink.taken() == said);
+    Ok(())
+}
+
+// The second of three ports is taken, or the first or the last one.
+#[test]
+fn names_the_port_that_is_taken(rt: HostRuntime) -> Result<(), Fail> {
+    expect_unbound(&rt, &[2], None, b"port 9001 not bound\n")?;
+    expect_unbound(&rt, &[1], None, b"port 9000 not bound\n")?;
+    expect_unbound(&rt, &[3], Some(11_211), b"port 9002 not bound\n")?;
+    expect_unbound(&rt, &[], Some(11_212), b"port 11212 not bound\n")?;
+    expect_unbound(&rt, &[4], Some(11_213), b"port 11213 not bound\n")
 }
 
 // The sink has no room for the line, so nothing is received.

@@ -14,6 +14,8 @@ mod counts;
 #[cfg(test)]
 mod datagrams;
 #[cfg(test)]
+mod ending;
+#[cfg(test)]
 mod exclusive;
 #[cfg(test)]
 mod filled;
@@ -45,6 +47,8 @@ mod same_schedule;
 mod served;
 #[cfg(test)]
 mod silence;
+#[cfg(test)]
+mod taken;
 #[cfg(test)]
 mod tcp;
 #[cfg(test)]

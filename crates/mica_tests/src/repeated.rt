@@ -119,7 +119,7 @@ fn expect_counted(
     let words = "--mode store --partitions 1 --port 9000";
     let mut files = MemFiles::new(alloc);
     let (status, sink) = run_lasting(rt, alloc, &mut files, &mut net, words, 100)?;
-    assert!(rt; status == Status::Done && net.refused == 1_000_001);
+    assert!(rt; status == Status::UsedUp && net.refused == 1_000_001);
     assert!(rt;
         sink.taken() == b"ready 9000 to 9000\nbatches 1000001 requests 0 bad 1000001\n".as_slice()
     );

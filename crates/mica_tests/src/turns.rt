@@ -97,7 +97,7 @@ fn expect_met(
     net.add_datagram(alloc, 9_000, BATCH)?;
     net.add_datagram(alloc, 9_001, TWO_GETS)?;
     let (status, sink) = run_two(rt, mode, &mut net, &gate)?;
-    assert!(rt; status == Status::Done);
+    assert!(rt; status == Status::UsedUp);
     assert!(rt; sink.taken() == b"ready 9000 to 9001\nbatches 2 requests 4 bad 0\n".as_slice());
     assert!(rt; has_sent(&net, 9_000, &[first]) && has_sent(&net, 9_001, second));
     assert!(rt; !gate.is_missed());

@@ -1,9 +1,8 @@
-use Rattle.std.proofs.Common.{◌+◌, ◌∷◌, [], ℕ, List, length, map, slice_get, inl, inr, sym, ap, ◌∙◌, subst, arith}
-use Rattle.std.proofs.lemmas.List.{length-map, length_push, map-append}
+use Rattle.std.proofs.Common.{◌+◌, ℕ, length, map, ap, ◌∙◌, subst, arith}
+use Rattle.std.proofs.lemmas.List.{length-map, length_push}
 use Rattle.std.proofs.lemmas.Option.{slice_get_within}
-use Rattle.mica_serve.proofs.Binding.{at_snoc}
-use Rattle.locked_fronts.specs.declared.part.LockedPart.{LockedPart}
 use Rattle.locked_serve.specs.Opening.{ArePlanned, AreNewParts, filled_view}
+use Rattle.locked_serve.proofs.Joined.{each_pushed}
 use Rattle.locked_serve.proofs.opening.lend_hands.Goals as goal
 
 pub loop-f-init : goal.loop-f-init
@@ -24,14 +23,7 @@ loop-f-preserved g c =
     record {
       of = subst (λ (n : ℕ). ArePlanned plan n (map (λ f. filled_view g.P.Partition.owner g.P.Partition.home f) c.lend_hand.new.parts.items)) (omega arith) c.in_ok-lend_hand.ensures.of;
       many = ap length pushed ∙ length_push c.loop-f.hands.items hand ∙ ap (λ n. n + 1) i.many;
-      each = λ f own at.
-          elim (at_snoc (map (λ hand. hand.items) c.loop-f.hands.items) hand.items f own
-          (ap (λ l. slice_get l f) (sym (ap (map (λ hand. hand.items)) pushed ∙ map-append (λ hand. hand.items) c.loop-f.hands.items (hand ∷ []))) ∙ at))
-          as (λ _. AreNewParts plan (c.args.first + f) own) [
-            | inl h ↦ i.each f own h.0
-            | inr h ↦ subst (λ (y : ℕ × List LockedPart). AreNewParts plan (c.args.first + y.0) y.1)
-                (λ k. (sym (h.0 ∙ length-map c.loop-f.hands.items (λ hand. hand.items) ∙ i.many) k, h.1 k)) c.in_ok-lend_hand.ensures.lent
-          ];
+      each = each_pushed (λ f own. AreNewParts plan (c.args.first + f) own) (λ hand. hand.items) c.loop-f.hands.items hand pushed i.many i.each c.in_ok-lend_hand.ensures.lent;
     }
 
 pub returns-clause-lent : goal.returns-clause-lent

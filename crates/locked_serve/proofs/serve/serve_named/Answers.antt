@@ -1,7 +1,6 @@
 use Rattle.std.proofs.Common.{rules, ◌≡◌, ◌+◌, ◌<◌, ℕ, length, vec_len, map, sym, ap, ◌∙◌, subst, arith}
-use Rattle.std.specs.Prelude.{IfSome, Option, option_map, Result, Err}
+use Rattle.std.specs.Prelude.{IfSome, Option, option_map, Result}
 use Rattle.std.proofs.lemmas.List.{length-map}
-use Rattle.std.proofs.lemmas.Result.{err_from_is_err_and}
 use Rattle.mica_io.specs.PortStates.{out}
 use Rattle.mica_fronts.specs.declared.totals.Totals.{Totals}
 use Rattle.mica_fronts.specs.declared.totals.ServeFault.{ServeFault}
@@ -18,7 +17,7 @@ use Rattle.locked_serve.specs.Streams.{StreamFacts, ListenFacts, listen_facts, s
 use Rattle.locked_serve.specs.Causes.{PortFacts, ports_at}
 use Rattle.locked_serve.proofs.Released.{kept_released}
 use Rattle.locked_serve.proofs.Named.{accepted}
-use Rattle.locked_serve.proofs.Stopped.{says_then, still_told, no_memory, unopened}
+use Rattle.locked_serve.proofs.Stopped.{ended_with, says_then, still_told, no_memory, unopened}
 use Rattle.locked_serve.proofs.serve.serve_named.Given as given
 use Rattle.locked_serve.proofs.serve.serve_named.Goals as goal
 
@@ -66,7 +65,7 @@ returns-clause-cause g c =
     let service = c.args.shared.now.service in
     let listens = c.release_streams.ensures in
     says_then listens.faults (λ news is. listens.released ∙ (λ i. option_map (with_ports (sym is i)) (c.bind_and_serve-answer.ensures.unreleased i))) (λ (others : Others) (came : Option (Result Totals ServeFault)).
-    cause others service.options c.requires.service.options.partitions.0 g.J.ServerPlan.plan.origin service.ports c.bind_and_serve-answer.new.tables (net_at g c.args.net.now)
+    cause others service.options c.requires.service.options.partitions.0 g.J.ServerPlan.plan.origin service.ports c.bind_and_serve-answer.new.left.tables (net_at g c.args.net.now)
     (net_at g c.bind_and_serve-answer.new.net) (net_at g c.release_all.new.net) (map (facts g) c.bind_and_serve-answer.new.ends.items) c.release_all.ensures came) c.bind_and_serve-answer.ensures.served
 
 pub returns-clause-leaves : goal.returns-clause-leaves
@@ -74,41 +73,35 @@ returns-clause-leaves g c =
     let service = c.args.shared.now.service in
     let served = c.bind_and_serve-answer.ensures.served in
     record {
-      kept = keeps _ service.options c.requires.service.options.partitions.0 g.J.ServerPlan.plan.origin service.ports c.bind_and_serve-answer.new.tables (net_at g c.args.net.now)
+      kept = keeps _ service.options c.requires.service.options.partitions.0 g.J.ServerPlan.plan.origin service.ports c.bind_and_serve-answer.new.left.tables (net_at g c.args.net.now)
           (net_at g c.bind_and_serve-answer.new.net) (net_at g c.release_all.new.net) (map (facts g) c.bind_and_serve-answer.new.ends.items) c.release_all.ensures served.came served.said;
       heard = kept_released service.streams (map (of_stream g) c.bind_and_serve-answer.new.connections.items) (listens_at g c.args.listeners.now) (listens_at g c.bind_and_serve-answer.new.listeners)
           (listens_at g c.release_streams.new.listeners) (omega (arith, ap length served.left, served.are.served.many, served.are.within)) c.bind_and_serve-answer.ensures.heard c.release_streams.ensures;
       announced = still_told c.bind_and_serve-answer.result (g.A.Announce.says service.ports service.streams) (g.A.Announce.fails service.ports service.streams)
           (ports_of g c.args.net.now c.args.listeners.now) (ports_of g c.bind_and_serve-answer.new.net c.bind_and_serve-answer.new.listeners) (ports_of g c.release_all.new.net c.release_streams.new.listeners)
-          c.args.announce.now c.bind_and_serve-answer.new.announce c.release_all.ensures.refused c.release_streams.ensures.faults c.bind_and_serve-answer.ensures.announced;
+          c.args.announce.now c.bind_and_serve-answer.new.announce c.release_all.ensures c.release_streams.ensures.faults c.bind_and_serve-answer.ensures.announced;
     }
 
 pub returns-in_err-server-clause-cause : goal.returns-in_err-server-clause-cause
 returns-in_err-server-clause-cause g c =
-    let is = err_from_is_err_and c.from_residual.result c.from_residual.ensures.1 in
-    no_memory (is.1 ∙ ap Err is.2) c.requires.tables c.requires.uncounted
+    no_memory (ended_with c.from_residual.result c.from_residual.ensures.1) c.requires.tables c.requires.uncounted
 
 pub returns-in_err-server-clause-leaves : goal.returns-in_err-server-clause-leaves
 returns-in_err-server-clause-leaves g c =
-    let is = err_from_is_err_and c.from_residual.result c.from_residual.ensures.1 in
-    unopened open_fault.NoMemory (is.1 ∙ ap Err is.2) c.requires.unbound
+    unopened open_fault.NoMemory (ended_with c.from_residual.result c.from_residual.ensures.1) c.requires.unbound
 
 pub returns-in_err-ends-clause-cause : goal.returns-in_err-ends-clause-cause
 returns-in_err-ends-clause-cause g c =
-    let is = err_from_is_err_and c.from_residual-in_err-ends.result c.from_residual-in_err-ends.ensures.1 in
-    no_memory (is.1 ∙ ap Err is.2) c.requires.tables c.requires.uncounted
+    no_memory (ended_with c.from_residual-in_err-ends.result c.from_residual-in_err-ends.ensures.1) c.requires.tables c.requires.uncounted
 
 pub returns-in_err-ends-clause-leaves : goal.returns-in_err-ends-clause-leaves
 returns-in_err-ends-clause-leaves g c =
-    let is = err_from_is_err_and c.from_residual-in_err-ends.result c.from_residual-in_err-ends.ensures.1 in
-    unopened open_fault.NoMemory (is.1 ∙ ap Err is.2) c.requires.unbound
+    unopened open_fault.NoMemory (ended_with c.from_residual-in_err-ends.result c.from_residual-in_err-ends.ensures.1) c.requires.unbound
 
 pub returns-in_err-connections-clause-cause : goal.returns-in_err-connections-clause-cause
 returns-in_err-connections-clause-cause g c =
-    let is = err_from_is_err_and c.from_residual-in_err-connections.result c.from_residual-in_err-connections.ensures.1 in
-    no_memory (is.1 ∙ ap Err is.2) c.requires.tables c.requires.uncounted
+    no_memory (ended_with c.from_residual-in_err-connections.result c.from_residual-in_err-connections.ensures.1) c.requires.tables c.requires.uncounted
 
 pub returns-in_err-connections-clause-leaves : goal.returns-in_err-connections-clause-leaves
 returns-in_err-connections-clause-leaves g c =
-    let is = err_from_is_err_and c.from_residual-in_err-connections.result c.from_residual-in_err-connections.ensures.1 in
-    unopened open_fault.NoMemory (is.1 ∙ ap Err is.2) c.requires.unbound
+    unopened open_fault.NoMemory (ended_with c.from_residual-in_err-connections.result c.from_residual-in_err-connections.ensures.1) c.requires.unbound

@@ -1,6 +1,5 @@
-use Rattle.std.proofs.Common.{◌≡◌, ◌+◌, ℕ, map, ap, ◌∙◌, subst, List}
+use Rattle.std.proofs.Common.{◌≡◌, ◌+◌, ℕ, map, ap, subst, List}
 use Rattle.std.specs.Prelude.{Err}
-use Rattle.std.proofs.lemmas.Result.{err_from_is_err_and}
 use Rattle.partition_model.specs.declared.write.Write.{Write}
 use Rattle.partition_model.specs.History.{History}
 use Rattle.locked_serve.specs.declared.filling.OpenFault.TheVariants as open_fault
@@ -10,7 +9,7 @@ use Rattle.locked_serve.specs.Filled.{RefusesFilling}
 use Rattle.locked_serve.specs.Causes.{HasCause, ports_at}
 use Rattle.locked_serve.specs.Opening.{FilledView, AreFilled, filled_view}
 use Rattle.locked_serve.proofs.Named.{of_plan, origin_is}
-use Rattle.locked_serve.proofs.Stopped.{not_opened, cause_filled, unopened}
+use Rattle.locked_serve.proofs.Stopped.{ended_with, not_opened, cause_filled, unopened}
 use Rattle.locked_serve.proofs.serve.serve_on.Given as given
 use Rattle.locked_serve.proofs.serve.serve_on.Goals as goal
 
@@ -29,32 +28,28 @@ pub returns-clause-cause : goal.returns-clause-cause
 returns-clause-cause g c =
     let service = c.args.shared.now.service in
     let filled = subst (λ (w : List Write). AreFilled service.options w (views g c.in_ok-parts.parts.items)) c.as_slice.ensures.value c.in_ok-parts.ensures.filled in
-    cause_filled c.serve_named.result c.args.filling.items
-    (subst (λ (origin : ℕ → History). HasCause c.serve_named.result service origin (map g.K.Clock.view c.args.clocks.items) c.serve_named.new.tables c.serve_named.new.lacked
+    cause_filled c.serve_named.result c.args.start.filling.items
+    (subst (λ (origin : ℕ → History). HasCause c.serve_named.result service origin (map g.K.Clock.view c.args.start.clocks.items) c.serve_named.new.left.tables c.serve_named.new.left.lacked
     (ports_at g.N.Net g.L.Listeners c.args.net.now c.args.listeners.now) (ports_at g.N.Net g.L.Listeners c.serve_named.new.net c.serve_named.new.listeners))
-    (origin_is service.options (fronts_of service) c.args.filling.items (views g c.in_ok-parts.parts.items) c.requires.service.options.partitions.0 filled) c.serve_named.ensures.cause)
+    (origin_is service.options (fronts_of service) c.args.start.filling.items (views g c.in_ok-parts.parts.items) c.requires.service.options.partitions.0 filled) c.serve_named.ensures.cause)
 
 pub returns-in_err-parts-clause-cause : goal.returns-in_err-parts-clause-cause
 returns-in_err-parts-clause-cause g c =
     let service = c.args.shared.now.service in
-    let is = err_from_is_err_and c.from_residual-in_err-parts.result c.from_residual-in_err-parts.ensures.1 in
     let fault = c.in_err-parts.field-0.0 in
-    not_opened fault service c.args.filling.items (map g.K.Clock.view c.args.clocks.items) c.args.tables.now c.args.lacked.now (ports_at g.N.Net g.L.Listeners c.args.net.now c.args.listeners.now)
-    (is.1 ∙ ap Err is.2) c.requires.tables c.requires.uncounted
+    not_opened fault service c.args.start.filling.items (map g.K.Clock.view c.args.start.clocks.items) c.args.left.now.tables c.args.left.now.lacked (ports_at g.N.Net g.L.Listeners c.args.net.now c.args.listeners.now)
+    (ended_with c.from_residual-in_err-parts.result c.from_residual-in_err-parts.ensures.1) c.requires.tables c.requires.uncounted
     (λ (e : fault ≡ open_fault.Refused). subst (λ l. RefusesFilling service.options l) c.as_slice.ensures.value (c.in_err-parts.ensures.refused (ap Err e)))
 
 pub returns-in_err-parts-clause-leaves : goal.returns-in_err-parts-clause-leaves
 returns-in_err-parts-clause-leaves g c =
-    let is = err_from_is_err_and c.from_residual-in_err-parts.result c.from_residual-in_err-parts.ensures.1 in
-    unopened c.in_err-parts.field-0.0 (is.1 ∙ ap Err is.2) c.requires.unbound
+    unopened c.in_err-parts.field-0.0 (ended_with c.from_residual-in_err-parts.result c.from_residual-in_err-parts.ensures.1) c.requires.unbound
 
 pub returns-in_err-rehearse-clause-cause : goal.returns-in_err-rehearse-clause-cause
 returns-in_err-rehearse-clause-cause g c =
-    let is = err_from_is_err_and c.from_residual.result c.from_residual.ensures.1 in
-    not_opened open_fault.NoMemory c.args.shared.now.service c.args.filling.items (map g.K.Clock.view c.args.clocks.items) c.args.tables.now c.args.lacked.now
-    (ports_at g.N.Net g.L.Listeners c.args.net.now c.args.listeners.now) (is.1 ∙ ap Err is.2) c.requires.tables c.requires.uncounted (λ refused. absurd (cc refused))
+    not_opened open_fault.NoMemory c.args.shared.now.service c.args.start.filling.items (map g.K.Clock.view c.args.start.clocks.items) c.args.left.now.tables c.args.left.now.lacked
+    (ports_at g.N.Net g.L.Listeners c.args.net.now c.args.listeners.now) (ended_with c.from_residual.result c.from_residual.ensures.1) c.requires.tables c.requires.uncounted (λ refused. absurd (cc refused))
 
 pub returns-in_err-rehearse-clause-leaves : goal.returns-in_err-rehearse-clause-leaves
 returns-in_err-rehearse-clause-leaves g c =
-    let is = err_from_is_err_and c.from_residual.result c.from_residual.ensures.1 in
-    unopened open_fault.NoMemory (is.1 ∙ ap Err is.2) c.requires.unbound
+    unopened open_fault.NoMemory (ended_with c.from_residual.result c.from_residual.ensures.1) c.requires.unbound

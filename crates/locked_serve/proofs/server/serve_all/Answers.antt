@@ -1,7 +1,6 @@
 use Rattle.std.proofs.Common.{◌≡◌, ◌++◌, ℕ, List, length, map, slice_get, Some, sym, ap, ◌∙◌, subst, arith}
 use Rattle.std.specs.Prelude.{⊤, Result, Ok, Err}
 use Rattle.std.proofs.lemmas.List.{length-map}
-use Rattle.std.proofs.lemmas.Result.{err_from_is_err_and}
 use Rattle.partition_table.specs.declared.tables.KeptSeat.{KeptSeat}
 use Rattle.partition_table.specs.Tabled.{kept_seat_in}
 use Rattle.mica_fronts.specs.declared.totals.TheConstants.{MAX_BATCHES}
@@ -16,6 +15,7 @@ use Rattle.locked_serve.specs.Running.{SumsUpBeside}
 use Rattle.mica_serve.specs.Ends.{EndFacts, end_facts}
 use Rattle.mica_serve.proofs.Gathered.{few_answers, small_answers}
 use Rattle.locked_serve.proofs.Came.{serves_beside}
+use Rattle.locked_serve.proofs.Stopped.{ended_with}
 use Rattle.locked_serve.proofs.server.serve_all.Given as given
 use Rattle.locked_serve.proofs.server.serve_all.Goals as goal
 
@@ -62,11 +62,9 @@ keep_all-requires-clause-room g c =
 
 pub returns-in_err-totals : goal.returns-in_err-totals
 returns-in_err-totals g c =
-    let is = err_from_is_err_and c.from_residual.result c.from_residual.ensures.1 in
-    let same : c.from_residual.result ≡ Err c.in_err-totals.field-0.0 = is.1 ∙ ap Err is.2 in
-    subst (λ (r : Result Totals ServeFault). ServesBeside c.args.shared.now.service.options g.J.ServerPlan.plan.origin c.args.shared.now.service.ports.batches c.args.shared.now.service.base (map g.K.Clock.view c.args.clocks.items) r c.args.tables.now c.run_all-parts.result.lacked
-    (map (facts g) c.args.ends.now.items) (map (facts g) c.run_all-parts.new.ends.items) (map (of_stream g) c.args.connections.now.items) (map (of_stream g) c.run_all-parts.new.connections.items)) (sym same)
-    (serves_beside _ c.requires.service.options.partitions.0 _ _ _ _ _ _ _ _ _ _ _ _ c.run_all-parts.ensures.ran c.args.tables.now (Err c.in_err-totals.field-0.0)
+    subst (λ (r : Result Totals ServeFault). ServesBeside c.args.shared.now.service.options g.J.ServerPlan.plan.origin c.args.shared.now.service.ports.batches c.args.shared.now.service.base (map g.K.Clock.view c.args.clocks.items) r c.args.left.now.tables c.run_all-parts.result.lacked
+    (map (facts g) c.args.ends.now.items) (map (facts g) c.run_all-parts.new.ends.items) (map (of_stream g) c.args.connections.now.items) (map (of_stream g) c.run_all-parts.new.connections.items)) (sym (ended_with c.from_residual.result c.from_residual.ensures.1))
+    (serves_beside _ c.requires.service.options.partitions.0 _ _ _ _ _ _ _ _ _ _ _ _ c.run_all-parts.ensures.ran c.args.left.now.tables (Err c.in_err-totals.field-0.0)
     (subst (λ (y : List (Result ⊤ ServeFault) × List (Result Totals ServeFault)). SumsUpBeside y.0 y.1 (Err c.in_err-totals.field-0.0))
     (λ i. (c.as_slice.ensures.value i, c.as_slice-2.ensures.value i)) c.in_err-totals.ensures) c.requires.tables)
 

@@ -1,10 +1,10 @@
-use Rattle.std.proofs.Common.{rules, ◌≡◌, ◌∷◌, [], length, map, slice_get, inl, inr, sym, ap, ◌∙◌, subst, arith}
-use Rattle.std.proofs.lemmas.List.{length-map, length_push, map-append}
+use Rattle.std.proofs.Common.{rules, ◌≡◌, length, map, sym, ap, arith}
+use Rattle.std.proofs.lemmas.List.{length_push}
 use Rattle.std.proofs.lemmas.Option.{slice_get_within}
-use Rattle.mica_serve.proofs.Binding.{at_snoc}
 use Rattle.locked_fronts.specs.declared.returned.Returned.{Returned}
 use Rattle.locked_fronts.specs.Owned.{Owned, IsOwned}
 use Rattle.locked_serve.specs.Taking.{left_view}
+use Rattle.locked_serve.proofs.Joined.{each_pushed}
 use Rattle.locked_serve.proofs.taking.take_all_back.Given as given
 use Rattle.locked_serve.proofs.taking.take_all_back.Goals as goal
 
@@ -37,14 +37,8 @@ loop-lock-preserved g c =
     let pushed = c.push_reserved.ensures.items in
     record {
       each = record {
-        each = λ p left at.
-            elim (at_snoc (map (view g) c.loop-lock.parts.items) (view g part) p left
-            (ap (λ l. slice_get l p) (sym (ap (map (view g)) pushed ∙ map-append (view g) c.loop-lock.parts.items (part ∷ []))) ∙ at))
-            as (λ _. (left.number ≡ p) × IsOwned g.J.ServerPlan.plan left) [
-              | inl h ↦ i.each.each p left h.0
-              | inr h ↦ subst (λ (v : Owned). (v.number ≡ p) × IsOwned g.J.ServerPlan.plan v) h.1
-                  (c.take_back.ensures.number ∙ i.number ∙ sym (length-map c.loop-lock.parts.items (view g)) ∙ sym h.0, c.take_back.ensures.of)
-            ];
+        each = each_pushed (λ p left. (left.number ≡ p) × IsOwned g.J.ServerPlan.plan left) (view g) c.loop-lock.parts.items part pushed (sym i.number) i.each.each
+            (c.take_back.ensures.number, c.take_back.ensures.of);
       };
       many = omega (arith, ap length pushed, length_push c.loop-lock.parts.items part, i.many, ap length c.in-Some.ensures.steps.0);
       number = omega (arith, ap length pushed, length_push c.loop-lock.parts.items part, i.number);

@@ -1,6 +1,6 @@
 use Rattle.std.proofs.Common.{ℕ, List, refl, string_bytes}
 use Rattle.std.specs.Prelude.{Ok, Err}
-use Rattle.locked_serve.specs.declared.stop.Stop.TheVariants.{Refused, Fault, Unannounced}
+use Rattle.locked_serve.specs.declared.stop.Stop.TheVariants.{Refused, Unbound, Fault, Unannounced}
 use Rattle.mica_cmd.specs.Outside.{SinkFacts, sink_facts}
 use Rattle.mica_daemon.specs.declared.speaker.Speaker.{Speaker}
 use Rattle.mica_daemon.proofs.Announced.{leaves_by, written_last}
@@ -29,6 +29,15 @@ returns-in-Err-Fault g c = record {
   cause = c.in-Err-Fault.ensures.cause;
   leaves = leaves_by (line_at g) (sink_at g) c.requires.line c.in-Err-Fault.ensures.leaves;
   last = written_last c.in-Err-Fault.field-0 (Fault c.in-Err-Fault.fault) (sink_at g c.serve_locked.new.announce) _ _ c.in-Err-Fault.field-0-is c.write_fault.ensures;
+}
+
+pub returns-in-Err-Unbound : goal.returns-in-Err-Unbound
+returns-in-Err-Unbound g c = record {
+  answer = Err c.in-Err-Unbound.field-0;
+  said = sink_at g c.serve_locked.new.announce;
+  cause = c.in-Err-Unbound.ensures.cause;
+  leaves = leaves_by (line_at g) (sink_at g) c.requires.line c.in-Err-Unbound.ensures.leaves;
+  last = written_last c.in-Err-Unbound.field-0 (Unbound c.in-Err-Unbound.port) (sink_at g c.serve_locked.new.announce) _ _ c.in-Err-Unbound.field-0-is c.write_unbound.ensures;
 }
 
 pub returns-in-Err-Unannounced : goal.returns-in-Err-Unannounced

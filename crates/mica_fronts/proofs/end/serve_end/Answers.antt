@@ -1,8 +1,9 @@
-use Rattle.std.proofs.Common.{rules, ◌≡◌, ◌≤◌, ◌+◌, ℕ, Bool, true, false, cond, eqb, Option, sym, ap, ◌∙◌, subst, arith}
+use Rattle.std.proofs.Common.{rules, ◌≡◌, ◌≤◌, ◌+◌, Bool, true, false, eqb, Option, sym, ap, ◌∙◌, subst, arith}
 use Rattle.std.specs.Prelude.{IfSome}
 use Rattle.partition_model.specs.declared.options.Options.{Options}
 use Rattle.mica_fronts.specs.declared.totals.Totals.{Totals}
 use Rattle.mica_fronts.specs.OneEnd.{OnTraffic, StopsOne, LeavesUnread, ServesOne, ServesSome, LeavesEnd}
+use Rattle.mica_fronts.proofs.InOrder.{one_at_most}
 use Rattle.mica_fronts.proofs.Serving.{on_traffic_then, serves_more, stops_at, wants_at, wants_fresh}
 use Rattle.mica_fronts.proofs.end.serve_end.Goals as goal
 
@@ -64,17 +65,10 @@ loop-preserved g c =
       omega (arith, inv.4, c.serve_one.ensures.left),
       omega (arith, ap (λ (t : Totals). t.batches) totals, inv.5),
       omega (arith, ap (λ (t : Totals). t.requests) totals, inv.6, few),
-      omega (arith, ap (λ (t : Totals). t.bad) totals, inv.7, one_at_most requests),
+      omega (arith, ap (λ (t : Totals). t.bad) totals, inv.7, one_at_most (eqb requests 0)),
       omega (arith, inv.8, c.serve_one.ensures.never_fall),
       search rules,
       c.serve_one.ensures.script ∙ inv.10,
       c.serve_one.ensures.port ∙ inv.11,
       c.serve_one.ensures.number ∙ inv.12,
     )
-  where
-    one_at_most : (n : ℕ) → cond (eqb n 0) 1 0 ≤ 1
-    one_at_most n = by (eqb n 0)
-      where
-        by : (b : Bool) → cond b 1 0 ≤ 1
-        by true = omega arith
-        by false = omega arith

@@ -35,7 +35,7 @@ pub returns-in_err-bind_all : goal.returns-in_err-bind_all
 returns-in_err-bind_all g c =
     let failed = c.in_err-bind_all.ensures in
     let is = err_from_is_err_and c.from_residual.result c.from_residual.ensures.1 in
-    run_failed (bound g (goal.at.returns-in_err-bind_all g c).After-bind_all) (λ p low. tt) (ap Some (is.1 ∙ ap Err is.2)) c.requires.tables failed.cause failed.refused (λ k answers is. absurd (cc))
+    run_failed (bound g (goal.at.returns-in_err-bind_all g c).After-bind_all) (λ p low. tt) (ap Some (is.1 ∙ ap Err is.2)) c.requires.tables failed.cause (omega (arith, failed.refused)) (λ k answers is. absurd (cc))
 
 pub returns : goal.returns
 returns g c =

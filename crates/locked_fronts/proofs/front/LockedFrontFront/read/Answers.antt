@@ -1,29 +1,27 @@
-use Rattle.locked_fronts.specs.Parts.{LockedView, locked_view}
-use Rattle.locked_fronts.proofs.Finding.{FindsPart, finds_part, is_part, law_by_read, left_by_read, left_kept, reads_at, others_at}
-use Rattle.locked_fronts.proofs.front.LockedFrontFront.read.Given as given
+use Rattle.locked_fronts.proofs.Finding.{finds_part, is_part, law_by_read, left_by_read, left_kept, reads_at, others_at}
 use Rattle.locked_fronts.proofs.front.LockedFrontFront.read.Goals as goal
-use Rattle.locked_fronts.proofs.front.LockedFrontFront.read.Goals.{After-index_mut}
-
--- the front, and the key's part in it
-abbrev front : (g : given.Over) → goal.After-index_mut g → LockedView
-front g c = locked_view c.self.inside.options c.self.inside.number c.self.inside.parts.items
-
-finds : (g : given.Over) (c : goal.After-index_mut g) → FindsPart g.J.ServerPlan.plan (front g c) c.args.self.now c.args.key.now c.partition_of-number.result c.index_mut.result.now
-finds g c =
-    finds_part g.J.ServerPlan.plan (front g c) c.args.self.now c.args.key.now c.key_hash-hash.result c.partition_of-number.result c.index_mut.result.now c.self.invariant.0 c.self.view_is
-    c.key_hash-hash.ensures c.partition_of-number.ensures c.index_mut.ensures.value
 
 pub read-requires-clause-own : goal.read-requires-clause-own
-read-requires-clause-own g c = is_part (finds g (goal.at.read-requires-clause-own g c).After-index_mut)
+read-requires-clause-own g c =
+    let finds = finds_part c.self.invariant.0 c.self.view_is c.key_hash-hash.ensures c.partition_of-number.ensures c.index_mut.ensures.value in
+    is_part finds
 
 pub invariant_of-self : goal.invariant_of-self
-invariant_of-self g c = (law_by_read (finds g (goal.at.invariant_of-self g c).After-index_mut) c.read.new.self c.read.ensures, c.self.invariant.1, left_kept (finds g (goal.at.invariant_of-self g c).After-index_mut) c.read.new.self c.read.ensures c.self.inside.left c.self.invariant.2)
+invariant_of-self g c =
+    let finds = finds_part c.self.invariant.0 c.self.view_is c.key_hash-hash.ensures c.partition_of-number.ensures c.index_mut.ensures.value in
+    (law_by_read finds c.read.new.self c.read.ensures, c.self.invariant.1, left_kept finds c.read.new.self c.read.ensures c.self.inside.left c.self.invariant.2)
 
 pub returns-clause-left : goal.returns-clause-left
-returns-clause-left g c = left_by_read (finds g (goal.at.returns-clause-left g c).After-index_mut) c.read.new.self c.read.ensures
+returns-clause-left g c =
+    let finds = finds_part c.self.invariant.0 c.self.view_is c.key_hash-hash.ensures c.partition_of-number.ensures c.index_mut.ensures.value in
+    left_by_read finds c.read.new.self c.read.ensures
 
 pub returns-clause-answer : goal.returns-clause-answer
-returns-clause-answer g c = reads_at (finds g (goal.at.returns-clause-answer g c).After-index_mut) c.read.new.self c.read.ensures
+returns-clause-answer g c =
+    let finds = finds_part c.self.invariant.0 c.self.view_is c.key_hash-hash.ensures c.partition_of-number.ensures c.index_mut.ensures.value in
+    reads_at finds c.read.new.self c.read.ensures
 
 pub returns-clause-others : goal.returns-clause-others
-returns-clause-others g c = others_at (finds g (goal.at.returns-clause-others g c).After-index_mut) c.read.new.self c.read.ensures.still
+returns-clause-others g c =
+    let finds = finds_part c.self.invariant.0 c.self.view_is c.key_hash-hash.ensures c.partition_of-number.ensures c.index_mut.ensures.value in
+    others_at finds c.read.new.self c.read.ensures.still

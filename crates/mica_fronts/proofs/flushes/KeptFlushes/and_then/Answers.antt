@@ -1,6 +1,5 @@
 use Rattle.std.proofs.Common.{◌≡◌, ◌+◌, ap, sym, ◌∙◌, arith}
 use Rattle.partition_model.specs.Write.{write_of}
-use Rattle.mica_fronts.specs.declared.flushes.KeptFlushes.{KeptFlushes}
 use Rattle.mica_fronts.specs.Flushes.{flushes_then, kept_then}
 use Rattle.mica_fronts.proofs.FlushLaws.{in_another, in_bucket_0, kept_other, kept_first}
 use Rattle.mica_fronts.proofs.flushes.KeptFlushes.and_then.Goals as goal

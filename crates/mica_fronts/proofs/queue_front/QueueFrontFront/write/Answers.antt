@@ -1,20 +1,9 @@
 use Rattle.std.proofs.Common.{◌≡◌, ◌∙◌, ◌<◌, refl, ap, arith}
 use Rattle.partition_model.specs.declared.write.Write.{Write}
 use Rattle.partition_model.specs.Write.{write_of}
-use Rattle.mica_fronts.specs.QueueFront.{QueueView, queue_view}
-use Rattle.mica_fronts.proofs.QueueSteps.{FindsPart, finds_part, write_keeps, others_at, writes_at, stands_write}
-use Rattle.mica_fronts.proofs.queue_front.QueueFrontFront.write.Given as given
+use Rattle.mica_fronts.specs.QueueFront.{QueueView}
+use Rattle.mica_fronts.proofs.QueueSteps.{finds_part, write_keeps, others_at, writes_at, stands_write}
 use Rattle.mica_fronts.proofs.queue_front.QueueFrontFront.write.Goals as goal
-use Rattle.mica_fronts.proofs.queue_front.QueueFrontFront.write.Goals.{After-index_mut}
-
--- the front, and the key's part in it
-abbrev front : (g : given.Over) → goal.After-index_mut g → QueueView
-front g c = queue_view c.self.inside.options c.self.inside.number c.self.inside.next c.self.inside.left c.self.inside.parts.items
-
-finds : (g : given.Over) (c : goal.After-index_mut g) → FindsPart (front g c) c.args.self.now c.args.key.now c.partition_of-at.result c.index_mut.result.now
-finds g c =
-    finds_part (front g c) c.args.self.now c.args.key.now c.key_hash.result c.partition_of-at.result c.index_mut.result.now c.self.invariant c.self.view_is
-    c.key_hash.ensures c.partition_of-at.ensures c.index_mut.ensures.value
 
 pub overflow_add-self : goal.overflow_add-self
 overflow_add-self g c = omega (arith, c.self.invariant.few, c.requires.left, ap (λ (v : QueueView). v.left) c.self.view_is)
@@ -22,7 +11,8 @@ overflow_add-self g c = omega (arith, c.self.invariant.few, c.requires.left, ap 
 pub invariant_of-self : goal.invariant_of-self
 invariant_of-self g c =
     let some : 0 < c.self.inside.left = omega (arith, c.requires.left, ap (λ (v : QueueView). v.left) c.self.view_is) in
-    write_keeps (finds g (goal.at.invariant_of-self g c).After-index_mut) c.write-answer.new.self refl some c.write-answer.ensures
+    let finds = finds_part c.self.invariant c.self.view_is c.key_hash.ensures c.partition_of-at.ensures c.index_mut.ensures.value in
+    write_keeps finds c.write-answer.new.self refl some c.write-answer.ensures
 
 pub returns-clause-written : goal.returns-clause-written
 returns-clause-written g c =
@@ -30,10 +20,15 @@ returns-clause-written g c =
     let key : write.key ≡ c.args.key.now = c.into.ensures ∙ c.in_ok-copy.ensures in
     let value : write.value ≡ c.args.value.now = c.into-2.ensures ∙ c.in_ok-copy-2.ensures in
     let same : write ≡ write_of c.args.op c.args.key.now c.args.value.now = λ i. record { op = c.args.op; key = key i; value = value i } in
-    writes_at (finds g (goal.at.returns-clause-written g c).After-index_mut) c.write-answer.new.self (write_of c.args.op c.args.key.now c.args.value.now) same c.write-answer.ensures
+    let finds = finds_part c.self.invariant c.self.view_is c.key_hash.ensures c.partition_of-at.ensures c.index_mut.ensures.value in
+    writes_at finds c.write-answer.new.self (write_of c.args.op c.args.key.now c.args.value.now) same c.write-answer.ensures
 
 pub returns-clause-others : goal.returns-clause-others
-returns-clause-others g c = others_at (finds g (goal.at.returns-clause-others g c).After-index_mut) c.write-answer.new.self
+returns-clause-others g c =
+    let finds = finds_part c.self.invariant c.self.view_is c.key_hash.ensures c.partition_of-at.ensures c.index_mut.ensures.value in
+    others_at finds c.write-answer.new.self
 
 pub returns-clause-stands : goal.returns-clause-stands
-returns-clause-stands g c = stands_write (finds g (goal.at.returns-clause-stands g c).After-index_mut) c.write-answer.new.self c.write-answer.ensures
+returns-clause-stands g c =
+    let finds = finds_part c.self.invariant c.self.view_is c.key_hash.ensures c.partition_of-at.ensures c.index_mut.ensures.value in
+    stands_write finds c.write-answer.new.self c.write-answer.ensures
