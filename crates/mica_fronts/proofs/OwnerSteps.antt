@@ -82,7 +82,7 @@ serves_none home o from boxes fresh new = record {
     new_at : (front : ℕ) (box : AckBox) → slice_get boxes front ≡ Some box → IsNewAckBox home o box
     new_at front box at = all_at (IsNewAckBox home o) boxes front box (recursion_from_All (IsNewAckBox home o) boxes new) at
 
-module _ {home now_home : TableId} {old mid : OwnerState} {from now to : Inbox} {before after : List AckBox} {m : Message}
+module _ {home now_home : TableId} {old mid : OwnerState} {from now to : Inbox} {before after : List AckBox} (m : Message)
     (so_far : IsServing home now_home old mid from now before after)
     (is : to ≡ inbox now.queue now.senders now.jobs (now.taken ++ m ∷ [])) (low : sender_of m < now.senders) where
   taken_is : to.taken ≡ now.taken ++ m ∷ []
