@@ -85,12 +85,14 @@ fn bind_and_serve<
 {
     let ports = &shared.service.ports;
     let streams = &shared.service.streams;
-    let Ok(()) = bind_all(net, ports, ends) else {
-        return Err(Stop::Unbound(ports.port + ends.len() as u16));
-    };
-    let Ok(()) = listen_all(listeners, streams, connections) else {
-        return Err(Stop::Unbound(streams.port + connections.len() as u16));
-    };
+    match bind_all(net, ports, ends) {
+        Ok(()) => {}
+        Err(_) => return Err(Stop::Unbound(ports.port + ends.len() as u16)),
+    }
+    match listen_all(listeners, streams, connections) {
+        Ok(()) => {}
+        Err(_) => return Err(Stop::Unbound(streams.port + connections.len() as u16)),
+    }
     announce.ready(ports, streams, ends.as_slice(), connections.as_slice())?;
     let totals = serve_all(shared, server, ends, connections, clocks, left)?;
     Ok(totals)

@@ -62,19 +62,19 @@ ready-requires-clause-fresh g c =
 
 -- A bind failed
 
-pub returns-in-Err-bind_all-clause-served : goal.returns-in-Err-bind_all-clause-served
-returns-in-Err-bind_all-clause-served g c =
-    let z = (goal.at.returns-in-Err-bind_all-clause-served g c).After-bind_all in
-    let failed = c.in-Err-bind_all.ensures in
+pub returns-in-Err-clause-served : goal.returns-in-Err-clause-served
+returns-in-Err-clause-served g c =
+    let z = (goal.at.returns-in-Err-clause-served g c).After-bind_all in
+    let failed = c.in-Err.ensures in
     unbound (Unbound _) Net refl (inl (refl, refl, refl)) c.requires.uncounted (sym (ap (map (of_stream g)) c.requires.no_streams))
     (run_failed (bound g z) c.requires.filled refl c.requires.tables failed.cause (omega (arith, failed.refused)) (silent c.args.shared.now.service.streams [] []))
 
-pub returns-in-Err-bind_all-clause-heard : goal.returns-in-Err-bind_all-clause-heard
-returns-in-Err-bind_all-clause-heard g c = kept_unheard c.args.shared.now.service.streams (listen_facts g.L.Listeners c.args.listeners.now)
+pub returns-in-Err-clause-heard : goal.returns-in-Err-clause-heard
+returns-in-Err-clause-heard g c = kept_unheard c.args.shared.now.service.streams (listen_facts g.L.Listeners c.args.listeners.now)
 
-pub returns-in-Err-bind_all-clause-announced : goal.returns-in-Err-bind_all-clause-announced
-returns-in-Err-bind_all-clause-announced g c =
-    let failed = c.in-Err-bind_all.ensures in
+pub returns-in-Err-clause-announced : goal.returns-in-Err-clause-announced
+returns-in-Err-clause-announced g c =
+    let failed = c.in-Err.ensures in
     (inl (failed.refused, omega (arith, failed.tried, failed.lacks, c.bind_all.ensures.first)), refl)
 
 -- A port could not be listened at
@@ -85,10 +85,10 @@ returns-in-Err-listen_all-clause-served g c =
     let failed = c.in-Err-listen_all.ensures in
     unserved (map (of_stream g) c.listen_all.new.connections.items) c.listen_all.ensures.new (heard_few g at.After-listen_all) (Unbound _) refl c.requires.uncounted
     (inr (refl, failed.cause, omega (arith, failed.lacks, heard_long g at.After-listen_all), omega (arith, failed.lacks, heard_long g at.After-listen_all))) refl
-    (run_left (bound g at.After-bind_all) c.requires.filled c.requires.tables (ends_long g at.After-bind_all ∙ c.in-Ok-bind_all.ensures.all))
+    (run_left (bound g at.After-bind_all) c.requires.filled c.requires.tables (ends_long g at.After-bind_all ∙ c.in-Ok.ensures.all))
 
 pub returns-in-Err-listen_all-clause-announced : goal.returns-in-Err-listen_all-clause-announced
-returns-in-Err-listen_all-clause-announced g c = (inr (c.in-Ok-bind_all.ensures.none_refused, c.in-Err-listen_all.ensures.cause), refl)
+returns-in-Err-listen_all-clause-announced g c = (inr (c.in-Ok.ensures.none_refused, c.in-Err-listen_all.ensures.cause), refl)
 
 -- It could not be told
 
@@ -96,7 +96,7 @@ pub returns-in_err-ready-clause-served : goal.returns-in_err-ready-clause-served
 returns-in_err-ready-clause-served g c =
     let at = goal.at.returns-in_err-ready-clause-served g c in
     unserved (map (of_stream g) c.listen_all.new.connections.items) c.listen_all.ensures.new (heard_few g at.After-listen_all) Unannounced (ended_with c.from_residual-in_err-ready.result c.from_residual-in_err-ready.ensures.1) c.requires.uncounted refl refl
-    (run_left (bound g at.After-bind_all) c.requires.filled c.requires.tables (ends_long g at.After-bind_all ∙ c.in_ok-bind_all.ensures.all))
+    (run_left (bound g at.After-bind_all) c.requires.filled c.requires.tables (ends_long g at.After-bind_all ∙ c.in-Ok.ensures.all))
 
 pub returns-in_err-ready-clause-announced : goal.returns-in_err-ready-clause-announced
 returns-in_err-ready-clause-announced g c =
@@ -110,20 +110,20 @@ pub returns-in_err-totals-clause-served : goal.returns-in_err-totals-clause-serv
 returns-in_err-totals-clause-served g c =
     let at = goal.at.returns-in_err-totals-clause-served g c in
     let fault = c.in_err-totals.field-0.0 in
-    came_err (map (of_stream g) c.listen_all.new.connections.items) c.listen_all.ensures.new (heard_few g at.After-listen_all) (heard_long g at.After-listen_all ∙ c.in_ok-listen_all.ensures.all) fault (ended_with c.from_residual-in_err-totals.result c.from_residual-in_err-totals.ensures.1) c.in_err-totals.ensures refl
-    (run_served (bound g at.After-bind_all) c.requires.filled (Err fault) (ends_long g at.After-bind_all ∙ c.in_ok-bind_all.ensures.all) c.in_ok-bind_all.ensures.steady c.in_err-totals.ensures.fronts)
+    came_err (map (of_stream g) c.listen_all.new.connections.items) c.listen_all.ensures.new (heard_few g at.After-listen_all) (heard_long g at.After-listen_all ∙ c.in-Ok-listen_all.ensures.all) fault (ended_with c.from_residual-in_err-totals.result c.from_residual-in_err-totals.ensures.1) c.in_err-totals.ensures refl
+    (run_served (bound g at.After-bind_all) c.requires.filled (Err fault) (ends_long g at.After-bind_all ∙ c.in-Ok.ensures.all) c.in-Ok.ensures.steady c.in_err-totals.ensures.fronts)
 
 pub returns-in_err-totals-clause-announced : goal.returns-in_err-totals-clause-announced
 returns-in_err-totals-clause-announced g c =
     let service = c.args.shared.now.service in
     fault_told c.in_err-totals.field-0.0 (g.A.Announce.says service.ports service.streams) (g.A.Announce.fails service.ports service.streams) (ports_of g c.args.net.now c.args.listeners.now)
     (ports_of g c.bind_all.new.net c.listen_all.new.listeners) c.args.announce.now c.ready.new.self (ended_with c.from_residual-in_err-totals.result c.from_residual-in_err-totals.ensures.1)
-    (c.in_ok-bind_all.ensures.none_refused, c.in_ok-listen_all.ensures.steady) c.in_ok-ready.ensures.said
+    (c.in-Ok.ensures.none_refused, c.in-Ok-listen_all.ensures.steady) c.in_ok-ready.ensures.said
 
 -- All were served
 
 pub returns-clause-served : goal.returns-clause-served
 returns-clause-served g c =
     let at = goal.at.returns-clause-served g c in
-    came_ok (map (of_stream g) c.listen_all.new.connections.items) c.listen_all.ensures.new (heard_few g at.After-listen_all) (heard_long g at.After-listen_all ∙ c.in_ok-listen_all.ensures.all) c.in_ok-totals.totals refl c.in_ok-totals.ensures refl
-    (run_served (bound g at.After-bind_all) c.requires.filled (Ok c.in_ok-totals.totals) (ends_long g at.After-bind_all ∙ c.in_ok-bind_all.ensures.all) c.in_ok-bind_all.ensures.steady c.in_ok-totals.ensures.fronts)
+    came_ok (map (of_stream g) c.listen_all.new.connections.items) c.listen_all.ensures.new (heard_few g at.After-listen_all) (heard_long g at.After-listen_all ∙ c.in-Ok-listen_all.ensures.all) c.in_ok-totals.totals refl c.in_ok-totals.ensures refl
+    (run_served (bound g at.After-bind_all) c.requires.filled (Ok c.in_ok-totals.totals) (ends_long g at.After-bind_all ∙ c.in-Ok.ensures.all) c.in-Ok.ensures.steady c.in_ok-totals.ensures.fronts)
