@@ -30,4 +30,4 @@ returns-in_err-made-clause-refused g c e =
     let is = err_from_is_err_and c.from_residual-in_err-made.result c.from_residual-in_err-made.ensures.1 in
     next_refused (view g) c.args.options.now c.args.filling.now c.in_ok-made-items.made-items.items c.in_ok-made-items.ensures.each parts c.in-Some.made (into_iter_items c.next.new.self)
     (ap (λ l. map Ok parts ++ l) (sym c.in-Some.ensures.steps.0) ∙ (c.loop-made.invariant ∙ c.into_iter-made-iterator.ensures.into_iter_gives.0))
-    (grind (common_steps, c.in_err-made.was, is.1, is.2, e))
+    (grind (arith, common_steps, c.in_err-made.was, is.1, is.2, e))
