@@ -183,7 +183,7 @@ module _ (plan : Plan) (number : ℕ) (old new : LockedPart) (key : List ℕ) (a
       done = subst (IsPrefix (reader_state old.seat).done) (sym looks.done) (prefix_same (reader_state old.seat).done);
       order = let up = prefix_rises plan.options (reader_state old.seat).seen seen looks.seen in omega (arith, up, part.last, part.newest, at.0);
       last = looks.last;
-      told = tells_look (reader_state old.seat) (reader_state new.seat) {more = []} (ap (λ (t : TakerView Step). map run_step t.mine) looks.taker) looks.tried (looks.fails ∙ sym (append-nil (reader_state old.seat).fails)) looks.closed;
+      told = tells_look (reader_state old.seat) (reader_state new.seat) [] (ap (λ (t : TakerView Step). map run_step t.mine) looks.taker) looks.tried (looks.fails ∙ sym (append-nil (reader_state old.seat).fails)) looks.closed;
     }
 
     pub looks_on : (needs : Bool) (becoming : When → Option (List ℕ) → Becoming) → OnlyReads becoming

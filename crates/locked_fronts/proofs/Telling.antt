@@ -78,9 +78,9 @@ has_learned old new mid learned taker last counts home one two seen further done
     }
 
 -- what is told where nothing was answered, and the list of failed tries may be longer
-pub tells_look : (old new : ReaderState) {steps steps_now : List RunStep} {more : List Failure} → steps_now ≡ steps → new.tried ≡ old.tried → new.fails ≡ old.fails ++ more → new.closed ≡ old.closed
+pub tells_look : (old new : ReaderState) {steps steps_now : List RunStep} (more : List Failure) → steps_now ≡ steps → new.tried ≡ old.tried → new.fails ≡ old.fails ++ more → new.closed ≡ old.closed
     → TellsLook (session_at old steps 0).told (session_at new steps_now 0).told
-tells_look old new {more = more} steps tried fails closed =
+tells_look old new more steps tried fails closed =
     (length more, ap Some (λ i. record { steps = steps i; tried = tried i; failed = (ap length fails ∙ length-append old.fails more) i; closed = closed i }))
 
 -- A hold: `held` is the part as it was, but with the token that took the turn
@@ -204,7 +204,7 @@ module _ (plan : Plan) (number : ℕ) (old held new : LockedPart) (learned : Lea
       done = knows.done.0;
       order = order by_none;
       last = knows.last;
-      told = tells_look (reader_state old.seat) (reader_state new.seat) (ap (λ (t : TakerView Step). map run_step t.mine) (knows.taker ∙ left.entered)) knows.tried knows.fails knows.closed;
+      told = tells_look (reader_state old.seat) (reader_state new.seat) _ (ap (λ (t : TakerView Step). map run_step t.mine) (knows.taker ∙ left.entered)) knows.tried knows.fails knows.closed;
     }
 
   -- what was decided was done

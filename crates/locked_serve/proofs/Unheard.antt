@@ -13,7 +13,7 @@ use Rattle.stream_fronts.specs.declared.ports.StreamPorts.{StreamPorts}
 use Rattle.stream_fronts.specs.Open.{OnLogs}
 use Rattle.stream_fronts.specs.Serving.{FrontAt}
 use Rattle.stream_fronts.specs.declared.desk.TheConstants.{MOST_UNSENT}
-use Rattle.stream_fronts.specs.Moments.{TalksThrough}
+use Rattle.stream_fronts.specs.Moments.{TalksThrough, IsCaughtUp}
 use Rattle.locked_serve.specs.Streams.{StreamFacts, IsUnserved, AreNewStreams, ServesClients, ServesFrom, AreStreams, counted_by_all}
 
 -- each of so many answered nothing
@@ -58,7 +58,8 @@ module _ (options : Options) (base : ℕ) where
         through = subst (λ (entries : List Entry). TalksThrough options base MOST_UNSENT log.schedule [] entries []) (sym fresh)
             (λ c. inl (record { said = []; rest = []; spells = refl; answered = refl; begins = ([], refl) }, record { kept = omega arith; unsent = omega arith }));
         turns = record { turns = []; calls = sym fresh; given = refl; short = tt };
-        done = λ ended. absurd (true≢false (sym ended));
+        caught_up = subst (λ (entries : List Entry). IsCaughtUp options base log.schedule log.script.piece entries []) (sym fresh) (λ moving c. tt);
+        over = λ ended. absurd (true≢false (sym ended));
       };
     },
     refl,

@@ -1,1 +1,2 @@
 pub mod Becomings
+pub mod GoneLaws

@@ -1,5 +1,5 @@
 -- What a sweep takes away.
-use Rattle.std.specs.Prelude.{ℕ, Bool, ◌&&◌, not, nat_le, List, Option, Some, None, if◌then◌else◌}
+use Rattle.std.specs.Prelude.{ℕ, Bool, ◌&&◌, not, nat_le, nat_lt, List, Option, Some, None, if◌then◌else◌}
 use Rattle.memcached_text.specs.Item.{item_in}
 use Rattle.memcached_commands.specs.Moments.{is_there}
 use Rattle.mica_fronts.specs.declared.changing.When.{When}
@@ -10,7 +10,7 @@ use Rattle.memcached_changes.specs.Numbered.{numbered, moment_at}
 -- protocol stored has no such number, but by chance.
 abbrev pub is_over : ℕ → When → List ℕ → Bool
 is_over base when stored =
-    not (is_there (moment_at base when) (item_in stored)) && nat_le base (item_in stored).unique && nat_le (item_in stored).unique (numbered base when.written)
+    not (is_there (moment_at base when) (item_in stored)) && nat_le base (item_in stored).unique && nat_lt (item_in stored).unique (numbered base when.written)
 
 -- what becomes of what is stored
 abbrev pub sweeping : ℕ → When → Option (List ℕ) → Becoming

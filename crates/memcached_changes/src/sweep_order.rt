@@ -36,7 +36,7 @@ pub fn is_over(base: u64, when: When, stored: &[u8]) -> bool
 {
     let item = read_item(stored);
     let at = moment_at(base, when);
-    !is_there(&at, &item) && base <= item.unique && item.unique <= at.unique
+    !is_there(&at, &item) && base <= item.unique && item.unique < at.unique
 }
 
 impl Decide for SweepOrder {

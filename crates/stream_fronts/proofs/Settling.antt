@@ -1,5 +1,5 @@
--- Where each waits and nothing is to come, each is settled.
-use Rattle.std.proofs.Common.{◌≡◌, ◌≢◌, inl, inr, ℕ, ◌<◌, Bool, true, false, List, [], ◌∷◌, ◌++◌, length, refl, ap, ◌∙◌, subst, arith, length-append}
+-- Where each waits, or a report of it is to come, the front has caught up.
+use Rattle.std.proofs.Common.{◌≡◌, ◌≢◌, ◌⊎◌, inl, inr, ℕ, ◌<◌, Bool, true, false, List, [], ◌∷◌, ◌++◌, length, refl, ap, ◌∙◌, subst, arith, length-append}
 use Rattle.std.specs.Prelude.{◌&&◌, not, slice_get, Option, None, Some, IfSome}
 use Rattle.std.proofs.lemmas.List.{append-nil}
 use Rattle.std.proofs.lemmas.Bool.{eq-eqb}
@@ -15,11 +15,11 @@ use Rattle.stream_fronts.specs.Clients.{IsClient, AreOpen}
 use Rattle.stream_fronts.specs.Reached.{Reaches, place_of}
 use Rattle.stream_fronts.specs.Closing.{IsSettled}
 use Rattle.stream_fronts.specs.Closing.{shut as waits_shut, idle as waits_idle}
+use Rattle.stream_fronts.specs.Moments.{IsCaughtUp}
 use Rattle.stream_fronts.specs.Traffic.{IsShut, IsToCome}
 use Rattle.stream_fronts.specs.Resting.{IsAtRest, shut, idle, is_there, Tends}
 use Rattle.stream_fronts.specs.Held.{Holds, goes_on, left, ended}
 use Rattle.stream_fronts.specs.Standing.{Stands}
-use Rattle.stream_fronts.specs.Serving.{IsDone}
 use Rattle.stream_fronts.proofs.Talking.{Told, talk_at, talk_ends, all_answered}
 use Rattle.stream_fronts.proofs.Standing.{holds_at}
 use Rattle.stream_fronts.proofs.Visited.{held_reaches}
@@ -55,27 +55,28 @@ module _ (options : Options) (base : ℕ) where
           inr (silent.whole, a.talk, waits_idle a.due_is silent.read silent.goes_on a.answered)
     ]
 
-  -- so the front is done
-  pub done_all : (lacking : List ℕ) (log : Log) (all : List Given) (clients : List (Option Client)) → AreOpen clients (Some log) → Stands options base lacking log all clients
-      → Tends log.script.piece (state_of log) clients → 0 < log.script.piece → (state_of log).later ≡ [] → IsDone options base log all
-  done_all lacking log all clients are stands tends moving over = record {
-    over = over;
-    settled = λ c. by c (slice_get (connections_of log) c) refl;
-  }
+  -- a report of the c-th connection is to come, or it is settled
+  abbrev IsLeft : ℕ → Log → List Given → Connection → Type 0
+  IsLeft c log all x = IsToCome c (state_of log).later ⊎ IsSettled options base x (received_of c log.entries) (sent_of c log.entries) (given_to c all)
+
+  -- so the front has caught up
+  pub all_caught_up : (lacking : List ℕ) (log : Log) (all : List Given) (clients : List (Option Client)) → AreOpen clients (Some log) → Stands options base lacking log all clients
+      → Tends log.script.piece (state_of log) clients → IsCaughtUp options base log.schedule log.script.piece log.entries all
+  all_caught_up lacking log all clients are stands tends moving c = by (slice_get (connections_of log) c) refl
     where
-      one : (c : ℕ) (x : Connection) → slice_get (connections_of log) c ≡ Some x → (b : Bool) → x.is_closed ≡ b → IsSettled options base x (received_of c log.entries) (sent_of c log.entries) (given_to c all)
-      one c x is true closed = inl closed
-      one c x is false alive =
+      one : (x : Connection) → slice_get (connections_of log) c ≡ Some x → (b : Bool) → x.is_closed ≡ b → IsLeft c log all x
+      one x is true closed = inr (inl closed)
+      one x is false alive =
           let n = x.number in
           let under : is_under n x ≡ true = ap (λ b. b && not x.is_closed) (eq-eqb n n refl) ∙ ap not alive in
           let here : held n (connections_of log) ≡ Some c = tends.apart n c (ap (is_there n) is ∙ under) in
           let t = tends.each n c here in
           let holds = holds_at options base c here (stands.holds n t.client t.is_held) in
-          elim t.rests as (λ _. IsSettled options base x (received_of c log.entries) (sent_of c log.entries) (given_to c all)) [
-            | inl come ↦ absurd (subst (IsToCome c) over come)
-            | inr waits ↦ settled_at c log (given_to c all) t.client (are n t.client t.is_held).0 x holds (subst (λ o. IfSome o (IsAtRest t.client)) is (waits moving))
+          elim t.rests as (λ _. IsLeft c log all x) [
+            | inl come ↦ inl come
+            | inr waits ↦ inr (settled_at c log (given_to c all) t.client (are n t.client t.is_held).0 x holds (subst (λ o. IfSome o (IsAtRest t.client)) is (waits moving)))
           ]
 
-      by : (c : ℕ) (o : Option Connection) → slice_get (connections_of log) c ≡ o → IfSome o (λ x. IsSettled options base x (received_of c log.entries) (sent_of c log.entries) (given_to c all))
-      by c None is = tt
-      by c (Some x) is = one c x is x.is_closed refl
+      by : (o : Option Connection) → slice_get (connections_of log) c ≡ o → IfSome o (IsLeft c log all)
+      by None is = tt
+      by (Some x) is = one x is x.is_closed refl

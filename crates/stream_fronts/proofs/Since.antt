@@ -1,5 +1,5 @@
 -- What stands since a front began to serve a port.
-use Rattle.std.proofs.Common.{◌≡◌, ℕ, ◌+◌, ◌<◌, Bool, true, false, true≢false, List, [], ◌++◌, length, inl, refl, sym, ap, ◌∙◌, subst, arith, length-append}
+use Rattle.std.proofs.Common.{◌≡◌, ℕ, ◌+◌, Bool, true, false, true≢false, List, [], ◌++◌, length, inl, refl, sym, ap, ◌∙◌, subst, arith, length-append}
 use Rattle.std.specs.Prelude.{min, Option, None, Some, is_some, IfSome, option_map}
 use Rattle.std.proofs.lemmas.List.{append-nil, map-append}
 use Rattle.std.proofs.lemmas.Option.{none-some, same_Some}
@@ -19,27 +19,28 @@ use Rattle.stream_fronts.specs.declared.desk.TheConstants.{MOST_UNSENT}
 use Rattle.stream_fronts.specs.Given.{Given, answers_in}
 use Rattle.stream_fronts.specs.Going.{GoesByThese}
 use Rattle.stream_fronts.specs.Open.{OnLogs}
-use Rattle.stream_fronts.specs.Moments.{TalksThrough}
+use Rattle.stream_fronts.specs.Moments.{TalksThrough, IsCaughtUp}
 use Rattle.stream_fronts.specs.Turns.{TakesTurns}
 use Rattle.stream_fronts.specs.Clients.{AreOpen}
 use Rattle.stream_fronts.specs.Resting.{Tends, TendsBut}
-use Rattle.stream_fronts.specs.Serving.{FrontAt, IsDone, ServesLog, ServesFromNone}
+use Rattle.stream_fronts.specs.Serving.{FrontAt, ServesLog, ServesFromNone}
 use Rattle.stream_fronts.specs.Standing.{IsUntouched, Stands, StandsOn, GoesByGiven}
 use Rattle.stream_fronts.proofs.Going.{these_none, these_then}
 use Rattle.stream_fronts.proofs.Sweeping.{unswept, only_swept, has_both, these_sweeps}
 use Rattle.stream_fronts.proofs.Moments.{last_moment}
 use Rattle.stream_fronts.proofs.Turning.{turns_none, turns_more}
 use Rattle.stream_fronts.proofs.Reported.{event_told}
-use Rattle.stream_fronts.proofs.Settling.{done_all}
+use Rattle.stream_fronts.proofs.Settling.{all_caught_up}
 
--- All stands by these answers, which were given in turns; for so many connections memory lacked, and each waits.
+-- All stands by these answers, which were given in turns; for so many connections memory lacked, each waits, and the front has caught up.
 pub record StandsBy (options : Options) (base had lacked : ℕ) (clients : List (Option Client)) (before now : Log) (given : List Given) : Type 0 where
   pub schedule : now.schedule ≡ before.schedule
   pub lacking : List ℕ
   pub counted : min lacked LAST_COUNT ≡ min (had + length lacking) LAST_COUNT
   pub stands : Stands options base lacking now given clients
-  pub turns : TakesTurns options base MOST_UNSENT lacking now.entries given
+  pub turns : TakesTurns options base MOST_UNSENT now.schedule now.script.piece lacking now.entries given
   pub tends : Tends now.script.piece (state_of now) clients
+  pub caught_up : IsCaughtUp options base now.schedule now.script.piece now.entries given
 
 -- They went on by answers that were given to clients and by sweeps, and of the first P holds.
 abbrev pub GoesBySwept : Options → Bool → ℕ → Sessions → ℕ → ClockView → Sessions → ℕ → ClockView → (List Given → Type 0) → Type 0
@@ -67,6 +68,9 @@ module _ (options : Options) (is_alone : Bool) (base : ℕ) (old : Sessions) (le
   begun_tends piece schedule entries clients none = subst (λ (e : List Entry). Tends piece (state_after schedule e) clients) (sym none)
       (record { apart = λ n c is. absurd (true≢false (sym is)); each = λ n c is. absurd (none-some c is) })
 
+  begun_caught_up : (schedule : List Step) (piece : ℕ) (entries : List Entry) → entries ≡ [] → IsCaughtUp options base schedule piece entries []
+  begun_caught_up schedule piece entries none = subst (λ (e : List Entry). IsCaughtUp options base schedule piece e []) (sym none) (λ moving c. tt)
+
   -- nothing was served yet
   pub since_none : (clients : List (Option Client)) → clients ≡ [] → (log : Option Log)
       → OnLogs (StandsSince options is_alone base old left told had old left told had clients) log log
@@ -81,8 +85,9 @@ module _ (options : Options) (is_alone : Bool) (base : ℕ) (old : Sessions) (le
       lacking = [];
       counted = omega arith;
       stands = begun_stands log clients empty none;
-      turns = turns_none options base MOST_UNSENT [] log.entries none;
+      turns = turns_none options base MOST_UNSENT log.schedule log.script.piece [] log.entries none;
       tends = begun_tends log.script.piece log.schedule log.entries clients none;
+      caught_up = begun_caught_up log.schedule log.script.piece log.entries none;
     },
   )
 
@@ -92,18 +97,21 @@ module _ (options : Options) (is_alone : Bool) (base : ℕ) (old : Sessions) (le
         → OnLogs (StandsSince options is_alone base old left told had between then_left then_told then_lacked clients) before a
         → is_some b ≡ is_some a → IfSome a (λ l. ReportsNext l event b) → (o : Options) → o ≡ options
         → GoesByGiven o is_alone between then_left then_told new left_after tells (λ given. OnLogs (StandsOn o base event clients count given now) b d)
-        → OnLogs (StandsSince options is_alone base old left told had new left_after tells lacked now) before d
-    since_then event then_lacked count lacked more_lacked None a b d first same reports o is more = tt
-    since_then event then_lacked count lacked more_lacked (Some x) None b d first same reports o is more = absurd first
-    since_then event then_lacked count lacked more_lacked (Some x) (Some y) None d first same reports o is more = absurd (true≢false (sym same))
-    since_then event then_lacked count lacked more_lacked (Some x) (Some y) (Some z) None first same reports o is more = absurd more.2
-    since_then event then_lacked count lacked more_lacked (Some x) (Some y) (Some z) (Some w) first same reports o is more = λ none.
+        → AreOpen now d → OnLogs (StandsSince options is_alone base old left told had new left_after tells lacked now) before d
+    since_then event then_lacked count lacked more_lacked None a b d first same reports o is more are = tt
+    since_then event then_lacked count lacked more_lacked (Some x) None b d first same reports o is more are = absurd first
+    since_then event then_lacked count lacked more_lacked (Some x) (Some y) None d first same reports o is more are = absurd (true≢false (sym same))
+    since_then event then_lacked count lacked more_lacked (Some x) (Some y) (Some z) None first same reports o is more are = absurd more.2
+    since_then event then_lacked count lacked more_lacked (Some x) (Some y) (Some z) (Some w) first same reports o is more are = λ none.
         let f = first none in
         let by = f.4 in
         let second = subst (λ (p : Options). GoesByGiven p is_alone between then_left then_told new left_after tells (λ given. StandsOn p base event clients count given now z w)) is more in
         let t = event_told options base by.lacking f.0 clients event y z reports by.stands in
         let s = second.2.on by.lacking f.0 t.is_new t.stands in
+        let schedule = second.2.schedule ∙ t.schedule in
         let piece = second.2.piece ∙ t.piece in
+        let tends = subst (λ p. Tends p (state_of w) now) (sym piece)
+        (subst (λ p. Tends p (state_of w) now) t.piece (second.2.tends by.lacking f.0 t.stands (subst (λ p. TendsBut event p (state_of z) clients) (sym t.piece) (t.tends by.tends)))) in
         let here = answers_in second.0 in (
           f.0 ++ second.0,
           f.1 ++ here,
@@ -111,15 +119,17 @@ module _ (options : Options) (is_alone : Bool) (base : ℕ) (old : Sessions) (le
               (has_both options base f.1 here (answers_in f.0) here f.2 (unswept options base here)),
           these_then options is_alone f.3 second.1,
           record {
-            schedule = second.2.schedule ∙ t.schedule ∙ by.schedule;
+            schedule = schedule ∙ by.schedule;
             lacking = s.0 ++ by.lacking;
             counted = let len = length-append s.0 by.lacking in let counted = by.counted in omega (arith, len, counted, s.1, more_lacked);
             stands = s.2;
-            turns = turns_more options base MOST_UNSENT s.0 by.lacking event y.entries z.entries w.entries f.0 second.0
+            turns = subst (λ (l : List Step). TakesTurns options base MOST_UNSENT l w.script.piece (s.0 ++ by.lacking) w.entries (f.0 ++ second.0)) (sym schedule)
+                (subst (λ p. TakesTurns options base MOST_UNSENT y.schedule p (s.0 ++ by.lacking) w.entries (f.0 ++ second.0)) (sym piece)
+                (turns_more options base MOST_UNSENT y.schedule y.script.piece s.0 by.lacking event y.entries z.entries w.entries f.0 second.0
                 (ap (λ (l : Log). l.entries) (same_Some z (logged (entry_of event) (called y)) reports.result)) second.2.few_calls second.2.few_answers
-                (last_moment options base MOST_UNSENT y.schedule by.lacking y.entries f.0 by.stands.through) by.turns;
-            tends = subst (λ p. Tends p (state_of w) now) (sym piece)
-                (subst (λ p. Tends p (state_of w) now) t.piece (second.2.tends by.lacking f.0 t.stands (subst (λ p. TendsBut event p (state_of z) clients) (sym t.piece) (t.tends by.tends))));
+                (last_moment options base MOST_UNSENT y.schedule by.lacking y.entries f.0 by.stands.through) by.caught_up by.turns));
+            tends = tends;
+            caught_up = all_caught_up options base (s.0 ++ by.lacking) w (f.0 ++ second.0) now are s.2 tends;
           },
         )
 
@@ -148,11 +158,11 @@ module _ (options : Options) (is_alone : Bool) (base : ℕ) (old : Sessions) (le
     abbrev pub last : FrontAt
     last = record { sessions = new; left = left_after; clock = tells; lacked = lacked; has_ended = ended }
 
-    -- what the front served, by what stands
-    serves_by : {before now : Log} (after : Log) → after.schedule ≡ now.schedule → after.entries ≡ now.entries
+    -- What the front served, by what stands. It may have been asked once more what is next.
+    serves_by : {before now : Log} (after : Log) → after.schedule ≡ now.schedule → after.script.piece ≡ now.script.piece → after.entries ≡ now.entries
         → (f : GoesBySwept options is_alone base old left told new left_after tells (StandsBy options base had lacked clients before now))
-        → (ended ≡ true → 0 < after.script.piece → IsDone options base after f.0) → ServesLog options is_alone base MOST_UNSENT first last before after
-    serves_by {before} {now} after schedule entries f done =
+        → (ended ≡ true → (state_of after).later ≡ []) → ServesLog options is_alone base MOST_UNSENT first last before after
+    serves_by {before} {now} after schedule piece entries f over =
         let by = f.4 in record {
           same = schedule ∙ by.schedule;
           all = f.0;
@@ -164,19 +174,23 @@ module _ (options : Options) (is_alone : Bool) (base : ℕ) (old : Sessions) (le
             few = f.3.few;
             lacking = by.lacking;
             counted = by.counted;
-            through = subst (λ (s : List Step). TalksThrough options base MOST_UNSENT s by.lacking after.entries f.0) (sym schedule)
-                (subst (λ (e : List Entry). TalksThrough options base MOST_UNSENT now.schedule by.lacking e f.0) (sym entries) by.stands.through);
-            turns = subst (λ (e : List Entry). TakesTurns options base MOST_UNSENT by.lacking e f.0) (sym entries) by.turns;
-            done = done;
+            through = as_called (λ s p e. TalksThrough options base MOST_UNSENT s by.lacking e f.0) by.stands.through;
+            turns = as_called (λ s p e. TakesTurns options base MOST_UNSENT s p by.lacking e f.0) by.turns;
+            caught_up = as_called (λ s p e. IsCaughtUp options base s p e f.0) by.caught_up;
+            over = over;
           };
         }
+      where
+        as_called : (P : List Step → ℕ → List Entry → Type 0) → P now.schedule now.script.piece now.entries → P after.schedule after.script.piece after.entries
+        as_called P is = subst (λ (s : List Step). P s after.script.piece after.entries) (sym schedule)
+            (subst (λ p. P now.schedule p after.entries) (sym piece) (subst (λ (e : List Entry). P now.schedule now.script.piece e) (sym entries) is))
 
     -- where the end did not come
     pub since_serves : ended ≡ false → (before after : Option Log) → OnLogs (StandsSince options is_alone base old left told had new left_after tells lacked clients) before after
         → OnLogs (ServesFromNone options is_alone base MOST_UNSENT first last) before after
     since_serves goes_on None after since = tt
     since_serves goes_on (Some x) None since = since
-    since_serves goes_on (Some x) (Some y) since = λ none. serves_by y refl refl (since none) (λ is. absurd (true≢false (sym is ∙ goes_on)))
+    since_serves goes_on (Some x) (Some y) since = λ none. serves_by y refl refl refl (since none) (λ is. absurd (true≢false (sym is ∙ goes_on)))
 
     -- also where it was asked once more what is next
     pub since_called : ended ≡ false → (before now after : Option Log) → OnLogs (StandsSince options is_alone base old left told had new left_after tells lacked clients) before now
@@ -185,17 +199,13 @@ module _ (options : Options) (is_alone : Bool) (base : ℕ) (old : Sessions) (le
     since_called goes_on (Some x) None after since is = absurd since
     since_called goes_on (Some x) (Some y) after since is =
         subst (λ o. OnLogs (ServesFromNone options is_alone base MOST_UNSENT first last) (Some x) o) (sym is)
-        (λ none. serves_by (called y) refl refl (since none) (λ over. absurd (true≢false (sym over ∙ goes_on))))
+        (λ none. serves_by (called y) refl refl refl (since none) (λ over. absurd (true≢false (sym over ∙ goes_on))))
 
     -- and where nothing is left to be reported
     pub since_over : (before now after : Option Log) → OnLogs (StandsSince options is_alone base old left told had new left_after tells lacked clients) before now
-        → AreOpen clients now → IfSome now (λ l. IsOver l after) → OnLogs (ServesFromNone options is_alone base MOST_UNSENT first last) before after
-    since_over None now after since are over = tt
-    since_over (Some x) None after since are over = absurd since
-    since_over (Some x) (Some y) after since are over =
+        → IfSome now (λ l. IsOver l after) → OnLogs (ServesFromNone options is_alone base MOST_UNSENT first last) before after
+    since_over None now after since over = tt
+    since_over (Some x) None after since over = absurd since
+    since_over (Some x) (Some y) after since over =
         subst (λ o. OnLogs (ServesFromNone options is_alone base MOST_UNSENT first last) (Some x) o) (sym over.result)
-        (λ none. let f = since none in
-        serves_by (called y) refl refl f (λ ends moving. done_called (done_all options base f.4.lacking y f.0 clients are f.4.stands f.4.tends moving over.over)))
-      where
-        done_called : {log : Log} {all : List Given} → IsDone options base log all → IsDone options base (called log) all
-        done_called done = record { over = done.over; settled = done.settled }
+        (λ none. serves_by (called y) refl refl refl (since none) (λ ends. over.over))

@@ -4,12 +4,13 @@ use Rattle.std.specs.Prelude.{filter}
 use Rattle.std.specs.List.{AllByRecursion}
 use Rattle.std.proofs.lemmas.List.Elements.{filter-append}
 use Rattle.partition_model.specs.declared.options.Options.{Options}
+use Rattle.stream_io.specs.declared.schedule.Step.{Step}
 use Rattle.stream_io.specs.declared.connections.Event.{Event}
 use Rattle.stream_io.specs.declared.connections.Event.TheVariants.{Opened, Ready}
 use Rattle.stream_io.specs.State.{Entry, opened, reported, met, received, sent, asked, closed}
 use Rattle.stream_io.specs.Calls.{entry_of}
 use Rattle.stream_fronts.specs.Given.{Given}
-use Rattle.stream_fronts.specs.Moments.{TalksWithAll}
+use Rattle.stream_fronts.specs.Moments.{TalksWithAll, IsCaughtUp}
 use Rattle.stream_fronts.specs.Traffic.{IsSend, after_receiving}
 use Rattle.stream_fronts.specs.Turns.{is_report, is_read, most_answers, AreFew, GrowsBy, Turn, AreShort, TakesTurns, calls_in, given_in}
 use Rattle.stream_fronts.proofs.Moments.{all_lacking}
@@ -76,28 +77,30 @@ begins : (event : Event) → is_report (entry_of event) ≡ true
 begins (Opened number) = refl
 begins (Ready number) = refl
 
-module _ (options : Options) (base most : ℕ) where
-  pub turns_none : (lacking : List ℕ) (entries : List Entry) → entries ≡ [] → TakesTurns options base most lacking entries []
+module _ (options : Options) (base most : ℕ) (schedule : List Step) (piece : ℕ) where
+  pub turns_none : (lacking : List ℕ) (entries : List Entry) → entries ≡ [] → TakesTurns options base most schedule piece lacking entries []
   turns_none lacking entries none = record { turns = []; calls = sym none; given = refl; short = tt }
 
-  short_lacking : (more lacking : List ℕ) (turns : List Turn) → AreShort options base most lacking turns → AreShort options base most (more ++ lacking) turns
+  short_lacking : (more lacking : List ℕ) (turns : List Turn) → AreShort options base most schedule piece lacking turns → AreShort options base most schedule piece (more ++ lacking) turns
   short_lacking more lacking [] short = tt
   short_lacking more lacking (turn ∷ earlier) short =
-      (short.0, all_lacking options base most more lacking (calls_in earlier) (given_in earlier) short.1, short_lacking more lacking earlier short.2)
+      (short.0, all_lacking options base most more lacking (calls_in earlier) (given_in earlier) short.1, short.2, short_lacking more lacking earlier short.3)
 
   -- one turn more
   pub turns_more : (more lacking : List ℕ) (event : Event) (old between new : List Entry) (all given : List Given) → between ≡ entry_of event ∷ old → GrowsBy 2 between new
-      → length given ≤ 2 * most_answers options → TalksWithAll options base most lacking old all → TakesTurns options base most lacking old all
-      → TakesTurns options base most (more ++ lacking) new (all ++ given)
-  turns_more more lacking event old between new all given reports grows few talks before = record {
+      → length given ≤ 2 * most_answers options → TalksWithAll options base most lacking old all → IsCaughtUp options base schedule piece old all
+      → TakesTurns options base most schedule piece lacking old all → TakesTurns options base most schedule piece (more ++ lacking) new (all ++ given)
+  turns_more more lacking event old between new all given reports grows few talks caught_up before = record {
     turns = record { report = entry_of event; calls = grows.0; given = given } ∷ before.turns;
     calls = ap (λ e. grows.0 ++ entry_of event ∷ e) before.calls ∙ ap (λ e. grows.0 ++ e) (sym reports) ∙ sym grows.1;
     given = ap (λ g. g ++ given) before.given;
     short = (
       record { begins = begins event; few_calls = grows.2; few_answers = few },
-      all_lacking options base most more lacking (calls_in before.turns) (given_in before.turns)
-          (subst (λ e. TalksWithAll options base most lacking e (given_in before.turns)) (sym before.calls)
-          (subst (λ g. TalksWithAll options base most lacking old g) (sym before.given) talks)),
+      all_lacking options base most more lacking (calls_in before.turns) (given_in before.turns) (as_turned (TalksWithAll options base most lacking) talks),
+      as_turned (IsCaughtUp options base schedule piece) caught_up,
       short_lacking more lacking before.turns before.short,
     );
   }
+    where
+      as_turned : (P : List Entry → List Given → Type 0) → P old all → P (calls_in before.turns) (given_in before.turns)
+      as_turned P is = subst (λ e. P e (given_in before.turns)) (sym before.calls) (subst (λ g. P old g) (sym before.given) is)

@@ -2,7 +2,7 @@
 --
 -- All answers of a front are one list, so a get sees what any client of this front was told before. A connection is closed where there is a cause, which a
 -- shut window is not.
-use Rattle.std.specs.Prelude.{◌≡◌, ℕ, ◌⊎◌, ⊤, List, [], ◌∷◌, ◌++◌, slice_get, IfSome}
+use Rattle.std.specs.Prelude.{◌≡◌, ℕ, ◌<◌, ◌⊎◌, ⊤, List, [], ◌∷◌, ◌++◌, slice_get, IfSome}
 use Rattle.partition_model.specs.declared.options.Options.{Options}
 use Rattle.stream_io.specs.declared.schedule.Step.{Step}
 use Rattle.stream_io.specs.State.{Entry, closed, state_after}
@@ -10,7 +10,8 @@ use Rattle.stream_io.specs.Log.{received_of, sent_of}
 use Rattle.mica_fronts.specs.Answered.{Answered}
 use Rattle.stream_fronts.specs.Given.{Given, given_to, ByThen}
 use Rattle.stream_fronts.specs.Talk.{TalksKept, TalksWith}
-use Rattle.stream_fronts.specs.Closing.{MayClose}
+use Rattle.stream_fronts.specs.Closing.{MayClose, IsSettled}
+use Rattle.stream_fronts.specs.Traffic.{IsToCome}
 
 -- a connection is one of these
 abbrev pub IsAmong : ℕ → List ℕ → Type 0
@@ -42,3 +43,8 @@ TalksThrough options base most schedule lacking (entry ∷ entries) all =
     TalksWithAll options base most lacking (entry ∷ entries) all
     × ((first : List Given) × ByThen first all × HasCause options base schedule lacking entry entries first
     × TalksThrough options base most schedule lacking entries first)
+
+-- The front has caught up, where a call moves so many bytes at most, and some: each connection that was made is settled, or a report of it is to come.
+abbrev pub IsCaughtUp : Options → ℕ → List Step → ℕ → List Entry → List Given → Type 0
+IsCaughtUp options base schedule piece entries all = 0 < piece → (c : ℕ) → IfSome (slice_get (state_after schedule entries).connections c)
+    (λ connection. IsToCome c (state_after schedule entries).later ⊎ IsSettled options base connection (received_of c entries) (sent_of c entries) (given_to c all))

@@ -1,17 +1,16 @@
 -- What a front made of the connections at its port.
-use Rattle.std.specs.Prelude.{◌≡◌, ◌⊎◌, ℕ, ◌+◌, ◌<◌, ◌≤◌, Bool, true, List, [], length, min, slice_get, IfSome}
+use Rattle.std.specs.Prelude.{◌≡◌, ◌⊎◌, ℕ, ◌+◌, ◌<◌, ◌≤◌, Bool, true, List, [], length, min}
 use Rattle.mica_clock.specs.Seconds.{ClockView}
 use Rattle.partition_model.specs.declared.options.Options.{Options}
 use Rattle.mica_io.specs.Faults.{LAST_COUNT}
-use Rattle.stream_io.specs.Log.{Log, state_of, connections_of, received_of, sent_of}
+use Rattle.stream_io.specs.Log.{Log, state_of}
 use Rattle.mica_fronts.specs.Answered.{Answered, count_of_writes}
 use Rattle.mica_fronts.specs.Session.{Sessions, AnswersInOrder}
 use Rattle.memcached_fronts.specs.Seconds.{seconds_of, ToldFrom}
 use Rattle.memcached_fronts.specs.Sweeps.{HasSweeps}
 use Rattle.stream_fronts.specs.declared.answer.TheConstants.{LIMITS}
-use Rattle.stream_fronts.specs.Given.{Given, answers_in, given_to}
-use Rattle.stream_fronts.specs.Closing.{IsSettled}
-use Rattle.stream_fronts.specs.Moments.{TalksThrough}
+use Rattle.stream_fronts.specs.Given.{Given, answers_in}
+use Rattle.stream_fronts.specs.Moments.{TalksThrough, IsCaughtUp}
 use Rattle.stream_fronts.specs.Turns.{TakesTurns}
 
 -- What contracts see of a front, its clock and its port at one moment: among them how many writes it may still be given; and a count of connections that there
@@ -31,15 +30,10 @@ IsSpent options left = left < LIMITS.asks + options.partitions
 abbrev pub IsFinished : Options → Bool → ℕ → Type 0
 IsFinished options has_ended left = (has_ended ≡ true) ⊎ IsSpent options left
 
--- Nothing is left to be reported, and each connection is settled.
-pub record IsDone (options : Options) (base : ℕ) (log : Log) (all : List Given) : Type 0 where
-  pub over : (state_of log).later ≡ []
-  pub settled : (c : ℕ) → IfSome (slice_get (connections_of log) c)
-      (λ connection. IsSettled options base connection (received_of c log.entries) (sent_of c log.entries) (given_to c all))
-
 -- All answers of the front are one list: its sessions went on by them in this order, and the clock told their seconds; it was given no writes but those among
 -- them. They are those to clients, and between them sweeps and nothing else. At each moment of the log those to clients are what it talked with them, and they
--- were given in short turns, one for each report. For some connections there was no memory, as many as were counted. Where the end came, and calls can move bytes at all, the front is done.
+-- were given in short turns, one for each report. For some connections there was no memory, as many as were counted. Behind all turns the front has caught up, as
+-- before each. Where the end came, nothing is to come any more: so each connection is settled.
 pub record AnswersClients (options : Options) (is_alone : Bool) (base most : ℕ) (old new : FrontAt) (log : Log) (all : List Given) : Type 0 where
   pub answers : List Answered
   pub sweeps : HasSweeps options base (answers_in all) answers
@@ -49,8 +43,9 @@ pub record AnswersClients (options : Options) (is_alone : Bool) (base most : ℕ
   pub lacking : List ℕ
   pub counted : min new.lacked LAST_COUNT ≡ min (old.lacked + length lacking) LAST_COUNT
   pub through : TalksThrough options base most log.schedule lacking log.entries all
-  pub turns : TakesTurns options base most lacking log.entries all
-  pub done : new.has_ended ≡ true → 0 < log.script.piece → IsDone options base log all
+  pub turns : TakesTurns options base most log.schedule log.script.piece lacking log.entries all
+  pub caught_up : IsCaughtUp options base log.schedule log.script.piece log.entries all
+  pub over : new.has_ended ≡ true → (state_of log).later ≡ []
 
 -- The log goes on, and the front served what it tells.
 pub record ServesLog (options : Options) (is_alone : Bool) (base most : ℕ) (old new : FrontAt) (before after : Log) : Type 0 where

@@ -2,10 +2,11 @@
 use Rattle.std.specs.Prelude.{◌≡◌, ⊤, ℕ, ◌+◌, ◌*◌, ◌≤◌, Bool, true, false, List, [], ◌∷◌, ◌++◌, length, filter}
 use Rattle.std.specs.List.{AllByRecursion}
 use Rattle.partition_model.specs.declared.options.Options.{Options}
+use Rattle.stream_io.specs.declared.schedule.Step.{Step}
 use Rattle.stream_io.specs.State.{Entry, opened, reported, received}
 use Rattle.stream_fronts.specs.declared.answer.TheConstants.{LIMITS, MOST_COMMANDS}
 use Rattle.stream_fronts.specs.Given.{Given}
-use Rattle.stream_fronts.specs.Moments.{TalksWithAll}
+use Rattle.stream_fronts.specs.Moments.{TalksWithAll, IsCaughtUp}
 
 -- a connection was reported
 abbrev pub is_report : Entry → Bool
@@ -57,16 +58,19 @@ abbrev pub given_in : List Turn → List Given
 given_in [] = []
 given_in (turn ∷ earlier) = given_in earlier ++ turn.given
 
--- Each is short; and as it began, the front had talked with each client by the answers of the turns before it.
-abbrev pub AreShort : Options → ℕ → ℕ → List ℕ → List Turn → Type 0
-AreShort options base most lacking [] = ⊤
-AreShort options base most lacking (turn ∷ earlier) =
-    IsShort options turn × TalksWithAll options base most lacking (calls_in earlier) (given_in earlier) × AreShort options base most lacking earlier
+-- Each is short; and as it began, by the calls and the answers of the turns before it, the front had talked with each client and had caught up.
+abbrev pub AreShort : Options → ℕ → ℕ → List Step → ℕ → List ℕ → List Turn → Type 0
+AreShort options base most schedule piece lacking [] = ⊤
+AreShort options base most schedule piece lacking (turn ∷ earlier) =
+    IsShort options turn
+    × TalksWithAll options base most lacking (calls_in earlier) (given_in earlier)
+    × IsCaughtUp options base schedule piece (calls_in earlier) (given_in earlier)
+    × AreShort options base most schedule piece lacking earlier
 
 -- All that calls did and all answers came in short turns, one for each report. So a client that sent much is answered in many turns, and each other that is
 -- reported meanwhile has one between them.
-pub record TakesTurns (options : Options) (base most : ℕ) (lacking : List ℕ) (entries : List Entry) (all : List Given) : Type 0 where
+pub record TakesTurns (options : Options) (base most : ℕ) (schedule : List Step) (piece : ℕ) (lacking : List ℕ) (entries : List Entry) (all : List Given) : Type 0 where
   pub turns : List Turn
   pub calls : calls_in turns ≡ entries
   pub given : given_in turns ≡ all
-  pub short : AreShort options base most lacking turns
+  pub short : AreShort options base most schedule piece lacking turns

@@ -22,8 +22,9 @@
 //!
 //! No client keeps the others waiting: for one report bytes are read twice at most, and few answers are given (`specs/Turns`).
 //!
-//! Where the end came, each is settled (`IsDone`): it is closed, or waits for its peer to take replies or to send more. Of a connection and its client that is
-//! `specs/Resting`, which goes on as others are served. Connections that there was no memory for are counted.
+//! As each report comes, and when it returns, the front has caught up (`IsCaughtUp`): each connection is closed, or waits for its peer to take replies or to send
+//! more, or a report of it is to come. Of a connection and its client that is `specs/Resting`, which goes on as others are served. Connections that there was no
+//! memory for are counted.
 #![tactic(auto)]
 
 mod answer;

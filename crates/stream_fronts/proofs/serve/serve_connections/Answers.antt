@@ -86,7 +86,7 @@ loop-preserved g c =
       served.port.told ∙ next.told ∙ inv.9,
       since_swept options F.is_alone base old left told c.args.lacked.now _ then.clients.held.items (log c.args.connections.now) (log then.connections)
           (since_then options F.is_alone base old left told c.args.lacked.now c.loop.clients.held.items then.clients.held.items c.in-Some-2.event c.loop.lacked c.serve_event-count.result _ (search rules)
-          (log c.args.connections.now) before after (log then.connections) inv.10 next.told reports (F.options c.loop.front) inv.6 served.serves) (F.options then.front) same sweep.swept,
+          (log c.args.connections.now) before after (log then.connections) inv.10 next.told reports (F.options c.loop.front) inv.6 served.serves served.clients) (F.options then.front) same sweep.swept,
     )
 
 pub returns-in_err-desk-clause-serves : goal.returns-in_err-desk-clause-serves
@@ -146,7 +146,7 @@ returns-clause-serves g c =
           (record { sessions = g.F.Front.sessions c.loop.front; left = g.F.Front.left c.loop.front; clock = g.K.Clock.view c.loop.clock; lacked = c.loop.lacked; has_ended = ended x })) (log c.args.connections.now) (log x))
           (sym w.connections-is)
           (since_over options g.F.Front.is_alone base sessions (g.F.Front.left c.args.front.now) told c.args.lacked.now opened (ended w.next-in-loop.new.self) (g.F.Front.sessions c.loop.front)
-          (g.F.Front.left c.loop.front) (g.K.Clock.view c.loop.clock) c.loop.lacked c.loop.clients.held.items (log c.args.connections.now) (log c.loop.connections) (log w.next-in-loop.new.self) inv.10 inv.1
+          (g.F.Front.left c.loop.front) (g.K.Clock.view c.loop.clock) c.loop.lacked c.loop.clients.held.items (log c.args.connections.now) (log c.loop.connections) (log w.next-in-loop.new.self) inv.10
           (subst (λ got. IfNone got (IfSome (log c.loop.connections) (λ l. IsOver l (log w.next-in-loop.new.self)))) w.in_default.is w.in_ok-event.ensures.end))
     ]
 
