@@ -1,13 +1,19 @@
 -- Partitions that were made side by side, taken out in order.
 use Rattle.std.proofs.Common.{◌≡◌, ◌∷◌, ◌++◌, List, length, map, Some, slice_get, sym, ap, ◌∙◌, subst}
-use Rattle.std.specs.Prelude.{Result, Ok}
+use Rattle.std.specs.Prelude.{Result, Ok, Err}
 use Rattle.std.proofs.lemmas.List.{length-map}
 use Rattle.list_laws.proofs.Places.{at_map, at_seam, from_map}
 use Rattle.partition_model.specs.declared.options.Options.{Options}
 use Rattle.partition_model.specs.declared.write.Write.{Write}
 use Rattle.locked_serve.specs.declared.filling.OpenFault.{OpenFault}
+use Rattle.locked_serve.specs.declared.filling.OpenFault.TheVariants.{Refused}
 use Rattle.locked_serve.specs.declared.opening.FilledPart.{FilledPart}
-use Rattle.locked_serve.specs.Opening.{FilledView, IsFilled, AreFilled, IsOpened, AreOpened}
+use Rattle.locked_serve.specs.Filled.{RefusesFilling}
+use Rattle.locked_serve.specs.Opening.{FilledView, IsFilled, AreFilled, AreOpened}
+
+-- what their making came to, where each was filled
+abbrev each_filled : {P : Type 0} → List (FilledPart P) → List (Result (FilledPart P) OpenFault)
+each_filled parts = map Ok parts
 
 module _ {P : Type 0} (view : FilledPart P → FilledView) (options : Options) (writes : List Write) (all : List (Result (FilledPart P) OpenFault)) (opened : AreOpened view options writes all) where
   -- where all were filled
@@ -19,7 +25,7 @@ module _ {P : Type 0} (view : FilledPart P → FilledView) (options : Options) (
         subst (IsFilled options writes p) part.2 (opened p (Ok part.0) (ap (λ l. slice_get l p) (sym same) ∙ at_map Ok parts p part.0 part.1)).filled;
   }
 
-  -- the one behind those that were
-  pub next_opened : (parts : List (FilledPart P)) (made : Result (FilledPart P) OpenFault) (later : List (Result (FilledPart P) OpenFault)) → map Ok parts ++ made ∷ later ≡ all
-      → IsOpened view options writes (length (map {Y = Result (FilledPart P) OpenFault} Ok parts)) made
-  next_opened parts made later same = opened _ made (ap (λ l. slice_get l (length (map {Y = Result (FilledPart P) OpenFault} Ok parts))) (sym same) ∙ at_seam (map Ok parts) made later)
+  -- where the one behind those that were was refused
+  pub next_refused : (parts : List (FilledPart P)) (made : Result (FilledPart P) OpenFault) (later : List (Result (FilledPart P) OpenFault)) → each_filled parts ++ made ∷ later ≡ all
+      → made ≡ Err Refused → RefusesFilling options writes
+  next_refused parts made later same = (opened (length (each_filled parts)) made (ap (λ l. slice_get l (length (each_filled parts))) (sym same) ∙ at_seam (each_filled parts) made later)).refused
