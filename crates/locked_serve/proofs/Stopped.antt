@@ -22,7 +22,7 @@ use Rattle.locked_serve.specs.declared.stop.Stop.{Stop}
 use Rattle.locked_serve.specs.declared.stop.Stop.TheVariants.{Refused, Unbound, Unannounced, Fault}
 use Rattle.locked_serve.specs.Filled.{origin_of, RefusesFilling}
 use Rattle.locked_serve.specs.Streams.{StreamFacts, ListenFacts}
-use Rattle.locked_serve.specs.Causes.{PortFacts, LacksPort, CameTo, ComesBeside, HasCause, stop_of, IsCauseOfStop, HasAnnounced, Leaves}
+use Rattle.locked_serve.specs.Causes.{PortFacts, HasPorts, LacksPort, CameTo, ComesBeside, HasCause, stop_of, IsCauseOfStop, HasAnnounced, Leaves}
 use Rattle.locked_serve.proofs.Heard.{kept_unheard}
 use Rattle.locked_serve.proofs.Released.{none_released}
 use Rattle.locked_serve.proofs.Bound.{unbound}
