@@ -75,7 +75,9 @@ returns-in-Err-clause-heard g c = kept_unheard c.args.shared.now.service.streams
 pub returns-in-Err-clause-announced : goal.returns-in-Err-clause-announced
 returns-in-Err-clause-announced g c =
     let failed = c.in-Err.ensures in
-    (inl (failed.refused, omega (arith, failed.tried, failed.lacks, c.bind_all.ensures.first)), refl)
+    let ports = c.requires.service.ports in
+    let first = c.bind_all.ensures.first (omega (arith, failed.tried)) in
+    (inl (failed.refused, omega (arith, failed.tried, failed.lacks, first, c.len.ensures, ports.port.1, ports.fronts.1)), refl)
 
 -- A port could not be listened at
 
@@ -83,8 +85,10 @@ pub returns-in-Err-listen_all-clause-served : goal.returns-in-Err-listen_all-cla
 returns-in-Err-listen_all-clause-served g c =
     let at = goal.at.returns-in-Err-listen_all-clause-served g c in
     let failed = c.in-Err-listen_all.ensures in
+    let streams = c.requires.service.streams in
+    let long = heard_long g at.After-listen_all in
     unserved (map (of_stream g) c.listen_all.new.connections.items) c.listen_all.ensures.new (heard_few g at.After-listen_all) (Unbound _) refl c.requires.uncounted
-    (inr (refl, failed.cause, omega (arith, failed.lacks, heard_long g at.After-listen_all), omega (arith, failed.lacks, heard_long g at.After-listen_all))) refl
+    (inr (refl, failed.cause, omega (arith, failed.lacks, long), omega (arith, failed.lacks, long, c.len-in-Err-listen_all.ensures, streams.numbers, streams.fronts))) refl
     (run_left (bound g at.After-bind_all) c.requires.filled c.requires.tables (ends_long g at.After-bind_all ∙ c.in-Ok.ensures.all))
 
 pub returns-in-Err-listen_all-clause-announced : goal.returns-in-Err-listen_all-clause-announced
@@ -95,14 +99,14 @@ returns-in-Err-listen_all-clause-announced g c = (inr (c.in-Ok.ensures.none_refu
 pub returns-in_err-ready-clause-served : goal.returns-in_err-ready-clause-served
 returns-in_err-ready-clause-served g c =
     let at = goal.at.returns-in_err-ready-clause-served g c in
-    unserved (map (of_stream g) c.listen_all.new.connections.items) c.listen_all.ensures.new (heard_few g at.After-listen_all) Unannounced (ended_with c.from_residual-in_err-ready.result c.from_residual-in_err-ready.ensures.1) c.requires.uncounted refl refl
+    unserved (map (of_stream g) c.listen_all.new.connections.items) c.listen_all.ensures.new (heard_few g at.After-listen_all) Unannounced (ended_with c.from_residual.result c.from_residual.ensures.1) c.requires.uncounted refl refl
     (run_left (bound g at.After-bind_all) c.requires.filled c.requires.tables (ends_long g at.After-bind_all ∙ c.in-Ok.ensures.all))
 
 pub returns-in_err-ready-clause-announced : goal.returns-in_err-ready-clause-announced
 returns-in_err-ready-clause-announced g c =
     let service = c.args.shared.now.service in
     fails_to_tell (g.A.Announce.says service.ports service.streams) (g.A.Announce.fails service.ports service.streams) (ports_of g c.args.net.now c.args.listeners.now)
-    (ports_of g c.bind_all.new.net c.listen_all.new.listeners) c.args.announce.now c.ready.new.self (ended_with c.from_residual-in_err-ready.result c.from_residual-in_err-ready.ensures.1) c.in_err-ready.ensures.failed
+    (ports_of g c.bind_all.new.net c.listen_all.new.listeners) c.args.announce.now c.ready.new.self (ended_with c.from_residual.result c.from_residual.ensures.1) c.in_err-ready.ensures.failed
 
 -- A front failed
 
