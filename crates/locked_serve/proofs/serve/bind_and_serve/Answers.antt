@@ -88,7 +88,7 @@ returns-in-Err-listen_all-clause-served g c =
     let streams = c.requires.service.streams in
     let long = heard_long g at.After-listen_all in
     unserved (map (of_stream g) c.listen_all.new.connections.items) c.listen_all.ensures.new (heard_few g at.After-listen_all) (Unbound _) refl c.requires.uncounted
-    (inr (refl, failed.cause, omega (arith, failed.lacks, long), omega (arith, failed.lacks, long, c.len-in-Err-listen_all.ensures, streams.numbers, streams.fronts))) refl
+    (inr (refl, failed.cause, (omega (arith, failed.lacks, long), omega (arith, failed.lacks, long, c.len-in-Err-listen_all.ensures, streams.numbers, streams.fronts)))) refl
     (run_left (bound g at.After-bind_all) c.requires.filled c.requires.tables (ends_long g at.After-bind_all ∙ c.in-Ok.ensures.all))
 
 pub returns-in-Err-listen_all-clause-announced : goal.returns-in-Err-listen_all-clause-announced
