@@ -2,14 +2,16 @@
 ghost use Rattle.std.specs.Prelude.{◌≡◌, ◌≤◌, [], All, length, map, string_bytes, Err, IsTrue};
 ghost use Rattle.partition_model.specs.Options.{IsPossible};
 ghost use Rattle.partition_model.specs.Write.{IsWrite};
-ghost use Rattle.locked_serve.specs.declared.stop.Stop.TheVariants.{Unbound, Fault};
+ghost use Rattle.locked_serve.specs.declared.stop.Stop.TheVariants.{Fault};
 ghost use Rattle.locked_serve.specs.Service.{IsPossibleService};
 ghost use Rattle.locked_serve.specs.Causes.{ports_at};
 ghost use Rattle.mica_commands.specs.declared.daemon_words.TheConstants.{MOST_FRONTS};
 ghost use Rattle.mica_commands.specs.DaemonWords.{daemon_of, ArePossibleFronts};
 ghost use Rattle.mica_cmd.specs.Outside.{sink_facts};
+ghost use Rattle.mica_cmd.specs.declared.status.Status.TheVariants.{NetFault};
+ghost use Rattle.mica_cmd.specs.Promise.{IsTold};
 ghost use Rattle.mica_daemon.specs.Files.{files_facts};
-ghost use Rattle.mica_daemon.specs.Daemon.{HasMemory, WritesLast, ServesAloud, ServesOrNot, KeepsUp, daemon_outside, ready_text};
+ghost use Rattle.mica_daemon.specs.Daemon.{HasMemory, WritesLast, ServesAloud, ServesOrNot, KeepsUp, daemon_outside, ready_text, unbound_text};
 
 use crate::Files;
 use crate::board::board_of;
@@ -42,7 +44,7 @@ fn write_fault<K: Sink>(fault: ServeFault, sink: &mut K) -> Status
 
 // Writes the line that names a port which was not had.
 fn write_unbound<K: Sink>(alloc: Global, port: u16, sink: &mut K) -> Status
-    ensures { WritesLast (Err (Unbound port)) (sink_facts K.Sink sink.old) (sink_facts K.Sink sink.new) result }
+    ensures { IsTold NetFault (unbound_text port) (sink_facts K.Sink sink.old) (sink_facts K.Sink sink.new) result }
 {
     match format!(in alloc; "port {port} not bound\n") {
         Ok(line) => write_due(sink, line.as_bytes(), Status::NetFault),
