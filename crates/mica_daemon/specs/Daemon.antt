@@ -56,7 +56,7 @@ daemon_outside sink ports tables lacked = record { sink = sink; ports = ports; t
 
 -- the line that names a port which was not had
 abbrev pub unbound_text : ℕ → List ℕ
-unbound_text port = codes "port " ++ decimal port ++ codes " not bound" ++ 10 ∷ []
+unbound_text port = codes "port " ++ decimal port ++ codes " not bound\n"
 
 -- what is written last, by what the server came to, and the status
 abbrev pub WritesLast : Result Totals Stop → SinkFacts → SinkFacts → Status → Type 0
