@@ -2,7 +2,7 @@
 ghost use Rattle.std.specs.Prelude.{◌≡◌, ◌+◌, ◌≤◌, string_bytes, IfOk};
 ghost use Rattle.mica_serve.specs.PossiblePorts.{IsPossiblePorts};
 ghost use Rattle.stream_fronts.specs.StreamPorts.{IsPossibleStreams};
-ghost use Rattle.mica_daemon.specs.Daemon.{range_text, ready_text};
+ghost use Rattle.mica_daemon.specs.Daemon.{range_text, ready_text, unbound_text};
 
 use locked_serve::{Announce, Untold};
 use mica_fronts::PortOptions;
@@ -69,6 +69,16 @@ pub(crate) fn ready_line(
     let datagrams = range_text(alloc, " ", ports.port, ports.fronts)?;
     let connections = range_text(alloc, " memcached ", streams.port, streams.fronts)?;
     match format!(in alloc; "ready{datagrams}{connections}\n") {
+        Ok(line) => Ok(line),
+        Err(_) => Err(NoMemory),
+    }
+}
+
+/// The line that names a port which was not had.
+pub(crate) fn unbound_line(alloc: Global, port: u16) -> Result<String, NoMemory>
+    ensures { IfOk result (λ line. string_bytes line ≡ unbound_text port) }
+{
+    match format!(in alloc; "port {port} not bound\n") {
         Ok(line) => Ok(line),
         Err(_) => Err(NoMemory),
     }

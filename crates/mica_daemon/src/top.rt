@@ -18,7 +18,7 @@ use crate::board::board_of;
 use crate::filling::filling_of;
 use crate::listening::PlacedListeners;
 use crate::process::Process;
-use crate::speaker::{Speaker, ready_line};
+use crate::speaker::{Speaker, ready_line, unbound_line};
 use locked_serve::{Left, Service, Shared, Start, Stop, serve_locked};
 use mica_clock::Clock;
 use mica_cmd::{Status, print_totals, write_due};
@@ -46,9 +46,9 @@ fn write_fault<K: Sink>(fault: ServeFault, sink: &mut K) -> Status
 fn write_unbound<K: Sink>(alloc: Global, port: u16, sink: &mut K) -> Status
     ensures { IsTold NetFault (unbound_text port) (sink_facts K.Sink sink.old) (sink_facts K.Sink sink.new) result }
 {
-    match format!(in alloc; "port {port} not bound\n") {
+    match unbound_line(alloc, port) {
         Ok(line) => write_due(sink, line.as_bytes(), Status::NetFault),
-        Err(_) => Status::NoMemory,
+        Err(NoMemory) => Status::NoMemory,
     }
 }
 
