@@ -14,8 +14,6 @@ mod counts;
 #[cfg(test)]
 mod datagrams;
 #[cfg(test)]
-mod ending;
-#[cfg(test)]
 mod exclusive;
 #[cfg(test)]
 mod filled;
