@@ -1,7 +1,7 @@
 -- The numbers that are told, where they were added up.
 use Rattle.std.specs.Prelude.{ℕ, List, min, slice_get, unwrap_or}
 use Rattle.memcached_stats.specs.declared.counter.Counter.{Counter}
-use Rattle.memcached_stats.specs.declared.counter.Counter.TheVariants.{Sets, CasHits, CasMisses, CasBadval, GetHits, GetMisses, TouchHits, TouchMisses, DeleteHits, DeleteMisses, IncrHits, IncrMisses, DecrHits, DecrMisses, Flushes, Opened, Closed, Rejected, Lacked, Received, Sent}
+use Rattle.memcached_stats.specs.declared.counter.Counter.TheVariants.{Sets, CasHits, CasMisses, CasBadval, GetHits, GetMisses, TouchHits, TouchMisses, DeleteHits, DeleteMisses, IncrHits, IncrMisses, DecrHits, DecrMisses, Flushes, StoresTooLarge, StoresRefused, Opened, Closed, Rejected, Lacked, Received, Sent}
 use Rattle.memcached_stats.specs.declared.figures.About.{About}
 use Rattle.memcached_stats.specs.declared.figures.Counts.{Counts}
 use Rattle.memcached_stats.specs.declared.figures.Wear.{Wear}
@@ -24,12 +24,14 @@ place_of IncrMisses = 11
 place_of DecrHits = 12
 place_of DecrMisses = 13
 place_of Flushes = 14
-place_of Opened = 15
-place_of Closed = 16
-place_of Rejected = 17
-place_of Lacked = 18
-place_of Received = 19
-place_of Sent = 20
+place_of StoresTooLarge = 15
+place_of StoresRefused = 16
+place_of Opened = 17
+place_of Closed = 18
+place_of Rejected = 19
+place_of Lacked = 20
+place_of Received = 21
+place_of Sent = 22
 
 abbrev pub count_in : Counts → Counter → ℕ
 count_in counts counter = min (unwrap_or (slice_get counts.numbers (place_of counter)) 0) MOST_COUNT

@@ -8,7 +8,7 @@ use Rattle.memcached_text.specs.Replies.{reply_text, stat_text}
 use Rattle.memcached_stats.specs.declared.figures.About.{About}
 use Rattle.memcached_stats.specs.declared.figures.Wear.{Wear}
 use Rattle.memcached_stats.specs.declared.counter.Counter.{Counter}
-use Rattle.memcached_stats.specs.declared.counter.Counter.TheVariants.{Sets, CasHits, CasMisses, CasBadval, GetHits, GetMisses, TouchHits, TouchMisses, DeleteHits, DeleteMisses, IncrHits, IncrMisses, DecrHits, DecrMisses, Flushes, Opened, Closed, Rejected, Lacked, Received, Sent}
+use Rattle.memcached_stats.specs.declared.counter.Counter.TheVariants.{Sets, CasHits, CasMisses, CasBadval, GetHits, GetMisses, TouchHits, TouchMisses, DeleteHits, DeleteMisses, IncrHits, IncrMisses, DecrHits, DecrMisses, Flushes, StoresTooLarge, StoresRefused, Opened, Closed, Rejected, Lacked, Received, Sent}
 
 -- what was told: of the server, how often each counter was raised, and of each partition
 pub record Told : Type 0 where
@@ -65,6 +65,8 @@ command_stats counts =
     ∷ stat (codes "cas_badval") (counts CasBadval)
     ∷ stat (codes "touch_hits") (counts TouchHits)
     ∷ stat (codes "touch_misses") (counts TouchMisses)
+    ∷ stat (codes "store_too_large") (counts StoresTooLarge)
+    ∷ stat (codes "store_no_memory") (counts StoresRefused)
     ∷ []
 
 -- how many writes a partition has accepted, and how many more it bears at least

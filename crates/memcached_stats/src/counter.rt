@@ -1,7 +1,7 @@
 //! What a front counts.
 ghost use Rattle.std.specs.Prelude.{◌≡◌, ℕ, List};
 ghost use Rattle.memcached_text.specs.declared.lifetime.Lifetime.{Lifetime};
-ghost use Rattle.memcached_stats.specs.Counted.{counter_by, counter_of};
+ghost use Rattle.memcached_stats.specs.Counted.{counter_by, counter_of, counter_of_store};
 
 use memcached_commands::{Ask, Says};
 use memcached_text::{Command, Direction, Fault, Next, Reply, Wants};
@@ -9,7 +9,7 @@ use memcached_text::{Command, Direction, Fault, Next, Reply, Wants};
 /// What a front counts.
 #[derive(Clone, Copy, Debug, PartialEq, Eq)]
 pub enum Counter {
-    /// Stores and joins, but for those by an item's number that found what they look for, or nothing, or another number.
+    /// Stores and joins that found room, but for those by an item's number that found what they look for, or nothing, or another number.
     Sets,
     CasHits,
     CasMisses,
@@ -25,6 +25,10 @@ pub enum Counter {
     DecrHits,
     DecrMisses,
     Flushes,
+    /// Stores and joins of a value that is too long.
+    StoresTooLarge,
+    /// Those that found no room.
+    StoresRefused,
     /// Connections that came.
     Opened,
     /// Those of them that are closed.
@@ -39,7 +43,7 @@ pub enum Counter {
 }
 
 /// How many there are.
-pub const COUNTERS: usize = 21;
+pub const COUNTERS: usize = 23;
 
 // By a get.
 fn get_counter(says: &Says) -> Option<Counter>
@@ -83,17 +87,27 @@ fn delete_counter(says: &Says) -> Option<Counter>
     }
 }
 
+// By a store or a join.
+fn counter_of_store(says: &Says) -> Option<Counter>
+    ensures { result ≡ counter_of_store says.now }
+{
+    match says {
+        Says::Line(Reply::NoRoom) => Some(Counter::StoresRefused),
+        _ => Some(Counter::Sets),
+    }
+}
+
 fn store_counter(wants: Wants, says: &Says) -> Option<Counter>
     ensures { (flags : ℕ) (lifetime : Lifetime) (value : List ℕ) → result ≡ counter_of (Ask.Store wants flags lifetime value) says.now }
 {
     if !matches!(wants, Wants::Numbered(_)) {
-        return Some(Counter::Sets);
+        return counter_of_store(says);
     }
     match says {
         Says::Line(Reply::Stored) => Some(Counter::CasHits),
         Says::Line(Reply::NotFound) => Some(Counter::CasMisses),
         Says::Line(Reply::Exists) => Some(Counter::CasBadval),
-        _ => Some(Counter::Sets),
+        _ => counter_of_store(says),
     }
 }
 
@@ -122,13 +136,13 @@ pub fn counter_of(ask: &Ask, says: &Says) -> Option<Counter>
         Ask::Touch(_) => touch_counter(says),
         Ask::Delete => delete_counter(says),
         Ask::Store { wants, .. } => store_counter(*wants, says),
-        Ask::Join { .. } => Some(Counter::Sets),
+        Ask::Join { .. } => counter_of_store(says),
         Ask::Count { direction, .. } => count_counter(*direction, says),
         Ask::Spoil => None,
     }
 }
 
-/// Which counter is raised by what a client said that asks nothing of a key, if any.
+/// Which counter is raised by what a client said, whatever came of it, if any.
 pub fn counter_by(next: &Next) -> Option<Counter>
     ensures { result ≡ counter_by next.now }
 {
@@ -141,6 +155,10 @@ pub fn counter_by(next: &Next) -> Option<Counter>
             fault: Fault::BadBlock,
             ..
         } => Some(Counter::Sets),
+        Next::Refused {
+            fault: Fault::TooLarge,
+            ..
+        } => Some(Counter::StoresTooLarge),
         _ => None,
     }
 }

@@ -80,7 +80,7 @@ fn about_lines(about: &About, counts: &Counts) -> [Line; 13]
     ]
 }
 
-fn command_lines(counts: &Counts) -> [Line; 17]
+fn command_lines(counts: &Counts) -> [Line; 19]
     ensures { map stat_in result ≡ command_stats (count_in counts.now) }
 {
     let (hits, misses) = (counts.of(Counter::GetHits), counts.of(Counter::GetMisses));
@@ -112,6 +112,8 @@ fn command_lines(counts: &Counts) -> [Line; 17]
         told(b"cas_badval", others),
         told(b"touch_hits", touched),
         told(b"touch_misses", untouched),
+        told(b"store_too_large", counts.of(Counter::StoresTooLarge)),
+        told(b"store_no_memory", counts.of(Counter::StoresRefused)),
     ]
 }
 

@@ -22,4 +22,6 @@ returns c =
     ∷ (c.told-15.ensures ∙ ap (stat (codes "cas_badval")) c.of-others.ensures.count) i
     ∷ (c.told-16.ensures ∙ ap (stat (codes "touch_hits")) c.of-touched.ensures.count) i
     ∷ (c.told-17.ensures ∙ ap (stat (codes "touch_misses")) c.of-untouched.ensures.count) i
+    ∷ (c.told-18.ensures ∙ ap (stat (codes "store_too_large")) c.of-9.ensures.count) i
+    ∷ (c.told-19.ensures ∙ ap (stat (codes "store_no_memory")) c.of-10.ensures.count) i
     ∷ []
