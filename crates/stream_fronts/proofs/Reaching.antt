@@ -317,10 +317,6 @@ module _ (options : Options) (base : ℕ) where
           omega (arith, kept, both, all, m);
     }
 
-    -- where some of what is dropped has not come, nothing is kept
-    pub none_kept : length (place.bytes ++ more) < place.dropping → place.bytes ≡ []
-    none_kept some = rest_is options base received r.whole place.bytes r.spells ∙ drop_all taken received (let m = r.missing in omega (arith, some, m))
-
   -- Where a talk stands
 
   pub stands_more : (stand : Stand) (place : Place) (few most : ℕ) (received : List ℕ) (given : List Answered) (due : List ℕ) → few ≤ most

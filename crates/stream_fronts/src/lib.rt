@@ -41,7 +41,7 @@ mod unsent;
 mod visit;
 mod visits;
 
-pub use answer::{Answered, LIMITS, MOST_COMMANDS, Stand, answer_bytes};
+pub use answer::{Answered, LIMITS, MOST_COMMANDS, Stand, answer_bytes, most_writes};
 pub use calls::{ask_again, close, receive, send};
 pub use client::Client;
 pub use clients::Clients;
