@@ -1,7 +1,7 @@
 -- Each look leaves less unanswered, unless all that it found waits.
 use Rattle.std.proofs.Common.{◌≡◌, ◌≢◌, ◌⊎◌, inl, inr, ℕ, zero, suc, ◌+◌, ◌-◌, ◌==◌, ◌<◌, ◌≤◌, Bool, true, false, true≢false, cond, List, [], ◌∷◌, ◌++◌, length, drop, refl, sym, ap, ◌∙◌, subst, arith, length-append, length-drop}
 use Rattle.std.specs.Prelude.{Option, Some, None}
-use Rattle.std.proofs.lemmas.List.{drop_all, nil_from_length}
+use Rattle.std.proofs.lemmas.List.{drop_all}
 use Rattle.std.proofs.lemmas.Bool.{eq-eqb}
 use Rattle.partition_model.specs.declared.options.Options.{Options}
 use Rattle.partition_model.specs.declared.write.Outcome.TheVariants.{Stored}
@@ -27,7 +27,7 @@ use Rattle.memcached_fronts.proofs.ExchangeLaws.{asks_are_due, at_first, is_belo
 use Rattle.stream_io.specs.declared.connections.Input.{Input}
 use Rattle.stream_io.specs.declared.connections.Input.TheVariants.{Bytes, Later, Ended}
 use Rattle.stream_fronts.specs.declared.answer.Answered.{Answered as HowFar}
-use Rattle.stream_fronts.specs.declared.answer.Said.TheVariants.{Part, Whole, Last}
+use Rattle.stream_fronts.specs.declared.answer.Said.TheVariants.{Part, Whole}
 use Rattle.stream_fronts.specs.declared.answer.Stand.{Stand}
 use Rattle.stream_fronts.specs.declared.answer.Stand.TheVariants.{Needs}
 use Rattle.stream_fronts.specs.declared.client.Client.{Client}
@@ -112,7 +112,7 @@ takes_some come More within some on = absurd (some refl)
 takes_some come LongLine within some on = absurd (true≢false on)
 
 module _ (bytes : List ℕ) (done : ℕ) (next : Next) (is : next ≡ next_of bytes) (some : next ≢ More) (stands : IsOpenAt (next_of bytes) done) where
-  few_given : done < length bytes
+  pub few_given : done < length bytes
   few_given = elim stands as (λ _. done < length bytes) [
     | inl none ↦ by bytes (λ more. some (is ∙ more)) none
     | inr less ↦ let few = (few_asks bytes).within in omega (arith, less, few)
@@ -136,9 +136,6 @@ module _ (bytes : List ℕ) (done : ℕ) (next : Next) (is : next ≡ next_of by
         few_given,
       )
 
-  pub last_on : AnswersOn bytes done Last
-  last_on = few_given
-
 -- Commands are answered one after another
 
 -- No command was answered yet, and so much still holds; or less is unanswered.
@@ -160,18 +157,17 @@ module _ {fresh : Type 0} (bytes : List ℕ) (before taken done : ℕ) (so_far :
     pub stays : {waits : Type 0} → (fresh → taken ≡ 0 → may → waits) → Advances may waits (place_at bytes before) (place_in bytes a)
     stays {waits} why =
         let len = length-drop a.taken bytes in
-        elim so_far as (λ _. Advances may waits (place_at bytes before) (place_in bytes a)) [
-          | inl first ↦ record {
-            no_more = let none = first.1 in let same = first.2 in omega (arith, len, taken_is, done_is, none, same);
-            less = λ m. inl (why first.0 first.1 m);
-            dropped = λ some. absurd (omega (arith, some, come));
-          }
-          | inr less ↦ record {
-            no_more = omega (arith, len, taken_is, done_is, less);
-            less = λ m. inr (omega (arith, len, taken_is, done_is, less));
-            dropped = λ some. absurd (omega (arith, some, come));
-          }
-        ]
+        record {
+          no_more = elim so_far as (λ _. unanswered (place_in bytes a) ≤ length bytes - before) [
+            | inl first ↦ let none = first.1 in let same = first.2 in omega (arith, len, taken_is, done_is, none, same)
+            | inr less ↦ omega (arith, len, taken_is, done_is, less)
+          ];
+          less = λ m. elim so_far as (λ _. waits ⊎ (unanswered (place_in bytes a) < length bytes - before)) [
+            | inl first ↦ inl (why first.0 first.1 m)
+            | inr less ↦ inr (omega (arith, len, taken_is, done_is, less))
+          ];
+          dropped = λ some. absurd (omega (arith, some, come));
+        }
 
 -- so far it came
 pub arrives : {may waits : Type 0} (bytes : List ℕ) (before : ℕ) (a : HowFar) (at : ℕ) → length bytes - at < length bytes - before → at ≤ a.taken + a.done
@@ -219,12 +215,7 @@ paid_further bytes done asks now stands some paid a may same = elim (a.less may)
   | inr less ↦ omega (arith, less, paid, same)
 ]
 
-pub paid_count : (client : Client) (count : ℕ) (input : Option Input) → PaysFor client count input → count ≤ client.asks
-paid_count client count None pays = pays.0
-paid_count client count (Some (Bytes some)) pays = omega (arith, pays)
-paid_count client count (Some Later) pays = pays
-paid_count client count (Some Ended) pays = pays
-
+-- bytes were read, or none came
 pub paid_for : {may : Type 0} (client now : Client) (bytes : List ℕ) (count : ℕ) (stand : Stand) (input : Option Input) → count ≡ length bytes → PaysFor client count input
     → Advances may ((stand ≡ Needs) × (length client.kept < MAX_WAITING_LEN)) (place_at bytes 0) (place_of now) → may → now.asks ≡ client.asks → IsAtRest stand input ⊎ IsPaid 1 now
 paid_for client now bytes count stand None len pays a may same = elim (a.less may) as (λ _. IsAtRest stand None ⊎ IsPaid 1 now) [

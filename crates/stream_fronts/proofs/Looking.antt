@@ -1,12 +1,10 @@
 -- One look at what is kept of a client, and at what was read behind it.
-use Rattle.std.proofs.Common.{◌≡◌, ℕ, zero, suc, ◌-◌, ◌≤◌, ◌<◌, inl, inr, List, [], ◌∷◌, ◌++◌, length, drop, refl, sym, ap, ◌∙◌, subst, arith, length-drop}
+use Rattle.std.proofs.Common.{◌≡◌, ℕ, zero, suc, ◌-◌, ◌≤◌, ◌<◌, inl, inr, List, [], ◌++◌, length, drop, refl, sym, ap, ◌∙◌, subst, arith, length-drop}
 use Rattle.std.specs.Prelude.{Option, Some, None, IfSome, MatchResult, Result, Ok, Err}
 use Rattle.std.proofs.lemmas.List.{append-nil, drop_all}
 use Rattle.partition_model.specs.declared.options.Options.{Options}
 use Rattle.memcached_text.specs.declared.limits.TheConstants.{MAX_WAITING_LEN}
 use Rattle.memcached_text.specs.Next.{next_of}
-use Rattle.memcached_commands.specs.Asks.{asks_in}
-use Rattle.memcached_fronts.specs.Exchange.{IsOpenAt}
 use Rattle.stream_io.specs.State.{held}
 use Rattle.stream_io.specs.Log.{Log, connections_of}
 use Rattle.mica_fronts.specs.Answered.{Answered}
@@ -17,22 +15,21 @@ use Rattle.stream_fronts.specs.Clients.{IsClient}
 use Rattle.stream_fronts.specs.Open.{OnLogs}
 use Rattle.stream_fronts.specs.Traffic.{OnHeld}
 use Rattle.stream_fronts.specs.Reached.{Place, place_at, place_of, Reaches, GoesOnTo, SpokeFrom, SpokeBehind, StandsAs}
+use Rattle.stream_fronts.proofs.Few.{few_asks}
 use Rattle.stream_fronts.proofs.Reaching.{read_more, stands_more, nothing_next}
 
--- of a command that was answered in part, something is there
-some_there : (bytes : List ℕ) (done : ℕ) → IsOpenAt (next_of bytes) done → 0 < done → 0 < length bytes
-some_there [] done stands some =
-    let none : length (asks_in (next_of [])) ≡ 0 = ap (λ n. length (asks_in n)) nothing_next in
-    elim stands as (λ _. 0 < length {A = ℕ} []) [ inl first ↦ absurd (omega (arith, first, some)) | inr less ↦ absurd (omega (arith, less, none)) ]
-some_there (b ∷ bytes) done stands some = omega arith
-
--- so nothing is to be dropped
+-- of a command that was answered in part something is kept, so nothing is to be dropped
 none_dropped : (client : Client) → IsClient client → 0 < client.done → client.dropping ≡ 0
-none_dropped client fit some = let there = some_there client.kept client.done fit.begun some in by client.dropping fit.dropped there
+none_dropped client fit some = by client.dropping fit.dropped
   where
-    by : (n : ℕ) → (0 < n → client.kept ≡ []) → 0 < length client.kept → n ≡ 0
-    by zero none there = refl
-    by (suc n) none there = let empty = ap length (none (omega arith)) in absurd (omega (arith, empty, there))
+    there : 0 < length client.kept
+    there =
+        let few = (few_asks client.kept).within in
+        elim fit.begun as (λ _. 0 < length client.kept) [ inl first ↦ absurd (omega (arith, first, some)) | inr less ↦ omega (arith, less, few) ]
+
+    by : (n : ℕ) → (0 < n → client.kept ≡ []) → n ≡ 0
+    by zero none = refl
+    by (suc n) none = let empty = ap length (none (omega arith)) in absurd (omega (arith, empty, there))
 
 module _ (options : Options) (base : ℕ) where
   -- A command that was answered in part is answered further.

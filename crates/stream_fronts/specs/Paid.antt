@@ -19,8 +19,8 @@ use Rattle.stream_fronts.specs.Reached.{Place, place_of}
 abbrev pub MayAnswer : ℕ → ℕ → Type 0
 MayAnswer partitions left = LIMITS.asks + partitions ≤ left
 
--- How far the command was answered that bytes begin with, and to which so many answers were given: not all of it has come; or it was answered further, and takes
--- more bytes than it had answers.
+-- How far the command was answered that bytes begin with, and to which so many answers were given. Not all of it has come; or it was answered further, and
+-- takes more bytes than it had answers.
 abbrev pub AnswersOn : List ℕ → ℕ → Said → Type 0
 AnswersOn bytes done Nothing = next_of bytes ≡ More
 AnswersOn bytes done (Part more) = IsOpenAt (next_of bytes) more × (done < more) × (done < length bytes)
@@ -31,12 +31,12 @@ AnswersOn bytes done Last = done < length bytes
 abbrev pub unanswered : Place → ℕ
 unanswered place = length place.bytes - place.done
 
--- A look goes from one place to another. No more is unanswered there; and less, where anything may be answered, unless all that was found waits. Where bytes are
--- still to be dropped, none is left.
-pub record Advances (may waits : Type 0) (old new : Place) : Type 0 where
-  pub no_more : unanswered new ≤ unanswered old
-  pub less : may → waits ⊎ (unanswered new < unanswered old)
-  pub dropped : 0 < new.dropping → new.bytes ≡ []
+-- A look goes from one place to another. No more is unanswered there than here; and less, where anything may be answered, unless what is here waits. Where
+-- bytes are still to be dropped, none is left.
+pub record Advances (may waits : Type 0) (here there : Place) : Type 0 where
+  pub no_more : unanswered there ≤ unanswered here
+  pub less : may → waits ⊎ (unanswered there < unanswered here)
+  pub dropped : 0 < there.dropping → there.bytes ≡ []
 
 -- The connection may be asked for again once for each byte that is unanswered, and so many times more.
 abbrev pub IsPaid : ℕ → Client → Type 0

@@ -1,7 +1,7 @@
-use Rattle.std.proofs.Common.{◌≡◌, ◌∙◌, length, ap, refl, arith}
+use Rattle.std.proofs.Common.{◌∙◌, length, ap, arith}
 use Rattle.std.proofs.lemmas.List.{length-drop, take_rest}
 use Rattle.std.proofs.lemmas.Result.{err_from_is_err_and}
-use Rattle.stream_fronts.specs.Reached.{place_at, place_in, place_of}
+use Rattle.stream_fronts.specs.Reached.{place_at, place_in}
 use Rattle.stream_fronts.proofs.Advancing.{looks_short}
 use Rattle.stream_fronts.proofs.Answering.{match_err}
 use Rattle.stream_fronts.proofs.Talking.{spoke_stands}
@@ -43,15 +43,6 @@ returns-then-len-gt-MOST_UNSENT-clause-talk g c =
             c.in_ok-answered.ensures.«open» (omega (arith, len)) r.2.1,
       ),
     )
-
-pub keep-requires-clause-dropped : goal.keep-requires-clause-dropped
-keep-requires-clause-dropped g c = λ some. take_rest c.args.bytes.now c.in_ok-answered.answered.taken ∙ c.in_ok-answered.ensures.advances.dropped some
-
-pub keep-requires-clause-paid : goal.keep-requires-clause-paid
-keep-requires-clause-paid g c =
-    let len = ap length (take_rest c.args.bytes.now c.in_ok-answered.answered.taken) in
-    let no_more = c.in_ok-answered.ensures.advances.no_more in
-    omega (arith, len, no_more, c.requires.paid)
 
 pub returns-clause-advances : goal.returns-clause-advances
 returns-clause-advances g c =

@@ -10,7 +10,7 @@ use Rattle.stream_fronts.specs.Held.{Looks, Lacks}
 use Rattle.stream_fronts.proofs.Going.{these_none}
 use Rattle.stream_fronts.proofs.Traffic.{on_one}
 use Rattle.stream_fronts.proofs.Answering.{match_err}
-use Rattle.stream_fronts.proofs.Advancing.{paid_further, paid_for, paid_count}
+use Rattle.stream_fronts.proofs.Advancing.{paid_further, paid_for}
 use Rattle.stream_fronts.proofs.Looking.{looks_further, lacks_further, on_same}
 use Rattle.stream_fronts.proofs.visit.answer_more.Goals as goal
 
@@ -113,17 +113,6 @@ returns-in-Err-clause-talk g c =
       on_one c.args.number _ (Looks options c.args.numbering.base client [] c.args.desk.now.replies.items c.fill.new.client (Err c.in-Err.field-0)) (g.C.Connections.log c.args.connections.now)
           (g.C.Connections.log c.fill.new.connections) (λ d a b x. (refl, first, x.0, x.1)) c.in-Err.ensures.reads,
     )
-
-pub look_at-requires-clause-paid : goal.look_at-requires-clause-paid
-look_at-requires-clause-paid g c =
-    let len = ap length (c.bytes-bytes.ensures ∙ c.replace-kept.ensures.value) in
-    let paid = c.requires.client.paid in
-    omega (arith, len, paid)
-
-pub look_at_room-requires-clause-paid : goal.look_at_room-requires-clause-paid
-look_at_room-requires-clause-paid g c =
-    let count = paid_count c.fill.new.client c.in-Ok.filled.0 c.in-Ok.filled.1 c.in-Ok.ensures.pays in
-    omega (arith, count, length-take c.in-Ok.filled.0 c.deref.result.now)
 
 pub returns-then-client-gt0-clause-again : goal.returns-then-client-gt0-clause-again
 returns-then-client-gt0-clause-again g c = λ may.

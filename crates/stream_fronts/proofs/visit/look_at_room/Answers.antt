@@ -1,5 +1,5 @@
-use Rattle.std.proofs.Common.{◌-◌, ◌++◌, ◌∙◌, inl, length, take, drop, [], refl, ap, arith}
-use Rattle.std.proofs.lemmas.List.{take_rest, length-drop}
+use Rattle.std.proofs.Common.{◌-◌, ◌++◌, length, take, drop, [], arith}
+use Rattle.std.proofs.lemmas.List.{take_rest}
 use Rattle.std.proofs.lemmas.Result.{IfOk-weaker}
 use Rattle.memcached_text.specs.declared.limits.TheConstants.{MAX_WAITING_LEN}
 use Rattle.stream_fronts.specs.Reached.{GoesOnTo, SpokeBehind, StandsAs, place_of}
@@ -45,18 +45,6 @@ returns-clause-talk g c =
             c.requires.short (take_rest bytes client.dropping) spoke) r.2.1,
       ),
     )
-
-pub returns-then-client-bytes-clause-advances : goal.returns-then-client-bytes-clause-advances
-returns-then-client-bytes-clause-advances g c =
-    let more = c.if-client-bytes.true in
-    let none = c.requires.client.dropped (omega (arith, more)) in
-    let empty = ap length none in
-    record { no_more = omega (arith, empty); less = λ may. inl (refl, omega (arith, empty)); dropped = λ some. none }
-
-pub look_at-requires-clause-paid : goal.look_at-requires-clause-paid
-look_at-requires-clause-paid g c =
-    let len = ap length (take_rest c.args.bytes.now c.args.client.now.dropping) ∙ length-drop c.args.client.now.dropping c.args.bytes.now in
-    omega (arith, len, c.requires.paid)
 
 pub returns-clause-advances : goal.returns-clause-advances
 returns-clause-advances g c =

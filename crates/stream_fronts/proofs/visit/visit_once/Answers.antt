@@ -1,4 +1,4 @@
-use Rattle.std.proofs.Common.{◌≡◌, ◌≢◌, ◌⊎◌, inl, inr, Bool, true, false, [], ap, ◌∙◌, subst, arith}
+use Rattle.std.proofs.Common.{◌≡◌, ◌≢◌, inl, inr, Bool, true, false, [], ap, ◌∙◌, subst, arith}
 use Rattle.std.specs.Prelude.{Ok, Err, IfOk}
 use Rattle.stream_fronts.specs.declared.visit.After.TheVariants.{Waits, Over}
 use Rattle.stream_fronts.specs.Open.{OnLogs}
