@@ -1,9 +1,9 @@
--- A command asks of no more keys than its line has words, so of no more than a line has bytes.
-use Rattle.std.proofs.Common.{◌≡◌, ℕ, ◌+◌, ◌^◌, ◌<◌, ◌≤◌, Bool, true, false, ◌&&◌, ◌||◌, cond, List, [], ◌∷◌, length, Option, Some, None, nat_lt, refl, sym, subst, arith, codes}
+-- A command asks of no more keys than its line has words, so of no more than the line has bytes.
+use Rattle.std.proofs.Common.{◌≡◌, ℕ, ◌+◌, ◌^◌, ◌<◌, ◌≤◌, Bool, true, false, ◌&&◌, ◌||◌, cond, List, [], ◌∷◌, ◌++◌, length, Option, Some, None, nat_lt, refl, sym, ap, subst, arith, codes, length-append}
 use Rattle.std.specs.Prelude.{⊤, ◌==◌, bytes_eq, find, option_map, option_and_then}
 use Rattle.std.specs.Option.{IfSome}
 use Rattle.std.specs.List.{AllByRecursion, list_all, slice_split}
-use Rattle.std.proofs.lemmas.Bool.{ltb-false}
+use Rattle.std.proofs.lemmas.Bool.{ltb-false, cond_both}
 use Rattle.std.proofs.lemmas.List.{length-map}
 use Rattle.std.proofs.lemmas.List.Splits.{length-slice_split}
 use Rattle.std.proofs.lemmas.List.Sums.{count_by-le-length, length-filter}
@@ -24,7 +24,7 @@ use Rattle.memcached_text.specs.declared.block.TheConstants.{END_LEN}
 use Rattle.memcached_text.specs.declared.block.Block.{Block}
 use Rattle.memcached_text.specs.declared.block.Block.TheVariants as blocks
 use Rattle.memcached_text.specs.declared.next.Next.{Next}
-use Rattle.memcached_text.specs.declared.next.Next.TheVariants.{LongLine, More, Refused}
+use Rattle.memcached_text.specs.declared.next.Next.TheVariants.{Command, LongLine, More, Refused}
 use Rattle.memcached_text.specs.declared.fault.Fault.TheVariants as faults
 use Rattle.memcached_text.specs.Lines.{is_some_text, words_of, without_return, line_at}
 use Rattle.memcached_text.specs.Numbers.{number_of}
@@ -36,6 +36,8 @@ use Rattle.memcached_text.specs.ServerLine.{flushed, flush_line, is_part, stats_
 use Rattle.memcached_text.specs.Forms.{Form, forms, line_by, ends_as_http, or_unknown, line_of}
 use Rattle.memcached_text.specs.Block.{block_at}
 use Rattle.memcached_text.specs.Next.{blocked, storing_at, says_at, next_in, is_binary, next_of}
+use Rattle.memcached_text.specs.Stream.{len_of}
+use Rattle.memcached_text.proofs.LineLaws.{IsFound, line_found}
 use Rattle.memcached_text.proofs.NextLaws.{binary_is, next_is}
 use Rattle.memcached_commands.specs.Asks.{asked, get_ask, asks_of, asks_in}
 
@@ -236,23 +238,23 @@ module _ (most : ℕ) (some : 1 ≤ most) where
   -- What is said
 
   abbrev IsFewNext : Next → Type 0
-  IsFewNext next = length (asks_in next) ≤ most
+  IsFewNext next = (length (asks_in next) ≤ most) × (length (asks_in next) ≤ len_of next)
 
-  command_few : (verb : Verb) (item : ItemLine) (value : List ℕ) (quiet : Bool) → length (asks_of (command_by verb item value quiet)) ≤ most
-  command_few (Store wants) item value quiet = some
-  command_few (Join side) item value quiet = some
+  command_few : (verb : Verb) (item : ItemLine) (value : List ℕ) (quiet : Bool) (len : ℕ) → 1 ≤ len → IsFewNext (Command (command_by verb item value quiet) len)
+  command_few (Store wants) item value quiet len there = (some, there)
+  command_few (Join side) item value quiet len there = (some, there)
 
-  stale_few : (verb : Verb) (key : List ℕ) (fault : _) (quiet : Bool) (len : ℕ) → IsFewNext (Refused fault (stale_by verb key) quiet len)
-  stale_few (Store Whatever) key fault quiet len = some
-  stale_few (Store Absent) key fault quiet len = omega arith
-  stale_few (Store Present) key fault quiet len = omega arith
-  stale_few (Store (Numbered u)) key fault quiet len = omega arith
-  stale_few (Join side) key fault quiet len = omega arith
+  stale_few : (verb : Verb) (key : List ℕ) (fault : _) (quiet : Bool) (len : ℕ) → 1 ≤ len → IsFewNext (Refused fault (stale_by verb key) quiet len)
+  stale_few (Store Whatever) key fault quiet len there = (some, there)
+  stale_few (Store Absent) key fault quiet len there = (omega arith, omega arith)
+  stale_few (Store Present) key fault quiet len there = (omega arith, omega arith)
+  stale_few (Store (Numbered u)) key fault quiet len there = (omega arith, omega arith)
+  stale_few (Join side) key fault quiet len there = (omega arith, omega arith)
 
-  blocked_few : (item : ItemLine) (quiet : Bool) (len : ℕ) (block : Block) → IsFewNext (blocked item quiet len block)
-  blocked_few item quiet len blocks.Waiting = omega arith
-  blocked_few item quiet len blocks.Bad = omega arith
-  blocked_few item quiet len (blocks.Whole value) = command_few item.verb item value quiet
+  blocked_few : (item : ItemLine) (quiet : Bool) (len : ℕ) (block : Block) → 1 ≤ len → IsFewNext (blocked item quiet len block)
+  blocked_few item quiet len blocks.Waiting there = (omega arith, omega arith)
+  blocked_few item quiet len blocks.Bad there = (omega arith, omega arith)
+  blocked_few item quiet len (blocks.Whole value) there = command_few item.verb item value quiet len there
 
   either_next : (t : Bool) (x y : Next) → IsFewNext x → IsFewNext y → IsFewNext (cond t x y)
   either_next true x y left right = left
@@ -261,41 +263,48 @@ module _ (most : ℕ) (some : 1 ≤ most) where
   storing_few : (item : ItemLine) (value_len : ℕ) (quiet : Bool) (len : ℕ) (rest : List ℕ) → IsFewNext (storing_at item value_len quiet len rest)
   unfolding storing_at
   storing_few item value_len quiet len rest =
-      either_next (nat_lt MAX_TEXT_LEN value_len) _ _ (stale_few item.verb item.key faults.TooLarge quiet (len + value_len + END_LEN))
-      (blocked_few item quiet (len + value_len + END_LEN) (block_at value_len rest))
+      either_next (nat_lt MAX_TEXT_LEN value_len) _ _ (stale_few item.verb item.key faults.TooLarge quiet (len + value_len + END_LEN) (omega arith))
+      (blocked_few item quiet (len + value_len + END_LEN) (block_at value_len rest) (omega arith))
 
-  says_few : (line : Line) (len : ℕ) (rest : List ℕ) → IsFewLine line → IsFewNext (says_at line len rest)
+  says_few : (line : Line) (rest : List ℕ) → IsFewLine line → IsFewNext (says_at line most rest)
   unfolding says_at
-  says_few (lines.Whole command) len rest fits = fits
-  says_few (lines.Storing item value_len quiet) len rest fits = storing_few item value_len quiet len rest
-  says_few (lines.Refused fault quiet block) len rest fits = omega arith
+  says_few (lines.Whole command) rest fits = (fits, fits)
+  says_few (lines.Storing item value_len quiet) rest fits = storing_few item value_len quiet most rest
+  says_few (lines.Refused fault quiet block) rest fits = (omega arith, omega arith)
 
--- what a line says by itself
-line_says : (line rest : List ℕ) (most : ℕ) (some : 1 ≤ most) → length line + 1 ≤ most → IsFewNext most some (says_at (line_of (words_of (without_return line))) (length line + 1) rest)
-line_says line rest most some fits =
+-- what a line says by itself: of no more keys than it has bytes with its line feed
+line_says : (line rest : List ℕ) (some : 1 ≤ length line + 1) → IsFewNext (length line + 1) some (says_at (line_of (words_of (without_return line))) (length line + 1) rest)
+line_says line rest some =
     let words = few_words (without_return line) in
     let less = shorter line in
-    says_few most some (line_of (words_of (without_return line))) (length line + 1) rest (line_few most some (words_of (without_return line)) (omega (arith, fits, words, less)))
+    says_few (length line + 1) some (line_of (words_of (without_return line))) rest (line_few (length line + 1) some (words_of (without_return line)) (omega (arith, words, less)))
 
-next_few : (bytes : List ℕ) (most : ℕ) (some : 1 ≤ most) → MAX_LINE_LEN + 1 ≤ most → (o : Option (List ℕ × List ℕ)) → IsFewNext most some (next_in bytes o)
+-- What bytes begin with asks of no more keys than there are bytes, than a line has, and than it takes.
+pub record AsksFew (come : ℕ) (next : Next) : Type 0 where
+  pub within : length (asks_in next) ≤ come
+  pub counted : length (asks_in next) ≤ MAX_LINE_LEN + 1
+  pub taken : length (asks_in next) ≤ len_of next
+
+asks_none : (come : ℕ) (next : Next) → asks_in next ≡ [] → AsksFew come next
+asks_none come next is = let none = ap length is in record { within = omega (arith, none); counted = omega (arith, none); taken = omega (arith, none) }
+
+next_few : (bytes : List ℕ) (o : Option (List ℕ × List ℕ)) → IsFound bytes o → AsksFew (length bytes) (next_in bytes o)
 unfolding next_in
-next_few bytes most some fits None = either_next most some (nat_lt MAX_LINE_LEN (length bytes)) LongLine More (omega arith) (omega arith)
-next_few bytes most some fits (Some x) = long (nat_lt MAX_LINE_LEN (length x.0)) refl
-  where
-    long : (t : Bool) → nat_lt MAX_LINE_LEN (length x.0) ≡ t → IsFewNext most some (cond t LongLine (says_at (line_of (words_of (without_return x.0))) (length x.0 + 1) x.1))
-    long true is = omega arith
-    long false is = let short = ltb-false _ _ is in line_says x.0 x.1 most some (omega (arith, fits, short))
+next_few bytes None found = cond_both (nat_lt MAX_LINE_LEN (length bytes)) LongLine More (AsksFew (length bytes)) (λ is. asks_none _ LongLine refl) (λ is. asks_none _ More refl)
+next_few bytes (Some x) has = cond_both (nat_lt MAX_LINE_LEN (length x.0)) LongLine _ (AsksFew (length bytes)) (λ is. asks_none _ LongLine refl) (λ is.
+    let short = ltb-false _ _ is in
+    let few = line_says x.0 x.1 (omega arith) in
+    let whole : length bytes ≡ length (x.0 ++ 10 ∷ x.1) = ap length has.whole in
+    let line = few.0 in
+    record { within = omega (arith, line, whole, length-append x.0 (10 ∷ x.1)); counted = omega (arith, line, short); taken = few.1 })
 
-few_keys : (bytes : List ℕ) (most : ℕ) (some : 1 ≤ most) → MAX_LINE_LEN + 1 ≤ most → length (asks_in (next_of bytes)) ≤ most
-few_keys bytes most some fits = either (is_binary bytes) refl
+pub few_asks : (bytes : List ℕ) → AsksFew (length bytes) (next_of bytes)
+few_asks bytes = either (is_binary bytes) refl
   where
-    either : (t : Bool) → is_binary bytes ≡ t → length (asks_in (next_of bytes)) ≤ most
-    either true binary = subst (λ n. length (asks_in n) ≤ most) (sym (binary_is bytes binary)) (omega arith)
-    either false text = subst (λ n. length (asks_in n) ≤ most) (sym (next_is bytes (line_at bytes) text refl)) (next_few bytes most some fits (line_at bytes))
-
-few_asks : (bytes : List ℕ) → length (asks_in (next_of bytes)) < 2 ^ 64
-few_asks bytes = let few = few_keys bytes (MAX_LINE_LEN + 1) (omega arith) (omega arith) in omega (arith, few)
+    either : (t : Bool) → is_binary bytes ≡ t → AsksFew (length bytes) (next_of bytes)
+    either true binary = subst (AsksFew (length bytes)) (sym (binary_is bytes binary)) (asks_none _ _ refl)
+    either false text = subst (AsksFew (length bytes)) (sym (next_is bytes (line_at bytes) text refl)) (next_few bytes (line_at bytes) (line_found bytes))
 
 -- the keys of what bytes begin with can be counted
 pub few_asks_of : (next : Next) (bytes : List ℕ) → next ≡ next_of bytes → length (asks_in next) < 2 ^ 64
-few_asks_of next bytes is = subst (λ n. length (asks_in n) < 2 ^ 64) (sym is) (few_asks bytes)
+few_asks_of next bytes is = subst (λ n. length (asks_in n) < 2 ^ 64) (sym is) (let few = (few_asks bytes).counted in omega (arith, few))

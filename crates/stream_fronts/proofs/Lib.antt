@@ -6,6 +6,7 @@ pub mod Few
 pub mod Holding
 pub mod Reaching
 pub mod Answering
+pub mod Advancing
 pub mod Looking
 pub mod Filling
 pub mod Traffic

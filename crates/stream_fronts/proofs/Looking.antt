@@ -1,63 +1,57 @@
 -- One look at what is kept of a client, and at what was read behind it.
-use Rattle.std.proofs.Common.{◌≡◌, ℕ, ◌-◌, ◌≤◌, ◌<◌, inl, inr, List, [], ◌∷◌, ◌++◌, length, drop, sym, ap, ◌∙◌, subst, arith, length-drop}
+use Rattle.std.proofs.Common.{◌≡◌, ℕ, zero, suc, ◌-◌, ◌≤◌, ◌<◌, inl, inr, List, [], ◌++◌, length, drop, refl, sym, ap, ◌∙◌, subst, arith, length-drop}
 use Rattle.std.specs.Prelude.{Option, Some, None, IfSome, MatchResult, Result, Ok, Err}
 use Rattle.std.proofs.lemmas.List.{append-nil, drop_all}
 use Rattle.partition_model.specs.declared.options.Options.{Options}
 use Rattle.memcached_text.specs.declared.limits.TheConstants.{MAX_WAITING_LEN}
 use Rattle.memcached_text.specs.Next.{next_of}
-use Rattle.memcached_commands.specs.Asks.{asks_in}
-use Rattle.memcached_fronts.specs.Exchange.{IsOpenAt}
-use Rattle.memcached_fronts.specs.Spells.{taken_by}
-use Rattle.memcached_fronts.proofs.SpellsLaws.{rest_is}
 use Rattle.stream_io.specs.State.{held}
 use Rattle.stream_io.specs.Log.{Log, connections_of}
 use Rattle.mica_fronts.specs.Answered.{Answered}
 use Rattle.stream_fronts.specs.declared.answer.Stand.{Stand}
 use Rattle.stream_fronts.specs.declared.answer.Stand.TheVariants.{Needs}
 use Rattle.stream_fronts.specs.declared.client.Client.{Client}
+use Rattle.stream_fronts.specs.Clients.{IsClient}
 use Rattle.stream_fronts.specs.Open.{OnLogs}
 use Rattle.stream_fronts.specs.Traffic.{OnHeld}
 use Rattle.stream_fronts.specs.Reached.{Place, place_at, place_of, Reaches, GoesOnTo, SpokeFrom, SpokeBehind, StandsAs}
-use Rattle.stream_fronts.proofs.Reaching.{read_more, none_kept, stands_more, nothing_next}
+use Rattle.stream_fronts.proofs.Few.{few_asks}
+use Rattle.stream_fronts.proofs.Reaching.{read_more, stands_more, nothing_next}
 
--- of a command that was answered in part, something is there
-some_there : (bytes : List ℕ) (done : ℕ) → IsOpenAt (next_of bytes) done → 0 < done → 0 < length bytes
-some_there [] done stands some =
-    let none : length (asks_in (next_of [])) ≡ 0 = ap (λ n. length (asks_in n)) nothing_next in
-    elim stands as (λ _. 0 < length {A = ℕ} []) [ inl first ↦ absurd (omega (arith, first, some)) | inr less ↦ absurd (omega (arith, less, none)) ]
-some_there (b ∷ bytes) done stands some = omega arith
+-- of a command that was answered in part something is kept, so nothing is to be dropped
+none_dropped : (client : Client) → IsClient client → 0 < client.done → client.dropping ≡ 0
+none_dropped client fit some = by client.dropping fit.dropped
+  where
+    there : 0 < length client.kept
+    there =
+        let few = (few_asks client.kept).within in
+        elim fit.begun as (λ _. 0 < length client.kept) [ inl first ↦ absurd (omega (arith, first, some)) | inr less ↦ omega (arith, less, few) ]
+
+    by : (n : ℕ) → (0 < n → client.kept ≡ []) → n ≡ 0
+    by zero none = refl
+    by (suc n) none = let empty = ap length (none (omega arith)) in absurd (omega (arith, empty, there))
 
 module _ (options : Options) (base : ℕ) where
-  -- so nothing of it is to be dropped
-  none_dropped : {place : Place} {received : List ℕ} {given : List Answered} {due : List ℕ} → Reaches options base place received given due → IsOpenAt (next_of place.bytes) place.done
-      → 0 < place.done → place.dropping ≡ 0
-  none_dropped {place} {received} r stands some =
-      let there = some_there place.bytes place.done stands some in
-      let kept = ap length (rest_is options base received r.whole place.bytes r.spells) ∙ length-drop (taken_by r.whole) received in
-      let m = r.missing in
-      omega (arith, there, kept, m)
-
   -- A command that was answered in part is answered further.
-  pub looks_further : (client now : Client) (stand : Stand) (answers : List Answered) (replies : List ℕ) → IsOpenAt (next_of client.kept) client.done → 0 < client.done
-      → length client.kept ≤ MAX_WAITING_LEN
+  pub looks_further : (client now : Client) (stand : Stand) (answers : List Answered) (replies : List ℕ) → IsClient client → 0 < client.done
       → GoesOnTo options base (place_at client.kept client.done) answers [] replies (StandsAs options base (length client.kept) stand (place_of now))
       → GoesOnTo options base (place_of client) answers [] replies (StandsAs options base MAX_WAITING_LEN stand (place_of now))
-  looks_further client now stand answers replies stands some short goes = record {
+  looks_further client now stand answers replies fit some goes = record {
     text = goes.text;
     appended = goes.appended;
     on = λ received given due r.
-        let none : client.dropping ≡ 0 = none_dropped r stands some in
+        let none = none_dropped client fit some in
         let at = subst (λ n. Reaches options base (record { bytes = client.kept; done = client.done; dropping = n }) received given due) none r in
-        stands_more options base stand (place_of now) (length client.kept) MAX_WAITING_LEN received (given ++ answers) (due ++ goes.text) short (goes.on received given due at);
+        stands_more options base stand (place_of now) (length client.kept) MAX_WAITING_LEN received (given ++ answers) (due ++ goes.text) fit.short (goes.on received given due at);
   }
 
-  pub lacks_further : (client : Client) (answers : List Answered) → IsOpenAt (next_of client.kept) client.done → 0 < client.done → length client.kept ≤ MAX_WAITING_LEN
+  pub lacks_further : (client : Client) (answers : List Answered) → IsClient client → 0 < client.done
       → SpokeFrom options base (length client.kept) (place_at client.kept client.done) answers → SpokeFrom options base MAX_WAITING_LEN (place_of client) answers
-  lacks_further client answers stands some short spoke received given due r =
-      let none : client.dropping ≡ 0 = none_dropped r stands some in
+  lacks_further client answers fit some spoke received given due r =
+      let none = none_dropped client fit some in
       let at = subst (λ n. Reaches options base (record { bytes = client.kept; done = client.done; dropping = n }) received given due) none r in
       let s = spoke received given due at in
-      record { talk = s.talk; few = let f = s.few in omega (arith, f, short) }
+      record { talk = s.talk; few = let f = s.few in let short = fit.short in omega (arith, f, short) }
 
   -- Bytes were read, and what is to be dropped of them is left out.
   module _ (client : Client) (bytes more : List ℕ) (first : client.done ≡ 0) (all : bytes ≡ client.kept ++ more) where
@@ -91,16 +85,15 @@ module _ (options : Options) (base : ℕ) where
         record { talk = s.talk; few = let f = s.few in omega (arith, f, short, len) }
 
     -- All of them are left out.
-    pub looks_at_none : (after : List ℕ) → after ≡ [] → length bytes < client.dropping
+    pub looks_at_none : (after : List ℕ) → after ≡ [] → length bytes < client.dropping → client.kept ≡ []
         → GoesOnTo options base (place_of client) [] [] after (λ received given due. StandsAs options base MAX_WAITING_LEN Needs
         (record { bytes = client.kept; done = client.done; dropping = client.dropping - length bytes }) (received ++ more) given due)
-    looks_at_none after none some = record {
+    looks_at_none after none some empty = record {
       text = [];
       appended = none;
       on = λ received given due r.
           let same = ap length all in
           let less : length (client.kept ++ more) < client.dropping = omega (arith, some, same) in
-          let empty : client.kept ≡ [] = none_kept options base r first more less in
           let place : record { bytes = drop client.dropping (client.kept ++ more); done = 0; dropping = client.dropping - length (client.kept ++ more) }
           ≡ record { bytes = client.kept; done = client.done; dropping = client.dropping - length bytes } =
           λ i. record {

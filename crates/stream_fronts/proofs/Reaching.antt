@@ -1,5 +1,5 @@
 -- A talk goes on, answer by answer.
-use Rattle.std.proofs.Common.{◌≡◌, ◌≢◌, ℕ, ◌+◌, ◌-◌, ◌==◌, ◌<◌, ◌≤◌, Bool, true, false, ltb, List, [], ◌∷◌, ◌++◌, length, drop, refl, sym, ap, ◌∙◌, subst, arith, append_assoc, length-append, length-drop}
+use Rattle.std.proofs.Common.{◌≡◌, ◌≢◌, ℕ, ◌+◌, ◌-◌, ◌==◌, ◌≤◌, Bool, true, false, ltb, List, [], ◌∷◌, ◌++◌, length, drop, refl, sym, ap, ◌∙◌, subst, arith, append_assoc, length-append, length-drop}
 use Rattle.std.proofs.lemmas.List.{append-nil, drop-append-le, drop-drop, drop_all, drop_at, nil_from_length}
 use Rattle.std.proofs.lemmas.Bool.{ltb-true, ltb-false}
 use Rattle.mica_clock.specs.Seconds.{ClockView}
@@ -316,10 +316,6 @@ module _ (options : Options) (base : ℕ) where
           let m = r.missing in
           omega (arith, kept, both, all, m);
     }
-
-    -- where some of what is dropped has not come, nothing is kept
-    pub none_kept : length (place.bytes ++ more) < place.dropping → place.bytes ≡ []
-    none_kept some = rest_is options base received r.whole place.bytes r.spells ∙ drop_all taken received (let m = r.missing in omega (arith, some, m))
 
   -- Where a talk stands
 

@@ -26,12 +26,6 @@ module _ (options : Options) (base c : ℕ) where
   pub lacks_once : {client : Client} {answers : List Answered} {old new : Log} → VisitLacks options base 1 client answers c old new → VisitLacks options base 2 client answers c old new
   lacks_once visit = record { passes = passes_fewer (omega arith) visit.passes; few_answers = let few = visit.few_answers in omega (arith, few); talks = visit.talks }
 
-  -- it is given up
-  pub visits_up : {client now : Client} {answers : List Answered} {old new : Log} (becomes : After) → Visits options base 2 client answers now becomes c old new
-      → VisitLacks options base 2 client answers c old new
-  visits_up becomes visit =
-      record { passes = visit.passes; few_answers = visit.few_answers; talks = λ lacking all among holds through. (visit.talks lacking all holds through).0 }
-
   -- answers of both, to the same
   all_both : (all : List Given) (one two : List Answered) → (all ++ all_to c one) ++ all_to c two ≡ all ++ all_to c (one ++ two)
   all_both all one two = append_assoc all (all_to c one) (all_to c two) ∙ ap (λ l. all ++ l) (sym (map-append (λ (a : Answered). record { to = c; answered = a }) one two))

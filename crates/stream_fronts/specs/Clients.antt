@@ -1,16 +1,20 @@
 -- What a front holds of its connections.
-use Rattle.std.specs.Prelude.{◌≡◌, ℕ, ◌≤◌, List, length, slice_get, Option, None, Some, IfSome}
+use Rattle.std.specs.Prelude.{◌≡◌, ℕ, ◌<◌, ◌≤◌, List, [], length, slice_get, Option, None, Some, IfSome}
 use Rattle.memcached_text.specs.declared.limits.TheConstants.{MAX_WAITING_LEN}
 use Rattle.memcached_text.specs.Next.{next_of}
 use Rattle.memcached_fronts.specs.Exchange.{IsOpenAt}
 use Rattle.stream_io.specs.Log.{Log}
 use Rattle.stream_fronts.specs.declared.client.Client.{Client}
 use Rattle.stream_fronts.specs.Open.{IsOpen}
+use Rattle.stream_fronts.specs.Paid.{IsPaid}
 
--- no more is kept than the longest that waits, and the command that it begins with is not answered, or in part
+-- No more is kept than the longest that waits, and the command that it begins with is not answered, or in part. While bytes are to be dropped nothing is kept.
+-- What is unanswered is paid for.
 pub record IsClient (client : Client) : Type 0 where
   pub short : length client.kept ≤ MAX_WAITING_LEN
   pub begun : IsOpenAt (next_of client.kept) client.done
+  pub dropped : 0 < client.dropping → client.kept ≡ []
+  pub paid : IsPaid 0 client
 
 abbrev pub flat : Option (Option Client) → Option Client
 flat None = None

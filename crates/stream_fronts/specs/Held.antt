@@ -6,7 +6,7 @@ use Rattle.memcached_text.specs.declared.limits.TheConstants.{MAX_WAITING_LEN}
 use Rattle.memcached_text.specs.Next.{next_of}
 use Rattle.stream_io.specs.declared.connections.Broken.{Broken}
 use Rattle.stream_io.specs.declared.connections.Input.{Input}
-use Rattle.stream_io.specs.declared.connections.Input.TheVariants.{Ended}
+use Rattle.stream_io.specs.declared.connections.Input.TheVariants.{Later, Ended}
 use Rattle.stream_io.specs.Log.{Log, state_of, connections_of, received_of, sent_of}
 use Rattle.mica_fronts.specs.Answered.{Answered}
 use Rattle.stream_fronts.specs.declared.answer.Stand.{Stand}
@@ -77,6 +77,10 @@ abbrev pub leaves_by : Stand → Option Input → Bool
 leaves_by Leaves input = true
 leaves_by Needs (Some Ended) = true
 leaves_by _ _ = false
+
+-- nothing is to be done at once: no more is read, or it waits for its peer
+abbrev pub IsAtRest : Stand → Option Input → Type 0
+IsAtRest stand input = (leaves_by stand input ≡ true) ⊎ (stand ≡ Needs) × (input ≡ Some Later)
 
 -- A command that was answered in part was answered further.
 pub record GoesFurther (options : Options) (base : ℕ) (client : Client) (answers : List Answered) (replies : List ℕ) (now : Client) (r : Stand × Option Input) (c : ℕ) (old new : Log)

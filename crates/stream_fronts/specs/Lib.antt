@@ -10,7 +10,7 @@ pub mod Open
 pub mod Calls
 pub mod Going
 pub mod Traffic
-pub mod Parts
+pub mod Paid
 pub mod Clients
 pub mod Resting
 pub mod Held

@@ -1,9 +1,10 @@
 //! What is answered at one look at a connection.
-ghost use Rattle.std.specs.Prelude.{◌≡◌, ◌≤◌, ◌+◌, length, drop, IfOk, MatchResult};
+ghost use Rattle.std.specs.Prelude.{◌≡◌, ◌<◌, ◌≤◌, ◌+◌, length, drop, IfOk, MatchResult};
+ghost use Rattle.memcached_text.specs.declared.next.Next.TheVariants.{More};
 ghost use Rattle.memcached_text.specs.Next.{next_of};
 ghost use Rattle.memcached_fronts.specs.Exchange.{IsOpenAt};
 ghost use Rattle.stream_fronts.specs.declared.answer.TheConstants.{LIMITS};
-ghost use Rattle.stream_fronts.specs.Parts.{IsPart};
+ghost use Rattle.stream_fronts.specs.Paid.{Advances, AnswersOn, MayAnswer};
 ghost use Rattle.stream_fronts.specs.Turns.{most_answers, most_to_one};
 ghost use Rattle.stream_fronts.specs.Going.{GoesBy, GoesBySome};
 ghost use Rattle.stream_fronts.specs.Reached.{GoesOnTo, ReachesAfter, SpokeFrom, StandsAs, place_at, place_in};
@@ -25,6 +26,13 @@ pub const LIMITS: Limits = Limits {
     asks: 1_024,
     bytes: 65_536,
 };
+
+/// How many writes one command may need, at most.
+pub fn most_writes(numbering: Numbering) -> u64
+    ensures { result ≡ LIMITS.asks + numbering.partitions }
+{
+    LIMITS.asks as u64 + u64::from(numbering.partitions)
+}
 
 /// Why no more was answered.
 #[derive(Clone, Copy, Debug, PartialEq, Eq)]
@@ -89,8 +97,9 @@ fn answer_one<R: Threads + Wait + Sync, F: Counts, K: Clock>(
 ) -> Result<Said, NoMemory>
     requires open { IsOpenAt (next_of bytes.now) done }
     requires partitions { numbering.partitions ≡ (F.options front.old).partitions }
-    requires left { LIMITS.asks + numbering.partitions ≤ F.left front.old }
-    ensures part { IfOk result (IsPart (next_of bytes.now)) }
+    requires left { MayAnswer numbering.partitions (F.left front.old) }
+    requires room { length out.old.items < LIMITS.bytes }
+    ensures on { IfOk result (AnswersOn bytes.now done) }
     ensures talk { GoesBySome (F.options front.old) F.is_alone (F.sessions front.old) (F.left front.old) (K.view clock.old) (F.sessions front.new) (F.left front.new) (K.view clock.new)
         (λ answers. (length answers ≤ most_to_one (F.options front.old)) × MatchResult result (λ said. GoesOnTo (F.options front.old) numbering.base (place_at bytes.now done) answers out.old.items out.new.items
         (ReachesAfter (F.options front.old) numbering.base bytes.now done said))
@@ -131,6 +140,8 @@ pub fn answer_bytes<R: Threads + Wait + Sync, F: Counts, K: Clock>(
     requires partitions { numbering.partitions ≡ (F.options front.old).partitions }
     ensures within { IfOk result (λ a. a.taken ≤ length bytes.now) }
     ensures open { IfOk result (λ a. IsOpenAt (next_of (drop a.taken bytes.now)) a.done) }
+    ensures advances { IfOk result (λ a. Advances (MayAnswer numbering.partitions (F.left front.old) × (length out.old.items < LIMITS.bytes))
+        ((a.stand ≡ Stand.Needs) × (next_of bytes.now ≡ More)) (place_at bytes.now done) (place_in bytes.now a)) }
     ensures talk { GoesBySome (F.options front.old) F.is_alone (F.sessions front.old) (F.left front.old) (K.view clock.old) (F.sessions front.new) (F.left front.new) (K.view clock.new)
         (λ answers. (length answers ≤ most_answers (F.options front.old)) × MatchResult result (λ a. GoesOnTo (F.options front.old) numbering.base (place_at bytes.now done) answers out.old.items out.new.items
         (StandsAs (F.options front.old) numbering.base (length bytes.now) a.stand (place_in bytes.now a)))
@@ -140,7 +151,7 @@ pub fn answer_bytes<R: Threads + Wait + Sync, F: Counts, K: Clock>(
     ensures number { F.number front.new ≡ F.number front.old }
     ensures stands { F.stands front.new ≡ F.stands front.old }
 {
-    let cost = LIMITS.asks as u64 + u64::from(numbering.partitions);
+    let cost = most_writes(numbering);
     let (mut taken, mut done) = (0, done);
     for _ in 0..MOST_COMMANDS {
         if front.writes_left() < cost || out.len() >= LIMITS.bytes {

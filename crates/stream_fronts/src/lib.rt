@@ -6,7 +6,8 @@
 //! clients. The layer above may rely on this: the front's sessions and the clock go on by some answers, in order, and by no others, whatever
 //! clients say and whenever they break off. The front keeps its options, its number and its stands, and the port is the same. The call fails only where the
 //! count of the port's faults rose, or where there was no memory to begin, and then nothing was done. It reads, writes and closes under a number only what is
-//! open there, and asks for a connection again no more often than its bytes allow.
+//! open there, and asks for a connection again no more often than its bytes allow. That is often enough: the bytes of one that is left with more to do pay for
+//! asking (`specs/Paid`).
 //!
 //! Of its parts: `answer_bytes` answers what bytes spell, one command after another, and says how far it went: whatever was said before, the talk goes on by
 //! just the answers that it gave, the front's sessions and the clock went on by these and no others, and the text that it appends is what is due to them
@@ -41,7 +42,7 @@ mod unsent;
 mod visit;
 mod visits;
 
-pub use answer::{Answered, LIMITS, MOST_COMMANDS, Stand, answer_bytes};
+pub use answer::{Answered, LIMITS, MOST_COMMANDS, Stand, answer_bytes, most_writes};
 pub use calls::{ask_again, close, receive, send};
 pub use client::Client;
 pub use clients::Clients;

@@ -1,11 +1,13 @@
 //! What is made of the bytes of a connection that lie there.
-ghost use Rattle.std.specs.Prelude.{◌≡◌, ◌≤◌, [], length, IfOk, MatchResult, OnOk};
+ghost use Rattle.std.specs.Prelude.{◌≡◌, ◌<◌, ◌≤◌, [], length, IfOk, MatchResult, OnOk};
 ghost use Rattle.memcached_text.specs.declared.limits.TheConstants.{MAX_WAITING_LEN};
+ghost use Rattle.memcached_text.specs.declared.next.Next.TheVariants.{More};
 ghost use Rattle.memcached_text.specs.Next.{next_of};
 ghost use Rattle.memcached_fronts.specs.Exchange.{IsOpenAt};
 ghost use Rattle.stream_fronts.specs.declared.desk.TheConstants.{MOST_UNSENT};
 ghost use Rattle.stream_fronts.specs.Clients.{IsClient};
 ghost use Rattle.stream_fronts.specs.Going.{GoesBy, GoesBySome};
+ghost use Rattle.stream_fronts.specs.Paid.{Advances, MayAnswer, unanswered};
 ghost use Rattle.stream_fronts.specs.Turns.{most_answers};
 ghost use Rattle.stream_fronts.specs.Reached.{GoesOnTo, SpokeFrom, StandsAs, leaves, place_at, place_of};
 
@@ -26,6 +28,8 @@ impl Client {
     fn keep(&mut self, alloc: Global, bytes: &[u8], done: usize) -> Result<(), NoMemory>
         requires short { length bytes.now ≤ MAX_WAITING_LEN }
         requires open { IsOpenAt (next_of bytes.now) done }
+        requires dropped { 0 < self.old.dropping → bytes.now ≡ [] }
+        requires paid { unanswered (place_at bytes.now done) ≤ self.old.asks }
         ensures client { IfOk result (λ _. IsClient self.new) }
         ensures kept { OnOk result ((self.new.kept ≡ bytes.now) × (self.new.done ≡ done)) }
         ensures dropping { self.new.dropping ≡ self.old.dropping }
@@ -55,12 +59,15 @@ pub fn look_at<R: Threads + Wait + Sync, F: Counts, K: Clock>(
 ) -> Result<Stand, NoMemory>
     requires short { length bytes.now ≤ MAX_WAITING_LEN }
     requires open { IsOpenAt (next_of bytes.now) done }
+    requires paid { unanswered (place_at bytes.now done) ≤ client.old.asks }
     requires partitions { numbering.partitions ≡ (F.options front.old).partitions }
     ensures client { IfOk result (λ _. IsClient client.new) }
     ensures leaving { IfOk result (λ stand. client.new.leaving ≡ leaves stand) }
     ensures few { IfOk result (λ _. length replies.new.items ≤ MOST_UNSENT) }
     ensures unsent { client.new.unsent ≡ client.old.unsent }
     ensures asks { client.new.asks ≡ client.old.asks }
+    ensures advances { IfOk result (λ stand. Advances (MayAnswer numbering.partitions (F.left front.old)) ((stand ≡ Stand.Needs) × (next_of bytes.now ≡ More))
+        (place_at bytes.now done) (place_of client.new)) }
     ensures talk { GoesBySome (F.options front.old) F.is_alone (F.sessions front.old) (F.left front.old) (K.view clock.old) (F.sessions front.new) (F.left front.new) (K.view clock.new)
         (λ answers. (length answers ≤ most_answers (F.options front.old)) × MatchResult result (λ stand. GoesOnTo (F.options front.old) numbering.base (place_at bytes.now done) answers [] replies.new.items
         (StandsAs (F.options front.old) numbering.base (length bytes.now) stand (place_of client.new)))

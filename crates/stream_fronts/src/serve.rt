@@ -8,10 +8,11 @@ ghost use Rattle.stream_fronts.specs.Calls.{LeavesPort, MovesFront};
 ghost use Rattle.stream_fronts.specs.Clients.{AreOpen};
 ghost use Rattle.stream_fronts.specs.Going.{GoesBy};
 ghost use Rattle.stream_fronts.specs.Open.{IsOpen, IsOpened, OnLogs};
+ghost use Rattle.stream_fronts.specs.Paid.{MayAnswer};
 ghost use Rattle.stream_fronts.specs.Serving.{IsFinished, ServesFromNone};
 ghost use Rattle.stream_fronts.specs.Standing.{GoesByGiven, StandsOn};
 
-use crate::answer::LIMITS;
+use crate::answer::most_writes;
 use crate::calls::{ask_again, close};
 use crate::client::Client;
 use crate::clients::Clients;
@@ -44,6 +45,7 @@ fn visit_held<R: Threads + Wait + Sync, F: Counts, K: Clock, C: Connections>(
     requires room { vec_len desk.old.room ≡ MAX_WAITING_LEN }
     requires clients { AreOpen clients.old.held.items (C.log connections.old) }
     requires partitions { numbering.partitions ≡ (F.options front.old).partitions }
+    requires left { MayAnswer numbering.partitions (F.left front.old) }
     ensures room { vec_len desk.new.room ≡ MAX_WAITING_LEN }
     ensures clients { AreOpen clients.new.held.items (C.log connections.new) }
     ensures port { LeavesPort C.log C.has_ended C.faults C.port connections.old connections.new }
@@ -143,6 +145,7 @@ fn serve_event<R: Threads + Wait + Sync, F: Counts, K: Clock, C: Connections>(
     requires clients { AreOpen clients.old.held.items (C.log connections.old) }
     requires event { IfSome (C.log connections.old) (IsOpened event) }
     requires partitions { numbering.partitions ≡ (F.options front.old).partitions }
+    requires left { MayAnswer numbering.partitions (F.left front.old) }
     ensures room { vec_len desk.new.room ≡ MAX_WAITING_LEN }
     ensures clients { AreOpen clients.new.held.items (C.log connections.new) }
     ensures port { LeavesPort C.log C.has_ended C.faults C.port connections.old connections.new }
@@ -200,7 +203,7 @@ pub fn serve_connections<R: Threads + Wait + Sync, F: Glances, K: Clock, C: Conn
     let mut desk = Desk::new(alloc, board, place)?;
     let mut sweeper = Sweeper::new(alloc, numbering.partitions)?;
     let mut clients = Clients::new(alloc);
-    let least = LIMITS.asks as u64 + u64::from(numbering.partitions);
+    let least = most_writes(numbering);
     for _ in rt.forever() {
         if front.writes_left() < least {
             break;

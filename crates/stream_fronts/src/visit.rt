@@ -1,13 +1,14 @@
 //! One visit of a connection.
-ghost use Rattle.std.specs.Prelude.{◌≡◌, ◌≢◌, ◌<◌, ◌≤◌, ◌+◌, ◌++◌, true, false, [], length, take, drop, Some, is_some, IfOk, IfSome, MatchResult, vec_len};
+ghost use Rattle.std.specs.Prelude.{◌≡◌, ◌≢◌, ◌⊎◌, ◌<◌, ◌≤◌, ◌+◌, ◌++◌, true, false, [], length, take, drop, Some, is_some, IfOk, IfSome, MatchResult, vec_len};
 ghost use Rattle.memcached_text.specs.declared.limits.TheConstants.{MAX_WAITING_LEN};
 ghost use Rattle.stream_fronts.specs.declared.desk.TheConstants.{MOST_UNSENT};
 ghost use Rattle.stream_fronts.specs.Clients.{IsClient};
 ghost use Rattle.stream_fronts.specs.Going.{GoesBy, GoesBySome};
+ghost use Rattle.stream_fronts.specs.Paid.{Advances, IsPaid, MayAnswer, PaysFor};
 ghost use Rattle.stream_fronts.specs.Turns.{most_answers};
-ghost use Rattle.stream_fronts.specs.Reached.{GoesOnTo, SpokeBehind, StandsAs, leaves, place_of};
+ghost use Rattle.stream_fronts.specs.Reached.{GoesOnTo, SpokeBehind, StandsAs, leaves, place_at, place_of};
 ghost use Rattle.stream_fronts.specs.Traffic.{OnHeld, ReadsTo, SendsFrom, SendsSome};
-ghost use Rattle.stream_fronts.specs.Held.{Lacks, Looks, VisitLacks, Visits, filled_bytes, leaves_by};
+ghost use Rattle.stream_fronts.specs.Held.{IsAtRest, Lacks, Looks, VisitLacks, Visits, filled_bytes, leaves_by};
 ghost use Rattle.stream_fronts.specs.Open.{IsOpen, Keeps, OnLogs};
 
 use crate::answer::Stand;
@@ -123,6 +124,7 @@ fn fill<C: Connections>(
 ) -> Result<(usize, Option<Input>), Broken>
     requires room { length room.old ≡ MAX_WAITING_LEN }
     requires client { IsClient client.old }
+    requires first { client.old.done ≡ 0 }
     requires open { IfSome (C.log connections.old) (IsOpen number client.old.asks) }
     ensures room { length room.new ≡ MAX_WAITING_LEN }
     ensures fits { IfOk result (λ filled. filled.0 ≤ MAX_WAITING_LEN) }
@@ -130,6 +132,7 @@ fn fill<C: Connections>(
     ensures reads { OnLogs (OnHeld number (ReadsTo (λ filled. filled.1) (filled_bytes (length client.old.kept) room.new result) result))
         (C.log connections.old) (C.log connections.new) }
     ensures client { IsClient client.new }
+    ensures pays { IfOk result (λ filled. PaysFor client.new filled.0 filled.1) }
     ensures place { place_of client.new ≡ place_of client.old }
     ensures leaving { client.new.leaving ≡ client.old.leaving }
     ensures unsent { client.new.unsent ≡ client.old.unsent }
@@ -171,6 +174,7 @@ fn look_at_room<R: Threads + Wait + Sync, F: Counts, K: Clock>(
     requires first { client.old.done ≡ 0 }
     requires reading { client.old.leaving ≡ false }
     requires short { length bytes.now ≤ MAX_WAITING_LEN }
+    requires paid { length bytes.now ≤ client.old.asks }
     requires kept { bytes.now ≡ client.old.kept ++ drop (length client.old.kept) bytes.now }
     requires partitions { numbering.partitions ≡ (F.options front.old).partitions }
     ensures client { IfOk result (λ _. IsClient client.new) }
@@ -178,6 +182,8 @@ fn look_at_room<R: Threads + Wait + Sync, F: Counts, K: Clock>(
     ensures few { IfOk result (λ _. length replies.new.items ≤ MOST_UNSENT) }
     ensures unsent { client.new.unsent ≡ client.old.unsent }
     ensures asks { client.new.asks ≡ client.old.asks }
+    ensures advances { IfOk result (λ stand. Advances (MayAnswer numbering.partitions (F.left front.old)) ((stand ≡ Stand.Needs) × (length client.old.kept < MAX_WAITING_LEN))
+        (place_at bytes.now 0) (place_of client.new)) }
     ensures talk { GoesBySome (F.options front.old) F.is_alone (F.sessions front.old) (F.left front.old) (K.view clock.old) (F.sessions front.new) (F.left front.new) (K.view clock.new)
         (λ answers. (length answers ≤ most_answers (F.options front.old)) × MatchResult result (λ stand. GoesOnTo (F.options front.old) numbering.base (place_of client.old) answers [] replies.new.items
         (λ received given due. StandsAs (F.options front.old) numbering.base MAX_WAITING_LEN stand (place_of client.new)
@@ -221,6 +227,7 @@ fn answer_more<R: Threads + Wait + Sync, F: Counts, K: Clock, C: Connections>(
     ensures client { IfOk result (λ _. IsClient client.new) }
     ensures leaving { IfOk result (λ r. IfOk r (λ stood. client.new.leaving ≡ leaves stood.0)) }
     ensures unsent { IfOk result (λ _. client.new.unsent ≡ client.old.unsent) }
+    ensures again { MayAnswer numbering.partitions (F.left front.old) → IfOk result (λ r. IfOk r (λ stood. IsAtRest stood.0 stood.1 ⊎ IsPaid 1 client.new)) }
     ensures talk { GoesBySome (F.options front.old) F.is_alone (F.sessions front.old) (F.left front.old) (K.view clock.old) (F.sessions front.new) (F.left front.new) (K.view clock.new)
         (λ answers. MatchResult result
         (λ r. OnLogs (OnHeld number (Looks (F.options front.old) numbering.base client.old answers desk.new.replies.items client.new r)) (C.log connections.old) (C.log connections.new))
@@ -278,6 +285,7 @@ fn after_all(leaving: bool, stand: Stand, input: Option<Input>) -> After
     ensures over { leaving ≡ true → result ≡ After.Over }
     ensures open { leaving ≡ false → result ≢ After.Over }
     ensures waits { result ≡ After.Waits → (stand ≡ Stand.Needs) × (input ≡ Some Input.Later) }
+    ensures again { leaving ≡ leaves_by stand input → IsAtRest stand input → result ≢ After.Again }
 {
     if leaving {
         return After::Over;
@@ -307,6 +315,7 @@ pub fn visit_once<R: Threads + Wait + Sync, F: Counts, K: Clock, C: Connections>
     requires partitions { numbering.partitions ≡ (F.options front.old).partitions }
     ensures room { vec_len desk.new.room ≡ MAX_WAITING_LEN }
     ensures client { IfOk result (λ _. IsClient client.new) }
+    ensures again { MayAnswer numbering.partitions (F.left front.old) → IfOk result (λ after. after ≡ After.Again → IsPaid 1 client.new) }
     ensures talks { GoesBySome (F.options front.old) F.is_alone (F.sessions front.old) (F.left front.old) (K.view clock.old) (F.sessions front.new) (F.left front.new) (K.view clock.new)
         (λ answers. MatchResult result
         (λ after. OnLogs (OnHeld number (Visits (F.options front.old) numbering.base 1 client.old answers client.new after)) (C.log connections.old) (C.log connections.new))

@@ -1,13 +1,15 @@
 //! What is done for a connection that was reported.
-ghost use Rattle.std.specs.Prelude.{◌≡◌, true, false, ◌<◌, ◌≤◌, IfOk, IfSome, MatchResult, vec_len};
+ghost use Rattle.std.specs.Prelude.{◌≡◌, IfOk, IfSome, MatchResult, vec_len};
 ghost use Rattle.memcached_text.specs.declared.limits.TheConstants.{MAX_WAITING_LEN};
 ghost use Rattle.stream_fronts.specs.Calls.{LeavesPort, MovesFront};
 ghost use Rattle.stream_fronts.specs.Clients.{IsClient};
 ghost use Rattle.stream_fronts.specs.Going.{GoesBySome};
 ghost use Rattle.stream_fronts.specs.Held.{VisitLacks, Visits};
 ghost use Rattle.stream_fronts.specs.Open.{IsOpen, Keeps, OnLogs};
+ghost use Rattle.stream_fronts.specs.Paid.{IsPaid, MayAnswer};
 ghost use Rattle.stream_fronts.specs.Traffic.{OnHeld};
 
+use crate::answer::most_writes;
 use crate::client::Client;
 use crate::desk::Desk;
 use crate::visit::{After, visit_once};
@@ -20,16 +22,9 @@ use std::sync::Wait;
 use std::thread::Threads;
 use stream_io::Connections;
 
-// Whether there may be more to do at once, and it may not be asked for again.
-fn is_stuck(after: After, asks: u64) -> bool
-    ensures { result ≡ false → after ≡ After.Again → 0 < asks }
-{
-    after == After::Again && asks == 0
-}
-
 /// Visits a connection once, and once more where there may be more to do at once. Mostly the second visit finds that nothing more came: then it need not be
-/// reported again. Where there is more to do still, it is to be asked for again. If it might not be, it would be as if memory lacked; none comes to that, since
-/// whoever is left so has sent bytes, or was answered some, that allow it.
+/// reported again. Where there is more to do still, it is to be asked for again, and it may be: whoever is left so has sent bytes that pay for it. Where the
+/// front may be given too few writes for one command, it is visited once.
 pub fn visit_on<R: Threads + Wait + Sync, F: Counts, K: Clock, C: Connections>(
     rt: &R,
     alloc: Global,
@@ -45,7 +40,7 @@ pub fn visit_on<R: Threads + Wait + Sync, F: Counts, K: Clock, C: Connections>(
     requires client { IsClient client.old }
     requires open { IfSome (C.log connections.old) (IsOpen number client.old.asks) }
     requires partitions { numbering.partitions ≡ (F.options front.old).partitions }
-    ensures again { IfOk result (λ after. after ≡ After.Again → 0 < client.new.asks) }
+    ensures again { MayAnswer numbering.partitions (F.left front.old) → IfOk result (λ after. after ≡ After.Again → IsPaid 1 client.new) }
     ensures room { vec_len desk.new.room ≡ MAX_WAITING_LEN }
     ensures client { IfOk result (λ _. IsClient client.new) }
     ensures talks { GoesBySome (F.options front.old) F.is_alone (F.sessions front.old) (F.left front.old) (K.view clock.old) (F.sessions front.new) (F.left front.new) (K.view clock.new)
@@ -71,7 +66,10 @@ pub fn visit_on<R: Threads + Wait + Sync, F: Counts, K: Clock, C: Connections>(
         After::Again => {}
         after => return Ok(after),
     }
-    let last = visit_once(
+    if front.writes_left() < most_writes(numbering) {
+        return Ok(After::Again);
+    }
+    visit_once(
         rt,
         alloc,
         front,
@@ -81,9 +79,5 @@ pub fn visit_on<R: Threads + Wait + Sync, F: Counts, K: Clock, C: Connections>(
         number,
         client,
         desk,
-    )?;
-    if is_stuck(last, client.asks) {
-        return Err(NoMemory);
-    }
-    Ok(last)
+    )
 }

@@ -1,14 +1,18 @@
-use Rattle.std.proofs.Common.{rules, ◌≡◌, ◌≤◌, ◌+◌, ◌-◌, length, take, drop, [], refl, inl, ◌∙◌, arith}
+use Rattle.std.proofs.Common.{rules, ◌≡◌, ◌≤◌, ◌+◌, ◌-◌, length, take, drop, [], refl, inl, inr, sym, ap, subst, ◌∙◌, arith}
 use Rattle.std.proofs.lemmas.List.{take_rest, length-drop}
 use Rattle.std.proofs.lemmas.Result.{err_from_is_err_and}
 use Rattle.stream_fronts.specs.declared.answer.TheConstants.{MOST_COMMANDS}
 use Rattle.stream_fronts.specs.declared.answer.Said.TheVariants.{Nothing, Part, Whole, Last}
 use Rattle.stream_fronts.specs.declared.answer.Stand.TheVariants.{Needs, Enough, Leaves}
+use Rattle.memcached_text.specs.Next.{next_of}
 use Rattle.stream_fronts.specs.Reached.{Reaches, ReachesAfter, StandsAs, place_at, place_in}
+use Rattle.stream_fronts.specs.Paid.{AnswersOn}
 use Rattle.stream_fronts.proofs.Going.{these_none, these_goes}
 use Rattle.stream_fronts.proofs.Reaching.{on_none}
+use Rattle.stream_fronts.proofs.Advancing.{gains, stays, arrives}
 use Rattle.stream_fronts.proofs.Answering.{answers_then, on_said, spoke_on, match_err, some_as, stands_in, left_in, dropped_in, whole_in}
 use Rattle.stream_fronts.proofs.answer.answer_bytes.Goals as goal
+use Rattle.stream_fronts.proofs.answer.answer_bytes.Goals.{else-loop-test, then-loop-test+then-writes_left-cost, then-writes_left-cost-via-then-writes_left-cost, then-writes_left-cost-via-else-writes_left-cost+then-len}
 
 pub loop-init : goal.loop-init
 loop-init g c =
@@ -23,6 +27,7 @@ loop-init g c =
       refl,
       refl,
       refl,
+      inl ((refl, refl, refl), refl, refl),
     )
 
 pub returns-in_err-said-clause-talk : goal.returns-in_err-said-clause-talk
@@ -133,7 +138,8 @@ loop-preserved g c =
     let len = c.in-Whole-2.len in
     let same : c.in-Whole.len ≡ c.in-Whole-2.len = cc (c.in-Whole.is, c.in-Whole-2.is) in
     let short = c.if-len-rest.false in
-    let come : len ≤ length (take (length bytes - c.loop.taken) (drop c.loop.taken bytes)) = omega (arith, same, short) in (
+    let come : len ≤ length (take (length bytes - c.loop.taken) (drop c.loop.taken bytes)) = omega (arith, same, short) in
+    let on = subst (AnswersOn (take (length bytes - c.loop.taken) (drop c.loop.taken bytes)) c.loop.done) c.in-Whole-2.is c.in_ok-said.ensures.on in (
       search rules,
       inl refl,
       some_as options g.F.Front.is_alone base (c.loop.counter + 1) (c.loop.counter + 1) (omega arith) (place_at bytes c.args.done) c.args.out.now.items c.answer_one.new.out.items
@@ -144,6 +150,7 @@ loop-preserved g c =
       c.answer_one.ensures.options ∙ inv.3,
       c.answer_one.ensures.number ∙ inv.4,
       c.answer_one.ensures.stands ∙ inv.5,
+      inr (let less = gains bytes c.args.done c.loop.taken c.loop.done inv.6 _ (take_rest bytes c.loop.taken) len on.0 on.1 in omega (arith, less)),
     )
 
 pub returns-clause-talk : goal.returns-clause-talk
@@ -156,3 +163,55 @@ returns-clause-talk g c =
     some_as options g.F.Front.is_alone base c.loop.counter MOST_COMMANDS (omega (arith, c.loop.auto.counter-end)) (place_at bytes c.args.done) c.args.out.now.items c.loop.out.items
     (Reaches options base (place_at (drop c.loop.taken bytes) c.loop.done)) (StandsAs options base (length bytes) c.at-2.result.stand (place_in bytes c.at-2.result))
     (stands_in options g.F.Front.is_alone base (length bytes) bytes c.at-2.result Enough c.loop.taken c.loop.done 0 at.0 at.1 at.2 at.3) inv.2
+
+pub returns-in-Nothing-clause-advances : goal.returns-in-Nothing-clause-advances
+returns-in-Nothing-clause-advances g c =
+    let bytes = c.args.bytes.now in
+    let rest = take (length bytes - c.loop.taken) (drop c.loop.taken bytes) in
+    let at = c.at.ensures in
+    let on = subst (AnswersOn rest c.loop.done) c.in-Nothing.is c.in_ok-said.ensures.on in
+    stays bytes c.args.done c.loop.taken c.loop.done c.loop.invariant.6 c.at.result at.0 at.1 at.2
+    (λ fresh none may. (at.3, sym (ap next_of (take_rest bytes c.loop.taken ∙ ap (λ n. drop n bytes) none)) ∙ on))
+
+pub returns-in-Part-clause-advances : goal.returns-in-Part-clause-advances
+returns-in-Part-clause-advances g c =
+    let bytes = c.args.bytes.now in
+    let rest = take (length bytes - c.loop.taken) (drop c.loop.taken bytes) in
+    let more = c.in-Part.done in
+    let at = c.at-in-Part.ensures in
+    let on = subst (AnswersOn rest c.loop.done) c.in-Part.is c.in_ok-said.ensures.on in
+    arrives bytes c.args.done c.at-in-Part.result (c.loop.taken + more) (gains bytes c.args.done c.loop.taken c.loop.done c.loop.invariant.6 rest (take_rest bytes c.loop.taken) more on.1 on.2)
+    (omega (arith, at.0, at.1)) (λ some. absurd (omega (arith, some, at.2)))
+
+pub returns-in-Last-clause-advances : goal.returns-in-Last-clause-advances
+returns-in-Last-clause-advances g c =
+    let bytes = c.args.bytes.now in
+    let rest = take (length bytes - c.loop.taken) (drop c.loop.taken bytes) in
+    let len = ap length (take_rest bytes c.loop.taken) ∙ length-drop c.loop.taken bytes in
+    let at = c.at-in-Last.ensures in
+    let on = subst (AnswersOn rest c.loop.done) c.in-Last.is c.in_ok-said.ensures.on in
+    arrives bytes c.args.done c.at-in-Last.result (c.loop.taken + length rest)
+    (gains bytes c.args.done c.loop.taken c.loop.done c.loop.invariant.6 rest (take_rest bytes c.loop.taken) (length rest) on on)
+    (omega (arith, at.0, len, c.loop.invariant.0)) (λ some. absurd (omega (arith, some, at.2)))
+
+pub returns-in-Whole-clause-advances : goal.returns-in-Whole-clause-advances
+returns-in-Whole-clause-advances g c =
+    let bytes = c.args.bytes.now in
+    let rest = take (length bytes - c.loop.taken) (drop c.loop.taken bytes) in
+    let len = ap length (take_rest bytes c.loop.taken) ∙ length-drop c.loop.taken bytes in
+    let on = subst (AnswersOn rest c.loop.done) c.in-Whole.is c.in_ok-said.ensures.on in
+    arrives bytes c.args.done (record { taken = length bytes; done = 0; dropping = c.in-Whole.len - length rest; stand = Needs }) (c.loop.taken + length rest)
+    (gains bytes c.args.done c.loop.taken c.loop.done c.loop.invariant.6 rest (take_rest bytes c.loop.taken) (length rest) on.1 on.1)
+    (omega (arith, len, c.loop.invariant.0)) (λ some. omega arith)
+
+pub returns-clause-advances : goal.returns-clause-advances
+returns-clause-advances g c =
+    let at = c.at-2.ensures in
+    stays c.args.bytes.now c.args.done c.loop.taken c.loop.done c.loop.invariant.6 c.at-2.result at.0 at.1 at.2
+    (λ fresh none may. absurd (elim c.loop-test.branch [
+      | else-loop-test w ↦ omega (arith, fresh.0, w.loop-test.false)
+      | then-loop-test+then-writes_left-cost w ↦ elim w.then-writes_left-cost.branch [
+        | then-writes_left-cost-via-then-writes_left-cost x ↦ omega (arith, fresh.1, may.0, x.if-writes_left-cost.true, w.writes_left.ensures, c.most_writes-cost.ensures)
+        | then-writes_left-cost-via-else-writes_left-cost+then-len x ↦ let same = ap length fresh.2 in omega (arith, same, may.1, x.if-len.true, x.len.ensures)
+      ]
+    ]))

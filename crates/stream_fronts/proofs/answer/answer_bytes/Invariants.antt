@@ -5,6 +5,7 @@ use Rattle.memcached_fronts.specs.Exchange.{IsOpenAt}
 use Rattle.stream_fronts.specs.Going.{GoesBySome}
 use Rattle.stream_fronts.specs.Turns.{most_to_one}
 use Rattle.stream_fronts.specs.Reached.{Reaches, GoesOnTo, place_at}
+use Rattle.stream_fronts.proofs.Advancing.{HasAdvanced}
 use Rattle.stream_fronts.proofs.answer.answer_bytes.Given as goal
 
 abbrev pub invariant-loop : goal.invariant-loop
@@ -18,3 +19,4 @@ invariant-loop g l =
     × (g.F.Front.options l.front ≡ options)
     × (g.F.Front.number l.front ≡ g.F.Front.number l.initial.front)
     × (g.F.Front.stands l.front ≡ g.F.Front.stands l.initial.front)
+    × HasAdvanced ((l.counter ≡ 0) × (g.F.Front.left l.front ≡ g.F.Front.left l.initial.front) × (l.out.items ≡ l.initial.out.items)) l.bytes l.initial.done l.taken l.done

@@ -4,6 +4,7 @@ use Rattle.stream_fronts.specs.Turns.{most_to_one}
 use Rattle.stream_fronts.proofs.Going.{these_none, these_of}
 use Rattle.stream_fronts.proofs.Reaching.{on_none, on_as, spoke_of, part_of, whole_of, last_of}
 use Rattle.stream_fronts.proofs.Answering.{match_err}
+use Rattle.stream_fronts.proofs.Advancing.{few_given, part_on, whole_on}
 use Rattle.stream_fronts.proofs.answer.answer_one.Goals as goal
 
 pub returns-in_err-progress-clause-talk : goal.returns-in_err-progress-clause-talk
@@ -60,3 +61,16 @@ returns-else-last-clause-talk g c =
             (sym c.is_last-last.ensures ∙ c.if-last.false) c.len_of-len.result c.len_of-len.ensures,
       ),
     )
+
+pub returns-then-not-progress-clause-on : goal.returns-then-not-progress-clause-on
+returns-then-not-progress-clause-on g c =
+    part_on c.args.bytes.now c.args.done c.said_next-next.result c.said_next-next.ensures.next c.in_default.not-More c.requires.«open» (g.F.Front.options c.args.front.now) c.args.numbering.base
+    c.in_ok-progress.ensures.answered.2 (omega arith) c.requires.room c.if-not-progress.true
+
+pub returns-else-last-clause-on : goal.returns-else-last-clause-on
+returns-else-last-clause-on g c =
+    whole_on c.args.bytes.now c.args.done c.said_next-next.result c.said_next-next.ensures.next c.in_default.not-More c.requires.«open» (sym c.is_last-last.ensures ∙ c.if-last.false)
+    c.len_of-len.result c.len_of-len.ensures
+
+pub returns-then-last-clause-on : goal.returns-then-last-clause-on
+returns-then-last-clause-on g c = few_given c.args.bytes.now c.args.done c.said_next-next.result c.said_next-next.ensures.next c.in_default.not-More c.requires.«open»

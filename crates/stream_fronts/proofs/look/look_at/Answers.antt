@@ -1,7 +1,8 @@
-use Rattle.std.proofs.Common.{length, arith}
-use Rattle.std.proofs.lemmas.List.{length-drop}
+use Rattle.std.proofs.Common.{◌∙◌, length, ap, arith}
+use Rattle.std.proofs.lemmas.List.{length-drop, take_rest}
 use Rattle.std.proofs.lemmas.Result.{err_from_is_err_and}
 use Rattle.stream_fronts.specs.Reached.{place_at, place_in}
+use Rattle.stream_fronts.proofs.Advancing.{looks_short}
 use Rattle.stream_fronts.proofs.Answering.{match_err}
 use Rattle.stream_fronts.proofs.Talking.{spoke_stands}
 use Rattle.stream_fronts.proofs.look.look_at.Goals as goal
@@ -42,3 +43,10 @@ returns-then-len-gt-MOST_UNSENT-clause-talk g c =
             c.in_ok-answered.ensures.«open» (omega (arith, len)) r.2.1,
       ),
     )
+
+pub returns-clause-advances : goal.returns-clause-advances
+returns-clause-advances g c =
+    let kept = c.in_ok-keep.ensures.kept in
+    let none = ap length c.clear.ensures.items in
+    looks_short c.in_ok-answered.ensures.advances (omega (arith, none))
+    (λ i. record { bytes = (kept.0 ∙ take_rest c.args.bytes.now c.in_ok-answered.answered.taken) i; done = kept.1 i; dropping = c.keep.ensures.dropping i })

@@ -161,6 +161,6 @@ returns-clause-ends g c =
           let same = ap (λ (o : Options). o.partitions) c.loop.invariant.6 in
           let few = w.if-writes_left-least.true in
           subst (λ x. IsFinished options (ended x) left) (sym w.connections-is)
-          (inr (omega (arith, few, w.writes_left.ensures, c.from.ensures, c.requires.partitions, same)))
+          (inr (omega (arith, few, w.writes_left.ensures, c.most_writes-least.ensures, c.requires.partitions, same)))
       | in-Some+else-writes_left-least+in_ok-event+in_default w ↦ subst (λ x. IsFinished options (ended x) left) (sym w.connections-is) (inl (w.in_ok-event.ensures.ended ∙ ap is_none w.in_default.is))
     ]

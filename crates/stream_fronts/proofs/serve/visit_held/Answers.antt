@@ -1,4 +1,4 @@
-use Rattle.std.proofs.Common.{[], refl, sym, ◌∙◌, subst}
+use Rattle.std.proofs.Common.{[], refl, sym, ◌∙◌, subst, arith}
 use Rattle.stream_fronts.proofs.Going.{these_none, these_given}
 use Rattle.stream_fronts.proofs.Opening.{still_open}
 use Rattle.stream_fronts.proofs.Holding.{found_held, put_back, let_go, moves_keeps, moves_then, others_of_asked, asked_open}
@@ -42,10 +42,11 @@ returns-in-Again-clause-clients g c =
     let after = log c.ask_again.new.connections in
     let asks = visit.new.client.asks in
     let fit = c.in-Ok.ensures.client in
+    let paid = c.in-Ok.ensures.again c.requires.left c.in-Again.is in
     let moves = moves_then c.args.number before between after (moves_keeps c.args.number before between visit.ensures.port.told visit.ensures.keeps) c.ask_again.ensures.told
     (others_of_asked c.args.number asks between after c.ask_again.ensures.asked) in
     put_back c.args.number c.args.clients.now.held.items c.take.new.self.held.items c.put-in-Again.new.self.held.items before after _ c.requires.clients c.take.ensures.others
-    c.put-in-Again.ensures.others c.put-in-Again.ensures.here moves (record { short = fit.short; begun = fit.begun })
+    c.put-in-Again.ensures.others c.put-in-Again.ensures.here moves (record { short = fit.short; begun = fit.begun; dropped = fit.dropped; paid = omega (arith, paid) })
     (asked_open c.args.number asks between after c.ask_again.ensures.told c.ask_again.ensures.asked)
 
 pub returns-in-Over-clause-clients : goal.returns-in-Over-clause-clients

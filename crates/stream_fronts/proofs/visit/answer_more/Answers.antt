@@ -3,11 +3,14 @@ use Rattle.std.specs.Prelude.{Ok, Err, None}
 use Rattle.std.proofs.lemmas.List.{length-take, take_at}
 use Rattle.std.proofs.lemmas.Result.{err_from_is_err_and}
 use Rattle.memcached_text.specs.declared.limits.TheConstants.{MAX_WAITING_LEN}
+use Rattle.memcached_text.specs.Next.{next_of}
+use Rattle.memcached_fronts.specs.Exchange.{IsOpenAt}
 use Rattle.stream_fronts.specs.Reached.{Place, GoesOnTo, SpokeFrom, SpokeBehind, StandsAs, place_at, place_of}
 use Rattle.stream_fronts.specs.Held.{Looks, Lacks}
 use Rattle.stream_fronts.proofs.Going.{these_none}
 use Rattle.stream_fronts.proofs.Traffic.{on_one}
 use Rattle.stream_fronts.proofs.Answering.{match_err}
+use Rattle.stream_fronts.proofs.Advancing.{paid_further, paid_for}
 use Rattle.stream_fronts.proofs.Looking.{looks_further, lacks_further, on_same}
 use Rattle.stream_fronts.proofs.visit.answer_more.Goals as goal
 
@@ -27,7 +30,7 @@ returns-then-client-gt0-clause-talk g c =
       on_same c.args.number (Looks options base client r.0 replies now (Ok (stand, None))) (g.C.Connections.log c.args.connections.now)
           (λ d a. inl (record {
             same = refl;
-            goes = looks_further options base client now stand r.0 replies c.requires.client.begun c.if-client-gt0.true c.requires.client.short goes;
+            goes = looks_further options base client now stand r.0 replies c.requires.client c.if-client-gt0.true goes;
             few = c.in_ok-stand.ensures.few;
             few_answers = r.2.0;
             ends = tt;
@@ -73,7 +76,7 @@ returns-in_err-stand-clause-talk g c =
       r.0,
       r.1,
       match_err _ _ c.from_residual.result is.0 is.1 (on_same c.args.number (Lacks options base client r.0) (g.C.Connections.log c.args.connections.now)
-          (λ d a. inl (record { same = refl; spoke = lacks_further options base client r.0 c.requires.client.begun c.if-client-gt0.true c.requires.client.short spoke; few_answers = r.2.0 }))),
+          (λ d a. inl (record { same = refl; spoke = lacks_further options base client r.0 c.requires.client c.if-client-gt0.true spoke; few_answers = r.2.0 }))),
     )
 
 pub returns-in_err-stand-2-clause-talk : goal.returns-in_err-stand-2-clause-talk
@@ -110,3 +113,21 @@ returns-in-Err-clause-talk g c =
       on_one c.args.number _ (Looks options c.args.numbering.base client [] c.args.desk.now.replies.items c.fill.new.client (Err c.in-Err.field-0)) (g.C.Connections.log c.args.connections.now)
           (g.C.Connections.log c.fill.new.connections) (λ d a b x. (refl, first, x.0, x.1)) c.in-Err.ensures.reads,
     )
+
+pub returns-then-client-gt0-clause-again : goal.returns-then-client-gt0-clause-again
+returns-then-client-gt0-clause-again g c = λ may.
+    let client = c.args.client.now in
+    let bytes_are : c.bytes-bytes.result.now ≡ client.kept = c.bytes-bytes.ensures ∙ c.replace-kept.ensures.value in
+    inr (paid_further c.bytes-bytes.result.now client.done client.asks c.look_at.new.client (subst (λ b. IsOpenAt (next_of b) client.done) (sym bytes_are) c.requires.client.begun)
+    c.if-client-gt0.true (let len = ap length bytes_are in let paid = c.requires.client.paid in omega (arith, len, paid)) c.in_ok-stand.ensures.advances may c.look_at.ensures.asks)
+
+pub returns-clause-again : goal.returns-clause-again
+returns-clause-again g c = λ may.
+    let filled = c.in-Ok.filled in
+    let room = c.deref.result.now in
+    let len = length-take filled.0 room in
+    let same : room ≡ c.fill.new.room =
+    c.deref.ensures.value ∙ take_at c.fill.new.room (drop (length c.fill.new.room) c.args.desk.now.room.items) c.args.desk.now.room.len (c.fill.ensures.room ∙ sym c.requires.room) in
+    let whole = ap length same in
+    paid_for c.fill.new.client c.look_at_room.new.client (take filled.0 room) filled.0 c.in_ok-stand-2.stand filled.1 (omega (arith, len, whole, c.fill.ensures.room, c.in-Ok.ensures.fits))
+    c.in-Ok.ensures.pays c.in_ok-stand-2.ensures.advances may c.look_at_room.ensures.asks

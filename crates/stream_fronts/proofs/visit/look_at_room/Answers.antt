@@ -1,8 +1,10 @@
 use Rattle.std.proofs.Common.{◌-◌, ◌++◌, length, take, drop, [], arith}
 use Rattle.std.proofs.lemmas.List.{take_rest}
+use Rattle.std.proofs.lemmas.Result.{IfOk-weaker}
 use Rattle.memcached_text.specs.declared.limits.TheConstants.{MAX_WAITING_LEN}
 use Rattle.stream_fronts.specs.Reached.{GoesOnTo, SpokeBehind, StandsAs, place_of}
 use Rattle.stream_fronts.proofs.Going.{these_none}
+use Rattle.stream_fronts.proofs.Advancing.{looks_behind}
 use Rattle.stream_fronts.proofs.Looking.{looks_at, looks_at_none, lacks_at, if_match}
 use Rattle.stream_fronts.proofs.visit.look_at_room.Goals as goal
 
@@ -10,10 +12,15 @@ pub returns-then-client-bytes-clause-talk : goal.returns-then-client-bytes-claus
 returns-then-client-bytes-clause-talk g c =
     let options = g.F.Front.options c.args.front.now in
     let client = c.args.client.now in
-    let bytes = c.args.bytes.now in (
+    let bytes = c.args.bytes.now in
+    let more = c.if-client-bytes.true in (
       [],
       these_none options g.F.Front.is_alone (g.F.Front.sessions c.args.front.now) (g.F.Front.left c.args.front.now) (g.K.Clock.view c.args.clock.now),
-      (omega arith, looks_at_none options c.args.numbering.base client bytes (drop (length client.kept) bytes) c.requires.first c.requires.kept c.clear.new.self.items c.clear.ensures.items c.if-client-bytes.true),
+      (
+        omega arith,
+        looks_at_none options c.args.numbering.base client bytes (drop (length client.kept) bytes) c.requires.first c.requires.kept c.clear.new.self.items c.clear.ensures.items more
+            (c.requires.client.dropped (omega (arith, more))),
+      ),
     )
 
 pub returns-clause-talk : goal.returns-clause-talk
@@ -38,3 +45,10 @@ returns-clause-talk g c =
             c.requires.short (take_rest bytes client.dropping) spoke) r.2.1,
       ),
     )
+
+pub returns-clause-advances : goal.returns-clause-advances
+returns-clause-advances g c =
+    let client = c.args.client.now in
+    let bytes = c.args.bytes.now in
+    IfOk-weaker c.look_at.result _ _
+    (λ stand a. looks_behind client bytes (drop (length client.kept) bytes) _ c.requires.kept (take_rest bytes client.dropping) c.requires.client.dropped a) c.look_at.ensures.advances

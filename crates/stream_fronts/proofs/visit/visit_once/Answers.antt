@@ -1,10 +1,11 @@
-use Rattle.std.proofs.Common.{◌≡◌, ◌≢◌, Bool, true, false, [], ◌∙◌, subst}
+use Rattle.std.proofs.Common.{◌≡◌, ◌≢◌, inl, inr, Bool, true, false, [], ap, ◌∙◌, subst, arith}
 use Rattle.std.specs.Prelude.{Ok, Err, IfOk}
 use Rattle.stream_fronts.specs.declared.visit.After.TheVariants.{Waits, Over}
 use Rattle.stream_fronts.specs.Open.{OnLogs}
+use Rattle.stream_fronts.specs.Paid.{IsPaid, unanswered}
 use Rattle.stream_fronts.specs.Traffic.{OnHeld, SendsFrom, SendsSome}
 use Rattle.stream_fronts.specs.Held.{Looks, Visits, Lacks, VisitLacks}
-use Rattle.std.proofs.lemmas.Result.{err_from_is_err_and}
+use Rattle.std.proofs.lemmas.Result.{err_from_is_err_and, IfOk-at_ok}
 use Rattle.stream_fronts.proofs.Going.{these_none}
 use Rattle.stream_fronts.proofs.Answering.{match_err}
 use Rattle.stream_fronts.proofs.Traffic.{on_one, on_two, on_three, from_held}
@@ -250,3 +251,12 @@ returns-in-Ok-true-2-clause-talks g c =
           c.if-client.false none then replies c.in-Ok.answered two c.in_ok-answered.ensures.client last c.in_ok-send_new.ensures.place (c.in_ok-send_new.ensures.leaving ∙ c.leaves_by-client.ensures) c.in-Ok-true-2.field-0 three c.after_all.result
           c.after_all.ensures.over c.after_all.ensures.«open» c.after_all.ensures.waits c.in_ok-send_new.ensures.client all_sent) c.in-Ok-true.ensures.sends looks sends,
     )
+
+pub returns-in-Ok-true-2-clause-again : goal.returns-in-Ok-true-2-clause-again
+returns-in-Ok-true-2-clause-again g c = λ may again.
+    let last = c.send_new.new.client in
+    let more = IfOk-at_ok _ c.in-Ok.is (c.in_ok-answered.ensures.again may) in
+    elim more as (λ _. IsPaid 1 last) [
+      | inl rests ↦ absurd (c.after_all.ensures.again (c.in_ok-send_new.ensures.leaving ∙ c.leaves_by-client.ensures) rests again)
+      | inr paid ↦ let same = ap unanswered c.in_ok-send_new.ensures.place in omega (arith, paid, same, c.send_new.ensures.asks)
+    ]

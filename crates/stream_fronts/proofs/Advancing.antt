@@ -1,0 +1,233 @@
+-- Each look leaves less unanswered, unless all that it found waits.
+use Rattle.std.proofs.Common.{◌≡◌, ◌≢◌, ◌⊎◌, inl, inr, ℕ, zero, suc, ◌+◌, ◌-◌, ◌==◌, ◌<◌, ◌≤◌, Bool, true, false, true≢false, cond, List, [], ◌∷◌, ◌++◌, length, drop, refl, sym, ap, ◌∙◌, subst, arith, length-append, length-drop}
+use Rattle.std.specs.Prelude.{Option, Some, None}
+use Rattle.std.proofs.lemmas.List.{drop_all}
+use Rattle.std.proofs.lemmas.Bool.{eq-eqb}
+use Rattle.partition_model.specs.declared.options.Options.{Options}
+use Rattle.partition_model.specs.declared.write.Outcome.TheVariants.{Stored}
+use Rattle.memcached_text.specs.declared.limits.TheConstants.{MAX_WAITING_LEN}
+use Rattle.memcached_text.specs.declared.next.Next.{Next}
+use Rattle.memcached_text.specs.declared.next.Next.TheVariants.{Command, Refused, More, LongLine}
+use Rattle.memcached_text.specs.Next.{next_of, IsWithin}
+use Rattle.memcached_text.specs.Stream.{len_of, is_last}
+use Rattle.memcached_text.proofs.NextLaws.{within, waits_within}
+use Rattle.memcached_commands.specs.declared.asks.Asked.{Asked}
+use Rattle.memcached_commands.specs.Asks.{asks_in}
+use Rattle.memcached_commands.specs.Answers.{unless_quiet}
+use Rattle.mica_fronts.specs.Answered.{Answered, changed, kept}
+use Rattle.mica_fronts.specs.Looks.{Look}
+use Rattle.memcached_stats.specs.Stats.{Told}
+use Rattle.memcached_fronts.specs.AskAnswers.{AnswersAsk, AnswersAsks}
+use Rattle.memcached_fronts.specs.Exchange.{Exchange, AnswersBy, IsOpenAt, count_of_answers, due_before, due_to, flush_due, flush_text, is_flush_all, is_quiet, keyed_text, longer}
+use Rattle.memcached_fronts.specs.declared.answer.Limits.{Limits}
+use Rattle.memcached_fronts.specs.declared.answer.Progress.{Progress}
+use Rattle.memcached_fronts.specs.Going.{Replies, StandsAt}
+use Rattle.memcached_fronts.proofs.AskLaws.{quiet_none}
+use Rattle.memcached_fronts.proofs.ExchangeLaws.{asks_are_due, at_first, is_below, no_asks}
+use Rattle.stream_io.specs.declared.connections.Input.{Input}
+use Rattle.stream_io.specs.declared.connections.Input.TheVariants.{Bytes, Later, Ended}
+use Rattle.stream_fronts.specs.declared.answer.Answered.{Answered as HowFar}
+use Rattle.stream_fronts.specs.declared.answer.Said.TheVariants.{Part, Whole}
+use Rattle.stream_fronts.specs.declared.answer.Stand.{Stand}
+use Rattle.stream_fronts.specs.declared.answer.Stand.TheVariants.{Needs}
+use Rattle.stream_fronts.specs.declared.client.Client.{Client}
+use Rattle.stream_fronts.specs.Reached.{Place, place_at, place_in, place_of}
+use Rattle.stream_fronts.specs.Held.{IsAtRest, leaves_by}
+use Rattle.stream_fronts.specs.Paid.{Advances, AnswersOn, IsPaid, PaysFor, unanswered}
+use Rattle.stream_fronts.proofs.Few.{few_asks}
+use Rattle.stream_fronts.proofs.Reaching.{no_answers, nothing_next}
+
+-- One call answers something
+
+split : {T A : Type 0} (o : Option T) → (o ≡ None → A) → ((t : T) → o ≡ Some t → A) → A
+split None none some = none refl
+split (Some t) none some = some t refl
+
+-- whatever is asked, something answers it
+an_answer : (base : ℕ) (asked : Asked) → (answered : Answered) × AnswersAsk base asked answered
+an_answer base asked =
+    let nothing : Look = record { when = record { second = 0; written = 0; flushed = 0; until = 0 }; value = None } in
+    split _ (λ is. (kept asked.key 0 nothing, (refl, is))) (λ write is. (changed (record { write = write; outcome = Stored; stamp = 0 }) nothing, is))
+
+some_answers : (base : ℕ) (asks : List Asked) (n : ℕ) → n ≤ length asks → (answers : List Answered) × AnswersAsks base asks answers × (length answers ≡ n)
+some_answers base asks zero few = ([], tt, refl)
+some_answers base [] (suc n) few = absurd (omega (arith, few))
+some_answers base (asked ∷ asks) (suc n) few =
+    let one = an_answer base asked in
+    let rest = some_answers base asks n (omega (arith, few)) in
+    (one.0 ∷ rest.0, (one.1, rest.1), ap suc rest.2)
+
+module _ (options : Options) (base : ℕ) (next : Next) (done : ℕ) (stands : IsOpenAt next done) where
+  -- where no more answers were given, and more are due, no text is
+  no_text : (told : Told) (text : List ℕ) → (done == count_of_answers options next) ≡ false
+      → ((e : Exchange) → StandsAt options base next done e → due_to options base (longer e [] told) ≡ due_before options base e ++ text) → length text ≡ 0
+  no_text told text part due = by (is_flush_all next) refl (asks_in next) refl
+    where
+      by : (flushes : Bool) → is_flush_all next ≡ flushes → (asks : List Asked) → asks_in next ≡ asks → length text ≡ 0
+      by true flushes asks is =
+          let first = at_first next done stands (no_asks next flushes) in
+          let e : Exchange = record { next = next; answers = []; told = told } in
+          let none : (0 == options.partitions) ≡ false = ap (λ t. 0 == cond t options.partitions (length (asks_in next))) (sym flushes) ∙ ap (λ n. n == count_of_answers options next) (sym first) ∙ part in
+          let empty : due_to options base (longer e [] told) ≡ [] =
+          ap (λ t. unless_quiet (is_quiet next) (cond t (flush_text (0 == options.partitions) []) (keyed_text options.partitions base told next (asks_in next) []))) flushes
+          ∙ ap (λ t. unless_quiet (is_quiet next) (flush_text t [])) none ∙ quiet_none (is_quiet next) in
+          let same = ap length (sym empty ∙ due e (record { next_is = refl; count = sym first; answers = no_answers options base next })) in
+          omega (arith, same, length-append (due_before options base e) text)
+      by false keyed [] is =
+          let all : (done == count_of_answers options next) ≡ true =
+          eq-eqb done (count_of_answers options next) (at_first next done stands is ∙ sym (ap (λ t. cond t options.partitions (length (asks_in next))) keyed ∙ ap length is)) in
+          absurd (true≢false (sym all ∙ part))
+      by false keyed (asked ∷ asks) is =
+          let some : 0 < length (asks_in next) = let many = ap length is in omega (arith, many) in
+          let less = is_below next done stands some in
+          let made = some_answers base (asks_in next) done (omega (arith, less)) in
+          let e : Exchange = record { next = next; answers = made.0; told = told } in
+          let at : StandsAt options base next done e =
+          record { next_is = refl; count = made.2; answers = subst (λ t. AnswersBy t options base (flush_due next) (asks_in next) made.0) (sym keyed) made.1 } in
+          let same = ap length (sym (due e at) ∙ asks_are_due options base next done told [] keyed stands some e at) in
+          let none = ap length (quiet_none (is_quiet next)) in
+          omega (arith, same, none, length-append (due_before options base e) text, length-append (due_before options base e) (unless_quiet (is_quiet next) []))
+
+  goes_further : {limits : Limits} {answers : List Answered} {old new : List ℕ} {progress : Progress} → Replies options base next done limits answers old new progress → 0 < limits.asks
+      → length old < limits.bytes → progress.is_whole ≡ false → done < progress.done
+  goes_further {limits} {answers} {old} {new} {progress} r some room part = by answers refl
+    where
+      by : (given : List Answered) → answers ≡ given → done < progress.done
+      by (a ∷ given) is = let many = ap length is in let count = r.count in omega (arith, many, count)
+      by [] is =
+          let many = ap length is in
+          let count = r.count in
+          let same : progress.done ≡ done = omega (arith, many, count) in
+          let none = no_text r.told r.text (ap (λ n. n == count_of_answers options next) (sym same) ∙ sym r.whole ∙ part)
+          (subst (λ given. (e : Exchange) → StandsAt options base next done e → due_to options base (longer e given r.told) ≡ due_before options base e ++ r.text) is r.due) in
+          let grown = ap length r.appended ∙ length-append old r.text in
+          elim (r.stops part).1 as (λ _. done < progress.done) [ inl all ↦ absurd (omega (arith, all, many, some)) | inr full ↦ absurd (omega (arith, full, grown, none, room)) ]
+
+-- The command that bytes begin with takes more than it had answers
+
+takes_some : (come : ℕ) (next : Next) → IsWithin come next → next ≢ More → is_last next ≡ false → 0 < len_of next
+takes_some come (Command command len) within some on = within.0
+takes_some come (Refused fault stale quiet len) within some on = within
+takes_some come More within some on = absurd (some refl)
+takes_some come LongLine within some on = absurd (true≢false on)
+
+module _ (bytes : List ℕ) (done : ℕ) (next : Next) (is : next ≡ next_of bytes) (some : next ≢ More) (stands : IsOpenAt (next_of bytes) done) where
+  pub few_given : done < length bytes
+  few_given = elim stands as (λ _. done < length bytes) [
+    | inl none ↦ by bytes (λ more. some (is ∙ more)) none
+    | inr less ↦ let few = (few_asks bytes).within in omega (arith, less, few)
+  ]
+    where
+      by : (b : List ℕ) → next_of b ≢ More → done ≡ 0 → done < length b
+      by [] more none = absurd (more nothing_next)
+      by (x ∷ b) more none = omega (arith, none)
+
+  pub part_on : (options : Options) (base : ℕ) {limits : Limits} {answers : List Answered} {old new : List ℕ} {progress : Progress}
+      → Replies options base next done limits answers old new progress → 0 < limits.asks → length old < limits.bytes → progress.is_whole ≡ false → AnswersOn bytes done (Part progress.done)
+  part_on options base {limits} {answers} {old} {new} {progress} r asks room part =
+      let here = subst (λ (n : Next). Replies options base n done limits answers old new progress) is r in
+      ((here.stops part).0, goes_further options base (next_of bytes) done stands here asks room part, few_given)
+
+  pub whole_on : is_last next ≡ false → (len : ℕ) → len ≡ len_of next → AnswersOn bytes done (Whole len)
+  whole_on on len len_is =
+      let taken : len ≡ len_of (next_of bytes) = len_is ∙ ap len_of is in
+      let there = takes_some (length bytes) (next_of bytes) (within bytes) (λ more. some (is ∙ more)) (ap is_last (sym is) ∙ on) in (
+        elim stands as (λ _. done < len) [ inl none ↦ omega (arith, none, taken, there) | inr less ↦ let few = (few_asks bytes).taken in omega (arith, less, few, taken) ],
+        few_given,
+      )
+
+-- Commands are answered one after another
+
+-- No command was answered yet, and so much still holds; or less is unanswered.
+abbrev pub HasAdvanced : Type 0 → List ℕ → ℕ → ℕ → ℕ → Type 0
+HasAdvanced fresh bytes before taken done = fresh × (taken ≡ 0) × (done ≡ before) ⊎ (length bytes - taken - done < length bytes - before)
+
+module _ {fresh : Type 0} (bytes : List ℕ) (before taken done : ℕ) (so_far : HasAdvanced fresh bytes before taken done) where
+  -- the next one is, with so many bytes or answers
+  pub gains : (rest : List ℕ) → rest ≡ drop taken bytes → (gained : ℕ) → done < gained → done < length rest → length bytes - (taken + gained) < length bytes - before
+  gains rest is gained more there =
+      let len = ap length is ∙ length-drop taken bytes in
+      elim so_far as (λ _. length bytes - (taken + gained) < length bytes - before) [
+        | inl first ↦ let none = first.1 in let same = first.2 in omega (arith, len, none, same, more, there)
+        | inr less ↦ omega (arith, len, less, more, there)
+      ]
+
+  module _ {may : Type 0} (a : HowFar) (taken_is : a.taken ≡ taken) (done_is : a.done ≡ done) (come : a.dropping ≡ 0) where
+    -- no further one is
+    pub stays : {waits : Type 0} → (fresh → taken ≡ 0 → may → waits) → Advances may waits (place_at bytes before) (place_in bytes a)
+    stays {waits} why =
+        let len = length-drop a.taken bytes in
+        record {
+          no_more = elim so_far as (λ _. unanswered (place_in bytes a) ≤ length bytes - before) [
+            | inl first ↦ let none = first.1 in let same = first.2 in omega (arith, len, taken_is, done_is, none, same)
+            | inr less ↦ omega (arith, len, taken_is, done_is, less)
+          ];
+          less = λ m. elim so_far as (λ _. waits ⊎ (unanswered (place_in bytes a) < length bytes - before)) [
+            | inl first ↦ inl (why first.0 first.1 m)
+            | inr less ↦ inr (omega (arith, len, taken_is, done_is, less))
+          ];
+          dropped = λ some. absurd (omega (arith, some, come));
+        }
+
+-- so far it came
+pub arrives : {may waits : Type 0} (bytes : List ℕ) (before : ℕ) (a : HowFar) (at : ℕ) → length bytes - at < length bytes - before → at ≤ a.taken + a.done
+    → (0 < a.dropping → length bytes ≤ a.taken) → Advances may waits (place_at bytes before) (place_in bytes a)
+arrives bytes before a at less reached dropped = record {
+  no_more = let len = length-drop a.taken bytes in omega (arith, len, less, reached);
+  less = λ m. inr (let len = length-drop a.taken bytes in omega (arith, len, less, reached));
+  dropped = λ some. drop_all a.taken bytes (dropped some);
+}
+
+-- One look
+
+-- the replies were short when it began
+pub looks_short : {may short waits : Type 0} {old new now : Place} → Advances (may × short) waits old new → short → now ≡ new → Advances may waits old now
+looks_short {may} {short} {waits} {old} {new} a is same =
+    subst (λ (p : Place). Advances may waits old p) (sym same) (record { no_more = a.no_more; less = λ m. a.less (m, is); dropped = a.dropped })
+
+-- some bytes are left out that are to be dropped
+pub looks_behind : {may : Type 0} {stand : Stand} {now : Place} (client : Client) (bytes more rest : List ℕ) → bytes ≡ client.kept ++ more → rest ≡ drop client.dropping bytes
+    → (0 < client.dropping → client.kept ≡ []) → Advances may ((stand ≡ Needs) × (next_of rest ≡ More)) (place_at rest 0) now
+    → Advances may ((stand ≡ Needs) × (length client.kept < MAX_WAITING_LEN)) (place_at bytes 0) now
+looks_behind {may} {stand} {now} client bytes more rest all rest_is none a =
+    let len = ap length rest_is ∙ length-drop client.dropping bytes in
+    let whole = ap length all ∙ length-append client.kept more in
+    record {
+      no_more = let no_more = a.no_more in omega (arith, no_more, len);
+      less = λ m. elim (a.less m) as (λ _. (stand ≡ Needs) × (length client.kept < MAX_WAITING_LEN) ⊎ (unanswered now < length bytes - 0)) [
+        | inl waits ↦ inl (waits.0, let fits = waits_within rest waits.1 in room client.dropping none (λ zero_is. omega (arith, fits, len, whole, zero_is)))
+        | inr less ↦ inr (omega (arith, less, len))
+      ];
+      dropped = a.dropped;
+    }
+  where
+    room : (dropping : ℕ) → (0 < dropping → client.kept ≡ []) → (dropping ≡ 0 → length client.kept < MAX_WAITING_LEN) → length client.kept < MAX_WAITING_LEN
+    room zero none fits = fits refl
+    room (suc n) none fits = let empty = ap length (none (omega arith)) in omega (arith, empty)
+
+-- What is left is paid for
+
+-- a command that was answered in part was answered further
+pub paid_further : {may : Type 0} {stand : Stand} (bytes : List ℕ) (done asks : ℕ) (now : Client) → IsOpenAt (next_of bytes) done → 0 < done → unanswered (place_at bytes done) ≤ asks
+    → Advances may ((stand ≡ Needs) × (next_of bytes ≡ More)) (place_at bytes done) (place_of now) → may → now.asks ≡ asks → IsPaid 1 now
+paid_further bytes done asks now stands some paid a may same = elim (a.less may) as (λ _. IsPaid 1 now) [
+  | inl waits ↦ absurd (omega (arith, some, at_first (next_of bytes) done stands (ap asks_in waits.1)))
+  | inr less ↦ omega (arith, less, paid, same)
+]
+
+-- bytes were read, or none came
+pub paid_for : {may : Type 0} (client now : Client) (bytes : List ℕ) (count : ℕ) (stand : Stand) (input : Option Input) → count ≡ length bytes → PaysFor client count input
+    → Advances may ((stand ≡ Needs) × (length client.kept < MAX_WAITING_LEN)) (place_at bytes 0) (place_of now) → may → now.asks ≡ client.asks → IsAtRest stand input ⊎ IsPaid 1 now
+paid_for client now bytes count stand None len pays a may same = elim (a.less may) as (λ _. IsAtRest stand None ⊎ IsPaid 1 now) [
+  | inl waits ↦ let room = waits.1 in let full = pays.1 in absurd (omega (arith, room, full))
+  | inr less ↦ let most = pays.0 in inr (omega (arith, less, most, len, same))
+]
+paid_for client now bytes count stand (Some (Bytes some)) len pays a may same = let no_more = a.no_more in inr (omega (arith, no_more, pays, len, same))
+paid_for client now bytes count stand (Some Later) len pays a may same = elim (a.less may) as (λ _. IsAtRest stand (Some Later) ⊎ IsPaid 1 now) [
+  | inl waits ↦ inl (inr (waits.0, refl))
+  | inr less ↦ inr (omega (arith, less, pays, len, same))
+]
+paid_for client now bytes count stand (Some Ended) len pays a may same = elim (a.less may) as (λ _. IsAtRest stand (Some Ended) ⊎ IsPaid 1 now) [
+  | inl waits ↦ inl (inl (ap (λ (s : Stand). leaves_by s (Some Ended)) waits.0))
+  | inr less ↦ inr (omega (arith, less, pays, len, same))
+]
