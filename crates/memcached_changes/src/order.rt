@@ -1,5 +1,7 @@
 //! What is asked of a key, as a decision.
-ghost use Rattle.std.specs.Prelude.{◌≡◌, ℕ, List, Option, false, option_copied};
+ghost use Rattle.std.specs.Prelude.{◌≡◌, ◌≤◌, ℕ, List, Option, false, option_copied};
+ghost use Rattle.memcached_text.specs.declared.limits.TheConstants.{MAX_TEXT_LEN};
+ghost use Rattle.memcached_commands.specs.Answers.{shown_len};
 ghost use Rattle.memcached_commands.specs.Changes.{looks};
 ghost use Rattle.memcached_commands.specs.Fit.{IsFitAsk};
 ghost use Rattle.mica_fronts.specs.declared.changing.When.{When};
@@ -71,13 +73,15 @@ impl<'a> CommandOrder<'a> {
 
     /// What is answered, by what was stored when it was carried out, and by the outcome of the write that was decided then.
     #[inline(always)]
+    #[tactic(auto, using(memcached_commands::proofs::DecideLaws::found_fits))]
     pub fn says<'b>(
         &self,
         when: When,
         stored: Option<&'b [u8]>,
         outcome: Option<Outcome>,
     ) -> Says<'b>
-        ensures { result ≡ says_by self.now when (option_copied stored.entry) outcome }
+        ensures said { result ≡ says_by self.now when (option_copied stored.entry) outcome }
+        ensures short { shown_len result ≤ MAX_TEXT_LEN }
     {
         if outcome.is_some_and(|outcome| !outcome.is_accepted()) {
             return Says::Line(Reply::NoRoom);

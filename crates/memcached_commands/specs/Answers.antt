@@ -1,5 +1,5 @@
 -- What is replied to a command.
-use Rattle.std.specs.Prelude.{ℕ, Bool, true, false, List, [], ◌∷◌, flat_map, Some, None, if◌then◌else◌}
+use Rattle.std.specs.Prelude.{ℕ, Bool, true, false, List, [], ◌∷◌, length, flat_map, Some, None, if◌then◌else◌}
 use Rattle.memcached_text.specs.declared.item.Item.{Item}
 use Rattle.memcached_text.specs.declared.reply.Reply.TheVariants.{End}
 use Rattle.memcached_text.specs.Answer.{Part, value, Last, line, refusal, number, Answer}
@@ -23,6 +23,11 @@ last_of (Refusal fault) = refusal fault
 last_of (Number n) = number n
 last_of (Shows item) = line End
 last_of Nothing = line End
+
+-- how many bytes the value has that is shown
+abbrev pub shown_len : Says → ℕ
+shown_len (Shows item) = length item.value
+shown_len _ = 0
 
 -- what was said last; nothing, where nothing was asked
 abbrev pub last_said : List (List ℕ × Says) → Says

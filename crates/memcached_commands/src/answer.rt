@@ -1,7 +1,8 @@
 //! What is replied to a command, as text.
-ghost use Rattle.std.specs.Prelude.{◌≡◌, ◌++◌, ◌∷◌, [], Some, None, if◌then◌else◌, flat_map, OnOk, OnErr};
+ghost use Rattle.std.specs.Prelude.{◌≡◌, ◌≤◌, ◌+◌, ◌++◌, ◌∷◌, [], length, Some, None, if◌then◌else◌, flat_map, OnOk, OnErr};
+ghost use Rattle.memcached_text.specs.declared.limits.TheConstants.{MAX_FRAME_LEN};
 ghost use Rattle.memcached_text.specs.Answer.{part_text, last_text, answer_text};
-ghost use Rattle.memcached_commands.specs.Answers.{parts_of, last_of, answer_of, unless_quiet};
+ghost use Rattle.memcached_commands.specs.Answers.{parts_of, last_of, shown_len, answer_of, unless_quiet};
 
 use crate::Says;
 use memcached_text::{Item, Reply, fault_line, put_last_value, put_number, put_value, reply_line};
@@ -19,6 +20,7 @@ fn number_of(unique: bool, item: &Item) -> Option<u64>
 pub fn put_part(out: &mut Vec<u8>, unique: bool, key: &[u8], says: &Says) -> Result<(), NoMemory>
     ensures ok { OnOk result (out.new.items ≡ out.old.items ++ flat_map part_text (parts_of unique key.now says.now)) }
     ensures err { OnErr result (out.new.items ≡ out.old.items) }
+    ensures short { length out.new.items ≤ length out.old.items + length key.now + shown_len says.now + MAX_FRAME_LEN }
 {
     let Says::Shows(item) = says else {
         return Ok(());
@@ -36,6 +38,7 @@ pub fn put_part(out: &mut Vec<u8>, unique: bool, key: &[u8], says: &Says) -> Res
 fn put_line(out: &mut Vec<u8>, line: &[u8]) -> Result<(), NoMemory>
     ensures ok { OnOk result (out.new.items ≡ out.old.items ++ line.now) }
     ensures err { OnErr result (out.new.items ≡ out.old.items) }
+    ensures short { length out.new.items ≤ length out.old.items + length line.now }
 {
     Ok(out.extend_from_slice(line)?)
 }
@@ -44,6 +47,7 @@ fn put_line(out: &mut Vec<u8>, line: &[u8]) -> Result<(), NoMemory>
 fn put_last(out: &mut Vec<u8>, says: &Says) -> Result<(), NoMemory>
     ensures ok { OnOk result (out.new.items ≡ out.old.items ++ last_text (last_of says.now)) }
     ensures err { OnErr result (out.new.items ≡ out.old.items) }
+    ensures short { length out.new.items ≤ length out.old.items + MAX_FRAME_LEN }
 {
     match says {
         Says::Line(reply) => put_line(out, reply_line(*reply)),
@@ -59,6 +63,7 @@ fn put_last(out: &mut Vec<u8>, says: &Says) -> Result<(), NoMemory>
 pub fn put_whole(out: &mut Vec<u8>, unique: bool, key: &[u8], says: &Says) -> Result<(), NoMemory>
     ensures ok { OnOk result (out.new.items ≡ out.old.items ++ (flat_map part_text (parts_of unique key.now says.now) ++ last_text (last_of says.now))) }
     ensures err { OnErr result (out.new.items ≡ out.old.items) }
+    ensures short { length out.new.items ≤ length out.old.items + length key.now + shown_len says.now + MAX_FRAME_LEN }
 {
     let Says::Shows(item) = says else {
         return put_last(out, says);

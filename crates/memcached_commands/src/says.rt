@@ -1,8 +1,10 @@
 //! What is answered to a command, by the item that it finds.
-ghost use Rattle.std.specs.Prelude.{◌≡◌, ℕ, List, MatchOption, option_copied};
+ghost use Rattle.std.specs.Prelude.{◌≡◌, ◌≤◌, ℕ, List, length, MatchOption, IfSome, option_copied};
+ghost use Rattle.memcached_text.specs.declared.limits.TheConstants.{MAX_TEXT_LEN};
 ghost use Rattle.memcached_text.specs.declared.command.Side.{Side};
 ghost use Rattle.memcached_text.specs.declared.lifetime.Lifetime.{Lifetime};
 ghost use Rattle.memcached_commands.specs.declared.moment.Moment.{Moment};
+ghost use Rattle.memcached_commands.specs.Answers.{shown_len};
 ghost use Rattle.memcached_commands.specs.Decide.{decide};
 
 use crate::wanted::{is_wanted, missed};
@@ -11,7 +13,8 @@ use memcached_text::{Direction, Fault, Item, MAX_TEXT_LEN, Reply, Wants};
 
 // To a get.
 fn says_found<'a>(found: Option<Item<'a>>) -> Says<'a>
-    ensures { MatchOption found.entry (result ≡ Says.Nothing) (λ item. result ≡ Says.Shows item) }
+    ensures found { MatchOption found.entry (result ≡ Says.Nothing) (λ item. result ≡ Says.Shows item) }
+    ensures short { IfSome found.entry (λ item. length item.value ≤ MAX_TEXT_LEN) → shown_len result ≤ MAX_TEXT_LEN }
 {
     match found {
         Some(item) => Says::Shows(item),
@@ -21,8 +24,9 @@ fn says_found<'a>(found: Option<Item<'a>>) -> Says<'a>
 
 #[tactic(auto, unfolding(crate::specs::Decide::decide))]
 fn says_stored<'a>(wants: Wants, found: Option<&Item>) -> Says<'a>
-    ensures { (at : Moment) (flags : ℕ) (lifetime : Lifetime) (value : List ℕ) →
+    ensures said { (at : Moment) (flags : ℕ) (lifetime : Lifetime) (value : List ℕ) →
         result ≡ (decide at (Ask.Store wants flags lifetime value) (option_copied found.entry)).says }
+    ensures none { shown_len result ≡ 0 }
 {
     Says::Line(if is_wanted(wants, found) {
         Reply::Stored
@@ -33,7 +37,8 @@ fn says_stored<'a>(wants: Wants, found: Option<&Item>) -> Says<'a>
 
 #[tactic(auto, unfolding(crate::specs::Decide::decide))]
 fn says_joined<'a>(more: &[u8], found: Option<&Item>) -> Says<'a>
-    ensures { (at : Moment) (side : Side) → result ≡ (decide at (Ask.Join side more.now) (option_copied found.entry)).says }
+    ensures said { (at : Moment) (side : Side) → result ≡ (decide at (Ask.Join side more.now) (option_copied found.entry)).says }
+    ensures none { shown_len result ≡ 0 }
 {
     match found {
         None => Says::Line(Reply::NotStored),
@@ -46,7 +51,8 @@ fn says_joined<'a>(more: &[u8], found: Option<&Item>) -> Says<'a>
 
 #[tactic(auto, unfolding(crate::specs::Decide::decide))]
 fn says_counted<'a>(direction: Direction, delta: u64, found: Option<&Item>) -> Says<'a>
-    ensures { (at : Moment) → result ≡ (decide at (Ask.Count direction delta) (option_copied found.entry)).says }
+    ensures said { (at : Moment) → result ≡ (decide at (Ask.Count direction delta) (option_copied found.entry)).says }
+    ensures none { shown_len result ≡ 0 }
 {
     let Some(item) = found else {
         return Says::Line(Reply::NotFound);
@@ -59,7 +65,8 @@ fn says_counted<'a>(direction: Direction, delta: u64, found: Option<&Item>) -> S
 
 // To a touch and to a delete.
 fn says_done<'a>(done: Reply, found: Option<&Item>) -> Says<'a>
-    ensures { MatchOption (option_copied found.entry) (result ≡ Says.Line Reply.NotFound) (λ item. result ≡ Says.Line done) }
+    ensures said { MatchOption (option_copied found.entry) (result ≡ Says.Line Reply.NotFound) (λ item. result ≡ Says.Line done) }
+    ensures none { shown_len result ≡ 0 }
 {
     Says::Line(if found.is_some() {
         done
@@ -72,7 +79,8 @@ fn says_done<'a>(done: Reply, found: Option<&Item>) -> Says<'a>
 #[inline(always)]
 #[tactic(auto, unfolding(crate::specs::Decide::decide))]
 pub fn says_of<'a>(ask: &Ask, found: Option<Item<'a>>) -> Says<'a>
-    ensures { (at : Moment) → result ≡ (decide at ask.now found.entry).says }
+    ensures said { (at : Moment) → result ≡ (decide at ask.now found.entry).says }
+    ensures short { IfSome found.entry (λ item. length item.value ≤ MAX_TEXT_LEN) → shown_len result ≤ MAX_TEXT_LEN }
 {
     match ask {
         Ask::Get | Ask::GetTouch(_) => says_found(found),

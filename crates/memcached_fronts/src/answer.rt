@@ -1,6 +1,7 @@
 //! What a client said, answered.
-ghost use Rattle.std.specs.Prelude.{◌≡◌, ◌<◌, ◌≤◌, ◌+◌, ◌^◌, ◌++◌, ℕ, true, List, length, drop, IfOk, OnErr};
+ghost use Rattle.std.specs.Prelude.{◌≡◌, ◌<◌, ◌≤◌, ◌+◌, ◌^◌, ◌++◌, ℕ, true, List, length, drop, max, IfOk, OnErr};
 ghost use Rattle.std.specs.List.{AllByRecursion, list_all};
+ghost use Rattle.memcached_text.specs.declared.limits.TheConstants.{MAX_FRAME_LEN, MAX_REPLY_LEN};
 ghost use Rattle.memcached_text.specs.Fit.{IsFitNext};
 ghost use Rattle.memcached_text.specs.Lifetimes.{IsDue};
 ghost use Rattle.memcached_commands.specs.Answers.{unless_quiet};
@@ -75,6 +76,7 @@ fn answer_stats<C: Clock>(
     ensures told { IfOk result (λ progress. (progress ≡ record { done = done; is_whole = true })
         × ((told : Told) × (out.new.items ≡ out.old.items ++ stats_text partitions told))) }
     ensures err { OnErr result (out.new.items ≡ out.old.items) }
+    ensures short { length out.new.items ≤ length out.old.items + MAX_REPLY_LEN }
 {
     buffers.show_all();
     buffers.board.put_stats(clock.present(), partitions, out)?;
@@ -111,7 +113,8 @@ fn flush_due(next: &Next) -> Due
 
 // The line of a flush, by whether all partitions took it.
 fn flush_line(took: bool) -> &'static [u8]
-    ensures { (answers : List Answered) → took ≡ list_all accepts answers → result.now ≡ flush_text true answers }
+    ensures text { (answers : List Answered) → took ≡ list_all accepts answers → result.now ≡ flush_text true answers }
+    ensures short { length result.now ≤ MAX_FRAME_LEN }
 {
     if took {
         reply_line(Reply::Done)
@@ -141,6 +144,7 @@ fn answer_flush<R: Threads + Wait + Sync, F: Changes, C: Clock>(
         × (out.new.items ≡ out.old.items ++ unless_quiet quiet (flush_text true answers)))
         × (F.left front.old ≤ F.left front.new + count_of_writes answers) }
     ensures err { OnErr result (out.new.items ≡ out.old.items) }
+    ensures short { length out.new.items ≤ length out.old.items + MAX_REPLY_LEN }
     ensures left { F.left front.old ≤ F.left front.new + partitions }
     ensures options { F.options front.new ≡ F.options front.old }
     ensures number { F.number front.new ≡ F.number front.old }
@@ -190,6 +194,7 @@ fn answer_asks<'a, R: Threads + Wait + Sync, F: Changes, C: Clock>(
         × (buffers.new.tally ≡ tally_after_all base partitions asks.old answers buffers.old.tally)
         × (length answers ≤ limits.asks) }
     ensures part { (text : List ℕ) × (out.new.items ≡ out.old.items ++ text) }
+    ensures short { length out.new.items ≤ max (length out.old.items) limits.bytes + MAX_REPLY_LEN }
     ensures left { F.left front.old ≤ F.left front.new + limits.asks }
     ensures options { F.options front.new ≡ F.options front.old }
     ensures number { F.number front.new ≡ F.number front.old }
@@ -239,6 +244,7 @@ pub fn answer_next<'a, R: Threads + Wait + Sync, F: Changes, C: Clock>(
         × (buffers.new.tally ≡ tally_after_next numbering.base numbering.partitions next.entry done answers buffers.old.tally)
         × (length answers ≤ limits.asks + numbering.partitions) }
     ensures err { OnErr result (out.new.items ≡ out.old.items) }
+    ensures short { length out.new.items ≤ max (length out.old.items) limits.bytes + MAX_REPLY_LEN }
     ensures left { F.left front.old ≤ F.left front.new + limits.asks + numbering.partitions }
     ensures options { F.options front.new ≡ F.options front.old }
     ensures number { F.number front.new ≡ F.number front.old }

@@ -1,5 +1,7 @@
 //! One ask of a command.
-ghost use Rattle.std.specs.Prelude.{◌≡◌, ◌<◌, ◌≤◌, ◌+◌, ◌++◌, ◌∷◌, [], option_copied, OnOk, OnErr};
+ghost use Rattle.std.specs.Prelude.{◌≡◌, ◌<◌, ◌≤◌, ◌+◌, ◌++◌, ◌∷◌, [], length, option_copied, OnOk, OnErr};
+ghost use Rattle.memcached_text.specs.declared.limits.TheConstants.{MAX_FRAME_LEN, MAX_REPLY_LEN};
+ghost use Rattle.memcached_commands.specs.Answers.{shown_len};
 ghost use Rattle.memcached_commands.specs.Fit.{IsFitAsked};
 ghost use Rattle.mica_fronts.specs.Answered.{Answered, count_of_writes};
 ghost use Rattle.memcached_fronts.specs.AskAnswers.{said_of};
@@ -32,6 +34,7 @@ fn put_said(
 ) -> Result<(), NoMemory>
     ensures ok { OnOk result (out.new.items ≡ out.old.items ++ ask_text style.quiet style.unique is_last key.now says.now) }
     ensures err { OnErr result (out.new.items ≡ out.old.items) }
+    ensures short { length out.new.items ≤ length out.old.items + length key.now + shown_len says.now + MAX_FRAME_LEN }
 {
     if style.quiet {
         return Ok(());
@@ -106,6 +109,7 @@ pub fn answer_ask<R: Threads + Wait + Sync, F: Changes, C: Clock>(
         × (F.left front.old ≤ F.left front.new + count_of_writes (answered ∷ []))
         × (buffers.new.tally ≡ tally_after base partitions asked.now answered buffers.old.tally) }
     ensures err { OnErr result (out.new.items ≡ out.old.items) }
+    ensures short { length out.new.items ≤ length out.old.items + MAX_REPLY_LEN }
     ensures read { ToldFrom (C.view clock.old) ((C.view clock.new).last ∷ []) (C.view clock.new) }
     ensures left { F.left front.old ≤ F.left front.new + 1 }
     ensures options { F.options front.new ≡ F.options front.old }

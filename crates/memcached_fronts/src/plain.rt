@@ -1,5 +1,6 @@
 //! What is replied where no key is asked.
-ghost use Rattle.std.specs.Prelude.{◌≡◌, ◌++◌, ℕ, false, OnOk, OnErr};
+ghost use Rattle.std.specs.Prelude.{◌≡◌, ◌≤◌, ◌+◌, ◌++◌, ℕ, false, length, OnOk, OnErr};
+ghost use Rattle.memcached_text.specs.declared.limits.TheConstants.{MAX_FRAME_LEN};
 ghost use Rattle.memcached_commands.specs.Answers.{unless_quiet};
 ghost use Rattle.memcached_stats.specs.Stats.{Told};
 ghost use Rattle.memcached_fronts.specs.Exchange.{asks_stats, is_command_stats, plain_command_text, plain_text, is_quiet, wants_numbers};
@@ -40,7 +41,8 @@ pub fn style_of(next: &Next) -> Style
 
 // The line of what asks nothing, but for what the server tells of itself.
 fn plain_command_line(command: &Command) -> &'static [u8]
-    ensures { is_command_stats command.now ≡ false → (partitions : ℕ) (told : Told) → result.now ≡ plain_command_text partitions told command.now }
+    ensures text { is_command_stats command.now ≡ false → (partitions : ℕ) (told : Told) → result.now ≡ plain_command_text partitions told command.now }
+    ensures short { length result.now ≤ MAX_FRAME_LEN }
 {
     match command {
         Command::Get { .. } | Command::Stats { .. } => reply_line(Reply::End),
@@ -53,7 +55,8 @@ fn plain_command_line(command: &Command) -> &'static [u8]
 
 /// The line of what asks nothing, but for what the server tells of itself.
 pub fn plain_line(next: &Next) -> &'static [u8]
-    ensures { asks_stats next.now ≡ false → (partitions : ℕ) (told : Told) → result.now ≡ plain_text partitions told next.now }
+    ensures text { asks_stats next.now ≡ false → (partitions : ℕ) (told : Told) → result.now ≡ plain_text partitions told next.now }
+    ensures short { length result.now ≤ MAX_FRAME_LEN }
 {
     match next {
         Next::Command { command, .. } => plain_command_line(command),
@@ -67,6 +70,7 @@ pub fn plain_line(next: &Next) -> &'static [u8]
 pub fn put_line(out: &mut Vec<u8>, quiet: bool, line: &[u8]) -> Result<(), NoMemory>
     ensures ok { OnOk result (out.new.items ≡ out.old.items ++ unless_quiet quiet line.now) }
     ensures err { OnErr result (out.new.items ≡ out.old.items) }
+    ensures short { length out.new.items ≤ length out.old.items + length line.now }
 {
     if quiet {
         return Ok(());

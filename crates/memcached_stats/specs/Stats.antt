@@ -2,7 +2,8 @@
 --
 -- Which numbers it tells is not promised: each front counts for itself while the others go on, and the one that is asked adds up what they showed last. What is
 -- promised is the text: each name once, in this order, and beside it the number that was told.
-use Rattle.std.specs.Prelude.{ℕ, zero, suc, ◌+◌, ◌-◌, List, [], ◌∷◌, ◌++◌, codes, decimal, drop, flat_map}
+use Rattle.std.specs.Prelude.{ℕ, zero, suc, ◌+◌, ◌-◌, List, [], ◌∷◌, ◌++◌, codes, decimal, drop, flat_map, min}
+use Rattle.partition_model.specs.declared.options.TheConstants.{MOST_PARTITIONS}
 use Rattle.memcached_text.specs.declared.reply.Reply.TheVariants.{End, Version}
 use Rattle.memcached_text.specs.Replies.{reply_text, stat_text}
 use Rattle.memcached_stats.specs.declared.figures.About.{About}
@@ -85,8 +86,8 @@ wear_text first (suc more) wear = flat_map line_of (wear_stats first (wear first
 abbrev pub version_line : List ℕ
 version_line = codes "STAT version " ++ drop 8 (reply_text Version)
 
--- What is due to a client that asks what the server counts, where this is told.
+-- What is due to a client that asks what the server counts, where this is told. There are at most MOST_PARTITIONS partitions.
 unfoldable pub stats_text : ℕ → Told → List ℕ
 stats_text partitions told =
     version_line ++ flat_map line_of (about_stats told.about told.counts) ++ flat_map line_of (command_stats told.counts)
-    ++ wear_text 0 partitions told.wear ++ reply_text End
+    ++ wear_text 0 (min partitions MOST_PARTITIONS) told.wear ++ reply_text End

@@ -1,5 +1,6 @@
 //! What a server tells of itself, and where its fronts show what they count.
-ghost use Rattle.std.specs.Prelude.{◌≡◌, ◌++◌, OnOk, OnErr};
+ghost use Rattle.std.specs.Prelude.{◌≡◌, ◌≤◌, ◌+◌, ◌++◌, length, OnOk, OnErr};
+ghost use Rattle.memcached_text.specs.declared.limits.TheConstants.{MAX_REPLY_LEN};
 ghost use Rattle.memcached_stats.specs.Stats.{Told, stats_text};
 
 use crate::counter::COUNTERS;
@@ -165,6 +166,7 @@ impl Board {
     /// Appends what the server tells of itself at this second. When out of memory, nothing is appended.
     pub fn put_stats(&self, second: u64, partitions: u32, out: &mut Vec<u8>) -> Result<(), NoMemory>
         ensures ok { OnOk result ((told : Told) × (out.new.items ≡ out.old.items ++ stats_text partitions told)) }
+        ensures short { OnOk result (length out.new.items ≤ length out.old.items + MAX_REPLY_LEN) }
         ensures err { OnErr result (out.new.items ≡ out.old.items) }
     {
         put_stats(

@@ -1,9 +1,10 @@
 //! The text of what is told.
-ghost use Rattle.std.specs.Prelude.{◌≡◌, ◌++◌, List, ℕ, OnOk, OnErr, flat_map, map};
+ghost use Rattle.std.specs.Prelude.{◌≡◌, ◌≤◌, ◌+◌, ◌*◌, ◌++◌, List, ℕ, OnOk, OnErr, flat_map, length, map, sum_by};
+ghost use Rattle.memcached_text.specs.declared.limits.TheConstants.{MAX_REPLY_LEN};
 ghost use Rattle.memcached_text.specs.Replies.{reply_text};
 ghost use Rattle.memcached_text.specs.declared.reply.Reply.TheVariants as replies;
 ghost use Rattle.memcached_stats.specs.Figures.{count_in, wear_in, told_of};
-ghost use Rattle.memcached_stats.specs.Lines.{stat_in};
+ghost use Rattle.memcached_stats.specs.Lines.{most_len, stat_in};
 ghost use Rattle.memcached_stats.specs.Stats.{about_stats, command_stats, line_of, stat, stats_text, version_line, wear_stats, wear_text};
 
 use crate::counter::Counter;
@@ -11,6 +12,7 @@ use crate::figures::{About, Counts, Wear};
 use itoa::Buffer;
 use memcached_text::{Reply, reply_line};
 use mica_io::NoMemory;
+use partition_model::MOST_PARTITIONS;
 
 /// A name and its number.
 #[derive(Clone, Copy)]
@@ -28,6 +30,7 @@ fn told(name: &'static [u8], number: u64) -> Line
 // Appends parts. When out of memory, some of them may be appended.
 fn put_parts(out: &mut Vec<u8>, parts: &[&[u8]]) -> Result<(), NoMemory>
     ensures ok { OnOk result (out.new.items ≡ out.old.items ++ flat_map (λ part. part.now) parts.now) }
+    ensures short { OnOk result (length out.new.items ≤ length out.old.items + sum_by (λ part. length part.now) parts.now) }
     ensures more { (text : List ℕ) × (out.new.items ≡ out.old.items ++ text) }
 {
     for part in parts {
@@ -39,6 +42,7 @@ fn put_parts(out: &mut Vec<u8>, parts: &[&[u8]]) -> Result<(), NoMemory>
 #[tactic(auto, unfolding(memcached_text::specs::Replies::stat_text))]
 fn put_line(out: &mut Vec<u8>, line: &Line) -> Result<(), NoMemory>
     ensures ok { OnOk result (out.new.items ≡ out.old.items ++ line_of (stat_in line.now)) }
+    ensures short { OnOk result (length out.new.items ≤ length out.old.items + most_len (stat_in line.now)) }
     ensures more { (text : List ℕ) × (out.new.items ≡ out.old.items ++ text) }
 {
     let mut digits = Buffer::new();
@@ -48,6 +52,7 @@ fn put_line(out: &mut Vec<u8>, line: &Line) -> Result<(), NoMemory>
 
 fn put_lines(out: &mut Vec<u8>, lines: &[Line]) -> Result<(), NoMemory>
     ensures ok { OnOk result (out.new.items ≡ out.old.items ++ flat_map line_of (map stat_in lines.now)) }
+    ensures short { OnOk result (length out.new.items ≤ length out.old.items + sum_by most_len (map stat_in lines.now)) }
     ensures more { (text : List ℕ) × (out.new.items ≡ out.old.items ++ text) }
 {
     for line in lines {
@@ -120,6 +125,7 @@ fn command_lines(counts: &Counts) -> [Line; 19]
 #[tactic(auto, unfolding(memcached_text::specs::Replies::stat_text))]
 fn put_wear(out: &mut Vec<u8>, partition: u32, wear: Wear) -> Result<(), NoMemory>
     ensures ok { OnOk result (out.new.items ≡ out.old.items ++ flat_map line_of (wear_stats partition wear)) }
+    ensures short { OnOk result (length out.new.items ≤ length out.old.items + 115) }
     ensures more { (text : List ℕ) × (out.new.items ≡ out.old.items ++ text) }
 {
     let (mut place, mut writes, mut left) = (Buffer::new(), Buffer::new(), Buffer::new());
@@ -155,6 +161,7 @@ fn wear_at(wears: &[Wear], partition: u32) -> Wear
 
 fn put_wears(out: &mut Vec<u8>, partitions: u32, wears: &[Wear]) -> Result<(), NoMemory>
     ensures ok { OnOk result (out.new.items ≡ out.old.items ++ wear_text 0 partitions (wear_in wears.now)) }
+    ensures short { OnOk result (length out.new.items ≤ length out.old.items + 115 * partitions) }
     ensures more { (text : List ℕ) × (out.new.items ≡ out.old.items ++ text) }
 {
     for partition in 0..partitions {
@@ -173,13 +180,14 @@ fn put_all(
     wears: &[Wear],
 ) -> Result<(), NoMemory>
     ensures ok { OnOk result (out.new.items ≡ out.old.items ++ stats_text partitions (told_of about.now counts.now wears.now)) }
+    ensures short { OnOk result (length out.new.items ≤ length out.old.items + MAX_REPLY_LEN) }
     ensures more { (text : List ℕ) × (out.new.items ≡ out.old.items ++ text) }
 {
     let version = &reply_line(Reply::Version)[8..];
     put_parts(out, &[b"STAT version ", version])?;
     put_lines(out, &about_lines(about, counts))?;
     put_lines(out, &command_lines(counts))?;
-    put_wears(out, partitions, wears)?;
+    put_wears(out, partitions.min(MOST_PARTITIONS), wears)?;
     Ok(out.extend_from_slice(reply_line(Reply::End))?)
 }
 
@@ -192,6 +200,7 @@ pub fn put_stats(
     wears: &[Wear],
 ) -> Result<(), NoMemory>
     ensures ok { OnOk result (out.new.items ≡ out.old.items ++ stats_text partitions (told_of about.now counts.now wears.now)) }
+    ensures short { OnOk result (length out.new.items ≤ length out.old.items + MAX_REPLY_LEN) }
     ensures err { OnErr result (out.new.items ≡ out.old.items) }
 {
     let start = out.len();

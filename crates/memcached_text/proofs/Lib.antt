@@ -9,6 +9,7 @@ pub mod StreamLaws
 pub mod ItemLaws
 pub mod ReplyLaws
 pub mod AnswerLaws
+pub mod AppendLaws
 pub mod PlaceLaws
 pub mod FitLaws
 pub mod SpelledLaws

@@ -1,5 +1,5 @@
 //! Appends parts to a text.
-ghost use Rattle.std.specs.Prelude.{◌≡◌, ◌++◌, flat_map, OnOk, OnErr};
+ghost use Rattle.std.specs.Prelude.{◌≡◌, ◌≤◌, ◌+◌, ◌++◌, length, flat_map, sum_by, OnOk, OnErr};
 
 use mica_io::NoMemory;
 
@@ -8,6 +8,7 @@ use mica_io::NoMemory;
 pub fn append_parts(out: &mut Vec<u8>, parts: &[&[u8]]) -> Result<(), NoMemory>
     ensures ok { OnOk result (out.new.items ≡ out.old.items ++ flat_map (λ part. part.now) parts.now) }
     ensures err { OnErr result (out.new.items ≡ out.old.items) }
+    ensures short { length out.new.items ≤ length out.old.items + sum_by (λ part. length part.now) parts.now }
 {
     let start = out.len();
     for part in parts {

@@ -32,7 +32,10 @@ pub use fault::Fault;
 pub use item::{Item, put_item, read_item};
 pub use laws::{one_answer, one_command, one_item, one_meaning, one_place, quiet_as_asked};
 pub use lifetime::{Due, Lifetime};
-pub use limits::{HEADER_LEN, MAX_KEY_LEN, MAX_LINE_LEN, MAX_TEXT_LEN, MAX_WAITING_LEN};
+pub use limits::{
+    HEADER_LEN, MAX_FRAME_LEN, MAX_KEY_LEN, MAX_LINE_LEN, MAX_REPLY_LEN, MAX_TEXT_LEN,
+    MAX_WAITING_LEN,
+};
 pub use next::{Next, next_command};
 pub use reply::{Reply, fault_line, put_last_value, put_number, put_stat, put_value, reply_line};
 pub use spelled::spelled_key;

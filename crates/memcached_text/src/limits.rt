@@ -19,3 +19,9 @@ pub const MAX_LINE_LEN: usize = 65_536;
 
 /// Bytes that wait for more are fewer than so many: a line, its line feed, and a block with its two last bytes.
 pub const MAX_WAITING_LEN: usize = MAX_LINE_LEN + 1 + MAX_TEXT_LEN + 2;
+
+/// The most bytes of a reply to one key that are neither of the key nor of a value.
+pub const MAX_FRAME_LEN: usize = 78;
+
+/// The most bytes that are replied to one key, or to a command that has none.
+pub const MAX_REPLY_LEN: usize = 8_704;

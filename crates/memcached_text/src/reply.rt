@@ -1,5 +1,6 @@
 //! Texts of replies.
 ghost use Rattle.std.specs.Prelude.{◌≡◌, ℕ, List, ◌+◌, ◌≤◌, ◌++◌, ◌∷◌, length, drop, codes, decimal, OnOk, OnErr};
+ghost use Rattle.memcached_text.specs.declared.limits.TheConstants.{MAX_FRAME_LEN};
 ghost use Rattle.memcached_text.specs.Replies.{reply_text, fault_text, value_text, unique_text, number_text, stat_text};
 
 use crate::Fault;
@@ -34,7 +35,8 @@ pub enum Reply {
 
 /// The line of a reply.
 pub fn reply_line(reply: Reply) -> &'static [u8]
-    ensures { result.now ≡ reply_text reply }
+    ensures text { result.now ≡ reply_text reply }
+    ensures short { length result.now ≤ MAX_FRAME_LEN }
 {
     match reply {
         Reply::Stored => b"STORED\r\n",
@@ -54,7 +56,8 @@ pub fn reply_line(reply: Reply) -> &'static [u8]
 
 /// The line that is replied to what is refused, where a reply is wanted.
 pub fn fault_line(fault: Fault) -> &'static [u8]
-    ensures { result.now ≡ fault_text fault }
+    ensures text { result.now ≡ fault_text fault }
+    ensures short { length result.now ≤ MAX_FRAME_LEN }
 {
     match fault {
         Fault::Unknown => b"ERROR\r\n",
@@ -125,6 +128,7 @@ fn put_value_and(
 ) -> Result<(), NoMemory>
     ensures ok { OnOk result ((behind : List ℕ) → end.now ≡ codes "\r\n" ++ behind → out.new.items ≡ out.old.items ++ (value_text key.now flags value.now unique ++ behind)) }
     ensures err { OnErr result (out.new.items ≡ out.old.items) }
+    ensures short { length out.new.items ≤ length out.old.items + 6 + length key.now + NUMBERS_LEN + length value.now + length end.now }
 {
     let mut line = [0; NUMBERS_LEN];
     let start = put_numbers(&mut line, flags, value.len(), unique);
@@ -143,6 +147,7 @@ pub fn put_value(
 ) -> Result<(), NoMemory>
     ensures ok { OnOk result (out.new.items ≡ out.old.items ++ value_text key.now flags value.now unique) }
     ensures err { OnErr result (out.new.items ≡ out.old.items) }
+    ensures short { length out.new.items ≤ length out.old.items + length key.now + length value.now + MAX_FRAME_LEN }
 {
     put_value_and(out, key, flags, value, unique, b"\r\n")
 }
@@ -158,6 +163,7 @@ pub fn put_last_value(
 ) -> Result<(), NoMemory>
     ensures ok { OnOk result (out.new.items ≡ out.old.items ++ (value_text key.now flags value.now unique ++ reply_text Reply.End)) }
     ensures err { OnErr result (out.new.items ≡ out.old.items) }
+    ensures short { length out.new.items ≤ length out.old.items + length key.now + length value.now + MAX_FRAME_LEN }
 {
     put_value_and(out, key, flags, value, unique, b"\r\nEND\r\n")
 }
@@ -167,6 +173,7 @@ pub fn put_last_value(
 pub fn put_number(out: &mut Vec<u8>, number: u64) -> Result<(), NoMemory>
     ensures ok { OnOk result (out.new.items ≡ out.old.items ++ number_text number) }
     ensures err { OnErr result (out.new.items ≡ out.old.items) }
+    ensures short { length out.new.items ≤ length out.old.items + MAX_FRAME_LEN }
 {
     let mut digits = Buffer::new();
     append_parts(out, &[digits.format(number).as_bytes(), b"\r\n"])

@@ -24,6 +24,7 @@ loop-count-init g c =
       left_is = refl;
       fit = c.requires.fit;
       text = sym (ap (λ text. c.args.out.now.items ++ text) (quiet_none c.args.style.quiet) ∙ append-nil c.args.out.now.items);
+      short = omega arith;
       few = omega arith;
       few_answers = omega arith;
       left = omega arith;
@@ -82,6 +83,7 @@ loop-count-preserved g c =
       fit = fit.1;
       text = text_more c.args.base c.args.style.quiet c.args.style.unique c.args.asks.now c.next_asked.new.self inv.answers c.in-Some.asked one.0 c.args.out.now.items
           c.loop-count.out.items c.answer_ask.new.out.items (here g z) inv.text text;
+      short = let less = c.loop-count-test.true in omega (arith, less, c.answer_ask.ensures.short);
       few = let less = c.loop-count-test.true in omega (arith, less);
       few_answers = few_answers g z one.0 (let less = c.loop-count-test.true in omega (arith, less));
       left = omega (arith, left, inv.left);

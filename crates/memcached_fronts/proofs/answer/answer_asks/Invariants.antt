@@ -1,5 +1,6 @@
-use Rattle.std.proofs.Common.{◌≡◌, ◌≤◌, ◌+◌, ◌-◌, ◌++◌, List, length, drop}
+use Rattle.std.proofs.Common.{◌≡◌, ◌≤◌, ◌+◌, ◌-◌, ◌++◌, List, length, drop, max}
 use Rattle.std.specs.List.{AllByRecursion}
+use Rattle.memcached_text.specs.declared.limits.TheConstants.{MAX_REPLY_LEN}
 use Rattle.memcached_commands.specs.Answers.{unless_quiet}
 use Rattle.memcached_commands.specs.Fit.{IsFitAsked}
 use Rattle.mica_fronts.specs.Answered.{Answered, count_of_writes}
@@ -18,6 +19,7 @@ invariant-loop-count g l =
       left_is : l.asks ≡ drop l.count l.initial.asks;
       fit : AllByRecursion IsFitAsked l.asks;
       text : l.out.items ≡ l.initial.out.items ++ unless_quiet l.style.quiet (asks_text l.base l.style.unique l.initial.asks answers);
+      short : length l.out.items ≤ max (length l.initial.out.items) l.limits.bytes + MAX_REPLY_LEN;
       few : l.count ≤ l.limits.asks;
       few_answers : length answers ≤ l.limits.asks;
       left : F.left l.initial.front ≤ F.left l.front + l.count;

@@ -19,4 +19,4 @@ returns-clause-flushed g c =
     let asked = c.ask_flush-flush.ensures in
     let told = all_told (g.F.Front.options c.args.front.now) c.ask_flush-flush.result f.0 (C.view c.args.clock.now) (C.view c.ask_flush-flush.new.clock) c.args.partitions c.args.due f.3 f.2
     asked.asked asked.none asked.told in
-    (f.0, f.1, told.0, told.1, f.3, (refl, c.in-Ok.ensures.ok ∙ ap (λ line. c.args.out.now.items ++ unless_quiet c.args.quiet line) (c.flush_line.ensures f.0 f.4)), f.5)
+    (f.0, f.1, told.0, told.1, f.3, (refl, c.in-Ok.ensures.ok ∙ ap (λ line. c.args.out.now.items ++ unless_quiet c.args.quiet line) (c.flush_line.ensures.text f.0 f.4)), f.5)

@@ -91,7 +91,7 @@ returns-then-is_empty-clause-answered g c =
     let keyed : is_flush_all next ≡ false = sym c.is_flush_all.ensures ∙ c.if-is_flush_all.false in
     let none : asks_in next ≡ [] = sym c.by-asks.ensures.asks ∙ none_left c.by-asks.result (sym c.is_empty.ensures ∙ c.if-is_empty.true) in
     let text = c.in-Ok.ensures.ok ∙ (λ i. c.args.out.now.items ++ unless_quiet (c.style_of-style.ensures.quiet i)
-    (c.plain_line-line.ensures (sym c.is_stats.ensures ∙ c.if-is_stats.false) options.partitions untold i)) in (
+    (c.plain_line-line.ensures.text (sym c.is_stats.ensures ∙ c.if-is_stats.false) options.partitions untold i)) in (
       [],
       plain_goes options F.is_alone c.args.numbering.base next c.args.done c.requires.open old old told told keyed none,
       plain_replies options F.is_alone c.args.numbering.base next c.args.done c.requires.open old old told told keyed none untold c.args.limits c.args.out.now.items c.put_line.new.out.items

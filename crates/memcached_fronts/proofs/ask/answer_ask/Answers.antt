@@ -1,4 +1,4 @@
-use Rattle.std.proofs.Common.{◌≡◌, ◌∷◌, ◌++◌, ℕ, List, [], sym, ap, ◌∙◌, subst, arith}
+use Rattle.std.proofs.Common.{◌≡◌, ◌∷◌, ◌++◌, ℕ, List, [], length, sym, ap, ◌∙◌, subst, arith}
 use Rattle.std.specs.Prelude.{option_copied}
 use Rattle.std.proofs.lemmas.Result.{on_ok_weaker}
 use Rattle.mica_clock.specs.Seconds.{ClockView}
@@ -45,7 +45,7 @@ returns-clause-answered g c =
     answered_by options F.is_alone c.args.base second asked old new changed buffer comes others in
     let at = subst (λ (s : ℕ). AnswersAt options F.is_alone c.args.base s old asked new by.answered) (sym (ap (λ (v : ClockView). v.last) c.second-second.ensures.once)) by.at in
     let says : c.says-says.result ≡ said_of c.args.base asked by.answered =
-    c.says-says.ensures ∙ ap (λ (o : Order). says_by o changed.when (option_copied c.value_found-stored.result) changed.outcome) c.new-order.ensures
+    c.says-says.ensures.said ∙ ap (λ (o : Order). says_by o changed.when (option_copied c.value_found-stored.result) changed.outcome) c.new-order.ensures
     ∙ ap (λ v. says_by (order_of c.args.base asked) changed.when v changed.outcome) c.value_found-stored.ensures ∙ by.said in (
       by.answered,
       at,
@@ -56,3 +56,6 @@ returns-clause-answered g c =
           ((c.count.ensures ∙ ap (λ k. counted k c.args.buffers.now.tally) (c.counter_of.ensures ∙ ap (counter_of asked.ask) says)) i))
           ∙ by.noted c.args.partitions (counted (counter_of asked.ask (said_of c.args.base asked by.answered)) c.args.buffers.now.tally),
     )
+
+pub returns-clause-short : goal.returns-clause-short
+returns-clause-short g c = omega (arith, c.put_said.ensures.short, ap length c.bytes-key.ensures, c.requires.fit.0.1, c.says-says.ensures.short)
