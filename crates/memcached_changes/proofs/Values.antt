@@ -32,7 +32,7 @@ use Rattle.partition_model.proofs.CacheLaws.{written_same, appended_own}
 use Rattle.partition_model.proofs.StoreLaws.{bytes_are_same}
 use Rattle.partition_model.proofs.Histories.{state_snoc}
 
-abbrev pub IsBehind : Write → List ℕ → Option (List ℕ) → Option (List ℕ) → Type 0
+abbrev IsBehind : Write → List ℕ → Option (List ℕ) → Option (List ℕ) → Type 0
 IsBehind write key old new = (new ≡ None) ⊎ ((new ≡ old) ⊎ ((write.key ≡ key) × GivesValue write.op × (new ≡ Some write.value)))
 
 -- Cache mode: no key has two records, so none comes up where another goes.
@@ -51,19 +51,9 @@ module _ (options : Options) (s : Cache) (write : Write) (unique : IsUnique s.re
   unique_append value =
       laid.unique_push (others write.key s.records) (new_record s write.key value) (others_lack write.key s.records) (laid.unique_filter (λ r. not (has_key write.key r)) s.records unique)
 
-  unique_put : (kept : Option Record) → IsUnique (cs.after_put kept s write).records
-  unique_put None = unique_append write.value
-  unique_put (Some held) = laid.unique_map (rewritten write) (rewritten_key write) s.records unique
-
-  unique_touch : (held : Option Record) → IsUnique (cs.after_touch held s write).records
-  unique_touch None = unique
-  unique_touch (Some held) = unique_append held.value
-
   unique_op : (op : Op) → IsUnique (cs.after_op op options s write).records
-  unique_op Put = unique_put (kept_record options s write)
-  unique_op Add = unique_append write.value
-  unique_op Touch = unique_touch (record_of s write.key)
-  unique_op Del = laid.unique_filter (λ r. not (has_key write.key r)) s.records unique
+  unique_op op =
+      grind (arith, common_steps, unique, unique_append, laid.unique_map (rewritten write) (rewritten_key write) s.records unique, laid.unique_filter (λ r. not (has_key write.key r)) s.records unique)
 
   abbrev written : Cache
   written = cs.after_write options s write
@@ -166,10 +156,18 @@ behind_state : (options : Options) (now : State) (write : Write) (key : List ℕ
 behind_state options (cache_state s) write key unique = cached options s write unique key
 behind_state options (store_state s) write key unique = stored s write key
 
-pub behind : (options : Options) (history : History) (write : Write) (key : List ℕ) → IsBehind write key (answer_of options history key) (answer_of options (history ++ write ∷ []) key)
-behind options history write key =
-    subst (λ (z : State). IsBehind write key (answer_of options history key) (value_in z key)) (sym (state_snoc options history write))
-    (behind_state options (state_of options history) write key (unique_from options (start options.mode) history (unique_start options.mode)))
+-- What holds of what it had, of nothing and of what the write gives it, holds of what it has then.
+pub behind : (options : Options) (history : History) (write : Write) (key : List ℕ) (P : Option (List ℕ) → Type 0) → P None → P (answer_of options history key)
+    → (write.key ≡ key → GivesValue write.op → P (Some write.value)) → P (answer_of options (history ++ write ∷ []) key)
+behind options history write key P none old given =
+    subst (λ (z : State). P (value_in z key)) (sym (state_snoc options history write))
+    (elim (behind_state options (state_of options history) write key (unique_from options (start options.mode) history (unique_start options.mode))) [
+      | inl gone ↦ subst P (sym gone) none
+      | inr rest ↦ elim rest [
+        | inl same ↦ subst P (sym same) old
+        | inr gives ↦ subst P (sym gives.2) (given gives.0 gives.1)
+      ]
+    ])
 
 -- and nothing before all writes
 none_in : (mode : Mode) (key : List ℕ) → value_in (start mode) key ≡ None

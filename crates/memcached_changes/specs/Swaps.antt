@@ -1,10 +1,10 @@
 -- What an optimistic update relies on.
-use Rattle.std.specs.Prelude.{◌≡◌, ℕ, ◌+◌, ◌^◌, ◌<◌, List, [], ◌∷◌, ◌++◌, length, Option, Some}
+use Rattle.std.specs.Prelude.{◌≡◌, ℕ, ◌+◌, ◌^◌, ◌<◌, List, [], ◌∷◌, ◌++◌, length, Option, Some, option_map}
 use Rattle.partition_model.specs.declared.options.Options.{Options}
 use Rattle.partition_model.specs.declared.write.Write.{Write}
 use Rattle.partition_model.specs.declared.write.Outcome.{Outcome}
 use Rattle.partition_model.specs.Write.{GivesValue}
-use Rattle.partition_model.specs.History.{History, answer_of}
+use Rattle.partition_model.specs.History.{History, IsPrefix, answer_of}
 use Rattle.memcached_text.specs.declared.command.Wants.TheVariants.{Numbered}
 use Rattle.memcached_text.specs.declared.lifetime.Lifetime.{Lifetime}
 use Rattle.memcached_text.specs.declared.item.Item.{Item}
@@ -34,31 +34,30 @@ pub record IsOfCommand (options : Options) (base : ℕ) (history : History) (wri
   pub looked : IsLookAt options history write.key look
   pub decided : write_by (becoming_by (record { ask = ask; base = base })) write.key look ≡ Some write
 
--- Among these writes, behind a history, each that stores something under the key is of a command. Over UDP one could put an item with any number.
+-- From one history on to a later one only commands store something under the key. Over UDP one could put an item with any number.
 abbrev pub OnlyCommandsStore : Options → ℕ → List ℕ → History → History → Type 0
-OnlyCommandsStore options base key history more =
-    (before later : History) (write : Write) → more ≡ before ++ write ∷ later → write.key ≡ key → GivesValue write.op → IsOfCommand options base (history ++ before) write
+OnlyCommandsStore options base key first last =
+    (now : History) (write : Write) → IsPrefix first now → IsPrefix (now ++ write ∷ []) last → write.key ≡ key → GivesValue write.op → IsOfCommand options base now write
 
--- What a key has behind a history is this item, but for its end: it has its number, its flags and its value.
-pub record IsStill (options : Options) (key : List ℕ) (item : Item) (history : History) : Type 0 where
-  pub stored : List ℕ
-  pub is : answer_of options history key ≡ Some stored
-  pub same : IsSameValue (Some item) (item_in stored)
+-- what is stored is this item, but for its end: it has its number, its flags and its value
+abbrev pub IsStill : Item → Option (List ℕ) → Type 0
+IsStill item stored = IsSameValue (option_map item_in stored) item
 
--- The partition has drawn this number: it is below all that it draws behind this history.
+-- The partition has drawn this number: it is below each that it draws behind this history.
 abbrev pub IsDrawn : ℕ → ℕ → History → Type 0
 IsDrawn base unique history = unique < numbered base (length history)
 
--- A `gets` shows an item, and a `cas` with its number is answered STORED. Then the key had that item all the time between, but for its end: nobody stored
+-- A `gets` showed an item, and a later `cas` with its number is answered STORED. Then the key had that item all the time between, but for its end: nobody stored
 -- anything else under it, and it was never gone.
 abbrev pub SwapsWhatStands : Type 0
 SwapsWhatStands = (options : Options) (base : ℕ) (key : List ℕ) (item : Item) (touched : Option Lifetime) (flags : ℕ) (lifetime : Lifetime) (value : List ℕ)
-    (history more : History) → IsItem item → IsDrawn base item.unique history → OnlyCommandsStore options base key history more
-    → IsSaid options base history key (get_ask touched) (Shows item)
-    → IsSaid options base (history ++ more) key (Store (Numbered item.unique) flags lifetime value) (Line Stored)
-    → (between later : History) → more ≡ between ++ later → IsStill options key item (history ++ between)
+    (first now last : History) → IsPrefix first now → IsPrefix now last
+    → IsItem item → IsDrawn base item.unique first → OnlyCommandsStore options base key first last
+    → IsSaid options base first key (get_ask touched) (Shows item)
+    → IsSaid options base last key (Store (Numbered item.unique) flags lifetime value) (Line Stored)
+    → IsStill item (answer_of options now key)
 
 -- The number of an item that commands stored is drawn.
 abbrev pub StoredIsDrawn : Type 0
 StoredIsDrawn = (options : Options) (base : ℕ) (key : List ℕ) (item : Item) (history : History) → base + length history < 2 ^ 64
-    → OnlyCommandsStore options base key [] history → IsStill options key item history → IsDrawn base item.unique history
+    → OnlyCommandsStore options base key [] history → IsStill item (answer_of options history key) → IsDrawn base item.unique history
