@@ -1,2 +1,4 @@
 pub mod Becomings
 pub mod GoneLaws
+pub mod Values
+pub mod SwapLaws

@@ -1,3 +1,4 @@
 pub mod Numbered
 pub mod Over
 pub mod Gone
+pub mod Swaps

@@ -1,6 +1,7 @@
 //! What holds of unique numbers and of items that are gone.
 ghost use Rattle.memcached_changes.specs.Gone.{GoneStaysGone};
 ghost use Rattle.memcached_changes.specs.Numbered.{NumbersRise};
+ghost use Rattle.memcached_changes.specs.Swaps.{SwapsWhatStands, StoredIsDrawn};
 
 /// A later value of a partition has a greater unique number.
 pub fn numbers_rise()
@@ -10,4 +11,10 @@ pub fn numbers_rise()
 /// An item that is not there is not there later either, whatever was written meanwhile. What is stored under its key then is another.
 pub fn gone_stays_gone()
     ensures { GoneStaysGone }
+{}
+
+/// A `cas` that is answered STORED replaces what its number was shown with, and nobody stored anything else there in between.
+pub fn swaps_what_stands()
+    ensures swaps { SwapsWhatStands }
+    ensures drawn { StoredIsDrawn }
 {}

@@ -8,6 +8,6 @@ mod laws;
 mod order;
 mod sweep_order;
 
-pub use laws::{gone_stays_gone, numbers_rise};
+pub use laws::{gone_stays_gone, numbers_rise, swaps_what_stands};
 pub use order::{CommandOrder, moment_at};
 pub use sweep_order::{SweepOrder, is_over};

@@ -46,15 +46,17 @@ never_flushes true feed told = refl
 never_flushes false feed told = refl
 
 module _ (options : Options) (is_alone : Bool) (base : ℕ) where
-  pub none_swept : (old : Sessions) (left : ℕ) (told : ClockView) → SweepsBy options is_alone base old left told old left told
-  none_swept old left told = record { answers = []; sweeps = tt; in_order = λ q. refl; seconds = refl; few = omega arith }
+  pub none_swept : (most : ℕ) (old : Sessions) (left : ℕ) (told : ClockView) → SweepsBy options is_alone base most old left told old left told
+  none_swept most old left told = record { answers = []; sweeps = tt; bounded = omega arith; in_order = λ q. refl; seconds = refl; few = omega arith }
 
-  pub swept_then : {old between new : Sessions} {left then_left left_after : ℕ} {told then tells : ClockView} → SweepsBy options is_alone base old left told between then_left then
-      → SweepsBy options is_alone base between then_left then new left_after tells → SweepsBy options is_alone base old left told new left_after tells
-  swept_then {old} {between} {new} {told = told} {then = then} {tells = tells} one two =
+  pub swept_then : {few more most : ℕ} {old between new : Sessions} {left then_left left_after : ℕ} {told then tells : ClockView} → few + more ≤ most
+      → SweepsBy options is_alone base few old left told between then_left then → SweepsBy options is_alone base more between then_left then new left_after tells
+      → SweepsBy options is_alone base most old left told new left_after tells
+  swept_then {old = old} {between} {new} {told = told} {then = then} {tells = tells} most one two =
       let writes = ap length (filter_map-append step_in one.answers two.answers) ∙ length-append (steps_of one.answers) (steps_of two.answers) in record {
         answers = one.answers ++ two.answers;
         sweeps = all_both (IsSweep options base) one.answers two.answers one.sweeps two.sweeps;
+        bounded = let len = length-append one.answers two.answers in omega (arith, len, one.bounded, two.bounded, most);
         in_order = answers_append options is_alone one.answers two.answers old between new one.in_order two.in_order;
         seconds = seconds_then options told then tells one.answers two.answers one.seconds two.seconds;
         few = omega (arith, one.few, two.few, writes);
@@ -63,13 +65,14 @@ module _ (options : Options) (is_alone : Bool) (base : ℕ) where
   -- a key that was touched
   pub one_touched : (old new : Sessions) (left left_after : ℕ) (key : List ℕ) (outcome : Outcome) (stamp : ℕ) → options.mode ≡ Cache
       → Writes options is_alone (old (partition_of key options.partitions)) (record { write = write_of Touch key []; outcome = outcome; stamp = stamp }) (new (partition_of key options.partitions))
-      → ChangesOnly (partition_of key options.partitions) old new → left ≤ left_after + 1 → (told : ClockView) → SweepsBy options is_alone base old left told new left_after told
+      → ChangesOnly (partition_of key options.partitions) old new → left ≤ left_after + 1 → (told : ClockView) → SweepsBy options is_alone base 1 old left told new left_after told
   one_touched old new left left_after key outcome stamp mode writes others few told =
       let a : Answered = wrote (record { write = write_of Touch key []; outcome = outcome; stamp = stamp }) in
       let none : second_in options a ≡ None =
       ap (λ t. cond t (second_asked (flush_in key)) None) (never_flushes (bucket_of key options.buckets == 0) (begins_with_feed key) (partition_of key options.partitions == 0)) in record {
         answers = a ∷ [];
         sweeps = ((mode, refl), tt);
+        bounded = omega arith;
         in_order = (new, record { one = writes; others = others }, λ q. refl);
         seconds = subst (λ s. ToldFrom told s told) (sym (ap (λ o. cons_option o []) none)) refl;
         few = few;
@@ -78,17 +81,18 @@ module _ (options : Options) (is_alone : Bool) (base : ℕ) where
   -- a key that was looked at
   module _ (old new : Sessions) (left left_after : ℕ) (told tells : ClockView) (second : ℕ) (key : List ℕ) (c : Changed) (buffer : List ℕ) (read : ToldFrom told (second ∷ []) tells) where
     one_by : (a : Answered) → Answers options is_alone old a new → IsSweep options base a → second_in options a ≡ Some second → left ≤ left_after + count_of_writes (a ∷ [])
-        → SweepsBy options is_alone base old left told new left_after tells
+        → SweepsBy options is_alone base 1 old left told new left_after tells
     one_by a here is at few = record {
       answers = a ∷ [];
       sweeps = (is, tt);
+      bounded = omega arith;
       in_order = (new, here, λ q. refl);
       seconds = subst (λ s. ToldFrom told s tells) (sym (one_second options a second at)) read;
       few = few;
     }
 
     pub one_swept : let p = partition_of key options.partitions in ComesTo options is_alone second key true (sweeping base) (old p) c buffer (new p)
-        → ChangesOnly (partition_of key options.partitions) old new → left ≤ left_after + count_of c.outcome → SweepsBy options is_alone base old left told new left_after tells
+        → ChangesOnly (partition_of key options.partitions) old new → left ≤ left_after + count_of c.outcome → SweepsBy options is_alone base 1 old left told new left_after tells
     one_swept comes others few = go (write_by (sweeping base) key look) c.outcome refl refl comes.does
       where
         look : Look
@@ -96,7 +100,7 @@ module _ (options : Options) (is_alone : Bool) (base : ℕ) where
 
         go : (write : Option Write) (outcome : Option Outcome) → write_by (sweeping base) key look ≡ write → c.outcome ≡ outcome
             → DoesWrite options is_alone (old (partition_of key options.partitions)) key write outcome c.stamp look (new (partition_of key options.partitions))
-            → SweepsBy options is_alone base old left told new left_after tells
+            → SweepsBy options is_alone base 1 old left told new left_after tells
         go None None writes is does =
             one_by (kept key c.stamp look) (record { one = does; others = others }) tt (ap Some comes.at) (subst (λ o. left ≤ left_after + count_of o) is few)
         go None (Some outcome) writes is does = absurd does

@@ -1,5 +1,5 @@
 -- What a front does beside what clients say: items that are not there any more give their room back, and in cache mode items that are used stay.
-use Rattle.std.specs.Prelude.{◌≡◌, ⊤, ◌≤◌, ◌+◌, ◌⊎◌, ℕ, Bool, true, List, [], ◌∷◌, Some}
+use Rattle.std.specs.Prelude.{◌≡◌, ⊤, ◌≤◌, ◌+◌, ℕ, Bool, true, List, [], length, Some}
 use Rattle.std.specs.List.{AllByRecursion}
 use Rattle.mica_clock.specs.Seconds.{ClockView}
 use Rattle.partition_model.specs.declared.options.Mode.TheVariants.{Cache}
@@ -19,17 +19,12 @@ IsSweep options base (changed step look) = (step.write ≡ write_of Del step.wri
 IsSweep options base (kept key stamp look) = ⊤
 IsSweep options base _ = ⊥
 
--- These answers, in order, with sweeps before, between and behind them, and nothing else.
-abbrev pub HasSweeps : Options → ℕ → List Answered → List Answered → Type 0
-HasSweeps options base answers [] = answers ≡ []
-HasSweeps options base answers (one ∷ later) =
-    (IsSweep options base one × HasSweeps options base answers later) ⊎ ((rest : List Answered) × (answers ≡ one ∷ rest) × HasSweeps options base rest later)
-
--- A front's sessions and its clock went on by sweeps alone. Of the writes that the front could be given none is gone but those among them.
-pub record SweepsBy (options : Options) (is_alone : Bool) (base : ℕ) (old : Sessions) (left : ℕ) (told : ClockView) (new : Sessions) (left_after : ℕ) (tells : ClockView)
+-- A front's sessions and its clock went on by sweeps alone, so many at most. Of the writes that the front could be given none is gone but those among them.
+pub record SweepsBy (options : Options) (is_alone : Bool) (base most : ℕ) (old : Sessions) (left : ℕ) (told : ClockView) (new : Sessions) (left_after : ℕ) (tells : ClockView)
     : Type 0 where
   pub answers : List Answered
   pub sweeps : AllByRecursion (IsSweep options base) answers
+  pub bounded : length answers ≤ most
   pub in_order : AnswersInOrder options is_alone old answers new
   pub seconds : ToldFrom told (seconds_of options answers) tells
   pub few : left ≤ left_after + count_of_writes answers

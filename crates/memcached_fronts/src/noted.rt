@@ -1,11 +1,13 @@
 //! What commands leave for the sweep behind them.
+ghost use Rattle.std.specs.Prelude.{◌≤◌, length};
+ghost use Rattle.memcached_fronts.specs.declared.noted.TheConstants.{MOST_USED};
 
 use memcached_commands::Ask;
 use partition_model::Outcome;
 use std::mem;
 
 /// So many keys are noted between two sweeps at most.
-const MOST_USED: usize = 64;
+pub const MOST_USED: usize = 64;
 
 /// What commands leave for the sweep behind them. No answer rests on it.
 #[derive(Drop)]
@@ -58,7 +60,9 @@ impl Noted {
     }
 
     /// The hashes of keys that were touched or counted since.
-    pub fn used(&self) -> &[u64] {
+    pub fn used(&self) -> &[u64]
+        ensures { length result.now ≤ MOST_USED }
+    {
         &self.used[..self.count.min(MOST_USED)]
     }
 

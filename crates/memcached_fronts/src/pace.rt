@@ -1,4 +1,6 @@
 //! How far a sweep looks.
+ghost use Rattle.std.specs.Prelude.{◌≤◌};
+ghost use Rattle.memcached_fronts.specs.declared.pace.TheConstants.{LONG_STRETCH};
 
 use mica_clock::Clock;
 
@@ -8,8 +10,8 @@ const LEAST_STRETCH: u32 = 4;
 /// The most places that one sweep looks at where nobody wants room.
 const MOST_STRETCH: u32 = 512;
 
-/// So many places one sweep looks at where a write found no room.
-const LONG_STRETCH: u32 = 4_096;
+/// So many places one sweep looks at where a write found no room. None looks at more.
+pub const LONG_STRETCH: u32 = 4_096;
 
 /// The most looks of one second for writes that found no room.
 const MOST_LOOKS: u32 = 65_536;
@@ -54,16 +56,18 @@ impl Pace {
     }
 
     /// How many places the next sweep looks at.
-    pub fn places<C: Clock>(&mut self, clock: &C) -> u32 {
+    pub fn places<C: Clock>(&mut self, clock: &C) -> u32
+        ensures { result ≤ LONG_STRETCH }
+    {
         if !self.hurried {
-            return self.stretch;
+            return LONG_STRETCH.min(self.stretch);
         }
         let second = clock.present();
         if second != self.second {
             self.second = second;
             self.looks = MOST_LOOKS;
         }
-        LONG_STRETCH.min(self.looks).max(self.stretch)
+        LONG_STRETCH.min(self.looks.max(self.stretch))
     }
 
     /// Whether a sweep that took so many items away may stop.

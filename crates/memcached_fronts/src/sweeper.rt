@@ -2,6 +2,7 @@
 ghost use Rattle.std.specs.Prelude.{◌≡◌, ◌<◌, ◌≤◌, ◌+◌, ℕ};
 ghost use Rattle.mica_clock.specs.Seconds.{ClockView};
 ghost use Rattle.mica_words.specs.Item.{KeyFits};
+ghost use Rattle.memcached_fronts.specs.declared.noted.TheConstants.{MOST_USED};
 ghost use Rattle.memcached_fronts.specs.Sweeps.{SweepsBy};
 
 use crate::answer::Numbering;
@@ -15,6 +16,9 @@ use partition_model::ItemBuf;
 use std::alloc::Global;
 use std::sync::Wait;
 use std::thread::Threads;
+
+/// The most answers that one sweep gives: a touch of each key that was noted, and a look at each place.
+pub const MOST_SWEPT: u32 = 4_160;
 
 /// For so many items a look under a hold tells how late it is in their partition.
 const FRESH: u32 = 64;
@@ -122,7 +126,7 @@ fn sweep_key<R: Threads + Wait + Sync, F: Changes, C: Clock>(
 ) -> Changed
     requires key { KeyFits key.now }
     requires left { 0 < F.left front.old }
-    ensures swept { SweepsBy (F.options front.old) F.is_alone base (F.sessions front.old) (F.left front.old) (C.view clock.old) (F.sessions front.new) (F.left front.new) (C.view clock.new) }
+    ensures swept { SweepsBy (F.options front.old) F.is_alone base 1 (F.sessions front.old) (F.left front.old) (C.view clock.old) (F.sessions front.new) (F.left front.new) (C.view clock.new) }
     ensures left { F.left front.old ≤ F.left front.new + 1 }
     ensures options { F.options front.new ≡ F.options front.old }
     ensures number { F.number front.new ≡ F.number front.old }
@@ -143,7 +147,7 @@ fn sweep_item<R: Threads + Wait + Sync, F: Changes, C: Clock>(
 ) -> bool
     requires key { KeyFits sweeper.old.key }
     requires left { 0 < F.left front.old }
-    ensures swept { SweepsBy (F.options front.old) F.is_alone base (F.sessions front.old) (F.left front.old) (C.view clock.old) (F.sessions front.new) (F.left front.new) (C.view clock.new) }
+    ensures swept { SweepsBy (F.options front.old) F.is_alone base 1 (F.sessions front.old) (F.left front.old) (C.view clock.old) (F.sessions front.new) (F.left front.new) (C.view clock.new) }
     ensures left { F.left front.old ≤ F.left front.new + 1 }
     ensures options { F.options front.new ≡ F.options front.old }
     ensures number { F.number front.new ≡ F.number front.old }
@@ -180,7 +184,7 @@ fn sweep_place<R: Threads + Wait + Sync, F: Glances, C: Clock>(
 ) -> bool
     requires partitions { numbering.partitions ≡ (F.options front.old).partitions }
     requires left { 0 < F.left front.old }
-    ensures swept { SweepsBy (F.options front.old) F.is_alone numbering.base (F.sessions front.old) (F.left front.old) (C.view clock.old) (F.sessions front.new) (F.left front.new) (C.view clock.new) }
+    ensures swept { SweepsBy (F.options front.old) F.is_alone numbering.base 1 (F.sessions front.old) (F.left front.old) (C.view clock.old) (F.sessions front.new) (F.left front.new) (C.view clock.new) }
     ensures left { F.left front.old ≤ F.left front.new + 1 }
     ensures options { F.options front.new ≡ F.options front.old }
     ensures number { F.number front.new ≡ F.number front.old }
@@ -215,7 +219,7 @@ fn sweep_places<R: Threads + Wait + Sync, F: Glances, C: Clock>(
 ) -> u32
     requires partitions { numbering.partitions ≡ (F.options front.old).partitions }
     requires left { most ≤ F.left front.old }
-    ensures swept { SweepsBy (F.options front.old) F.is_alone numbering.base (F.sessions front.old) (F.left front.old) (C.view clock.old) (F.sessions front.new) (F.left front.new) (C.view clock.new) }
+    ensures swept { SweepsBy (F.options front.old) F.is_alone numbering.base result (F.sessions front.old) (F.left front.old) (C.view clock.old) (F.sessions front.new) (F.left front.new) (C.view clock.new) }
     ensures few { result ≤ most }
     ensures left { F.left front.old ≤ F.left front.new + result }
     ensures options { F.options front.new ≡ F.options front.old }
@@ -242,7 +246,7 @@ fn touch_old<R: Threads + Wait + Sync, F: Glances>(
     key: &mut ItemBuf,
 ) -> u64
     requires left { most ≤ F.left front.old }
-    ensures swept { (base : ℕ) (told : ClockView) → SweepsBy (F.options front.old) F.is_alone base (F.sessions front.old) (F.left front.old) told (F.sessions front.new) (F.left front.new) told }
+    ensures swept { (base : ℕ) (told : ClockView) → SweepsBy (F.options front.old) F.is_alone base 1 (F.sessions front.old) (F.left front.old) told (F.sessions front.new) (F.left front.new) told }
     ensures few { result ≤ most }
     ensures left { F.left front.old ≤ F.left front.new + result }
     ensures options { F.options front.new ≡ F.options front.old }
@@ -265,7 +269,7 @@ fn touch_used<R: Threads + Wait + Sync, F: Glances>(
     key: &mut ItemBuf,
 ) -> u64
     requires left { most ≤ F.left front.old }
-    ensures swept { (base : ℕ) (told : ClockView) → SweepsBy (F.options front.old) F.is_alone base (F.sessions front.old) (F.left front.old) told (F.sessions front.new) (F.left front.new) told }
+    ensures swept { (base : ℕ) (told : ClockView) → SweepsBy (F.options front.old) F.is_alone base MOST_USED (F.sessions front.old) (F.left front.old) told (F.sessions front.new) (F.left front.new) told }
     ensures few { result ≤ most }
     ensures left { F.left front.old ≤ F.left front.new + result }
     ensures options { F.options front.new ≡ F.options front.old }
@@ -293,7 +297,7 @@ pub fn sweep<R: Threads + Wait + Sync, F: Glances, C: Clock>(
 ) -> u64
     requires partitions { numbering.partitions ≡ (F.options front.old).partitions }
     requires left { most ≤ F.left front.old }
-    ensures swept { SweepsBy (F.options front.old) F.is_alone numbering.base (F.sessions front.old) (F.left front.old) (C.view clock.old) (F.sessions front.new) (F.left front.new) (C.view clock.new) }
+    ensures swept { SweepsBy (F.options front.old) F.is_alone numbering.base MOST_SWEPT (F.sessions front.old) (F.left front.old) (C.view clock.old) (F.sessions front.new) (F.left front.new) (C.view clock.new) }
     ensures few { result ≤ most }
     ensures left { F.left front.old ≤ F.left front.new + result }
     ensures options { F.options front.new ≡ F.options front.old }

@@ -1,7 +1,6 @@
 -- What stands since a front began to serve a port.
 use Rattle.std.proofs.Common.{◌≡◌, ℕ, ◌+◌, Bool, true, false, true≢false, List, [], ◌++◌, length, inl, refl, sym, ap, ◌∙◌, subst, arith, length-append}
 use Rattle.std.specs.Prelude.{min, Option, None, Some, is_some, IfSome, option_map}
-use Rattle.std.proofs.lemmas.List.{append-nil, map-append}
 use Rattle.std.proofs.lemmas.Option.{none-some, same_Some}
 use Rattle.mica_clock.specs.Seconds.{ClockView}
 use Rattle.partition_model.specs.declared.options.Options.{Options}
@@ -13,7 +12,8 @@ use Rattle.stream_io.specs.Log.{Log, state_of, called, logged}
 use Rattle.stream_io.specs.Calls.{ReportsNext, IsOver, entry_of}
 use Rattle.mica_fronts.specs.Answered.{Answered}
 use Rattle.mica_fronts.specs.Session.{Sessions}
-use Rattle.memcached_fronts.specs.Sweeps.{HasSweeps, SweepsBy}
+use Rattle.memcached_fronts.specs.declared.sweeper.TheConstants.{MOST_SWEPT}
+use Rattle.memcached_fronts.specs.Sweeps.{SweepsBy}
 use Rattle.stream_fronts.specs.declared.client.Client.{Client}
 use Rattle.stream_fronts.specs.declared.desk.TheConstants.{MOST_UNSENT}
 use Rattle.stream_fronts.specs.Given.{Given, answers_in}
@@ -26,31 +26,31 @@ use Rattle.stream_fronts.specs.Resting.{Tends, TendsBut}
 use Rattle.stream_fronts.specs.Serving.{FrontAt, ServesLog, ServesFromNone}
 use Rattle.stream_fronts.specs.Standing.{IsUntouched, Stands, StandsOn, GoesByGiven}
 use Rattle.stream_fronts.proofs.Going.{these_none, these_then}
-use Rattle.stream_fronts.proofs.Sweeping.{unswept, only_swept, has_both, these_sweeps}
+use Rattle.stream_fronts.proofs.Sweeping.{these_sweeps}
 use Rattle.stream_fronts.proofs.Moments.{last_moment}
 use Rattle.stream_fronts.proofs.Turning.{turns_none, turns_more}
 use Rattle.stream_fronts.proofs.Reported.{event_told}
 use Rattle.stream_fronts.proofs.Settling.{all_caught_up}
 
 -- All stands by these answers, which were given in turns; for so many connections memory lacked, each waits, and the front has caught up.
-pub record StandsBy (options : Options) (base had lacked : ℕ) (clients : List (Option Client)) (before now : Log) (given : List Given) : Type 0 where
+pub record StandsBy (options : Options) (base had lacked : ℕ) (clients : List (Option Client)) (before now : Log) (given : List Given) (answers : List Answered) : Type 0 where
   pub schedule : now.schedule ≡ before.schedule
   pub lacking : List ℕ
   pub counted : min lacked LAST_COUNT ≡ min (had + length lacking) LAST_COUNT
   pub stands : Stands options base lacking now given clients
-  pub turns : TakesTurns options base MOST_UNSENT now.schedule now.script.piece lacking now.entries given
+  pub turns : TakesTurns options base MOST_UNSENT now.schedule now.script.piece lacking now.entries given answers
   pub tends : Tends now.script.piece (state_of now) clients
   pub caught_up : IsCaughtUp options base now.schedule now.script.piece now.entries given
 
--- They went on by answers that were given to clients and by sweeps, and of the first P holds.
-abbrev pub GoesBySwept : Options → Bool → ℕ → Sessions → ℕ → ClockView → Sessions → ℕ → ClockView → (List Given → Type 0) → Type 0
-GoesBySwept options is_alone base old left told new left_after tells P =
-    (given : List Given) × (answers : List Answered) × HasSweeps options base (answers_in given) answers × GoesByThese options is_alone old left told answers new left_after tells × P given
+-- They went on by answers, and of those that were given to clients and of all P holds.
+abbrev pub GoesBySwept : Options → Bool → Sessions → ℕ → ClockView → Sessions → ℕ → ClockView → (List Given → List Answered → Type 0) → Type 0
+GoesBySwept options is_alone old left told new left_after tells P =
+    (given : List Given) × (answers : List Answered) × GoesByThese options is_alone old left told answers new left_after tells × P given answers
 
 -- Where nothing had been done before, sessions and clock went on by answers by which all stands.
 abbrev pub StandsSince : Options → Bool → ℕ → Sessions → ℕ → ClockView → ℕ → Sessions → ℕ → ClockView → ℕ → List (Option Client) → Log → Log → Type 0
 StandsSince options is_alone base old left told had new left_after tells lacked clients before now =
-    before.entries ≡ [] → GoesBySwept options is_alone base old left told new left_after tells (StandsBy options base had lacked clients before now)
+    before.entries ≡ [] → GoesBySwept options is_alone old left told new left_after tells (StandsBy options base had lacked clients before now)
 
 module _ (options : Options) (is_alone : Bool) (base : ℕ) (old : Sessions) (left : ℕ) (told : ClockView) (had : ℕ) where
   begun_through : (schedule : List Step) (entries : List Entry) → entries ≡ [] → TalksThrough options base MOST_UNSENT schedule [] entries []
@@ -78,7 +78,6 @@ module _ (options : Options) (is_alone : Bool) (base : ℕ) (old : Sessions) (le
   since_none clients empty (Some log) = λ none. (
     [],
     [],
-    refl,
     these_none options is_alone old left told,
     record {
       schedule = refl;
@@ -91,64 +90,46 @@ module _ (options : Options) (is_alone : Bool) (base : ℕ) (old : Sessions) (le
     },
   )
 
-  module _ {between new : Sessions} {then_left left_after : ℕ} {then_told tells : ClockView} (clients now : List (Option Client)) where
-    -- one report more was served
+  module _ {between then new : Sessions} {left_between then_left left_after : ℕ} {told_between then_told tells : ClockView} (clients now : List (Option Client)) where
+    -- one report more was served, and the partitions were swept
     pub since_then : (event : Event) (then_lacked count lacked : ℕ) → lacked ≡ min (then_lacked + count) LAST_COUNT → (before a b d : Option Log)
-        → OnLogs (StandsSince options is_alone base old left told had between then_left then_told then_lacked clients) before a
+        → OnLogs (StandsSince options is_alone base old left told had between left_between told_between then_lacked clients) before a
         → is_some b ≡ is_some a → IfSome a (λ l. ReportsNext l event b) → (o : Options) → o ≡ options
-        → GoesByGiven o is_alone between then_left then_told new left_after tells (λ given. OnLogs (StandsOn o base event clients count given now) b d)
+        → GoesByGiven o is_alone between left_between told_between then then_left then_told (λ given. OnLogs (StandsOn o base event clients count given now) b d)
+        → (o' : Options) → o' ≡ options → SweepsBy o' is_alone base MOST_SWEPT then then_left then_told new left_after tells
         → AreOpen now d → OnLogs (StandsSince options is_alone base old left told had new left_after tells lacked now) before d
-    since_then event then_lacked count lacked more_lacked None a b d first same reports o is more are = tt
-    since_then event then_lacked count lacked more_lacked (Some x) None b d first same reports o is more are = absurd first
-    since_then event then_lacked count lacked more_lacked (Some x) (Some y) None d first same reports o is more are = absurd (true≢false (sym same))
-    since_then event then_lacked count lacked more_lacked (Some x) (Some y) (Some z) None first same reports o is more are = absurd more.2
-    since_then event then_lacked count lacked more_lacked (Some x) (Some y) (Some z) (Some w) first same reports o is more are = λ none.
+    since_then event then_lacked count lacked more_lacked None a b d first same reports o is more o' is' sweep are = tt
+    since_then event then_lacked count lacked more_lacked (Some x) None b d first same reports o is more o' is' sweep are = absurd first
+    since_then event then_lacked count lacked more_lacked (Some x) (Some y) None d first same reports o is more o' is' sweep are = absurd (true≢false (sym same))
+    since_then event then_lacked count lacked more_lacked (Some x) (Some y) (Some z) None first same reports o is more o' is' sweep are = absurd more.2
+    since_then event then_lacked count lacked more_lacked (Some x) (Some y) (Some z) (Some w) first same reports o is more o' is' sweep are = λ none.
         let f = first none in
-        let by = f.4 in
-        let second = subst (λ (p : Options). GoesByGiven p is_alone between then_left then_told new left_after tells (λ given. StandsOn p base event clients count given now z w)) is more in
+        let by = f.3 in
+        let second = subst (λ (p : Options). GoesByGiven p is_alone between left_between told_between then then_left then_told (λ given. StandsOn p base event clients count given now z w)) is more in
+        let sweeps = subst (λ (p : Options). SweepsBy p is_alone base MOST_SWEPT then then_left then_told new left_after tells) is' sweep in
         let t = event_told options base by.lacking f.0 clients event y z reports by.stands in
         let s = second.2.on by.lacking f.0 t.is_new t.stands in
         let schedule = second.2.schedule ∙ t.schedule in
         let piece = second.2.piece ∙ t.piece in
         let tends = subst (λ p. Tends p (state_of w) now) (sym piece)
         (subst (λ p. Tends p (state_of w) now) t.piece (second.2.tends by.lacking f.0 t.stands (subst (λ p. TendsBut event p (state_of z) clients) (sym t.piece) (t.tends by.tends)))) in
-        let here = answers_in second.0 in (
+        let answers = f.1 ++ answers_in second.0 ++ sweeps.answers in (
           f.0 ++ second.0,
-          f.1 ++ here,
-          subst (λ (a : List Answered). HasSweeps options base a (f.1 ++ here)) (sym (map-append (λ (g : Given). g.answered) f.0 second.0))
-              (has_both options base f.1 here (answers_in f.0) here f.2 (unswept options base here)),
-          these_then options is_alone f.3 second.1,
+          answers,
+          these_then options is_alone (these_then options is_alone f.2 second.1) (these_sweeps sweeps),
           record {
             schedule = schedule ∙ by.schedule;
             lacking = s.0 ++ by.lacking;
             counted = let len = length-append s.0 by.lacking in let counted = by.counted in omega (arith, len, counted, s.1, more_lacked);
             stands = s.2;
-            turns = subst (λ (l : List Step). TakesTurns options base MOST_UNSENT l w.script.piece (s.0 ++ by.lacking) w.entries (f.0 ++ second.0)) (sym schedule)
-                (subst (λ p. TakesTurns options base MOST_UNSENT y.schedule p (s.0 ++ by.lacking) w.entries (f.0 ++ second.0)) (sym piece)
-                (turns_more options base MOST_UNSENT y.schedule y.script.piece s.0 by.lacking event y.entries z.entries w.entries f.0 second.0
-                (ap (λ (l : Log). l.entries) (same_Some z (logged (entry_of event) (called y)) reports.result)) second.2.few_calls second.2.few_answers
+            turns = subst (λ (l : List Step). TakesTurns options base MOST_UNSENT l w.script.piece (s.0 ++ by.lacking) w.entries (f.0 ++ second.0) answers) (sym schedule)
+                (subst (λ p. TakesTurns options base MOST_UNSENT y.schedule p (s.0 ++ by.lacking) w.entries (f.0 ++ second.0) answers) (sym piece)
+                (turns_more options base MOST_UNSENT y.schedule y.script.piece s.0 by.lacking event y.entries z.entries w.entries f.0 second.0 f.1 sweeps.answers
+                (ap (λ (l : Log). l.entries) (same_Some z (logged (entry_of event) (called y)) reports.result)) second.2.few_calls second.2.few_answers sweeps.sweeps sweeps.bounded
                 (last_moment options base MOST_UNSENT y.schedule by.lacking y.entries f.0 by.stands.through) by.caught_up by.turns));
             tends = tends;
             caught_up = all_caught_up options base (s.0 ++ by.lacking) w (f.0 ++ second.0) now are s.2 tends;
           },
-        )
-
-  module _ {between new : Sessions} {then_left left_after : ℕ} {then_told tells : ClockView} (lacked : ℕ) (clients : List (Option Client)) where
-    -- and the partitions were swept
-    pub since_swept : (before now : Option Log) → OnLogs (StandsSince options is_alone base old left told had between then_left then_told lacked clients) before now
-        → (o : Options) → o ≡ options → SweepsBy o is_alone base between then_left then_told new left_after tells
-        → OnLogs (StandsSince options is_alone base old left told had new left_after tells lacked clients) before now
-    since_swept None now first o is more = tt
-    since_swept (Some x) None first o is more = first
-    since_swept (Some x) (Some y) first o is more = λ none.
-        let f = first none in
-        let sweeps = subst (λ (p : Options). SweepsBy p is_alone base between then_left then_told new left_after tells) is more in (
-          f.0,
-          f.1 ++ sweeps.answers,
-          subst (λ (a : List Answered). HasSweeps options base a (f.1 ++ sweeps.answers)) (append-nil (answers_in f.0))
-              (has_both options base f.1 sweeps.answers (answers_in f.0) [] f.2 (only_swept options base sweeps.answers sweeps.sweeps)),
-          these_then options is_alone f.3 (these_sweeps sweeps),
-          f.4,
         )
 
   module _ (opened ended : Bool) (new : Sessions) (left_after : ℕ) (tells : ClockView) (lacked : ℕ) (clients : List (Option Client)) where
@@ -160,22 +141,21 @@ module _ (options : Options) (is_alone : Bool) (base : ℕ) (old : Sessions) (le
 
     -- What the front served, by what stands. It may have been asked once more what is next.
     serves_by : {before now : Log} (after : Log) → after.schedule ≡ now.schedule → after.script.piece ≡ now.script.piece → after.entries ≡ now.entries
-        → (f : GoesBySwept options is_alone base old left told new left_after tells (StandsBy options base had lacked clients before now))
+        → (f : GoesBySwept options is_alone old left told new left_after tells (StandsBy options base had lacked clients before now))
         → (ended ≡ true → (state_of after).later ≡ []) → ServesLog options is_alone base MOST_UNSENT first last before after
     serves_by {before} {now} after schedule piece entries f over =
-        let by = f.4 in record {
+        let by = f.3 in record {
           same = schedule ∙ by.schedule;
           all = f.0;
           serves = record {
             answers = f.1;
-            sweeps = f.2;
-            in_order = f.3.in_order;
-            seconds = f.3.seconds;
-            few = f.3.few;
+            in_order = f.2.in_order;
+            seconds = f.2.seconds;
+            few = f.2.few;
             lacking = by.lacking;
             counted = by.counted;
             through = as_called (λ s p e. TalksThrough options base MOST_UNSENT s by.lacking e f.0) by.stands.through;
-            turns = as_called (λ s p e. TakesTurns options base MOST_UNSENT s p by.lacking e f.0) by.turns;
+            turns = as_called (λ s p e. TakesTurns options base MOST_UNSENT s p by.lacking e f.0 f.1) by.turns;
             caught_up = as_called (λ s p e. IsCaughtUp options base s p e f.0) by.caught_up;
             over = over;
           };

@@ -9,7 +9,10 @@ use Rattle.stream_io.specs.declared.connections.Event.{Event}
 use Rattle.stream_io.specs.declared.connections.Event.TheVariants.{Opened, Ready}
 use Rattle.stream_io.specs.State.{Entry, opened, reported, met, received, sent, asked, closed}
 use Rattle.stream_io.specs.Calls.{entry_of}
-use Rattle.stream_fronts.specs.Given.{Given}
+use Rattle.mica_fronts.specs.Answered.{Answered}
+use Rattle.memcached_fronts.specs.declared.sweeper.TheConstants.{MOST_SWEPT}
+use Rattle.memcached_fronts.specs.Sweeps.{IsSweep}
+use Rattle.stream_fronts.specs.Given.{Given, answers_in}
 use Rattle.stream_fronts.specs.Moments.{TalksWithAll, IsCaughtUp}
 use Rattle.stream_fronts.specs.Traffic.{IsSend, after_receiving}
 use Rattle.stream_fronts.specs.Turns.{is_report, is_read, most_answers, AreFew, GrowsBy, Turn, AreShort, TakesTurns, calls_in, given_in}
@@ -78,8 +81,8 @@ begins (Opened number) = refl
 begins (Ready number) = refl
 
 module _ (options : Options) (base most : ℕ) (schedule : List Step) (piece : ℕ) where
-  pub turns_none : (lacking : List ℕ) (entries : List Entry) → entries ≡ [] → TakesTurns options base most schedule piece lacking entries []
-  turns_none lacking entries none = record { turns = []; calls = sym none; given = refl; short = tt }
+  pub turns_none : (lacking : List ℕ) (entries : List Entry) → entries ≡ [] → TakesTurns options base most schedule piece lacking entries [] []
+  turns_none lacking entries none = record { turns = []; calls = sym none; given = refl; answered = refl; short = tt }
 
   short_lacking : (more lacking : List ℕ) (turns : List Turn) → AreShort options base most schedule piece lacking turns → AreShort options base most schedule piece (more ++ lacking) turns
   short_lacking more lacking [] short = tt
@@ -87,15 +90,18 @@ module _ (options : Options) (base most : ℕ) (schedule : List Step) (piece : �
       (short.0, all_lacking options base most more lacking (calls_in earlier) (given_in earlier) short.1, short.2, short_lacking more lacking earlier short.3)
 
   -- one turn more
-  pub turns_more : (more lacking : List ℕ) (event : Event) (old between new : List Entry) (all given : List Given) → between ≡ entry_of event ∷ old → GrowsBy 2 between new
-      → length given ≤ 2 * most_answers options → TalksWithAll options base most lacking old all → IsCaughtUp options base schedule piece old all
-      → TakesTurns options base most schedule piece lacking old all → TakesTurns options base most schedule piece (more ++ lacking) new (all ++ given)
-  turns_more more lacking event old between new all given reports grows few talks caught_up before = record {
-    turns = record { report = entry_of event; calls = grows.0; given = given } ∷ before.turns;
+  pub turns_more : (more lacking : List ℕ) (event : Event) (old between new : List Entry) (all given : List Given) (answers swept : List Answered) → between ≡ entry_of event ∷ old
+      → GrowsBy 2 between new → length given ≤ 2 * most_answers options → AllByRecursion (IsSweep options base) swept → length swept ≤ MOST_SWEPT
+      → TalksWithAll options base most lacking old all → IsCaughtUp options base schedule piece old all
+      → TakesTurns options base most schedule piece lacking old all answers
+      → TakesTurns options base most schedule piece (more ++ lacking) new (all ++ given) (answers ++ answers_in given ++ swept)
+  turns_more more lacking event old between new all given answers swept reports grows few sweeps few_sweeps talks caught_up before = record {
+    turns = record { report = entry_of event; calls = grows.0; given = given; swept = swept } ∷ before.turns;
     calls = ap (λ e. grows.0 ++ entry_of event ∷ e) before.calls ∙ ap (λ e. grows.0 ++ e) (sym reports) ∙ sym grows.1;
     given = ap (λ g. g ++ given) before.given;
+    answered = ap (λ a. a ++ answers_in given ++ swept) before.answered;
     short = (
-      record { begins = begins event; few_calls = grows.2; few_answers = few },
+      record { begins = begins event; few_calls = grows.2; few_answers = few; sweeps = sweeps; few_sweeps = few_sweeps },
       all_lacking options base most more lacking (calls_in before.turns) (given_in before.turns) (as_turned (TalksWithAll options base most lacking) talks),
       as_turned (IsCaughtUp options base schedule piece) caught_up,
       short_lacking more lacking before.turns before.short,

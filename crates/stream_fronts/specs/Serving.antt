@@ -7,9 +7,8 @@ use Rattle.stream_io.specs.Log.{Log, state_of}
 use Rattle.mica_fronts.specs.Answered.{Answered, count_of_writes}
 use Rattle.mica_fronts.specs.Session.{Sessions, AnswersInOrder}
 use Rattle.memcached_fronts.specs.Seconds.{seconds_of, ToldFrom}
-use Rattle.memcached_fronts.specs.Sweeps.{HasSweeps}
 use Rattle.stream_fronts.specs.declared.answer.TheConstants.{LIMITS}
-use Rattle.stream_fronts.specs.Given.{Given, answers_in}
+use Rattle.stream_fronts.specs.Given.{Given}
 use Rattle.stream_fronts.specs.Moments.{TalksThrough, IsCaughtUp}
 use Rattle.stream_fronts.specs.Turns.{TakesTurns}
 
@@ -31,19 +30,18 @@ abbrev pub IsFinished : Options → Bool → ℕ → Type 0
 IsFinished options has_ended left = (has_ended ≡ true) ⊎ IsSpent options left
 
 -- All answers of the front are one list: its sessions went on by them in this order, and the clock told their seconds; it was given no writes but those among
--- them. They are those to clients, and between them sweeps and nothing else. At each moment of the log those to clients are what it talked with them, and they
--- were given in short turns, one for each report. For some connections there was no memory, as many as were counted. Behind all turns the front has caught up, as
--- before each. Where the end came, nothing is to come any more: so each connection is settled.
+-- them. They were given in short turns, one for each report: in each those to clients, then few sweeps, and nothing else. At each moment of the log those to
+-- clients are what it talked with them. For some connections there was no memory, as many as were counted. Behind all turns the front has caught up, as before
+-- each. Where the end came, nothing is to come any more: so each connection is settled.
 pub record AnswersClients (options : Options) (is_alone : Bool) (base most : ℕ) (old new : FrontAt) (log : Log) (all : List Given) : Type 0 where
   pub answers : List Answered
-  pub sweeps : HasSweeps options base (answers_in all) answers
   pub in_order : AnswersInOrder options is_alone old.sessions answers new.sessions
   pub seconds : ToldFrom old.clock (seconds_of options answers) new.clock
   pub few : old.left ≤ new.left + count_of_writes answers
   pub lacking : List ℕ
   pub counted : min new.lacked LAST_COUNT ≡ min (old.lacked + length lacking) LAST_COUNT
   pub through : TalksThrough options base most log.schedule lacking log.entries all
-  pub turns : TakesTurns options base most log.schedule log.script.piece lacking log.entries all
+  pub turns : TakesTurns options base most log.schedule log.script.piece lacking log.entries all answers
   pub caught_up : IsCaughtUp options base log.schedule log.script.piece log.entries all
   pub over : new.has_ended ≡ true → (state_of log).later ≡ []
 

@@ -4,8 +4,11 @@ use Rattle.std.specs.List.{AllByRecursion}
 use Rattle.partition_model.specs.declared.options.Options.{Options}
 use Rattle.stream_io.specs.declared.schedule.Step.{Step}
 use Rattle.stream_io.specs.State.{Entry, opened, reported, received}
+use Rattle.mica_fronts.specs.Answered.{Answered}
+use Rattle.memcached_fronts.specs.declared.sweeper.TheConstants.{MOST_SWEPT}
+use Rattle.memcached_fronts.specs.Sweeps.{IsSweep}
 use Rattle.stream_fronts.specs.declared.answer.TheConstants.{LIMITS, MOST_COMMANDS}
-use Rattle.stream_fronts.specs.Given.{Given}
+use Rattle.stream_fronts.specs.Given.{Given, answers_in}
 use Rattle.stream_fronts.specs.Moments.{TalksWithAll, IsCaughtUp}
 
 -- a connection was reported
@@ -36,41 +39,51 @@ pub record AreFew (reads : ℕ) (calls : List Entry) : Type 0 where
 abbrev pub GrowsBy : ℕ → List Entry → List Entry → Type 0
 GrowsBy reads old new = (calls : List Entry) × (new ≡ calls ++ old) × AreFew reads calls
 
--- a report, what calls did from there to the next one, the last of them first, and the answers that were given meanwhile
+-- a report, what calls did from there to the next one, the last of them first, the answers that were given to clients meanwhile, and sweeps behind these
 pub record Turn : Type 0 where
   pub report : Entry
   pub calls : List Entry
   pub given : List Given
+  pub swept : List Answered
 
--- It reads bytes at most twice, and gives no more answers than two looks do.
-pub record IsShort (options : Options) (turn : Turn) : Type 0 where
+-- It reads bytes at most twice, gives clients no more answers than two looks do, and sweeps little.
+pub record IsShort (options : Options) (base : ℕ) (turn : Turn) : Type 0 where
   pub begins : is_report turn.report ≡ true
   pub few_calls : AreFew 2 turn.calls
   pub few_answers : length turn.given ≤ 2 * most_answers options
+  pub sweeps : AllByRecursion (IsSweep options base) turn.swept
+  pub few_sweeps : length turn.swept ≤ MOST_SWEPT
 
 -- what calls did in these turns, the last of which is first
 abbrev pub calls_in : List Turn → List Entry
 calls_in [] = []
 calls_in (turn ∷ earlier) = turn.calls ++ turn.report ∷ calls_in earlier
 
--- the answers that were given in them, in order
+-- the answers that were given to clients in them, in order
 abbrev pub given_in : List Turn → List Given
 given_in [] = []
 given_in (turn ∷ earlier) = given_in earlier ++ turn.given
+
+-- all answers, with the sweeps
+abbrev pub answered_in : List Turn → List Answered
+answered_in [] = []
+answered_in (turn ∷ earlier) = answered_in earlier ++ answers_in turn.given ++ turn.swept
 
 -- Each is short; and as it began, by the calls and the answers of the turns before it, the front had talked with each client and had caught up.
 abbrev pub AreShort : Options → ℕ → ℕ → List Step → ℕ → List ℕ → List Turn → Type 0
 AreShort options base most schedule piece lacking [] = ⊤
 AreShort options base most schedule piece lacking (turn ∷ earlier) =
-    IsShort options turn
+    IsShort options base turn
     × TalksWithAll options base most lacking (calls_in earlier) (given_in earlier)
     × IsCaughtUp options base schedule piece (calls_in earlier) (given_in earlier)
     × AreShort options base most schedule piece lacking earlier
 
--- All that calls did and all answers came in short turns, one for each report. So a client that sent much is answered in many turns, and each other that is
--- reported meanwhile has one between them.
-pub record TakesTurns (options : Options) (base most : ℕ) (schedule : List Step) (piece : ℕ) (lacking : List ℕ) (entries : List Entry) (all : List Given) : Type 0 where
+-- All that calls did and all answers came in short turns, one for each report: those to clients, and sweeps. So a client that sent much is answered in many
+-- turns, and each other that is reported meanwhile has one between them.
+pub record TakesTurns (options : Options) (base most : ℕ) (schedule : List Step) (piece : ℕ) (lacking : List ℕ) (entries : List Entry) (all : List Given)
+    (answers : List Answered) : Type 0 where
   pub turns : List Turn
   pub calls : calls_in turns ≡ entries
   pub given : given_in turns ≡ all
+  pub answered : answered_in turns ≡ answers
   pub short : AreShort options base most schedule piece lacking turns

@@ -3,6 +3,7 @@ use Rattle.std.specs.Prelude.{is_some, is_none, IfSome, IfNone}
 use Rattle.partition_model.specs.declared.options.Options.{Options}
 use Rattle.stream_io.specs.Calls.{ReportsNext, IsOver}
 use Rattle.stream_fronts.specs.declared.desk.TheConstants.{MOST_UNSENT}
+use Rattle.memcached_fronts.specs.declared.sweeper.TheConstants.{MOST_SWEPT}
 use Rattle.memcached_fronts.specs.Sweeps.{SweepsBy}
 use Rattle.stream_fronts.specs.Clients.{AreOpen}
 use Rattle.stream_fronts.specs.Going.{GoesBy}
@@ -11,7 +12,7 @@ use Rattle.stream_fronts.specs.Serving.{IsFinished, ServesFromNone}
 use Rattle.stream_fronts.proofs.Going.{by_none, by_both}
 use Rattle.stream_fronts.proofs.Opening.{tells_keeps, tells_opened}
 use Rattle.stream_fronts.proofs.Holding.{all_kept, none_held}
-use Rattle.stream_fronts.proofs.Since.{since_none, since_then, since_swept, since_serves, since_called, since_over}
+use Rattle.stream_fronts.proofs.Since.{since_none, since_then, since_serves, since_called, since_over}
 use Rattle.stream_fronts.proofs.Sweeping.{by_sweeps}
 use Rattle.stream_fronts.proofs.serve.serve_connections.Goals as goal
 use Rattle.stream_fronts.proofs.serve.serve_connections.Goals.{in-None, in-Some+then-writes_left-least, in-Some+else-writes_left-least+in_ok-event+in_default}
@@ -71,7 +72,7 @@ loop-preserved g c =
     let same = served.front.same_options ∙ inv.6 in
     let more = subst (λ (o : Options). GoesBy o F.is_alone (F.sessions c.loop.front) (F.left c.loop.front) (view c.loop.clock) (F.sessions then.front) (F.left then.front) (view then.clock)) inv.6
     served.front.goes in
-    let swept = subst (λ (o : Options). SweepsBy o F.is_alone base (F.sessions then.front) (F.left then.front) (view then.clock) (F.sessions now.front) (F.left now.front) (view now.clock)) same sweep.swept in (
+    let swept = subst (λ (o : Options). SweepsBy o F.is_alone base MOST_SWEPT (F.sessions then.front) (F.left then.front) (view then.clock) (F.sessions now.front) (F.left now.front) (view now.clock)) same sweep.swept in (
       served.room,
       served.clients,
       served.port.ended ∙ on,
@@ -84,9 +85,8 @@ loop-preserved g c =
       sweep.number ∙ served.front.same_number ∙ inv.7,
       sweep.stands ∙ served.front.same_stands ∙ inv.8,
       served.port.told ∙ next.told ∙ inv.9,
-      since_swept options F.is_alone base old left told c.args.lacked.now _ then.clients.held.items (log c.args.connections.now) (log then.connections)
-          (since_then options F.is_alone base old left told c.args.lacked.now c.loop.clients.held.items then.clients.held.items c.in-Some-2.event c.loop.lacked c.serve_event-count.result _ (search rules)
-          (log c.args.connections.now) before after (log then.connections) inv.10 next.told reports (F.options c.loop.front) inv.6 served.serves served.clients) (F.options then.front) same sweep.swept,
+      since_then options F.is_alone base old left told c.args.lacked.now c.loop.clients.held.items then.clients.held.items c.in-Some-2.event c.loop.lacked c.serve_event-count.result _ (search rules)
+          (log c.args.connections.now) before after (log then.connections) inv.10 next.told reports (F.options c.loop.front) inv.6 served.serves (F.options then.front) same sweep.swept served.clients,
     )
 
 pub returns-in_err-desk-clause-serves : goal.returns-in_err-desk-clause-serves
