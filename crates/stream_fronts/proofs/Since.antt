@@ -5,10 +5,11 @@ use Rattle.std.proofs.lemmas.Option.{none-some, same_Some}
 use Rattle.mica_clock.specs.Seconds.{ClockView}
 use Rattle.partition_model.specs.declared.options.Options.{Options}
 use Rattle.mica_io.specs.Faults.{LAST_COUNT}
+use Rattle.mica_io.specs.Script.{is_next_listed}
 use Rattle.stream_io.specs.declared.schedule.Step.{Step}
 use Rattle.stream_io.specs.declared.connections.Event.{Event}
 use Rattle.stream_io.specs.State.{Entry, state_after}
-use Rattle.stream_io.specs.Log.{Log, state_of, called, logged}
+use Rattle.stream_io.specs.Log.{Log, LastFailed, state_of, called, logged}
 use Rattle.stream_io.specs.Calls.{ReportsNext, IsOver, entry_of}
 use Rattle.mica_fronts.specs.Answered.{Answered}
 use Rattle.mica_fronts.specs.Session.{Sessions}
@@ -189,3 +190,8 @@ module _ (options : Options) (is_alone : Bool) (base : ℕ) (old : Sessions) (le
     since_over (Some x) (Some y) after since over =
         subst (λ o. OnLogs (ServesFromNone options is_alone base MOST_UNSENT first last) (Some x) o) (sym over.result)
         (λ none. serves_by (called y) refl refl refl (since none) (λ ends. over.over))
+
+-- a call that failed is the last one
+pub failed_last : (old new : Option Log) → new ≡ option_map called old → IfSome old (λ l. true ≡ is_next_listed l.script) → IfSome new LastFailed
+failed_last None new is listed = subst (λ o. IfSome o LastFailed) (sym is) tt
+failed_last (Some log) new is listed = subst (λ o. IfSome o LastFailed) (sym is) (omega arith, sym listed)

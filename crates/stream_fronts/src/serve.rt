@@ -2,6 +2,7 @@
 ghost use Rattle.std.specs.Prelude.{◌≡◌, ◌<◌, ◌≤◌, ℕ, false, [], length, is_some, IfOk, IfSome, IsErrOf, OnOk, vec_len};
 ghost use Rattle.partition_model.specs.declared.options.Options.{Options};
 ghost use Rattle.mica_io.specs.Faults.{Rose};
+ghost use Rattle.stream_io.specs.Log.{LastFailed};
 ghost use Rattle.memcached_text.specs.declared.limits.TheConstants.{MAX_WAITING_LEN};
 ghost use Rattle.stream_fronts.specs.declared.desk.TheConstants.{MOST_UNSENT};
 ghost use Rattle.stream_fronts.specs.Calls.{LeavesPort, MovesFront};
@@ -192,6 +193,7 @@ pub fn serve_connections<R: Threads + Wait + Sync, F: Glances, K: Clock, C: Conn
         (C.log connections.old) (C.log connections.new) }
     ensures ends { OnOk result (IsFinished (F.options front.new) (C.has_ended connections.new) (F.left front.new)) }
     ensures cause { IsErrOf result ServeFault.Net → Rose (C.faults connections.old) (C.faults connections.new) }
+    ensures last_failed { IsErrOf result ServeFault.Net → IfSome (C.log connections.new) LastFailed }
     ensures none_served { IsErrOf result ServeFault.NoMemory → (front.new ≡ front.old) × (connections.new ≡ connections.old) }
     ensures never_fall { C.faults connections.old ≤ C.faults connections.new }
     ensures told { is_some (C.log connections.new) ≡ is_some (C.log connections.old) }

@@ -1,6 +1,6 @@
 -- What is told of the connections at a port: their schedule, and all that calls did, so what stands is a function of both.
-use Rattle.std.specs.Prelude.{◌≡◌, ℕ, ◌==◌, true, List, [], ◌∷◌, ◌++◌, is_some, if◌then◌else◌}
-use Rattle.mica_io.specs.Script.{Script, after_call}
+use Rattle.std.specs.Prelude.{◌≡◌, ◌<◌, ℕ, ◌==◌, true, List, [], ◌∷◌, ◌++◌, is_some, if◌then◌else◌}
+use Rattle.mica_io.specs.Script.{Script, after_call, is_listed}
 use Rattle.stream_io.specs.declared.schedule.Step.{Step}
 use Rattle.stream_io.specs.declared.schedule.Step.TheVariants.{Happens}
 use Rattle.stream_io.specs.Connection.{Connection}
@@ -24,6 +24,10 @@ logged entry log = with_entries (λ entries. entry ∷ entries) log
 -- `next` was called once more
 abbrev pub called : Log → Log
 called log = record log { script = after_call log.script }
+
+-- `next` was called, and its last call is one of those that fail
+abbrev pub LastFailed : Log → Type 0
+LastFailed log = (0 < log.script.calls) × (is_listed log.script.fails log.script.calls ≡ true)
 
 -- what the schedule and the entries come to
 abbrev pub state_of : Log → State

@@ -12,7 +12,7 @@ use Rattle.stream_fronts.specs.Serving.{IsFinished, ServesFromNone}
 use Rattle.stream_fronts.proofs.Going.{by_none, by_both}
 use Rattle.stream_fronts.proofs.Opening.{tells_keeps, tells_opened}
 use Rattle.stream_fronts.proofs.Holding.{all_kept, none_held}
-use Rattle.stream_fronts.proofs.Since.{since_none, since_then, since_serves, since_called, since_over}
+use Rattle.stream_fronts.proofs.Since.{since_none, since_then, since_serves, since_called, since_over, failed_last}
 use Rattle.stream_fronts.proofs.Sweeping.{by_sweeps}
 use Rattle.stream_fronts.proofs.serve.serve_connections.Goals as goal
 use Rattle.stream_fronts.proofs.serve.serve_connections.Goals.{in-None, in-Some+then-writes_left-least, in-Some+else-writes_left-least+in_ok-event+in_default}
@@ -120,6 +120,10 @@ returns-in_err-event-clause-serves g c =
     since_called (g.F.Front.options c.args.front.now) g.F.Front.is_alone c.args.numbering.base (g.F.Front.sessions c.args.front.now) (g.F.Front.left c.args.front.now) (g.K.Clock.view c.args.clock.now)
     c.args.lacked.now (ended c.args.connections.now) (ended c.next-in-loop.new.self) (g.F.Front.sessions c.loop.front) (g.F.Front.left c.loop.front) (g.K.Clock.view c.loop.clock) c.loop.lacked
     c.loop.clients.held.items c.in_err-event.ensures.still_open (log c.args.connections.now) (log c.loop.connections) (log c.next-in-loop.new.self) c.loop.invariant.10 c.in_err-event.ensures.unmoved
+
+pub returns-in_err-event-clause-last_failed : goal.returns-in_err-event-clause-last_failed
+returns-in_err-event-clause-last_failed g c is =
+    failed_last (g.C.Connections.log c.loop.connections) (g.C.Connections.log c.next-in-loop.new.self) c.in_err-event.ensures.unmoved c.in_err-event.ensures.foretold
 
 pub returns-clause-serves : goal.returns-clause-serves
 returns-clause-serves g c =
