@@ -23,6 +23,7 @@ loop-init g c =
       refl,
       refl,
       refl,
+      omega arith,
     )
 
 pub returns-in_err-said-clause-talk : goal.returns-in_err-said-clause-talk
@@ -144,6 +145,7 @@ loop-preserved g c =
       c.answer_one.ensures.options ∙ inv.3,
       c.answer_one.ensures.number ∙ inv.4,
       c.answer_one.ensures.stands ∙ inv.5,
+      omega (arith, c.answer_one.ensures.short, c.if-writes_left-cost.false),
     )
 
 pub returns-clause-talk : goal.returns-clause-talk
