@@ -1,5 +1,6 @@
 //! What is answered at one look at a connection.
-ghost use Rattle.std.specs.Prelude.{◌≡◌, ◌<◌, ◌≤◌, ◌+◌, length, drop, IfOk, MatchResult};
+ghost use Rattle.std.specs.Prelude.{◌≡◌, ◌<◌, ◌≤◌, ◌+◌, length, drop, max, IfOk, MatchResult};
+ghost use Rattle.memcached_text.specs.declared.limits.TheConstants.{MAX_REPLY_LEN};
 ghost use Rattle.memcached_text.specs.declared.next.Next.TheVariants.{More};
 ghost use Rattle.memcached_text.specs.Next.{next_of};
 ghost use Rattle.memcached_fronts.specs.Exchange.{IsOpenAt};
@@ -100,6 +101,7 @@ fn answer_one<R: Threads + Wait + Sync, F: Counts, K: Clock>(
     requires left { MayAnswer numbering.partitions (F.left front.old) }
     requires room { length out.old.items < LIMITS.bytes }
     ensures on { IfOk result (AnswersOn bytes.now done) }
+    ensures short { length out.new.items ≤ max (length out.old.items) LIMITS.bytes + MAX_REPLY_LEN }
     ensures talk { GoesBySome (F.options front.old) F.is_alone (F.sessions front.old) (F.left front.old) (K.view clock.old) (F.sessions front.new) (F.left front.new) (K.view clock.new)
         (λ answers. (length answers ≤ most_to_one (F.options front.old)) × MatchResult result (λ said. GoesOnTo (F.options front.old) numbering.base (place_at bytes.now done) answers out.old.items out.new.items
         (ReachesAfter (F.options front.old) numbering.base bytes.now done said))
@@ -142,6 +144,7 @@ pub fn answer_bytes<R: Threads + Wait + Sync, F: Counts, K: Clock>(
     ensures open { IfOk result (λ a. IsOpenAt (next_of (drop a.taken bytes.now)) a.done) }
     ensures advances { IfOk result (λ a. Advances (MayAnswer numbering.partitions (F.left front.old) × (length out.old.items < LIMITS.bytes))
         ((a.stand ≡ Stand.Needs) × (next_of bytes.now ≡ More)) (place_at bytes.now done) (place_in bytes.now a)) }
+    ensures short { length out.new.items ≤ max (length out.old.items) LIMITS.bytes + MAX_REPLY_LEN }
     ensures talk { GoesBySome (F.options front.old) F.is_alone (F.sessions front.old) (F.left front.old) (K.view clock.old) (F.sessions front.new) (F.left front.new) (K.view clock.new)
         (λ answers. (length answers ≤ most_answers (F.options front.old)) × MatchResult result (λ a. GoesOnTo (F.options front.old) numbering.base (place_at bytes.now done) answers out.old.items out.new.items
         (StandsAs (F.options front.old) numbering.base (length bytes.now) a.stand (place_in bytes.now a)))

@@ -5,15 +5,12 @@ ghost use Rattle.memcached_text.specs.declared.limits.TheConstants.{MAX_WAITING_
 use crate::answer::LIMITS;
 use memcached_fronts::Buffers;
 use memcached_stats::Board;
-use memcached_text::MAX_WAITING_LEN;
+use memcached_text::{MAX_REPLY_LEN, MAX_WAITING_LEN};
 use mica_io::NoMemory;
 use std::alloc::Global;
 
-/// The longest reply to one command or one key.
-pub const LONGEST_REPLY: usize = 8_704;
-
 /// The most bytes of replies that are kept of one client, until it takes them.
-pub const MOST_UNSENT: usize = LIMITS.bytes + LONGEST_REPLY;
+pub const MOST_UNSENT: usize = LIMITS.bytes + MAX_REPLY_LEN;
 
 /// Room for what is looked at of a connection, for replies, and for values, and what the front counts.
 #[derive(Drop)]

@@ -46,7 +46,7 @@ pub use answer::{Answered, LIMITS, MOST_COMMANDS, Stand, answer_bytes, most_writ
 pub use calls::{ask_again, close, receive, send};
 pub use client::Client;
 pub use clients::Clients;
-pub use desk::{Desk, LONGEST_REPLY, MOST_UNSENT};
+pub use desk::{Desk, MOST_UNSENT};
 pub use kept::Kept;
 pub use look::look_at;
 pub use ports::{MOST_STREAM_FRONTS, StreamPorts};

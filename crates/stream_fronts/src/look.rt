@@ -13,7 +13,6 @@ ghost use Rattle.stream_fronts.specs.Reached.{GoesOnTo, SpokeFrom, StandsAs, lea
 
 use crate::answer::{Stand, answer_bytes};
 use crate::client::Client;
-use crate::desk::MOST_UNSENT;
 use crate::kept::Kept;
 use memcached_fronts::{Buffers, Numbering, load_ahead};
 use mica_clock::Clock;
@@ -43,8 +42,8 @@ impl Client {
     }
 }
 
-/// Answers what the bytes spell, where so many answers were given to their first command, and keeps what is left of them. If the replies were more than may be
-/// kept, it would be as if memory lacked; none are that long.
+/// Answers what the bytes spell, where so many answers were given to their first command, and keeps what is left of them. The replies are no more than may be
+/// kept.
 pub fn look_at<R: Threads + Wait + Sync, F: Counts, K: Clock>(
     rt: &R,
     alloc: Global,
@@ -80,9 +79,6 @@ pub fn look_at<R: Threads + Wait + Sync, F: Counts, K: Clock>(
     replies.clear();
     load_ahead(front, bytes);
     let answered = answer_bytes(rt, front, clock, numbering, buffers, bytes, done, replies)?;
-    if replies.len() > MOST_UNSENT {
-        return Err(NoMemory);
-    }
     client.dropping = answered.dropping;
     client.leaving = answered.stand == Stand::Leaves;
     client.keep(alloc, &bytes[answered.taken..], answered.done)?;

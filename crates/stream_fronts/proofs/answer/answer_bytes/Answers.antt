@@ -28,6 +28,7 @@ loop-init g c =
       refl,
       refl,
       inl ((refl, refl, refl), refl, refl),
+      omega arith,
     )
 
 pub returns-in_err-said-clause-talk : goal.returns-in_err-said-clause-talk
@@ -151,6 +152,7 @@ loop-preserved g c =
       c.answer_one.ensures.number ∙ inv.4,
       c.answer_one.ensures.stands ∙ inv.5,
       inr (let less = gains bytes c.args.done c.loop.taken c.loop.done inv.6 _ (take_rest bytes c.loop.taken) len on.0 on.1 in omega (arith, less)),
+      omega (arith, c.answer_one.ensures.short, c.if-writes_left-cost.false),
     )
 
 pub returns-clause-talk : goal.returns-clause-talk

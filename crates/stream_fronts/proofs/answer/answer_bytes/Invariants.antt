@@ -1,7 +1,9 @@
 use Rattle.std.proofs.Common.{◌≡◌, ◌≤◌, ◌*◌, length}
-use Rattle.std.specs.Prelude.{drop}
+use Rattle.std.specs.Prelude.{◌+◌, drop, max}
+use Rattle.memcached_text.specs.declared.limits.TheConstants.{MAX_REPLY_LEN}
 use Rattle.memcached_text.specs.Next.{next_of}
 use Rattle.memcached_fronts.specs.Exchange.{IsOpenAt}
+use Rattle.stream_fronts.specs.declared.answer.TheConstants.{LIMITS}
 use Rattle.stream_fronts.specs.Going.{GoesBySome}
 use Rattle.stream_fronts.specs.Turns.{most_to_one}
 use Rattle.stream_fronts.specs.Reached.{Reaches, GoesOnTo, place_at}
@@ -20,3 +22,4 @@ invariant-loop g l =
     × (g.F.Front.number l.front ≡ g.F.Front.number l.initial.front)
     × (g.F.Front.stands l.front ≡ g.F.Front.stands l.initial.front)
     × HasAdvanced ((l.counter ≡ 0) × (g.F.Front.left l.front ≡ g.F.Front.left l.initial.front) × (l.out.items ≡ l.initial.out.items)) l.bytes l.initial.done l.taken l.done
+    × (length l.out.items ≤ max (length l.initial.out.items) LIMITS.bytes + MAX_REPLY_LEN)

@@ -29,21 +29,6 @@ returns-in_err-keep-clause-talk g c =
       ),
     )
 
-pub returns-then-len-gt-MOST_UNSENT-clause-talk : goal.returns-then-len-gt-MOST_UNSENT-clause-talk
-returns-then-len-gt-MOST_UNSENT-clause-talk g c =
-    let r = c.in_ok-answered.ensures.talk in
-    let far = c.in_ok-answered.answered in
-    let bytes = c.args.bytes.now in
-    let len = length-drop far.taken bytes in (
-      r.0,
-      r.1,
-      (
-        r.2.0,
-        spoke_stands (g.F.Front.options c.args.front.now) c.args.numbering.base far.stand (place_at bytes c.args.done) (place_in bytes far) r.0 _ _ (length bytes)
-            c.in_ok-answered.ensures.«open» (omega (arith, len)) r.2.1,
-      ),
-    )
-
 pub returns-clause-advances : goal.returns-clause-advances
 returns-clause-advances g c =
     let kept = c.in_ok-keep.ensures.kept in
