@@ -13,32 +13,42 @@ use Rattle.locked_serve.specs.Running.{IsFaultOf}
 abbrev Answer : Type 0
 Answer = Result ⊤ ServeFault
 
--- what stands after the first k answers, where one is a fault or none is
+-- what stands after the first k answers: each fault among them is one of a port, and it was noted where there is one
 pub record FaultTo (k : ℕ) (answers : List Answer) (failed : Bool) : Type 0 where
   pub found : failed ≡ true → (f : ℕ) × (slice_get answers f ≡ Some (Err Net))
-  pub none : failed ≡ false → (f : ℕ) (fault : ServeFault) → f < k → slice_get answers f ≢ Some (Err fault)
+  pub only : (f : ℕ) (fault : ServeFault) → f < k → slice_get answers f ≡ Some (Err fault) → (fault ≡ Net) × (failed ≡ true)
 
 pub none_seen : (answers : List Answer) → FaultTo 0 answers false
-none_seen answers = record { found = λ no. absurd (true≢false (sym no)); none = λ _ f fault low. absurd (omega arith) }
+none_seen answers = record { found = λ no. absurd (true≢false (sym no)); only = λ f fault low. absurd (omega arith) }
 
 pub no_fault_more : (k : ℕ) (answers : List Answer) (failed : Bool) (all_well : ⊤) → FaultTo k answers failed → slice_get answers k ≡ Some (Ok all_well) → FaultTo (k + 1) answers failed
 no_fault_more k answers failed all_well so_far here = record {
   found = so_far.found;
-  none = λ is f fault low at.
-      elim (cases_lt f k) as (λ _. ⊥) [
-        | inl before ↦ so_far.none is f fault before at
-        | inr past ↦ let same : f ≡ k = omega (arith, past, low) in let both = sym here ∙ ap (slice_get answers) (sym same) ∙ at in cc
+  only = λ f fault low at.
+      elim (cases_lt f k) as (λ _. (fault ≡ Net) × (failed ≡ true)) [
+        | inl before ↦ so_far.only f fault before at
+        | inr past ↦ let same : f ≡ k = omega (arith, past, low) in let both = sym here ∙ ap (slice_get answers) (sym same) ∙ at in absurd (cc)
       ];
 }
 
-pub fault_more : (k : ℕ) (answers : List Answer) (failed : Bool) → slice_get answers k ≡ Some (Err Net) → FaultTo (k + 1) answers true
-fault_more k answers failed here = record { found = λ _. (k, here); none = λ no. absurd (true≢false no) }
+pub fault_more : (k : ℕ) (answers : List Answer) (failed : Bool) → FaultTo k answers failed → slice_get answers k ≡ Some (Err Net) → FaultTo (k + 1) answers true
+fault_more k answers failed so_far here = record {
+  found = λ _. (k, here);
+  only = λ f fault low at.
+      elim (cases_lt f k) as (λ _. (fault ≡ Net) × (true ≡ true)) [
+        | inl before ↦ ((so_far.only f fault before at).0, refl)
+        | inr past ↦ let same : f ≡ k = omega (arith, past, low) in let both : Some (Err fault) ≡ Some (Err Net) = sym at ∙ ap (slice_get answers) same ∙ here in (cc, refl)
+      ];
+}
 
-pub fault_in : (k : ℕ) (answers : List Answer) → FaultTo k answers true → IsFaultOf answers (Err Net)
-fault_in k answers all = all.found refl
+pub fault_in : (k : ℕ) (answers : List Answer) → length answers ≡ k → FaultTo k answers true → IsFaultOf answers (Err Net)
+fault_in k answers whole all = (
+  λ f at. let low = slice_get_within answers f (Err NoMemory) at in let clash : NoMemory ≡ Net = (all.only f NoMemory (omega (arith, low, whole)) at).0 in cc,
+  all.found refl,
+)
 
 pub no_fault : (k : ℕ) (answers : List Answer) → length answers ≡ k → FaultTo k answers false → (f : ℕ) (fault : ServeFault) → slice_get answers f ≢ Some (Err fault)
-no_fault k answers whole all f fault at = all.none refl f fault (let low = slice_get_within answers f (Err fault) at in omega (arith, low, whole)) at
+no_fault k answers whole all f fault at = let low = slice_get_within answers f (Err fault) at in true≢false (sym (all.only f fault (omega (arith, low, whole)) at).1)
 
 abbrev as_ok : Totals → Result Totals ServeFault
 as_ok totals = Ok totals

@@ -11,7 +11,7 @@ use Rattle.list_laws.proofs.Places.{at_map, from_map, element_at}
 use Rattle.mica_clock.specs.Seconds.{ClockView}
 use Rattle.mica_fronts.specs.Answered.{Answered, gets_of}
 use Rattle.mica_fronts.specs.declared.totals.ServeFault.{ServeFault}
-use Rattle.mica_fronts.specs.declared.totals.ServeFault.TheVariants.{Net}
+use Rattle.mica_fronts.specs.declared.totals.ServeFault.TheVariants.{Net, NoMemory}
 use Rattle.mica_fronts.specs.declared.totals.TheConstants.{MAX_BATCHES}
 use Rattle.locked_fronts.specs.declared.part.LockedPart.{LockedPart}
 use Rattle.locked_fronts.specs.Plan.{Plan}
@@ -26,12 +26,12 @@ use Rattle.mica_serve.proofs.ServedBeside.{closed_gets}
 use Rattle.locked_serve.specs.declared.streams.StreamTask.{StreamTask}
 use Rattle.locked_serve.specs.declared.worker.FrontTask.{FrontTask}
 use Rattle.locked_serve.specs.Opening.{AreNewParts, AreNewHands}
-use Rattle.locked_serve.specs.Streams.{StreamFacts, HasFinished, ServesStream, AreServed, AreUnserved, StopsStream, counted_by_all}
+use Rattle.locked_serve.specs.Streams.{StreamFacts, HasFinished, HasStopped, ServesStream, AreServed, AreUnserved, StopsStream, counted_by_all}
 use Rattle.locked_serve.specs.Running.{run_of, front_facts, IsReadyTask, AreReadyTasks, TaskRan, TasksRan, IsReadyStream, AreReadyStreams, StreamRan, StreamsRan, RunsStream, RanBeside}
 use Rattle.locked_serve.proofs.Joined.{at_left, at_right, at_either, same_sums}
 use Rattle.locked_serve.specs.Taking.{AreHands}
 use Rattle.locked_serve.proofs.Ran.{HaveRan, hand_at, taken_hand, placed, kept, runs_all, shapes, histories, closes}
-use Rattle.locked_serve.proofs.Streamed.{finished_at}
+use Rattle.locked_serve.proofs.Streamed.{finished_at, stopped_at}
 use Rattle.locked_serve.proofs.Taken.{closed_by, closed_at}
 
 abbrev pub hand_of : {D : Type 0} → FrontTask D → List LockedPart
@@ -120,8 +120,17 @@ module _ {C K : Type 0} (plan : Plan) (facts : C → StreamFacts) (view : K → 
       subst (HasFinished plan.options own) same
       (finished_at s.new.answer (λ fault is. well fault (at_map (λ (t : StreamTask C K). t.answer) news k s.new s.is ∙ ap Some is)) s.run.finished)
 
-  pub stopped : (k : ℕ) → slice_get (map (λ (t : StreamTask C K). t.answer) news) k ≡ Some (Err Net) → StopsStream (map port_of olds) (map port_of news)
-  stopped k at =
+  pub stopped : (k : ℕ) (own : List Answered) (before after : StreamFacts) → slice_get (map (λ (t : StreamTask C K). t.answer) news) k ≢ Some (Err NoMemory)
+      → slice_get answers k ≡ Some own → slice_get (map port_of olds) k ≡ Some before → slice_get (map port_of news) k ≡ Some after → HasStopped plan.options own before after
+  stopped k own before after began own_at before_at after_at =
+      let s = all_at.2 k own own_at in
+      let one : facts s.old.port ≡ before = same_Some _ _ (sym (at_map port_of olds k s.old s.was) ∙ before_at) in
+      let two : facts s.new.port ≡ after = same_Some _ _ (sym (at_map port_of news k s.new s.is) ∙ after_at) in
+      subst (λ (y : StreamFacts × StreamFacts). HasStopped plan.options own y.0 y.1) (λ i. (one i, two i))
+      (stopped_at s.new.answer (λ is. began (at_map (λ (t : StreamTask C K). t.answer) news k s.new s.is ∙ ap Some is)) s.run.finished s.run.cause)
+
+  pub failed : (k : ℕ) → slice_get (map (λ (t : StreamTask C K). t.answer) news) k ≡ Some (Err Net) → StopsStream (map port_of olds) (map port_of news)
+  failed k at =
       let n = from_map (λ (t : StreamTask C K). t.answer) news k (Err Net) at in
       let s = stream_at k (omega (arith, slice_get_within news k n.0 n.1, ran.0)) in
       let same : s.1.new ≡ n.0 = same_Some _ _ (sym s.1.is ∙ n.1) in
@@ -131,7 +140,7 @@ module _ {C K : Type 0} (plan : Plan) (facts : C → StreamFacts) (view : K → 
         new = facts s.1.new.port;
         was = at_map port_of olds k s.1.old s.1.was;
         is = at_map port_of news k s.1.new s.1.is;
-        rose = s.1.run.cause (ap (λ (t : StreamTask C K). t.answer) same ∙ n.2);
+        failed = s.1.run.cause (ap (λ (t : StreamTask C K). t.answer) same ∙ n.2);
       }
 
   -- beside all others
@@ -292,6 +301,7 @@ module _ {C K D : Type 0} (plan : Plan) (some : 1 ≤ plan.options.partitions) (
     lacked_is = refl;
     finished = finished plan stream_facts view base stream_olds stream_news streams;
     stopped = stopped plan stream_facts view base stream_olds stream_news streams;
+    failed = failed plan stream_facts view base stream_olds stream_news streams;
     ran = record {
       fronts = runs plan batches facts (length stream_olds) olds news ran;
       answers_are = runs_answers plan batches facts (length stream_olds) olds news ran;

@@ -76,8 +76,7 @@ says_then {answer = answer} {service = service} {before = before} same gone then
   are = it.are;
   lacked_is = it.lacked_is;
   left = gone it.news it.left;
-  all = it.all;
-  finished = it.finished;
+  stopped = it.stopped;
   came = it.came;
   came_is = subst (λ (n : ℕ). CameTo answer service.streams it.olds before.faults n it.came) (sym same) it.came_is;
   unserved = it.unserved;
@@ -87,7 +86,7 @@ says_then {answer = answer} {service = service} {before = before} same gone then
 -- there was no memory before any port was bound
 pub no_memory : {answer : Result Totals Stop} {service : Service} {origin : ℕ → History} {clocks : List ClockView} {kept : List KeptSeat} {lacked : ℕ} {all : PortFacts} → answer ≡ Err (Fault NoMemory) → kept ≡ []
     → lacked ≡ 0 → HasCause answer service origin clocks kept lacked all all
-no_memory {all = all} is none uncounted = unbound (Fault NoMemory) NoMemory is refl uncounted (none_released all.listens.released) none
+no_memory {all = all} is none uncounted = unbound (Fault NoMemory) NoMemory is refl tt uncounted (none_released all.listens.released) none
 
 -- a server that these writes filled
 pub cause_filled : (answer : Result Totals Stop) (writes : List Write) {service : Service} {clocks : List ClockView} {kept : List KeptSeat} {lacked : ℕ} {before after : PortFacts}

@@ -1,7 +1,6 @@
 -- A front that was served behind its port, by the answers that its log tells; where it tells none, by some.
-use Rattle.std.proofs.Common.{◌≡◌, ◌≢◌, ◌-◌, ◌+◌, ◌≤◌, inl, inr, ℕ, Bool, false, List, [], Option, None, Some, refl, arith}
+use Rattle.std.proofs.Common.{◌≡◌, ◌≢◌, ◌-◌, ◌+◌, ◌≤◌, ◌⊎◌, inl, inr, ℕ, Bool, false, List, [], Option, None, Some, refl, arith}
 use Rattle.std.specs.Prelude.{⊤, IfSome, Result, Ok, Err, IsErrOf, OnOk}
-use Rattle.mica_io.specs.Faults.{Rose}
 use Rattle.partition_model.specs.declared.options.Options.{Options}
 use Rattle.stream_io.specs.Log.{Log}
 use Rattle.mica_fronts.specs.Answered.{Answered}
@@ -12,7 +11,7 @@ use Rattle.stream_fronts.specs.Going.{GoesBy, GoesByThese}
 use Rattle.stream_fronts.specs.Open.{OnLogs}
 use Rattle.stream_fronts.specs.Serving.{FrontAt, IsFinished, ServesFromNone}
 use Rattle.stream_fronts.specs.declared.desk.TheConstants.{MOST_UNSENT}
-use Rattle.locked_serve.specs.Streams.{StreamFacts, HasFinished, HasStopped, ServesClients}
+use Rattle.locked_serve.specs.Streams.{ServesClients}
 
 -- it went on by these answers, and served its clients by them
 pub record GoesAndServes (options : Options) (base : ℕ) (old new : FrontAt) (before after : Option Log) : Type 0 where
@@ -46,9 +45,12 @@ pub finished_at : (answer : Result ⊤ ServeFault) {P : Type 0} → ((fault : Se
 finished_at (Ok none) well is = is
 finished_at (Err fault) well is = absurd (well fault refl)
 
--- so it has stopped
-pub stops : (options : Options) (answers : List Answered) (before after : StreamFacts) (answer : Result ⊤ ServeFault) → OnOk answer (HasFinished options answers after)
-    → (IsErrOf answer Net → Rose before.faults after.faults) → (IsErrOf answer NoMemory → after ≡ before) → HasStopped options answers before after
-stops options answers before after (Ok none) finished failed unserved = inl finished
-stops options answers before after (Err Net) finished failed unserved = inr (inl (failed refl))
-stops options answers before after (Err NoMemory) finished failed unserved = inr (inr (unserved refl))
+-- what one of its answers says
+pub stops : (answer : Result ⊤ ServeFault) {P Q R : Type 0} → OnOk answer P → (IsErrOf answer Net → Q) → (IsErrOf answer NoMemory → R) → (P ⊎ Q) ⊎ R
+stops (Ok none) finished failed unserved = inl (inl finished)
+stops (Err Net) finished failed unserved = inl (inr (failed refl))
+stops (Err NoMemory) finished failed unserved = inr (unserved refl)
+
+-- where memory did not run out
+pub stopped_at : (answer : Result ⊤ ServeFault) {P Q : Type 0} → answer ≢ Err NoMemory → OnOk answer P → (IsErrOf answer Net → Q) → P ⊎ Q
+stopped_at answer {P} {Q} began finished failed = elim (stops answer finished failed began) as (λ _. P ⊎ Q) [ inl is ↦ is | inr none ↦ absurd none ]

@@ -73,7 +73,7 @@ module _ (options : Options) (base : ℕ) where
         told_is = refl;
         uncounted = refl;
         lacked_is = refl;
-        serves = record { port = refl; never_fall = omega arith; seconds = refl; ended = sym unserved.unended; stopped = inr (inr refl); clients = none_told told b.log unserved.fresh };
+        serves = record { port = refl; never_fall = omega arith; seconds = refl; ended = sym unserved.unended; stopped = inr refl; clients = none_told told b.log unserved.fresh };
       })
 
   -- the ports that were listened at are as they were

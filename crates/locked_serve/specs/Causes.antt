@@ -1,5 +1,5 @@
 -- What each answer of a server says that was filled, and that tells once it listens at its ports.
-use Rattle.std.specs.Prelude.{◌≡◌, ◌⊎◌, ◌+◌, ◌<◌, ℕ, List, [], length, Option, Some, None, option_map, Result, Ok, Err, OnOk}
+use Rattle.std.specs.Prelude.{◌≡◌, ◌⊎◌, ◌+◌, ◌<◌, ℕ, ⊤, List, [], length, Option, Some, None, option_map, Result, Ok, Err}
 use Rattle.mica_clock.specs.Seconds.{ClockView}
 use Rattle.mica_io.specs.Faults.{Rose}
 use Rattle.mica_io.specs.declared.net.Net.{Ghosts as NetTells}
@@ -21,7 +21,7 @@ use Rattle.locked_serve.specs.declared.filling.OpenFault.TheVariants as open_fau
 use Rattle.locked_serve.specs.declared.stop.Stop.{Stop}
 use Rattle.locked_serve.specs.declared.stop.Stop.TheVariants.{Refused, Unbound, Unannounced, Fault}
 use Rattle.locked_serve.specs.Filled.{origin_of, RefusesFilling}
-use Rattle.locked_serve.specs.Streams.{StreamFacts, ListenFacts, HaveFinished, KeepsListeners, AreStreams, LeavesStreams, counted_by_all, listen_facts, others_of, with_ports}
+use Rattle.locked_serve.specs.Streams.{StreamFacts, ListenFacts, HaveFinished, HaveStopped, KeepsListeners, AreStreams, LeavesStreams, counted_by_all, listen_facts, others_of, with_ports}
 
 -- what contracts see of all ports at one moment: those of datagrams, and what listens at those of connections
 pub record PortFacts : Type 0 where
@@ -46,8 +46,15 @@ CameTo (Err (Unbound port)) streams heard before after came =
 CameTo (Err Unannounced) streams heard before after came = came ≡ None
 CameTo (Err Refused) streams heard before after came = ⊥
 
--- The fronts of connections answered this and left this of their ports, and those of datagrams came to what is said of them, beside each other. Where they came to
--- totals, each of them all had its port, and has finished. For so many connections there was no memory.
+-- Why the fronts of connections serve no longer, by what the server came to. With totals each had its port, and has finished; with a fault of a port each had its port,
+-- and has stopped.
+abbrev pub StopsStreams : Result Totals Stop → Service → List (List Answered) → List StreamFacts → List StreamFacts → Type 0
+StopsStreams (Ok totals) service answers olds news = (length olds ≡ service.streams.fronts) × HaveFinished service.options answers news
+StopsStreams (Err (Fault Net)) service answers olds news = (length olds ≡ service.streams.fronts) × HaveStopped service.options answers olds news
+StopsStreams (Err stop) service answers olds news = ⊤
+
+-- The fronts of connections answered this and left this of their ports, and those of datagrams came to what is said of them, beside each other. For so many
+-- connections there was no memory.
 pub record ComesBeside (says : Others → Option (Result Totals ServeFault) → Type 0) (leaves : List StreamFacts → Type 0) (answer : Result Totals Stop) (service : Service)
     (clocks : List ClockView) (lacked : ℕ) (before after : ListenFacts) : Type 0 where
   pub answers : List (List Answered)
@@ -57,8 +64,7 @@ pub record ComesBeside (says : Others → Option (Result Totals ServeFault) → 
   pub are : AreStreams service.options service.base service.streams before.ports clocks counts answers olds news
   pub lacked_is : lacked ≡ counted_by_all counts
   pub left : leaves news
-  pub all : OnOk answer (length olds ≡ service.streams.fronts)
-  pub finished : OnOk answer (HaveFinished service.options answers news)
+  pub stopped : StopsStreams answer service answers olds news
   pub came : Option (Result Totals ServeFault)
   pub came_is : CameTo answer service.streams olds before.faults after.faults came
   pub unserved : LeavesStreams came answers lacked olds news

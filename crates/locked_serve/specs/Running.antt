@@ -1,7 +1,6 @@
 -- What each front makes of the port of its place, and what is left of the partitions then.
 use Rattle.std.specs.Prelude.{◌≡◌, ◌≢◌, ◌+◌, ◌<◌, ◌≤◌, ◌⊎◌, ⊤, ℕ, false, List, length, slice_get, slice_index_or, Some, IfSome, Result, Ok, Err, IsErrOf, OnOk}
 use Rattle.mica_clock.specs.Seconds.{ClockView}
-use Rattle.mica_io.specs.Faults.{Rose}
 use Rattle.mica_io.specs.Traffic.{new_traffic}
 use Rattle.partition_model.specs.declared.options.Options.{Options}
 use Rattle.partition_model.specs.History.{History}
@@ -21,7 +20,7 @@ use Rattle.mica_serve.specs.FrontRuns.{FrontRun, RunsFront, RanAll, SumsUp}
 use Rattle.locked_serve.specs.declared.worker.FrontTask.{FrontTask}
 use Rattle.locked_serve.specs.declared.streams.StreamTask.{StreamTask}
 use Rattle.locked_serve.specs.Opening.{AreNewParts}
-use Rattle.locked_serve.specs.Streams.{StreamFacts, HasFinished, IsUnserved, ServesStream, AreServed, StopsStream, counted_by_all, others_of}
+use Rattle.locked_serve.specs.Streams.{StreamFacts, HasFinished, HasFailed, HasStopped, IsUnserved, ServesStream, AreServed, StopsStream, counted_by_all, others_of}
 
 -- Fronts of datagrams
 
@@ -52,13 +51,14 @@ module _ {D : Type 0} (plan : Plan) (batches : ℕ) (facts : D → EndFacts) whe
 
 -- Fronts of connections
 
--- A front was served behind its port. Its sessions went on by these answers, and it was given no writes but those among them. Where it came to no fault, it has finished.
+-- A front was served behind its port. Its sessions went on by these answers, and it was given no writes but those among them. Where it came to no fault, it has finished;
+-- where it came to one of its port, that has failed.
 pub record RunsStream (options : Options) (base : ℕ) (old new : FrontAt) (answered : List Answered) (answer : Result ⊤ ServeFault) (before after : StreamFacts) : Type 0 where
   pub serves : ServesStream options base old new answered before after
   pub in_order : AnswersInOrder options false old.sessions answered new.sessions
   pub few : old.left ≤ new.left + count_of_writes answered
   pub finished : OnOk answer (HasFinished options answered after)
-  pub cause : IsErrOf answer Net → Rose before.faults after.faults
+  pub cause : IsErrOf answer Net → HasFailed before after
 
 -- as what it has in hand, its clock, what it counted and its port tell it
 abbrev pub front_facts : {C K : Type 0} → (C → StreamFacts) → (K → ClockView) → ℕ → StreamTask C K → FrontAt
@@ -102,19 +102,26 @@ pub record RanBeside (options : Options) (origin : ℕ → History) (batches bas
   pub lacked_is : lacked ≡ counted_by_all counts
   pub finished : (k : ℕ) (own : List Answered) (after : StreamFacts) → ((fault : ServeFault) → slice_get streams k ≢ Some (Err fault))
       → slice_get answers k ≡ Some own → slice_get news k ≡ Some after → HasFinished options own after
-  pub stopped : (k : ℕ) → slice_get streams k ≡ Some (Err Net) → StopsStream olds news
+  pub stopped : (k : ℕ) (own : List Answered) (before after : StreamFacts) → slice_get streams k ≢ Some (Err NoMemory)
+      → slice_get answers k ≡ Some own → slice_get olds k ≡ Some before → slice_get news k ≡ Some after → HasStopped options own before after
+  pub failed : (k : ℕ) → slice_get streams k ≡ Some (Err Net) → StopsStream olds news
   pub ran : RanAll (others_of answers olds news) options origin batches kept fronts before after
 
--- a front of connections has this fault, where there is one
+-- no front ran out of memory
+abbrev pub AllHadMemory : {A : Type 0} → List (Result A ServeFault) → Type 0
+AllHadMemory answers = (k : ℕ) → slice_get answers k ≢ Some (Err NoMemory)
+
+-- the fault of the fronts of connections: out of memory, if any ran out of it; else a fault of any
 abbrev pub IsFaultOf : List (Result ⊤ ServeFault) → Result ⊤ ServeFault → Type 0
 IsFaultOf streams (Ok none) = (k : ℕ) (fault : ServeFault) → slice_get streams k ≢ Some (Err fault)
-IsFaultOf streams (Err fault) = (k : ℕ) × (slice_get streams k ≡ Some (Err fault))
+IsFaultOf streams (Err Net) = AllHadMemory streams × ((k : ℕ) × (slice_get streams k ≡ Some (Err Net)))
+IsFaultOf streams (Err NoMemory) = (k : ℕ) × (slice_get streams k ≡ Some (Err NoMemory))
 
 -- Out of memory of any front is that of all; else a fault of any; else the totals are those of the fronts of datagrams.
 abbrev pub SumsUpBeside : List (Result ⊤ ServeFault) → List (Result Totals ServeFault) → Result Totals ServeFault → Type 0
 SumsUpBeside streams fronts (Ok totals) = ((k : ℕ) (fault : ServeFault) → slice_get streams k ≢ Some (Err fault)) × SumsUp fronts (Ok totals)
 SumsUpBeside streams fronts (Err Net) =
-    ((f : ℕ) → slice_get fronts f ≢ Some (Err NoMemory))
+    AllHadMemory streams × AllHadMemory fronts
     × (((k : ℕ) × (slice_get streams k ≡ Some (Err Net))) ⊎ ((f : ℕ) × (slice_get fronts f ≡ Some (Err Net))))
 SumsUpBeside streams fronts (Err NoMemory) =
     ((k : ℕ) × (slice_get streams k ≡ Some (Err NoMemory))) ⊎ ((f : ℕ) × (slice_get fronts f ≡ Some (Err NoMemory)))

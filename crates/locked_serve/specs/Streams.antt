@@ -1,8 +1,8 @@
 -- The ports of connections, as contracts see them, and what their fronts make of them.
-use Rattle.std.specs.Prelude.{◌≡◌, ◌≢◌, ◌⊎◌, ◌+◌, ◌-◌, ◌<◌, ◌≤◌, ⊤, ℕ, Bool, false, List, [], ◌∷◌, length, min, sum, slice_get, Option, None, Some, IfSome, option_map, Result, OnOk}
+use Rattle.std.specs.Prelude.{◌≡◌, ◌≢◌, ◌⊎◌, ◌+◌, ◌-◌, ◌<◌, ◌≤◌, ⊤, ℕ, Bool, false, List, [], ◌∷◌, length, min, sum, slice_get, Option, None, Some, IfSome, option_map, Result, IsErrOf, OnOk}
 use Rattle.mica_clock.specs.Seconds.{ClockView}
 use Rattle.mica_io.specs.Faults.{Rose, LAST_COUNT}
-use Rattle.stream_io.specs.Log.{Log}
+use Rattle.stream_io.specs.Log.{Log, LastFailed}
 use Rattle.stream_io.specs.declared.connections.Connections.{Ghosts as StreamTells}
 use Rattle.stream_io.specs.declared.listeners.Listeners.{Ghosts as ListenersTell}
 use Rattle.stream_io.specs.PortLogs.{Place, PortLogs, with_port}
@@ -12,6 +12,7 @@ use Rattle.partition_table.specs.declared.tables.KeptSeat.{KeptSeat}
 use Rattle.mica_fronts.specs.Answered.{Answered, count_of_writes}
 use Rattle.mica_fronts.specs.declared.totals.Totals.{Totals}
 use Rattle.mica_fronts.specs.declared.totals.ServeFault.{ServeFault}
+use Rattle.mica_fronts.specs.declared.totals.ServeFault.TheVariants.{Net}
 use Rattle.memcached_fronts.specs.Seconds.{seconds_of, ToldFrom}
 use Rattle.stream_fronts.specs.declared.desk.TheConstants.{MOST_UNSENT}
 use Rattle.stream_fronts.specs.declared.ports.StreamPorts.{StreamPorts}
@@ -100,17 +101,23 @@ ServesClients options base old new answers before after = (served : ServesLog op
 abbrev pub HasFinished : Options → List Answered → StreamFacts → Type 0
 HasFinished options answers after = IsFinished options after.has_ended (most_turns - count_of_writes answers)
 
--- Why a front serves no longer: it has finished; or a fault was counted; or it did not begin, and its port is as it was.
+-- A fault came to the port: it was counted, and where the log is told, the last call failed.
+pub record HasFailed (before after : StreamFacts) : Type 0 where
+  pub counted : Rose before.faults after.faults
+  pub last : IfSome after.log LastFailed
+
+-- Why a front that began serves no longer: it has finished, or a fault came to its port.
 abbrev pub HasStopped : Options → List Answered → StreamFacts → StreamFacts → Type 0
-HasStopped options answers before after = HasFinished options answers after ⊎ (Rose before.faults after.faults ⊎ (after ≡ before))
+HasStopped options answers before after = HasFinished options answers after ⊎ HasFailed before after
 
 -- A front answered so, behind its port: the readings of its clock gave the seconds of these answers, one after another, and no others. It knows whether the end came.
+-- It has stopped; or it did not begin, and its port is as it was.
 pub record ServesStream (options : Options) (base : ℕ) (old new : FrontAt) (answers : List Answered) (before after : StreamFacts) : Type 0 where
   pub port : after.port ≡ before.port
   pub never_fall : before.faults ≤ after.faults
   pub seconds : ToldFrom old.clock (seconds_of options answers) new.clock
   pub ended : new.has_ended ≡ after.has_ended
-  pub stopped : HasStopped options answers before after
+  pub stopped : HasStopped options answers before after ⊎ (after ≡ before)
   pub clients : OnLogs (ServesClients options base old new answers) before.log after.log
 
 -- A front whose clock was seen so answered this, behind its port, and counted so many connections that there was no memory for.
@@ -142,10 +149,15 @@ pub record AreStreams (options : Options) (base : ℕ) (streams : StreamPorts) (
   pub served : AreServed options base clocks counts answers olds news
   pub unheard : (k : ℕ) (own : List Answered) → slice_get answers k ≡ Some own → length olds ≤ k → own ≡ []
 
--- each has
+-- each has finished
 abbrev pub HaveFinished : Options → List (List Answered) → List StreamFacts → Type 0
 HaveFinished options answers news =
     (k : ℕ) (own : List Answered) (after : StreamFacts) → slice_get answers k ≡ Some own → slice_get news k ≡ Some after → HasFinished options own after
+
+-- each has stopped
+abbrev pub HaveStopped : Options → List (List Answered) → List StreamFacts → List StreamFacts → Type 0
+HaveStopped options answers olds news = (k : ℕ) (own : List Answered) (before after : StreamFacts) → slice_get answers k ≡ Some own → slice_get olds k ≡ Some before
+    → slice_get news k ≡ Some after → HasStopped options own before after
 
 -- a fault came to one of them
 pub record StopsStream (olds news : List StreamFacts) : Type 0 where
@@ -154,7 +166,7 @@ pub record StopsStream (olds news : List StreamFacts) : Type 0 where
   pub new : StreamFacts
   pub was : slice_get olds front ≡ Some old
   pub is : slice_get news front ≡ Some new
-  pub rose : Rose old.faults new.faults
+  pub failed : HasFailed old new
 
 -- the fronts of connections, to those of datagrams
 abbrev pub others_of : List (List Answered) → List StreamFacts → List StreamFacts → Others
@@ -165,7 +177,8 @@ abbrev pub LeavesStreams : Option (Result Totals ServeFault) → List (List Answ
 LeavesStreams None answers lacked olds news = (news ≡ olds) × HaveAnsweredNothing (others_of answers olds news) × (lacked ≡ 0)
 LeavesStreams (Some came) answers lacked olds news = ⊤
 
--- Each front was served, those of connections beside those of datagrams, which came to this all together. For so many connections there was no memory.
+-- Each front was served, those of connections beside those of datagrams, which came to this all together: with totals each of connections has finished, and where a
+-- port failed, each has stopped. For so many connections there was no memory.
 pub record ServesBeside (options : Options) (origin : ℕ → History) (batches base : ℕ) (clocks : List ClockView) (answer : Result Totals ServeFault) (kept : List KeptSeat) (lacked : ℕ)
     (before after : List EndFacts) (olds news : List StreamFacts) : Type 0 where
   pub answers : List (List Answered)
@@ -174,4 +187,5 @@ pub record ServesBeside (options : Options) (origin : ℕ → History) (batches 
   pub streams : AreServed options base clocks counts answers olds news
   pub lacked_is : lacked ≡ counted_by_all counts
   pub finished : OnOk answer (HaveFinished options answers news)
+  pub stopped : IsErrOf answer Net → HaveStopped options answers olds news
   pub fronts : ServesFronts (others_of answers olds news) options origin batches answer kept before after

@@ -22,11 +22,13 @@ loop-answer-preserved c =
           let is : get_or streams k (Ok tt) ≡ Err w.in-Err-Net.field-0 = w.in-Err-Net.is in
           let here : get_or streams k (Ok tt) ≡ Err Net = is ∙ ap Err (rw is at w.in-Err-Net.field-0-is) in
           subst (λ (b : Bool). FaultTo (k + 1) streams b) (sym w.failed-is)
-          (fault_more k streams c.loop-answer.failed (slice_get-get_or streams k (Ok tt) less ∙ ap Some here))
+          (fault_more k streams c.loop-answer.failed c.loop-answer.invariant (slice_get-get_or streams k (Ok tt) less ∙ ap Some here))
     ]
 
 pub returns-then-failed : goal.returns-then-failed
-returns-then-failed c = fault_in c.loop-answer.answer-index c.args.streams.now (subst (FaultTo c.loop-answer.answer-index c.args.streams.now) c.if-failed.true c.loop-answer.invariant)
+returns-then-failed c =
+    fault_in c.loop-answer.answer-index c.args.streams.now (omega (arith, c.loop-answer-test.false, c.loop-answer.auto.answer-index-end))
+    (subst (FaultTo c.loop-answer.answer-index c.args.streams.now) c.if-failed.true c.loop-answer.invariant)
 
 pub returns-else-failed : goal.returns-else-failed
 returns-else-failed c =

@@ -66,7 +66,7 @@ pub returns-in-Err-clause-served : goal.returns-in-Err-clause-served
 returns-in-Err-clause-served g c =
     let z = (goal.at.returns-in-Err-clause-served g c).After-bind_all in
     let failed = c.in-Err.ensures in
-    unbound (Unbound _) Net refl (inl (refl, refl, refl)) c.requires.uncounted (sym (ap (map (of_stream g)) c.requires.no_streams))
+    unbound (Unbound _) Net refl (inl (refl, refl, refl)) tt c.requires.uncounted (sym (ap (map (of_stream g)) c.requires.no_streams))
     (run_failed (bound g z) c.requires.filled refl c.requires.tables failed.cause (omega (arith, failed.refused)) (silent c.args.shared.now.service.streams [] []))
 
 pub returns-in-Err-clause-heard : goal.returns-in-Err-clause-heard
@@ -87,7 +87,7 @@ returns-in-Err-listen_all-clause-served g c =
     let failed = c.in-Err-listen_all.ensures in
     let streams = c.requires.service.streams in
     let long = heard_long g at.After-listen_all in
-    unserved (map (of_stream g) c.listen_all.new.connections.items) c.listen_all.ensures.new (heard_few g at.After-listen_all) (Unbound _) refl c.requires.uncounted
+    unserved (map (of_stream g) c.listen_all.new.connections.items) c.listen_all.ensures.new (heard_few g at.After-listen_all) (Unbound _) refl tt c.requires.uncounted
     (inr (refl, failed.cause, (omega (arith, failed.lacks, long), omega (arith, failed.lacks, long, c.len-in-Err-listen_all.ensures, streams.numbers, streams.fronts)))) refl
     (run_left (bound g at.After-bind_all) c.requires.filled c.requires.tables (ends_long g at.After-bind_all ∙ c.in-Ok.ensures.all))
 
@@ -99,7 +99,7 @@ returns-in-Err-listen_all-clause-announced g c = (inr (c.in-Ok.ensures.none_refu
 pub returns-in_err-ready-clause-served : goal.returns-in_err-ready-clause-served
 returns-in_err-ready-clause-served g c =
     let at = goal.at.returns-in_err-ready-clause-served g c in
-    unserved (map (of_stream g) c.listen_all.new.connections.items) c.listen_all.ensures.new (heard_few g at.After-listen_all) Unannounced (ended_with c.from_residual.result c.from_residual.ensures.1) c.requires.uncounted refl refl
+    unserved (map (of_stream g) c.listen_all.new.connections.items) c.listen_all.ensures.new (heard_few g at.After-listen_all) Unannounced (ended_with c.from_residual.result c.from_residual.ensures.1) tt c.requires.uncounted refl refl
     (run_left (bound g at.After-bind_all) c.requires.filled c.requires.tables (ends_long g at.After-bind_all ∙ c.in-Ok.ensures.all))
 
 pub returns-in_err-ready-clause-announced : goal.returns-in_err-ready-clause-announced

@@ -1,10 +1,11 @@
 use Rattle.std.proofs.Common.{◌≡◌, ℕ, Bool, slice_get, refl, sym, ap, ◌∙◌, subst, arith}
-use Rattle.std.specs.Prelude.{OnOk}
+use Rattle.std.specs.Prelude.{OnOk, IsErrOf}
 use Rattle.mica_clock.specs.Seconds.{ClockView}
+use Rattle.mica_fronts.specs.declared.totals.ServeFault.TheVariants.{Net}
 use Rattle.mica_fronts.specs.Answered.{count_of_writes}
 use Rattle.locked_fronts.specs.Parts.{LockedView, IsLockedFront, locked_view, turns_taken, turns_left, sessions_of}
 use Rattle.stream_fronts.specs.Serving.{FrontAt, IsFinished}
-use Rattle.locked_serve.specs.Streams.{StreamFacts, stream_facts}
+use Rattle.locked_serve.specs.Streams.{StreamFacts, HasFailed, stream_facts}
 use Rattle.locked_serve.proofs.Ran.{none_taken}
 use Rattle.locked_serve.proofs.Streamed.{GoesAndServes, both_by, finishes, finished_so, stops}
 use Rattle.locked_serve.proofs.streams.StreamTask.run.Goals as goal
@@ -40,14 +41,15 @@ returns g c =
     let had = none_taken c.args.self.now.parts.items (λ p x at. (c.requires.ready.parts.each p x at).none) in
     let ends = subst (λ (v : LockedView). OnOk c.serve_connections-self.result (IsFinished v.options a.has_ended (turns_left v.parts))) new_is served.ends in
     let finished = finished_so c.serve_connections-self.result (finishes plan.options a.has_ended _ (count_of_writes it.answers) (let few = it.goes.few in omega (arith, few, had))) ends in
+    let cause : IsErrOf c.serve_connections-self.result Net → HasFailed b a = λ is. record { counted = served.cause is; last = served.last_failed is } in
     record {
       is = subst (IsLockedFront plan) new_is c.into_parts.ensures.front;
       answered = it.answers;
       run = record {
-        serves = record { port = served.port; never_fall = served.never_fall; seconds = it.goes.seconds; ended = refl; stopped = stops plan.options it.answers b a c.serve_connections-self.result finished served.cause (λ is. ap facts (served.none_served is).1); clients = it.clients };
+        serves = record { port = served.port; never_fall = served.never_fall; seconds = it.goes.seconds; ended = refl; stopped = stops c.serve_connections-self.result finished cause (λ is. ap facts (served.none_served is).1); clients = it.clients };
         in_order = it.goes.in_order;
         few = it.goes.few;
         finished = finished;
-        cause = served.cause;
+        cause = cause;
       };
     }
