@@ -26,13 +26,17 @@ pub no_memory_exits : (words : Option (List Text)) (outside : Outside) (number :
 no_memory_exits None outside number none told = (told, refl)
 no_memory_exits (Some words) outside number none told = (NoMemory, told, memory_promise (command_of words) outside none)
 
+-- the words that the system gave behind the first of all words
+pub words_behind : {S : Type 0} (text : S → Text) (all : Option (List Text)) (words behind : List S) → all ≡ Some (map text words) → behind ≡ drop 1 words
+    → option_map (λ ws. drop 1 ws) all ≡ Some (map text behind)
+words_behind text all words behind are is = ap (option_map (λ ws. drop 1 ws)) are ∙ ap (λ ws. Some ws) (drop-map text 1 words ∙ ap (map text) (sym is))
+
 -- the words behind the first of all words are those that the command was read from
 pub words_exit : {S : Type 0} (text : S → Text) (all : Option (List Text)) (words behind : List S) (status : Status) → all ≡ Some (map text words) → behind ≡ drop 1 words
     → (old new : Outside) (number : ℕ) → number ≡ exit_number status → KeepsPromise (promise_of (command_of (map text behind))) old new status
     → Exits (option_map (λ ws. drop 1 ws) all) old new number
 words_exit text all words behind status are is old new number told kept =
-    subst (λ ws. Exits ws old new number) (sym (ap (option_map (λ ws. drop 1 ws)) are ∙ ap (λ ws. Some ws) (drop-map text 1 words ∙ ap (map text) (sym is))))
-    (status, told, kept)
+    subst (λ ws. Exits ws old new number) (sym (words_behind text all words behind are is)) (status, told, kept)
 
 -- whatever is known of the words, the number is that of a status
 pub ends_with_status : (words : Option (List Text)) (old new : Outside) (number : ℕ) → Exits words old new number → (status : Status) × (number ≡ exit_number status)

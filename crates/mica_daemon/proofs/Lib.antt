@@ -1,1 +1,2 @@
+pub mod Exiting
 pub mod Announced

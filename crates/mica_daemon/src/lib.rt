@@ -14,6 +14,7 @@ mod host;
 mod listening;
 mod memory_files;
 mod process;
+mod program;
 mod speaker;
 mod top;
 
@@ -23,5 +24,6 @@ pub use host::run_on_host;
 pub use listening::PlacedListeners;
 pub use memory_files::MemFiles;
 pub use process::Process;
+pub use program::{begins_above, run_daemon};
 pub use speaker::Speaker;
 pub use top::daemon;

@@ -98,6 +98,7 @@ fn stay_up<
     G: Gate,
 >(
     process: &Process<W, G>,
+    base: u64,
     options: &Options,
     ports: &PortOptions,
     streams: &StreamOptions,
@@ -114,7 +115,7 @@ fn stay_up<
     requires unbound { N.binds net.old ≡ 0 }
     requires tables { left.old.tables ≡ [] }
     requires uncounted { left.old.lacked ≡ 0 }
-    ensures { ServesOrNot options.now ports.now streams.now (map C.view start.clocks.items) process.now.base start.filling.items
+    ensures { ServesOrNot options.now ports.now streams.now (map C.view start.clocks.items) base start.filling.items
         (daemon_outside (sink_facts K.Sink speaker.old.sink) (ports_at N.Net L.Listeners net.old listeners.old) left.old.tables left.old.lacked)
         (daemon_outside (sink_facts K.Sink speaker.new.sink) (ports_at N.Net L.Listeners net.new listeners.new) left.new.tables left.new.lacked) result }
 {
@@ -139,7 +140,7 @@ fn stay_up<
                 options: *options,
                 ports: *ports,
                 streams: streams.ports,
-                base: process.base,
+                base,
             };
             let shared = Shared {
                 rt: process.rt,
@@ -168,7 +169,8 @@ fn has_memory<F: Files>(alloc: Global, files: &F, options: &Options) -> bool
 
 /// Fills the partitions from the image that the words name, and serves the ports that they give, each for as many datagrams as can be
 /// counted, and each connection until it ends. It writes one line once it has all ports, and one at its end. Where they take more memory than is free, it ends at once.
-/// `left.lacked` says how many connections were closed since there was no memory for them.
+/// `base` is the unique number of the first value that a partition takes from a connection. `left.lacked` says how many connections were closed since there was no
+/// memory for them.
 pub fn daemon<
     W: Threads + Wait + Sync,
     F: Files,
@@ -179,6 +181,7 @@ pub fn daemon<
     G: Gate,
 >(
     process: &Process<W, G>,
+    base: u64,
     words: &[String],
     clocks: Vec<C>,
     files: &mut F,
@@ -191,7 +194,7 @@ pub fn daemon<
     requires clocks { MOST_FRONTS ≤ length clocks.items }
     requires tables { left.old.tables ≡ [] }
     requires uncounted { left.old.lacked ≡ 0 }
-    ensures { KeepsUp (daemon_of (map string_bytes words.now)) (map C.view clocks.items) process.now.base (files_facts F.file F.free F.faults files.old) (files_facts F.file F.free F.faults files.new)
+    ensures { KeepsUp (daemon_of (map string_bytes words.now)) (map C.view clocks.items) base (files_facts F.file F.free F.faults files.old) (files_facts F.file F.free F.faults files.new)
         (daemon_outside (sink_facts K.Sink speaker.old.sink) (ports_at N.Net L.Listeners net.old listeners.old) left.old.tables left.old.lacked)
         (daemon_outside (sink_facts K.Sink speaker.new.sink) (ports_at N.Net L.Listeners net.new listeners.new) left.new.tables left.new.lacked) result }
 {
@@ -212,7 +215,7 @@ pub fn daemon<
         Ok(filling) => {
             let start = Start { filling, clocks };
             stay_up(
-                process, &options, &ports, &streams, start, speaker, net, listeners, left,
+                process, base, &options, &ports, &streams, start, speaker, net, listeners, left,
             )
         }
         Err(status) => status,

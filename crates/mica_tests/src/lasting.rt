@@ -57,12 +57,12 @@ pub fn run_whole<W: Threads + Wait + Sync, F: Files, N: Net, L: PlacedListeners,
         alloc,
         gate,
         ended,
-        base: 1,
         pid: 1,
     };
     let mut left = Left::nothing();
     let status = daemon(
         &process,
+        1,
         words.as_slice(),
         clocks_of(alloc, seconds)?,
         files,
