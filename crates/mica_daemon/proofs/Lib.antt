@@ -1,1 +1,3 @@
 pub mod Announced
+pub mod LeftLogs
+pub mod Headlines

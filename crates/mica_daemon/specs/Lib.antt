@@ -1,3 +1,4 @@
 pub mod Files
 pub mod Filling
 pub mod Daemon
+pub mod Headline
