@@ -1,2 +1,4 @@
 pub mod Exiting
 pub mod Announced
+pub mod LeftLogs
+pub mod Headlines

@@ -2,3 +2,4 @@ pub mod Exit
 pub mod Files
 pub mod Filling
 pub mod Daemon
+pub mod Headline

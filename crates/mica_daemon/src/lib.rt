@@ -3,7 +3,7 @@
 //! A caller may rely on this: `daemon` ends at once where its partitions take more memory than the system says is free. Else it
 //! fills them by the pairs of an image, where the words name one, before it binds a port. It serves datagrams and connections as
 //! `locked_serve` promises, says once that it has all its ports, before it receives anything, and then nothing until it ends. `specs/Daemon.antt` says what
-//! the sink took by what the server came to, and `specs/Filling.antt` what it took where there was no image.
+//! the sink took by what the server came to, and `specs/Filling.antt` what it took where there was no image. `specs/Headline.antt` says all that a service gets.
 #![tactic(auto)]
 
 mod board;
@@ -11,6 +11,7 @@ mod files;
 mod filling;
 mod free_memory;
 mod host;
+mod laws;
 mod listening;
 mod memory_files;
 mod process;
@@ -21,6 +22,7 @@ mod top;
 pub use files::{Files, HostFiles};
 pub use free_memory::{SystemFiles, free_by};
 pub use host::run_on_host;
+pub use laws::{headline, headline_at_fault};
 pub use listening::PlacedListeners;
 pub use memory_files::MemFiles;
 pub use process::Process;
