@@ -49,7 +49,6 @@ module _ (options : Options) (base : ℕ) where
       all = [];
       serves = record {
         answers = [];
-        sweeps = refl;
         in_order = λ q. refl;
         seconds = refl;
         few = omega arith;
@@ -57,7 +56,7 @@ module _ (options : Options) (base : ℕ) where
         counted = refl;
         through = subst (λ (entries : List Entry). TalksThrough options base MOST_UNSENT log.schedule [] entries []) (sym fresh)
             (λ c. inl (record { said = []; rest = []; spells = refl; answered = refl; begins = ([], refl) }, record { kept = omega arith; unsent = omega arith }));
-        turns = record { turns = []; calls = sym fresh; given = refl; short = tt };
+        turns = record { turns = []; calls = sym fresh; given = refl; answered = refl; short = tt };
         caught_up = subst (λ (entries : List Entry). IsCaughtUp options base log.schedule log.script.piece entries []) (sym fresh) (λ moving c. tt);
         over = λ ended. absurd (true≢false (sym ended));
       };

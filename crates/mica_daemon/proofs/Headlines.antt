@@ -18,10 +18,10 @@ use Rattle.mica_fronts.specs.Answered.{Answered}
 use Rattle.mica_fronts.specs.declared.totals.Totals.{Totals}
 use Rattle.mica_fronts.specs.declared.totals.ServeFault.{ServeFault}
 use Rattle.mica_fronts.specs.declared.totals.ServeFault.TheVariants.{Net, NoMemory as NoRoom}
-use Rattle.memcached_fronts.specs.Sweeps.{HasSweeps}
 use Rattle.stream_fronts.specs.declared.ports.StreamPorts.{StreamPorts}
-use Rattle.stream_fronts.specs.Given.{answers_in}
+use Rattle.stream_fronts.specs.declared.desk.TheConstants.{MOST_UNSENT}
 use Rattle.stream_fronts.specs.Open.{OnLogs}
+use Rattle.stream_fronts.specs.Turns.{TakesTurns}
 use Rattle.mica_serve.specs.NetRun.{OnPorts, IsCauseOnceBound}
 use Rattle.locked_serve.specs.declared.service.Service.{Service as LockedService}
 use Rattle.locked_serve.specs.declared.stop.Stop.{Stop}
@@ -107,9 +107,9 @@ module _ (options : Options) (base : ℕ) (streams : StreamPorts) (clocks : List
   talks k own h x y it = record {
     same = it.0.same;
     given = it.0.all;
-    sweeps = subst (HasSweeps options base (answers_in it.0.all)) it.1 it.0.serves.sweeps;
     lacking = it.0.serves.lacking;
     few = omega (arith, it.0.serves.counted, h.serves.uncounted, h.serves.lacked_is, h.few, lacked_is);
+    turns = subst (TakesTurns options base MOST_UNSENT y.schedule y.script.piece it.0.serves.lacking y.entries it.0.all) it.1 it.0.serves.turns;
     through = it.0.serves.through;
     caught_up = it.0.serves.caught_up;
   }

@@ -13,13 +13,13 @@ use Rattle.mica_fronts.specs.Answered.{Answered, count_of_writes}
 use Rattle.mica_fronts.specs.Dealing.{Dealing, answered_in}
 use Rattle.mica_fronts.specs.Placed.{Placed}
 use Rattle.mica_fronts.specs.Totals.{Counts}
-use Rattle.memcached_fronts.specs.Sweeps.{HasSweeps}
 use Rattle.stream_fronts.specs.declared.desk.TheConstants.{MOST_UNSENT}
 use Rattle.stream_fronts.specs.declared.ports.StreamPorts.{StreamPorts}
-use Rattle.stream_fronts.specs.Given.{Given, answers_in}
+use Rattle.stream_fronts.specs.Given.{Given}
 use Rattle.stream_fronts.specs.Moments.{TalksThrough, IsCaughtUp}
 use Rattle.stream_fronts.specs.Open.{OnLogs}
 use Rattle.stream_fronts.specs.Serving.{IsSpent}
+use Rattle.stream_fronts.specs.Turns.{TakesTurns}
 use Rattle.locked_fronts.specs.Parts.{most_turns}
 use Rattle.mica_serve.specs.Served.{AnswersLawfully, ServesPort, LeavesPort}
 use Rattle.locked_serve.specs.Filled.{origin_of}
@@ -53,12 +53,13 @@ pub record AnswersFromFilling (files : FilesFacts) (service : Service) (answers 
 pub record TalksLawfully (options : Options) (base lacked : ℕ) (answers : List Answered) (before after : Log) : Type 0 where
   -- what clients do is as it was foretold;
   pub same : after.schedule ≡ before.schedule
-  -- of the front's answers these were given to clients, and the others are sweeps;
+  -- of the front's answers these were given to clients;
   pub given : List Given
-  pub sweeps : HasSweeps options base (answers_in given) answers
   -- for these connections memory lacked, and they are no more than were counted;
   pub lacking : List ℕ
   pub few : min (length lacking) LAST_COUNT ≤ lacked
+  -- all came in short turns, one for each report: first answers to clients, and behind them a few sweeps;
+  pub turns : TakesTurns options base MOST_UNSENT after.schedule after.script.piece lacking after.entries given answers
   -- at each moment what was sent to each client is due to what it had said, by the answers until then, and each close had a cause;
   pub through : TalksThrough options base MOST_UNSENT after.schedule lacking after.entries given
   -- and in the end each connection is settled, or a report of it is to come
