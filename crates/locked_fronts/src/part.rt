@@ -21,7 +21,7 @@ use std::thread;
 use turn_book::Taker;
 
 /// How often a look is tried before the lock is taken for it.
-const TRIES: u32 = 8;
+const LOOK_TRIES: u32 = 8;
 
 /// What a front has of one partition.
 #[derive(Drop)]
@@ -145,7 +145,7 @@ impl LockedPart {
             return None;
         }
         let aside = self.seat.set_aside();
-        let got = get_hashed(&mut self.seat, key, hash, TRIES, found);
+        let got = get_hashed(&mut self.seat, key, hash, LOOK_TRIES, found);
         let epoch = self.seat.epoch_of_first();
         let unmoved = self.counts.has_all_flushes(epoch);
         match answer_in(got) {
@@ -228,8 +228,8 @@ impl LockedPart {
         (outcome, stamp)
     }
 
-    /// Looks at the key's value and does what is decided of it: without a hold where that only reads and nothing was written in the bucket of flushes since
-    /// the last one; else it owns the partition of the number for that, and tells the seat its note.
+    /// Looks at the key's value and does what is decided of it. It takes no hold where that only reads, and where nothing was written in the bucket of flushes since
+    /// the last hold. Else it owns the partition of the number for that, and tells the seat its note.
     pub(crate) fn change<
         R: Wait,
         J: ServerPlan,

@@ -1,5 +1,5 @@
 //! Partitions as filled, the fronts' parts of them, and their locks, before any front runs.
-ghost use Rattle.std.specs.Prelude.{◌≡◌, ◌+◌, ◌<◌, ◌≤◌, ℕ, [], All, IfOk, OnOk, IsErrOf, Some, length, map, slice_get, vec_len};
+ghost use Rattle.std.specs.Prelude.{◌≡◌, ◌+◌, ◌<◌, ◌≤◌, All, IfOk, OnOk, IsErrOf, length, map};
 ghost use Rattle.partition_model.specs.declared.options.TheConstants.{MOST_PARTITIONS};
 ghost use Rattle.partition_model.specs.Options.{IsPossible};
 ghost use Rattle.partition_model.specs.Write.{IsWrite};

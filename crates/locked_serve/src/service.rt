@@ -6,22 +6,29 @@ use std::alloc::Global;
 use std::sync::atomic::AtomicBool;
 use stream_fronts::StreamPorts;
 
-/// The partitions, the ports of both kinds, and the unique number of the first value that a partition takes from a connection.
+/// What a server serves.
 #[derive(Clone, Copy)]
 pub struct Service {
+    /// Those of the partitions.
     pub options: Options,
+    /// The ports of datagrams.
     pub ports: PortOptions,
+    /// The ports of connections.
     pub streams: StreamPorts,
+    /// The unique number of the first value that a partition takes from a connection.
     pub base: u64,
 }
 
-/// What is at hand of each front: threads, memory, what is served, where it counts what it does, and the gate that it passes before each request.
+/// What is at hand of each front.
 #[derive(Drop)]
 pub struct Shared<'a, W, G> {
+    /// Threads.
     pub rt: &'a W,
     pub alloc: Global,
     pub service: Service,
+    /// Where a front behind connections shows what it counts.
     pub board: &'a Board,
+    /// What a front of datagrams passes before each request.
     pub gate: &'a G,
     /// Set once a front has ended or a partition bears no more writes: ports that fail together end the server then.
     pub ended: &'a AtomicBool,

@@ -115,7 +115,7 @@ due_to options base e = unless_quiet (is_quiet e.next) (text_by options base e.t
 
 -- Going on
 
--- it has so many answers, and more are to come, or none at all was asked for; a flush is not left halfway
+-- no answer was given to it yet; or so many were, and more are to come; a flush is not left halfway
 abbrev pub IsOpenAt : Next → ℕ → Type 0
 IsOpenAt next done = (done ≡ 0) ⊎ (done < length (asks.asks_in next))
 

@@ -87,8 +87,7 @@ fn note_write(
     }
 }
 
-/// Has what is asked of a key decided of one look and done with nothing between, at the second that the clock tells, and appends the text that is due
-/// to it. What came of it is counted. When out of memory, nothing is appended, and it is done all the same.
+/// Decides of one look what is asked of a key, and does it with nothing between, at the second that the clock tells. It appends the text that is due to it. What came of it is counted. When out of memory, nothing is appended, and it is done all the same.
 pub fn answer_ask<R: Threads + Wait + Sync, F: Changes, C: Clock>(
     rt: &R,
     front: &mut F,

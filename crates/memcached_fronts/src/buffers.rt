@@ -1,4 +1,4 @@
-//! What a front has in hand for its commands.
+//! Room for the commands of a front, and what it counts of them.
 ghost use Rattle.std.specs.Prelude.{◌≡◌};
 
 use crate::noted::Noted;
@@ -7,14 +7,18 @@ use mica_io::NoMemory;
 use partition_model::ItemBuf;
 use std::alloc::Global;
 
-/// Room for a value that is found, and for the one that is to be; what is noted for the next sweep; what the front has counted; and where it shows that, in the place of
-/// this number.
+/// What a front has in hand for its commands.
 #[derive(Drop)]
 pub struct Buffers<'a> {
+    /// Room for a value that is found.
     pub found: ItemBuf,
+    /// Room for the value that is to be stored.
     pub next: ItemBuf,
+    /// What is noted for the next sweep.
     pub noted: Noted,
+    /// What the front has counted.
     pub tally: Tally,
+    /// Where it shows that, in the place of this number.
     pub board: &'a Board,
     pub place: u32,
 }

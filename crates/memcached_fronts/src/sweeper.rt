@@ -137,7 +137,7 @@ fn sweep_key<R: Threads + Wait + Sync, F: Changes, C: Clock>(
     front.change(rt, second, key, &order, found, next)
 }
 
-// Takes the item that was glanced at away, unless it is there, and says whether it did. Each so many items, and where one seems to be gone, it looks under a hold.
+// Takes away the item that was glanced at, unless it is there, and says whether it did. It looks under a hold once for so many items, and where one seems to be over.
 fn sweep_item<R: Threads + Wait + Sync, F: Changes, C: Clock>(
     rt: &R,
     front: &mut F,

@@ -5,7 +5,7 @@ use Rattle.memcached_stats.specs.declared.counter.Counter.{Counter}
 use Rattle.memcached_stats.specs.declared.counter.TheConstants.{COUNTERS}
 use Rattle.memcached_stats.specs.declared.tally.Tally.{Tally}
 use Rattle.memcached_stats.specs.declared.tally.TheConstants.{MOST_NUMBERS}
-use Rattle.memcached_stats.specs.Figures.{place_of}
+use Rattle.memcached_stats.specs.Figures.{place_of_counter}
 
 -- nothing was counted
 abbrev pub none_tallied : Tally
@@ -21,7 +21,7 @@ put_at place number tally = record { numbers = slice_set tally.numbers place num
 
 -- a counter was raised by so many, up to the greatest number that there is room for
 abbrev pub raised : Counter → ℕ → Tally → Tally
-raised counter by tally = put_at (place_of counter) (min (number_at (place_of counter) tally + by) LAST_COUNT) tally
+raised counter by tally = put_at (place_of_counter counter) (min (number_at (place_of_counter counter) tally + by) LAST_COUNT) tally
 
 -- by one, where there is a counter
 abbrev pub counted : Option Counter → Tally → Tally

@@ -6,14 +6,14 @@ ghost use Rattle.memcached_stats.specs.Stats.{Told, stats_text};
 use crate::counter::COUNTERS;
 use crate::figures::{About, Counts, Wear};
 use crate::lines::put_stats;
-use crate::tally::{Tally, place_of};
+use crate::tally::{Tally, place_of_partition};
 use mica_io::NoMemory;
 use mica_words::tail_of;
 use partition_model::{LAST_TAIL, MOST_PARTITIONS, Mode, Options};
 use std::alloc::Global;
 use std::sync::atomic::{AtomicU64, Ordering};
 
-// The words of the largest item, which is the most that a write takes of a log.
+// The words of the largest item: its header, a key of 255 bytes and a value of 8,192. It is the most that a write takes of a log.
 const LARGEST_ITEM: u64 = 1_058;
 
 /// What a server is told of itself as it begins.
@@ -36,7 +36,7 @@ struct Shown {
 
 impl Shown {
     fn new(alloc: Global, partitions: u32) -> Result<Shown, NoMemory> {
-        let len = place_of(partitions);
+        let len = place_of_partition(partitions);
         let mut numbers = Vec::with_capacity(alloc, len)?;
         for _ in 0..len {
             numbers.push(AtomicU64::new(0))?;
@@ -140,7 +140,7 @@ impl Board {
 
     // By what was seen of a partition last.
     fn wear(&self, partition: u32) -> Wear {
-        let place = place_of(partition);
+        let place = place_of_partition(partition);
         let (mut writes, mut stamp) = (0, 0);
         for front in self.fronts.iter() {
             writes = front.number(place).max(writes);
@@ -152,11 +152,11 @@ impl Board {
         }
     }
 
-    fn wears(&self) -> [Wear; 64] {
+    fn wears(&self) -> [Wear; MOST_PARTITIONS as usize] {
         let mut wears = [Wear {
             writes: 0,
             writes_left: 0,
-        }; 64];
+        }; MOST_PARTITIONS as usize];
         for partition in 0..MOST_PARTITIONS {
             wears[partition as usize] = self.wear(partition);
         }

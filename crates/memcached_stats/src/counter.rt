@@ -9,7 +9,7 @@ use memcached_text::{Command, Direction, Fault, Next, Reply, Wants};
 /// What a front counts.
 #[derive(Clone, Copy, Debug, PartialEq, Eq)]
 pub enum Counter {
-    /// Stores and joins that found room, but for those by an item's number that found what they look for, or nothing, or another number.
+    /// Stores and joins that found room. A store that wants an item's number counts as one of the three below where it found this number, no item, or another number.
     Sets,
     CasHits,
     CasMisses,
@@ -37,12 +37,13 @@ pub enum Counter {
     Rejected,
     /// Those that were closed later since the server was out of memory.
     Lacked,
-    /// Bytes.
+    /// Bytes that were received.
     Received,
+    /// Bytes that were sent.
     Sent,
 }
 
-/// How many there are.
+/// How many counters there are.
 pub const COUNTERS: usize = 23;
 
 // By a get.

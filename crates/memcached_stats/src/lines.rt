@@ -1,11 +1,9 @@
 //! The text of what is told.
 ghost use Rattle.std.specs.Prelude.{◌≡◌, ◌≤◌, ◌+◌, ◌*◌, ◌++◌, List, ℕ, OnOk, OnErr, flat_map, length, map, sum_by};
 ghost use Rattle.memcached_text.specs.declared.limits.TheConstants.{MAX_REPLY_LEN};
-ghost use Rattle.memcached_text.specs.Replies.{reply_text};
-ghost use Rattle.memcached_text.specs.declared.reply.Reply.TheVariants as replies;
 ghost use Rattle.memcached_stats.specs.Figures.{count_in, wear_in, told_of};
 ghost use Rattle.memcached_stats.specs.Lines.{most_len, stat_in};
-ghost use Rattle.memcached_stats.specs.Stats.{about_stats, command_stats, line_of, stat, stats_text, version_line, wear_stats, wear_text};
+ghost use Rattle.memcached_stats.specs.Stats.{about_stats, command_stats, line_of, stat, stats_text, wear_stats, wear_text};
 
 use crate::counter::Counter;
 use crate::figures::{About, Counts, Wear};

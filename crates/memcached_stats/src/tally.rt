@@ -10,7 +10,7 @@ use partition_model::MOST_PARTITIONS;
 pub const MOST_NUMBERS: usize = COUNTERS + 2 * MOST_PARTITIONS as usize;
 
 /// The place of the first number of a partition.
-pub fn place_of(partition: u32) -> usize
+pub fn place_of_partition(partition: u32) -> usize
     ensures small { result < 2 ^ 34 }
     ensures place { result ≡ COUNTERS + 2 * partition }
 {
@@ -71,7 +71,7 @@ impl Tally {
     pub fn note(&mut self, partition: u32, writes: u64, stamp: u64)
         ensures { self.new ≡ noted partition writes stamp self.old }
     {
-        let place = place_of(partition);
+        let place = place_of_partition(partition);
         self.put(place, writes);
         self.put(place + 1, stamp);
     }

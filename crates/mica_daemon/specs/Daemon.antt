@@ -10,7 +10,7 @@ use Rattle.partition_model.specs.declared.write.Write.{Write}
 use Rattle.partition_sizes.specs.Bytes.{start_bytes}
 use Rattle.partition_table.specs.declared.tables.KeptSeat.{KeptSeat}
 use Rattle.mica_fronts.specs.declared.totals.Totals.{Totals}
-use Rattle.mica_fronts.specs.declared.totals.ServeFault.TheVariants.{Net, NoMemory as NoRoom}
+use Rattle.mica_fronts.specs.declared.totals.ServeFault.TheVariants as faults
 use Rattle.mica_fronts.specs.declared.ports.PortOptions.{PortOptions}
 use Rattle.locked_serve.specs.declared.stop.Stop.{Stop}
 use Rattle.locked_serve.specs.declared.stop.Stop.TheVariants.{Refused, Unbound, Unannounced, Fault}
@@ -62,8 +62,8 @@ unbound_text port = codes "port " ++ decimal port ++ codes " not bound\n"
 abbrev pub WritesLast : Result Totals Stop → SinkFacts → SinkFacts → Status → Type 0
 WritesLast (Ok totals) old new status = IsTold UsedUp (totals_text totals) old new status
 WritesLast (Err (Unbound port)) old new status = IsTold NetFault (unbound_text port) old new status
-WritesLast (Err (Fault Net)) old new status = IsWritten NetFault (with_line_feed (codes "net fault")) old new status
-WritesLast (Err (Fault NoRoom)) old new status = (status ≡ NoMemory) × (new ≡ old)
+WritesLast (Err (Fault faults.Net)) old new status = IsWritten NetFault (with_line_feed (codes "net fault")) old new status
+WritesLast (Err (Fault faults.NoMemory)) old new status = (status ≡ NoMemory) × (new ≡ old)
 WritesLast (Err Refused) old new status = IsWritten ImageRefused (with_line_feed (codes "pair refused")) old new status
 WritesLast (Err Unannounced) old new status = (status ≡ WriteFault) × (new ≡ old)
 
@@ -104,7 +104,7 @@ ServesOrNot options ports streams clocks base writes old new status =
 abbrev pub HasMemory : FilesFacts → Options → Type 0
 HasMemory files options = IfSome files.free (λ free. start_bytes options ≤ free)
 
--- It served with partitions that there is memory for, and that were filled as it was asked; or it wrote why there is nothing to fill them with, or had no memory, before it began.
+-- It served: there was memory for the partitions, and they were filled as was asked. Or it wrote why there is nothing to fill them with, or had no memory, before it began.
 abbrev pub FillsAndServes : Service → List ClockView → ℕ → FilesFacts → FilesFacts → DaemonOutside → DaemonOutside → Status → Type 0
 FillsAndServes service clocks base before after old new status =
     ((writes : List Write) × HasMemory before service.options × Fills before service.image writes

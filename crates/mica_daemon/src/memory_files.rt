@@ -1,6 +1,5 @@
 //! Files in memory.
 ghost use Rattle.std.specs.Prelude.{◌≡◌, ◌<◌, ◌≤◌, List, ℕ, true, false, [], Some, None, option_map, bytes_eq, length, vec_len, IfOk, IfSome, IsErrOf, OnOk, OnErr, if◌then◌else◌};
-ghost use Rattle.mica_io.specs.Script.{is_listed};
 ghost use Rattle.mica_daemon.specs.Files.{ReadScript, Foretells, named_in, file_in, script_of, fails_at};
 
 use crate::{Files, SystemFiles};

@@ -1,4 +1,4 @@
-//! What a server that stays up is run with.
+//! What is at hand of the whole process.
 
 use std::alloc::Global;
 use std::sync::atomic::AtomicBool;

@@ -28,10 +28,10 @@ use Rattle.stream_io.specs.declared.connections.Input.{Input}
 use Rattle.stream_io.specs.declared.connections.Input.TheVariants.{Bytes, Later, Ended}
 use Rattle.stream_fronts.specs.declared.answer.Answered.{Answered as HowFar}
 use Rattle.stream_fronts.specs.declared.answer.Said.TheVariants.{Part, Whole}
-use Rattle.stream_fronts.specs.declared.answer.Stand.{Stand}
-use Rattle.stream_fronts.specs.declared.answer.Stand.TheVariants.{Needs}
+use Rattle.stream_fronts.specs.declared.answer.Halt.{Halt}
+use Rattle.stream_fronts.specs.declared.answer.Halt.TheVariants.{Needs}
 use Rattle.stream_fronts.specs.declared.client.Client.{Client}
-use Rattle.stream_fronts.specs.Reached.{Place, place_at, place_in, place_of}
+use Rattle.stream_fronts.specs.Reached.{Position, position_at, position_in, position_of}
 use Rattle.stream_fronts.specs.Held.{IsAtRest, leaves_by}
 use Rattle.stream_fronts.specs.Paid.{Advances, AnswersOn, IsPaid, PaysFor, unanswered}
 use Rattle.stream_fronts.proofs.Few.{few_asks}
@@ -154,15 +154,15 @@ module _ {fresh : Type 0} (bytes : List ℕ) (before taken done : ℕ) (so_far :
 
   module _ {may : Type 0} (a : HowFar) (taken_is : a.taken ≡ taken) (done_is : a.done ≡ done) (come : a.dropping ≡ 0) where
     -- no further one is
-    pub stays : {waits : Type 0} → (fresh → taken ≡ 0 → may → waits) → Advances may waits (place_at bytes before) (place_in bytes a)
+    pub stays : {waits : Type 0} → (fresh → taken ≡ 0 → may → waits) → Advances may waits (position_at bytes before) (position_in bytes a)
     stays {waits} why =
         let len = length-drop a.taken bytes in
         record {
-          no_more = elim so_far as (λ _. unanswered (place_in bytes a) ≤ length bytes - before) [
+          no_more = elim so_far as (λ _. unanswered (position_in bytes a) ≤ length bytes - before) [
             | inl first ↦ let none = first.1 in let same = first.2 in omega (arith, len, taken_is, done_is, none, same)
             | inr less ↦ omega (arith, len, taken_is, done_is, less)
           ];
-          less = λ m. elim so_far as (λ _. waits ⊎ (unanswered (place_in bytes a) < length bytes - before)) [
+          less = λ m. elim so_far as (λ _. waits ⊎ (unanswered (position_in bytes a) < length bytes - before)) [
             | inl first ↦ inl (why first.0 first.1 m)
             | inr less ↦ inr (omega (arith, len, taken_is, done_is, less))
           ];
@@ -171,7 +171,7 @@ module _ {fresh : Type 0} (bytes : List ℕ) (before taken done : ℕ) (so_far :
 
 -- so far it came
 pub arrives : {may waits : Type 0} (bytes : List ℕ) (before : ℕ) (a : HowFar) (at : ℕ) → length bytes - at < length bytes - before → at ≤ a.taken + a.done
-    → (0 < a.dropping → length bytes ≤ a.taken) → Advances may waits (place_at bytes before) (place_in bytes a)
+    → (0 < a.dropping → length bytes ≤ a.taken) → Advances may waits (position_at bytes before) (position_in bytes a)
 arrives bytes before a at less reached dropped = record {
   no_more = let len = length-drop a.taken bytes in omega (arith, len, less, reached);
   less = λ m. inr (let len = length-drop a.taken bytes in omega (arith, len, less, reached));
@@ -181,20 +181,20 @@ arrives bytes before a at less reached dropped = record {
 -- One look
 
 -- the replies were short when it began
-pub looks_short : {may short waits : Type 0} {old new now : Place} → Advances (may × short) waits old new → short → now ≡ new → Advances may waits old now
+pub looks_short : {may short waits : Type 0} {old new now : Position} → Advances (may × short) waits old new → short → now ≡ new → Advances may waits old now
 looks_short {may} {short} {waits} {old} {new} a is same =
-    subst (λ (p : Place). Advances may waits old p) (sym same) (record { no_more = a.no_more; less = λ m. a.less (m, is); dropped = a.dropped })
+    subst (λ (p : Position). Advances may waits old p) (sym same) (record { no_more = a.no_more; less = λ m. a.less (m, is); dropped = a.dropped })
 
 -- some bytes are left out that are to be dropped
-pub looks_behind : {may : Type 0} {stand : Stand} {now : Place} (client : Client) (bytes more rest : List ℕ) → bytes ≡ client.kept ++ more → rest ≡ drop client.dropping bytes
-    → (0 < client.dropping → client.kept ≡ []) → Advances may ((stand ≡ Needs) × (next_of rest ≡ More)) (place_at rest 0) now
-    → Advances may ((stand ≡ Needs) × (length client.kept < MAX_WAITING_LEN)) (place_at bytes 0) now
-looks_behind {may} {stand} {now} client bytes more rest all rest_is none a =
+pub looks_behind : {may : Type 0} {halt : Halt} {now : Position} (client : Client) (bytes more rest : List ℕ) → bytes ≡ client.kept ++ more → rest ≡ drop client.dropping bytes
+    → (0 < client.dropping → client.kept ≡ []) → Advances may ((halt ≡ Needs) × (next_of rest ≡ More)) (position_at rest 0) now
+    → Advances may ((halt ≡ Needs) × (length client.kept < MAX_WAITING_LEN)) (position_at bytes 0) now
+looks_behind {may} {halt} {now} client bytes more rest all rest_is none a =
     let len = ap length rest_is ∙ length-drop client.dropping bytes in
     let whole = ap length all ∙ length-append client.kept more in
     record {
       no_more = let no_more = a.no_more in omega (arith, no_more, len);
-      less = λ m. elim (a.less m) as (λ _. (stand ≡ Needs) × (length client.kept < MAX_WAITING_LEN) ⊎ (unanswered now < length bytes - 0)) [
+      less = λ m. elim (a.less m) as (λ _. (halt ≡ Needs) × (length client.kept < MAX_WAITING_LEN) ⊎ (unanswered now < length bytes - 0)) [
         | inl waits ↦ inl (waits.0, let fits = waits_within rest waits.1 in room client.dropping none (λ zero_is. omega (arith, fits, len, whole, zero_is)))
         | inr less ↦ inr (omega (arith, less, len))
       ];
@@ -208,26 +208,26 @@ looks_behind {may} {stand} {now} client bytes more rest all rest_is none a =
 -- What is left is paid for
 
 -- a command that was answered in part was answered further
-pub paid_further : {may : Type 0} {stand : Stand} (bytes : List ℕ) (done asks : ℕ) (now : Client) → IsOpenAt (next_of bytes) done → 0 < done → unanswered (place_at bytes done) ≤ asks
-    → Advances may ((stand ≡ Needs) × (next_of bytes ≡ More)) (place_at bytes done) (place_of now) → may → now.asks ≡ asks → IsPaid 1 now
+pub paid_further : {may : Type 0} {halt : Halt} (bytes : List ℕ) (done asks : ℕ) (now : Client) → IsOpenAt (next_of bytes) done → 0 < done → unanswered (position_at bytes done) ≤ asks
+    → Advances may ((halt ≡ Needs) × (next_of bytes ≡ More)) (position_at bytes done) (position_of now) → may → now.asks ≡ asks → IsPaid 1 now
 paid_further bytes done asks now stands some paid a may same = elim (a.less may) as (λ _. IsPaid 1 now) [
   | inl waits ↦ absurd (omega (arith, some, at_first (next_of bytes) done stands (ap asks_in waits.1)))
   | inr less ↦ omega (arith, less, paid, same)
 ]
 
 -- bytes were read, or none came
-pub paid_for : {may : Type 0} (client now : Client) (bytes : List ℕ) (count : ℕ) (stand : Stand) (input : Option Input) → count ≡ length bytes → PaysFor client count input
-    → Advances may ((stand ≡ Needs) × (length client.kept < MAX_WAITING_LEN)) (place_at bytes 0) (place_of now) → may → now.asks ≡ client.asks → IsAtRest stand input ⊎ IsPaid 1 now
-paid_for client now bytes count stand None len pays a may same = elim (a.less may) as (λ _. IsAtRest stand None ⊎ IsPaid 1 now) [
+pub paid_for : {may : Type 0} (client now : Client) (bytes : List ℕ) (count : ℕ) (halt : Halt) (input : Option Input) → count ≡ length bytes → PaysFor client count input
+    → Advances may ((halt ≡ Needs) × (length client.kept < MAX_WAITING_LEN)) (position_at bytes 0) (position_of now) → may → now.asks ≡ client.asks → IsAtRest halt input ⊎ IsPaid 1 now
+paid_for client now bytes count halt None len pays a may same = elim (a.less may) as (λ _. IsAtRest halt None ⊎ IsPaid 1 now) [
   | inl waits ↦ let room = waits.1 in let full = pays.1 in absurd (omega (arith, room, full))
   | inr less ↦ let most = pays.0 in inr (omega (arith, less, most, len, same))
 ]
-paid_for client now bytes count stand (Some (Bytes some)) len pays a may same = let no_more = a.no_more in inr (omega (arith, no_more, pays, len, same))
-paid_for client now bytes count stand (Some Later) len pays a may same = elim (a.less may) as (λ _. IsAtRest stand (Some Later) ⊎ IsPaid 1 now) [
+paid_for client now bytes count halt (Some (Bytes some)) len pays a may same = let no_more = a.no_more in inr (omega (arith, no_more, pays, len, same))
+paid_for client now bytes count halt (Some Later) len pays a may same = elim (a.less may) as (λ _. IsAtRest halt (Some Later) ⊎ IsPaid 1 now) [
   | inl waits ↦ inl (inr (waits.0, refl))
   | inr less ↦ inr (omega (arith, less, pays, len, same))
 ]
-paid_for client now bytes count stand (Some Ended) len pays a may same = elim (a.less may) as (λ _. IsAtRest stand (Some Ended) ⊎ IsPaid 1 now) [
-  | inl waits ↦ inl (inl (ap (λ (s : Stand). leaves_by s (Some Ended)) waits.0))
+paid_for client now bytes count halt (Some Ended) len pays a may same = elim (a.less may) as (λ _. IsAtRest halt (Some Ended) ⊎ IsPaid 1 now) [
+  | inl waits ↦ inl (inl (ap (λ (s : Halt). leaves_by s (Some Ended)) waits.0))
   | inr less ↦ inr (omega (arith, less, pays, len, same))
 ]

@@ -9,15 +9,15 @@ use Rattle.memcached_text.specs.Next.{next_of}
 use Rattle.mica_fronts.specs.Answered.{Answered}
 use Rattle.mica_fronts.specs.Session.{Sessions}
 use Rattle.stream_fronts.specs.declared.answer.TheConstants.{MOST_COMMANDS}
-use Rattle.stream_fronts.specs.declared.answer.Answered.{Answered as HowFar}
+use Rattle.stream_fronts.specs.declared.answer.HowFar.{HowFar}
 use Rattle.stream_fronts.specs.declared.answer.Said.{Said}
-use Rattle.stream_fronts.specs.declared.answer.Stand.{Stand}
-use Rattle.stream_fronts.specs.declared.answer.Stand.TheVariants.{Needs, Leaves}
+use Rattle.stream_fronts.specs.declared.answer.Halt.{Halt}
+use Rattle.stream_fronts.specs.declared.answer.Halt.TheVariants.{Needs, Leaves}
 use Rattle.stream_fronts.specs.Going.{GoesByThese, GoesBySome}
-use Rattle.stream_fronts.specs.Reached.{Place, place_at, place_in, Reaches, Ends, GoesOnTo, ReachesAfter, SpokeFrom, StandsAs}
+use Rattle.stream_fronts.specs.Reached.{Position, position_at, position_in, Reaches, Ends, GoesOnTo, ReachesAfter, SpokeFrom, HaltsAs}
 use Rattle.stream_fronts.specs.Turns.{most_to_one, most_answers}
 use Rattle.stream_fronts.proofs.Going.{these_then}
-use Rattle.stream_fronts.proofs.Reaching.{on_then, on_as, spoke_then, stands_more, nothing_next}
+use Rattle.stream_fronts.proofs.Reaching.{on_then, on_as, spoke_then, halts_more, nothing_next}
 
 times_more : (n k a b : ℕ) → a ≤ n * k → b ≤ k → a + b ≤ (n + 1) * k
 times_more n k a b first second = let sum = add-mul n 1 k in let one = one-mul k in omega (arith, sum, one, first, second)
@@ -44,62 +44,62 @@ module _ (options : Options) (is_alone : Bool) (base : ℕ) where
         → GoesByThese options is_alone old left told (one ++ two) new left_after tells
     answers_then one two o same first second = these_then options is_alone first (these_cast same second)
 
-    pub on_said : (count : ℕ) (place : Place) (bytes rest : List ℕ) (done : ℕ) (before here after : List ℕ) (o : Options) (said is : Said) → rest ≡ bytes → o ≡ options → said ≡ is
-        → GoesBySome options is_alone old left told between then_left then (λ answers. (length answers ≤ count * most_to_one options) × GoesOnTo options base place answers before here (Reaches options base (place_at bytes done)))
-        → GoesBySome o is_alone between then_left then new left_after tells (λ answers. (length answers ≤ most_to_one o) × GoesOnTo o base (place_at rest done) answers here after (ReachesAfter o base rest done said))
-        → GoesBySome options is_alone old left told new left_after tells (λ answers. (length answers ≤ (count + 1) * most_to_one options) × GoesOnTo options base place answers before after (ReachesAfter options base bytes done is))
-    on_said count place bytes rest done before here after o said is rest_is same said_is first second =
-        let one = subst (λ (x : Options). GoesBySome x is_alone between then_left then new left_after tells (λ answers. (length answers ≤ most_to_one x) × GoesOnTo x base (place_at rest done) answers here after (ReachesAfter x base rest done said)))
+    pub on_said : (count : ℕ) (position : Position) (bytes rest : List ℕ) (done : ℕ) (before here after : List ℕ) (o : Options) (said is : Said) → rest ≡ bytes → o ≡ options → said ≡ is
+        → GoesBySome options is_alone old left told between then_left then (λ answers. (length answers ≤ count * most_to_one options) × GoesOnTo options base position answers before here (Reaches options base (position_at bytes done)))
+        → GoesBySome o is_alone between then_left then new left_after tells (λ answers. (length answers ≤ most_to_one o) × GoesOnTo o base (position_at rest done) answers here after (ReachesAfter o base rest done said))
+        → GoesBySome options is_alone old left told new left_after tells (λ answers. (length answers ≤ (count + 1) * most_to_one options) × GoesOnTo options base position answers before after (ReachesAfter options base bytes done is))
+    on_said count position bytes rest done before here after o said is rest_is same said_is first second =
+        let one = subst (λ (x : Options). GoesBySome x is_alone between then_left then new left_after tells (λ answers. (length answers ≤ most_to_one x) × GoesOnTo x base (position_at rest done) answers here after (ReachesAfter x base rest done said)))
         same second in
         let by_said = subst (λ (s : Said). GoesBySome options is_alone between then_left then new left_after tells
-        (λ answers. (length answers ≤ most_to_one options) × GoesOnTo options base (place_at rest done) answers here after (ReachesAfter options base rest done s))) said_is one in
+        (λ answers. (length answers ≤ most_to_one options) × GoesOnTo options base (position_at rest done) answers here after (ReachesAfter options base rest done s))) said_is one in
         let all = subst (λ r. GoesBySome options is_alone between then_left then new left_after tells
-        (λ answers. (length answers ≤ most_to_one options) × GoesOnTo options base (place_at r done) answers here after (ReachesAfter options base r done is))) rest_is by_said in
+        (λ answers. (length answers ≤ most_to_one options) × GoesOnTo options base (position_at r done) answers here after (ReachesAfter options base r done is))) rest_is by_said in
         (first.0 ++ all.0, these_then options is_alone first.1 all.1, (few_then count first.0 all.0 first.2.0 all.2.0, on_then options base first.2.1 all.2.1))
 
     -- memory lacked
-    pub spoke_on : (count : ℕ) → count + 1 ≤ MOST_COMMANDS → (most : ℕ) (place : Place) (bytes rest : List ℕ) (done : ℕ) (before here : List ℕ) (o : Options) → rest ≡ bytes → o ≡ options → length bytes ≤ most
-        → GoesBySome options is_alone old left told between then_left then (λ answers. (length answers ≤ count * most_to_one options) × GoesOnTo options base place answers before here (Reaches options base (place_at bytes done)))
-        → GoesBySome o is_alone between then_left then new left_after tells (λ answers. (length answers ≤ most_to_one o) × SpokeFrom o base (length rest) (place_at rest done) answers)
-        → GoesBySome options is_alone old left told new left_after tells (λ answers. (length answers ≤ most_answers options) × SpokeFrom options base most place answers)
-    spoke_on count within most place bytes rest done before here o rest_is same less first second =
-        let one = subst (λ (x : Options). GoesBySome x is_alone between then_left then new left_after tells (λ answers. (length answers ≤ most_to_one x) × SpokeFrom x base (length rest) (place_at rest done) answers)) same second in
-        let all = subst (λ r. GoesBySome options is_alone between then_left then new left_after tells (λ answers. (length answers ≤ most_to_one options) × SpokeFrom options base (length r) (place_at r done) answers)) rest_is one in (
+    pub spoke_on : (count : ℕ) → count + 1 ≤ MOST_COMMANDS → (most : ℕ) (position : Position) (bytes rest : List ℕ) (done : ℕ) (before here : List ℕ) (o : Options) → rest ≡ bytes → o ≡ options → length bytes ≤ most
+        → GoesBySome options is_alone old left told between then_left then (λ answers. (length answers ≤ count * most_to_one options) × GoesOnTo options base position answers before here (Reaches options base (position_at bytes done)))
+        → GoesBySome o is_alone between then_left then new left_after tells (λ answers. (length answers ≤ most_to_one o) × SpokeFrom o base (length rest) (position_at rest done) answers)
+        → GoesBySome options is_alone old left told new left_after tells (λ answers. (length answers ≤ most_answers options) × SpokeFrom options base most position answers)
+    spoke_on count within most position bytes rest done before here o rest_is same less first second =
+        let one = subst (λ (x : Options). GoesBySome x is_alone between then_left then new left_after tells (λ answers. (length answers ≤ most_to_one x) × SpokeFrom x base (length rest) (position_at rest done) answers)) same second in
+        let all = subst (λ r. GoesBySome options is_alone between then_left then new left_after tells (λ answers. (length answers ≤ most_to_one options) × SpokeFrom options base (length r) (position_at r done) answers)) rest_is one in (
           first.0 ++ all.0,
           these_then options is_alone first.1 all.1,
           (few_in_all (first.0 ++ all.0) (count + 1) within (few_then count first.0 all.0 first.2.0 all.2.0), spoke_then options base less first.2.1 all.2.1),
         )
 
   -- by the same answers, more is said of where the talk came to
-  pub some_as : {old new : Sessions} {left left_after : ℕ} {told tells : ClockView} (few most : ℕ) → few ≤ most → (place : Place) (before after : List ℕ) (P Q : List ℕ → List Answered → List ℕ → Type 0)
+  pub some_as : {old new : Sessions} {left left_after : ℕ} {told tells : ClockView} (few most : ℕ) → few ≤ most → (position : Position) (before after : List ℕ) (P Q : List ℕ → List Answered → List ℕ → Type 0)
       → ((received : List ℕ) (given : List Answered) (due : List ℕ) → P received given due → Q received given due)
-      → GoesBySome options is_alone old left told new left_after tells (λ answers. (length answers ≤ few * most_to_one options) × GoesOnTo options base place answers before after P)
-      → GoesBySome options is_alone old left told new left_after tells (λ answers. (length answers ≤ most * most_to_one options) × GoesOnTo options base place answers before after Q)
-  some_as few most less place before after P Q as_q some =
+      → GoesBySome options is_alone old left told new left_after tells (λ answers. (length answers ≤ few * most_to_one options) × GoesOnTo options base position answers before after P)
+      → GoesBySome options is_alone old left told new left_after tells (λ answers. (length answers ≤ most * most_to_one options) × GoesOnTo options base position answers before after Q)
+  some_as few most less position before after P Q as_q some =
       (some.0, some.1, (times_most few most (most_to_one options) (length some.0) less some.2.0, on_as options base {P = P} {Q = Q} as_q some.2.1))
 
   -- Where bytes were answered to
 
-  pub stands_in : (most : ℕ) (bytes : List ℕ) (far : HowFar) (stand : Stand) (taken done dropping : ℕ) → far.taken ≡ taken → far.done ≡ done → far.dropping ≡ dropping → far.stand ≡ stand
+  pub halts_in : (most : ℕ) (bytes : List ℕ) (far : HowFar) (halt : Halt) (taken done dropping : ℕ) → far.taken ≡ taken → far.done ≡ done → far.dropping ≡ dropping → far.halt ≡ halt
       → (received : List ℕ) (given : List Answered) (due : List ℕ)
-      → StandsAs options base most stand (record { bytes = drop taken bytes; done = done; dropping = dropping }) received given due
-      → StandsAs options base most far.stand (place_in bytes far) received given due
-  stands_in most bytes far stand taken done dropping taken_is done_is dropping_is stand_is received given due stands =
-      let place : record { bytes = drop taken bytes; done = done; dropping = dropping } ≡ place_in bytes far =
+      → HaltsAs options base most halt (record { bytes = drop taken bytes; done = done; dropping = dropping }) received given due
+      → HaltsAs options base most far.halt (position_in bytes far) received given due
+  halts_in most bytes far halt taken done dropping taken_is done_is dropping_is halt_is received given due stands =
+      let position : record { bytes = drop taken bytes; done = done; dropping = dropping } ≡ position_in bytes far =
       λ i. record { bytes = drop (sym taken_is i) bytes; done = sym done_is i; dropping = sym dropping_is i } in
-      subst (λ s. StandsAs options base most s (place_in bytes far) received given due) (sym stand_is)
-      (subst (λ (p : Place). StandsAs options base most stand p received given due) place stands)
+      subst (λ s. HaltsAs options base most s (position_in bytes far) received given due) (sym halt_is)
+      (subst (λ (p : Position). HaltsAs options base most halt p received given due) position stands)
 
   -- the last command leaves no more than all
-  pub left_in : (bytes : List ℕ) (taken : ℕ) (place : Place) (received : List ℕ) (given : List Answered) (due : List ℕ) → Ends options base (length (drop taken bytes)) received given due
-      → StandsAs options base (length bytes) Leaves place received given due
-  left_in bytes taken place received given due ends =
-      stands_more options base Leaves place (length (drop taken bytes)) (length bytes) received given due (let len = length-drop taken bytes in omega (arith, len)) ends
+  pub left_in : (bytes : List ℕ) (taken : ℕ) (position : Position) (received : List ℕ) (given : List Answered) (due : List ℕ) → Ends options base (length (drop taken bytes)) received given due
+      → HaltsAs options base (length bytes) Leaves position received given due
+  left_in bytes taken position received given due ends =
+      halts_more options base Leaves position (length (drop taken bytes)) (length bytes) received given due (let len = length-drop taken bytes in omega (arith, len)) ends
 
   -- some of what is dropped has not come
   pub dropped_in : (bytes rest : List ℕ) (taken len : ℕ) → rest ≡ drop taken bytes → length rest < len → (received : List ℕ) (given : List Answered) (due : List ℕ)
       → Reaches options base (record { bytes = drop len (drop taken bytes); done = 0; dropping = len - length (drop taken bytes) }) received given due
-      → StandsAs options base (length bytes) Needs (record { bytes = drop (length bytes) bytes; done = 0; dropping = len - length rest }) received given due
+      → HaltsAs options base (length bytes) Needs (record { bytes = drop (length bytes) bytes; done = 0; dropping = len - length rest }) received given due
   dropped_in bytes rest taken len rest_is beyond received given due at =
       let same = ap length rest_is in
       let none : drop len (drop taken bytes) ≡ [] = drop_all len (drop taken bytes) (omega (arith, beyond, same)) in
@@ -112,11 +112,11 @@ module _ (options : Options) (is_alone : Bool) (base : ℕ) where
   -- all of it has come
   pub whole_in : (bytes rest : List ℕ) (taken len : ℕ) → rest ≡ drop taken bytes → len ≤ length rest → (received : List ℕ) (given : List Answered) (due : List ℕ)
       → Reaches options base (record { bytes = drop len (drop taken bytes); done = 0; dropping = len - length (drop taken bytes) }) received given due
-      → Reaches options base (place_at (drop (taken + len) bytes) 0) received given due
+      → Reaches options base (position_at (drop (taken + len) bytes) 0) received given due
   whole_in bytes rest taken len rest_is come received given due at =
       let same = ap length rest_is in
       let none : len - length (drop taken bytes) ≡ 0 = omega (arith, come, same) in
-      subst (λ b. Reaches options base (place_at b 0) received given due) (drop-drop len taken bytes)
+      subst (λ b. Reaches options base (position_at b 0) received given due) (drop-drop len taken bytes)
       (subst (λ n. Reaches options base (record { bytes = drop len (drop taken bytes); done = 0; dropping = n }) received given due) none at)
 
 pub match_err : {T E : Type 0} (P : T → Type 0) (Q : E → Type 0) (r : Result T E) (e : E) → r ≡ Err e → Q e → MatchResult r P Q

@@ -15,7 +15,7 @@ use Rattle.stream_io.specs.Connection.{Connection, new_connection, readable, aft
 use Rattle.stream_io.specs.State.{State, Entry, opened, reported, met, received, sent, asked, closed, changed, state_after, after_step, after_report, after_meeting, held}
 use Rattle.stream_io.specs.Log.{Log, connections_of, state_of, with_entries, after_met}
 use Rattle.stream_io.specs.Calls.{IsGiven, ReadGives, gave}
-use Rattle.stream_fronts.specs.Traffic.{IsSend, Sends, IsIn, IsBroken, HasEnded, IsSilent, after_receiving, ReadsTo, why, bytes_in, OnHeld}
+use Rattle.stream_fronts.specs.Traffic.{IsSend, Sends, IsIn, IsBroken, HasEnded, IsDrained, after_receiving, ReadsTo, why, bytes_read, OnHeld}
 use Rattle.stream_fronts.specs.Open.{IsOpen, OnLogs}
 use Rattle.stream_fronts.proofs.Places.{there, if_changed}
 use Rattle.stream_fronts.proofs.Opening.{met_at, found}
@@ -135,7 +135,7 @@ receives_some c [] entries some = absurd (omega (arith, some))
 receives_some c (byte ∷ bytes) entries some = refl
 
 gave_reads : (c most : ℕ) (out : List ℕ) (answer : Result Input Broken) (old : Log) (x : Connection) → slice_get (connections_of (after_met old)) c ≡ Some x → IsGiven x most out answer
-    → ReadsTo why (bytes_in out answer) answer c old (with_entries (gave c x answer) (after_met old))
+    → ReadsTo why (bytes_read out answer) answer c old (with_entries (gave c x answer) (after_met old))
 gave_reads c most out (Ok (Bytes count)) old x is given =
     let m = met_entries (state_of old).later old.entries in
     let fits : count ≤ length x.waiting = let n = given.1 in omega (arith, n) in
@@ -154,8 +154,8 @@ gave_reads c most out (Ok (Bytes count)) old x is given =
     )
 gave_reads c most out (Ok Later) old x is given =
     let m = met_entries (state_of old).later old.entries in
-    let silent : IsSilent x = record { read = given.0; whole = given.1; goes_on = given.2 } in
-    (record { schedule = refl; piece = refl; mets = m.0; each = m.1; entries = m.2 }, inr (subst (λ o. IfSome o IsSilent) (sym is) silent))
+    let drained : IsDrained x = record { read = given.0; whole = given.1; goes_on = given.2 } in
+    (record { schedule = refl; piece = refl; mets = m.0; each = m.1; entries = m.2 }, inr (subst (λ o. IfSome o IsDrained) (sym is) drained))
 gave_reads c most out (Ok Ended) old x is given =
     let m = met_entries (state_of old).later old.entries in
     let ended : HasEnded x = record {
@@ -170,7 +170,7 @@ gave_reads c most out (Err broken) old x is given =
 
 -- what one call of `read` makes of a log
 pub read_reads : (number room : ℕ) (out : List ℕ) (answer : Result Input Broken) (old : Log) (new : Option Log) (c : ℕ) → held number (connections_of old) ≡ Some c
-    → ReadGives number room out answer old new → (made : Log) × (new ≡ Some made) × ReadsTo why (bytes_in out answer) answer c old made
+    → ReadGives number room out answer old new → (made : Log) × (new ≡ Some made) × ReadsTo why (bytes_read out answer) answer c old made
 read_reads number room out answer old new c is gives =
     let at = met_at old number c 0 (is, omega arith) in
     let x = there number c (connections_of (after_met old)) at.0 in
@@ -179,9 +179,9 @@ read_reads number room out answer old new c is gives =
     (with_entries (gave c x.0 answer) (after_met old), g'.1, gave_reads c (min room old.script.piece) out answer old x.0 x.1 g'.0)
 
 pub reads_told : (number asks room : ℕ) (out : List ℕ) (answer : Result Input Broken) (old new : Option Log) → IfSome old (IsOpen number asks)
-    → IfSome old (λ l. ReadGives number room out answer l new) → OnLogs (OnHeld number (ReadsTo why (bytes_in out answer) answer)) old new
+    → IfSome old (λ l. ReadGives number room out answer l new) → OnLogs (OnHeld number (ReadsTo why (bytes_read out answer) answer)) old new
 reads_told number asks room out answer None new stands gives = tt
 reads_told number asks room out answer (Some a) new stands gives =
     let made = read_reads number room out answer a new stands.0 stands.1.0 gives in
-    subst (λ o. OnLogs (OnHeld number (ReadsTo why (bytes_in out answer) answer)) (Some a) o) (sym made.1)
-    (subst (λ h. IfSome h (λ c. ReadsTo why (bytes_in out answer) answer c a made.0)) (sym stands.1.0) made.2)
+    subst (λ o. OnLogs (OnHeld number (ReadsTo why (bytes_read out answer) answer)) (Some a) o) (sym made.1)
+    (subst (λ h. IfSome h (λ c. ReadsTo why (bytes_read out answer) answer c a made.0)) (sym stands.1.0) made.2)

@@ -13,7 +13,7 @@ use Rattle.stream_io.specs.Log.{received_of, sent_of}
 use Rattle.mica_fronts.specs.Answered.{Answered}
 use Rattle.stream_fronts.specs.Given.{Given, given_to}
 use Rattle.stream_fronts.specs.Talk.{IsBeginning, TalksWith}
-use Rattle.stream_fronts.specs.Moments.{IsAmong, TalksWithOne, TalksWithAll, HasCause, TalksThrough}
+use Rattle.stream_fronts.specs.Moments.{IsAmong, TalksWithOne, TalksWithAll, IsCaused, TalksThrough}
 use Rattle.stream_fronts.specs.Traffic.{IsSend}
 use Rattle.stream_fronts.specs.Held.{all_to}
 use Rattle.stream_fronts.proofs.Talking.{Told}
@@ -91,8 +91,8 @@ module _ (options : Options) (base most : ℕ) where
 
     -- Memory lacked for one more
 
-    cause_lacking : (x : ℕ) (entry : Entry) (entries : List Entry) (all : List Given) → HasCause options base schedule lacking entry entries all → HasCause options base schedule (x ∷ lacking) entry entries all
-    cause_lacking x (closed c) entries all cause = elim cause as (λ _. HasCause options base schedule (x ∷ lacking) (closed c) entries all) [
+    cause_lacking : (x : ℕ) (entry : Entry) (entries : List Entry) (all : List Given) → IsCaused options base schedule lacking entry entries all → IsCaused options base schedule (x ∷ lacking) entry entries all
+    cause_lacking x (closed c) entries all cause = elim cause as (λ _. IsCaused options base schedule (x ∷ lacking) (closed c) entries all) [
       | inl among ↦ inl (among_more x c lacking among)
       | inr may ↦ inr may
     ]
@@ -113,7 +113,7 @@ module _ (options : Options) (base most : ℕ) where
 
     -- one entry more
     pub through_entry : (entry : Entry) (entries : List Entry) (all : List Given) → TalksWithAll options base most lacking (entry ∷ entries) all
-        → HasCause options base schedule lacking entry entries all → TalksThrough options base most schedule lacking entries all
+        → IsCaused options base schedule lacking entry entries all → TalksThrough options base most schedule lacking entries all
         → TalksThrough options base most schedule lacking (entry ∷ entries) all
     through_entry entry entries all talks cause through = (talks, (all, ([], sym (append-nil all)), cause, through))
 

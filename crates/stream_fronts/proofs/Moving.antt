@@ -9,7 +9,7 @@ use Rattle.stream_io.specs.declared.schedule.Step.TheVariants.{Opens, Reports, H
 use Rattle.stream_io.specs.Connection.{Connection, nothing, after_change, after_read, after_write, after_ask}
 use Rattle.stream_io.specs.State.{State, Entry, opened, reported, met, received, sent, asked, closed, changed, is_under, held, after, state_after, after_meeting}
 use Rattle.stream_io.specs.Log.{Log, state_of}
-use Rattle.stream_fronts.specs.Traffic.{IsSend, Sends, Reads, IsSilent, IsToCome, after_receiving}
+use Rattle.stream_fronts.specs.Traffic.{IsSend, Sends, Reads, IsDrained, IsToCome, after_receiving}
 use Rattle.stream_fronts.specs.Resting.{is_there, AreApart, Moves}
 use Rattle.stream_fronts.proofs.Places.{elsewhere, if_changed, same_held}
 use Rattle.stream_fronts.proofs.Traffic.{mets_send}
@@ -61,9 +61,9 @@ moves_then {c} {old} {between} {new} first second = record {
     | inl come ↦ inl (second.to_come d come)
     | inr same ↦ elim (second.others d other) as (λ _. IsToCome d new.later ⊎ (slice_get new.connections d ≡ slice_get old.connections d)) [ inl come ↦ inl come | inr still ↦ inr (still ∙ same) ]
   ];
-  own = elim first.own as (λ _. IsToCome c new.later ⊎ (IfSome (slice_get old.connections c) IsSilent → IfSome (slice_get new.connections c) IsSilent)) [
+  own = elim first.own as (λ _. IsToCome c new.later ⊎ (IfSome (slice_get old.connections c) IsDrained → IfSome (slice_get new.connections c) IsDrained)) [
     | inl come ↦ inl (second.to_come c come)
-    | inr one ↦ elim second.own as (λ _. IsToCome c new.later ⊎ (IfSome (slice_get old.connections c) IsSilent → IfSome (slice_get new.connections c) IsSilent)) [
+    | inr one ↦ elim second.own as (λ _. IsToCome c new.later ⊎ (IfSome (slice_get old.connections c) IsDrained → IfSome (slice_get new.connections c) IsDrained)) [
       | inl come ↦ inl come
       | inr two ↦ inr (λ is. two (one is))
     ]
@@ -71,14 +71,14 @@ moves_then {c} {old} {between} {new} first second = record {
 }
 
 -- the connection changed, in which nothing waits for it
-moves_changed : (c e : ℕ) (f : Connection → Connection) → KeepsThere f → ((x : Connection) → IsSilent x → IsSilent (f x)) → e ≡ c → (s : State)
+moves_changed : (c e : ℕ) (f : Connection → Connection) → KeepsThere f → ((x : Connection) → IsDrained x → IsDrained (f x)) → e ≡ c → (s : State)
     → Moves c s (record s { connections = changed e f s.connections })
-moves_changed c e f keeps silent same s = record {
+moves_changed c e f keeps drained same s = record {
   there = there_changed f keeps e s.connections;
   same = held_changed f keeps e s.connections;
   to_come = λ d is. is;
   others = λ d other. inr (elsewhere e d f s.connections (λ is. eqb-false c d other (sym same ∙ is)));
-  own = inr (if_changed IsSilent e f silent c s.connections);
+  own = inr (if_changed IsDrained e f drained c s.connections);
 }
 
 -- one changed, of which a report is to come
@@ -95,9 +95,9 @@ moves_owed c e f keeps s later come = record {
     | inl same ↦ inl (come_back d e same later)
     | inr apart ↦ inr (elsewhere e d f s.connections apart)
   ];
-  own = elim (cases_eq e c) as (λ _. IsToCome c (later ++ Reports e nothing ∷ []) ⊎ (IfSome (slice_get s.connections c) IsSilent → IfSome (slice_get (changed e f s.connections) c) IsSilent)) [
+  own = elim (cases_eq e c) as (λ _. IsToCome c (later ++ Reports e nothing ∷ []) ⊎ (IfSome (slice_get s.connections c) IsDrained → IfSome (slice_get (changed e f s.connections) c) IsDrained)) [
     | inl same ↦ inl (come_back c e same later)
-    | inr apart ↦ inr (λ is. subst (λ o. IfSome o IsSilent) (sym (elsewhere e c f s.connections apart)) is)
+    | inr apart ↦ inr (λ is. subst (λ o. IfSome o IsDrained) (sym (elsewhere e c f s.connections apart)) is)
   ];
 }
 
@@ -129,13 +129,13 @@ moves_more c schedule (received e bytes ∷ more) entries each = absurd each.0
 moves_more c schedule (asked e ∷ more) entries each = absurd each.0
 moves_more c schedule (closed e ∷ more) entries each = absurd each.0
 
-silent_read : (count : ℕ) (x : Connection) → IsSilent x → IsSilent (after_read count x)
-silent_read count x is = record { read = ap (drop count) is.read ∙ drop-nil count; whole = is.whole; goes_on = is.goes_on }
+drained_read : (count : ℕ) (x : Connection) → IsDrained x → IsDrained (after_read count x)
+drained_read count x is = record { read = ap (drop count) is.read ∙ drop-nil count; whole = is.whole; goes_on = is.goes_on }
 
 moves_receiving : (c : ℕ) (schedule : List Step) (bytes : List ℕ) (entries : List Entry) → Moves c (state_after schedule entries) (state_after schedule (after_receiving c bytes entries))
 moves_receiving c schedule [] entries = moves_none c (state_after schedule entries)
 moves_receiving c schedule (byte ∷ bytes) entries =
-    moves_changed c c (after_read (length (byte ∷ bytes))) (λ n x. refl) (silent_read (length (byte ∷ bytes))) refl (state_after schedule entries)
+    moves_changed c c (after_read (length (byte ∷ bytes))) (λ n x. refl) (drained_read (length (byte ∷ bytes))) refl (state_after schedule entries)
 
 -- of what a log tells, by its parts
 moves_to : {c : ℕ} {old : State} (new : Log) (schedule : List Step) (entries : List Entry) → new.schedule ≡ schedule → new.entries ≡ entries → Moves c old (state_after schedule entries)

@@ -24,9 +24,9 @@ use Rattle.memcached_fronts.proofs.ExchangeLaws.{no_asks, at_first, asks_are_due
 use Rattle.memcached_fronts.proofs.SpellsLaws.{rest_is, spells_more, spells_next, may_go_on, due_then, answers_then, nothing_before, due_still}
 use Rattle.stream_fronts.specs.Talk.{has_left}
 use Rattle.stream_fronts.specs.declared.answer.Said.TheVariants.{Part, Whole, Last}
-use Rattle.stream_fronts.specs.declared.answer.Stand.{Stand}
-use Rattle.stream_fronts.specs.declared.answer.Stand.TheVariants.{Needs, Enough, Leaves}
-use Rattle.stream_fronts.specs.Reached.{Place, place_at, begun, Reaches, Ends, GoesOnTo, ReachesAfter, StandsAs, Spoke, SpokeFrom}
+use Rattle.stream_fronts.specs.declared.answer.Halt.{Halt}
+use Rattle.stream_fronts.specs.declared.answer.Halt.TheVariants.{Needs, Enough, Leaves}
+use Rattle.stream_fronts.specs.Reached.{Position, position_at, begun, Reaches, Ends, GoesOnTo, ReachesAfter, HaltsAs, Spoke, SpokeFrom}
 
 taken_then : (es : List Exchange) (e : Exchange) → taken_by (es ++ e ∷ []) ≡ taken_by es + len_of e.next
 taken_then [] e = omega arith
@@ -48,9 +48,9 @@ module _ (options : Options) (base : ℕ) where
   none_begun : (bytes : List ℕ) (part : List Answered) (told : Told) → length part ≡ 0 → due_before options base (begun bytes part told) ≡ []
   none_begun bytes part told none = subst (λ p. due_before options base (begun bytes p told) ≡ []) (sym (nil_from_length part none)) (nothing_before options base (next_of bytes) told)
 
-  -- The command at a place
+  -- The command at a position
 
-  module _ {bytes : List ℕ} {done : ℕ} {received : List ℕ} {given : List Answered} {due : List ℕ} (r : Reaches options base (place_at bytes done) received given due) where
+  module _ {bytes : List ℕ} {done : ℕ} {received : List ℕ} {given : List Answered} {due : List ℕ} (r : Reaches options base (position_at bytes done) received given due) where
     pub here : StandsAt options base (next_of bytes) done (begun bytes r.part r.told)
     here = record { next_is = refl; count = r.count; answers = r.begins }
 
@@ -69,7 +69,7 @@ module _ (options : Options) (base : ℕ) where
 
       -- it is answered in part
       pub in_part : is_answered options (begun bytes (r.part ++ answers) told) ≡ false → (more : ℕ) → more ≡ done + length answers
-          → Reaches options base (place_at bytes more) received (given ++ answers) (due ++ text)
+          → Reaches options base (position_at bytes more) received (given ++ answers) (due ++ text)
       in_part going more is = record {
         whole = r.whole;
         part = r.part ++ answers;
@@ -132,12 +132,12 @@ module _ (options : Options) (base : ℕ) where
     all : Replies options base (next_of bytes) done limits answers before after progress
     all = subst (λ (n : Next). Replies options base n done limits answers before after progress) is replies
 
-    answered_is : {received : List ℕ} {given : List Answered} {due : List ℕ} (r : Reaches options base (place_at bytes done) received given due)
+    answered_is : {received : List ℕ} {given : List Answered} {due : List ℕ} (r : Reaches options base (position_at bytes done) received given due)
         → is_answered options (begun bytes (r.part ++ answers) all.told) ≡ progress.is_whole
     answered_is r =
         ap (λ n. n == count_of_answers options (next_of bytes)) (length-append r.part answers ∙ ap (λ n. n + length answers) r.count ∙ sym all.count) ∙ sym all.whole
 
-    pub part_of : progress.is_whole ≡ false → GoesOnTo options base (place_at bytes done) answers before after (ReachesAfter options base bytes done (Part progress.done))
+    pub part_of : progress.is_whole ≡ false → GoesOnTo options base (position_at bytes done) answers before after (ReachesAfter options base bytes done (Part progress.done))
     part_of going = record {
       text = all.text;
       appended = all.appended;
@@ -150,7 +150,7 @@ module _ (options : Options) (base : ℕ) where
       some_here none = some (is ∙ none)
 
       pub whole_of : progress.is_whole ≡ true → is_last next ≡ false → (len : ℕ) → len ≡ len_of next
-          → GoesOnTo options base (place_at bytes done) answers before after (ReachesAfter options base bytes done (Whole len))
+          → GoesOnTo options base (position_at bytes done) answers before after (ReachesAfter options base bytes done (Whole len))
       whole_of answered goes_on len len_is = record {
         text = all.text;
         appended = all.appended;
@@ -158,7 +158,7 @@ module _ (options : Options) (base : ℕ) where
             (answered_is r ∙ answered) (ap is_last (sym is) ∙ goes_on) len (len_is ∙ ap len_of is);
       }
 
-      pub last_of : is_last next ≡ true → GoesOnTo options base (place_at bytes done) answers before after (ReachesAfter options base bytes done Last)
+      pub last_of : is_last next ≡ true → GoesOnTo options base (position_at bytes done) answers before after (ReachesAfter options base bytes done Last)
       last_of last = record {
         text = all.text;
         appended = all.appended;
@@ -188,7 +188,7 @@ module _ (options : Options) (base : ℕ) where
 
   module _ {is_alone : Bool} {old new : Sessions} {told tells : ClockView} {answers : List Answered} (bytes : List ℕ) (done : ℕ) (next : Next) (is : next ≡ next_of bytes)
       (goes : GoesOn options is_alone base next done old told new tells answers) (some : next ≢ More) (stands : IsOpenAt (next_of bytes) done) where
-    pub spoke_of : SpokeFrom options base (length bytes) (place_at bytes done) answers
+    pub spoke_of : SpokeFrom options base (length bytes) (position_at bytes done) answers
     spoke_of received given due r =
         let by_all = subst (λ (n : Next). GoesOn options is_alone base n done old told new tells answers) is goes in
         let begins = by_all.next_ones (begun bytes r.part r.told) (here r) in
@@ -225,14 +225,14 @@ module _ (options : Options) (base : ℕ) where
   }
 
   -- behind what was answered before
-  pub spoke_then : {place between : Place} {one two : List Answered} {before after : List ℕ} {few most : ℕ} → few ≤ most
-      → GoesOnTo options base place one before after (Reaches options base between) → SpokeFrom options base few between two → SpokeFrom options base most place (one ++ two)
-  spoke_then {place} {between} {one} {two} {before} {after} {few} {most} less first then received given due r =
+  pub spoke_then : {position between : Position} {one two : List Answered} {before after : List ℕ} {few most : ℕ} → few ≤ most
+      → GoesOnTo options base position one before after (Reaches options base between) → SpokeFrom options base few between two → SpokeFrom options base most position (one ++ two)
+  spoke_then {position} {between} {one} {two} {before} {after} {few} {most} less first then received given due r =
       subst (λ g. Spoke options base most received g due) (append_assoc given one two)
       (spoke_less due first.text less (then received (given ++ one) (due ++ first.text) (first.on received given due r)))
 
   -- nothing was said yet
-  pub begins_none : Reaches options base (place_at [] 0) [] [] []
+  pub begins_none : Reaches options base (position_at [] 0) [] [] []
   begins_none = record {
     whole = [];
     part = [];
@@ -248,17 +248,17 @@ module _ (options : Options) (base : ℕ) where
 
   -- One after another
 
-  pub on_none : (place : Place) (old : List ℕ) → GoesOnTo options base place [] old old (Reaches options base place)
-  on_none place old = record {
+  pub on_none : (position : Position) (old : List ℕ) → GoesOnTo options base position [] old old (Reaches options base position)
+  on_none position old = record {
     text = [];
     appended = sym (append-nil old);
-    on = λ received given due r. subst (λ g. Reaches options base place received g (due ++ [])) (sym (append-nil given))
-        (subst (λ d. Reaches options base place received given d) (sym (append-nil due)) r);
+    on = λ received given due r. subst (λ g. Reaches options base position received g (due ++ [])) (sym (append-nil given))
+        (subst (λ d. Reaches options base position received given d) (sym (append-nil due)) r);
   }
 
-  pub on_then : {P : List ℕ → List Answered → List ℕ → Type 0} {place between : Place} {one two : List Answered} {old mid new : List ℕ}
-      → GoesOnTo options base place one old mid (Reaches options base between) → GoesOnTo options base between two mid new P → GoesOnTo options base place (one ++ two) old new P
-  on_then {P} {place} {between} {one} {two} {old} {mid} {new} first second = record {
+  pub on_then : {P : List ℕ → List Answered → List ℕ → Type 0} {position between : Position} {one two : List Answered} {old mid new : List ℕ}
+      → GoesOnTo options base position one old mid (Reaches options base between) → GoesOnTo options base between two mid new P → GoesOnTo options base position (one ++ two) old new P
+  on_then {P} {position} {between} {one} {two} {old} {mid} {new} first second = record {
     text = first.text ++ second.text;
     appended = second.appended ∙ ap (λ t. t ++ second.text) first.appended ∙ append_assoc old first.text second.text;
     on = λ received given due r. subst (λ g. P received g (due ++ (first.text ++ second.text))) (append_assoc given one two)
@@ -266,52 +266,52 @@ module _ (options : Options) (base : ℕ) where
         (second.on received (given ++ one) (due ++ first.text) (first.on received given due r)));
   }
 
-  pub on_as : {P Q : List ℕ → List Answered → List ℕ → Type 0} {place : Place} {answers : List Answered} {old new : List ℕ}
+  pub on_as : {P Q : List ℕ → List Answered → List ℕ → Type 0} {position : Position} {answers : List Answered} {old new : List ℕ}
       → ((received : List ℕ) (given : List Answered) (due : List ℕ) → P received given due → Q received given due)
-      → GoesOnTo options base place answers old new P → GoesOnTo options base place answers old new Q
+      → GoesOnTo options base position answers old new P → GoesOnTo options base position answers old new Q
   on_as as_q goes = record { text = goes.text; appended = goes.appended; on = λ received given due r. as_q received (given ++ _) (due ++ goes.text) (goes.on received given due r) }
 
   -- More bytes
 
-  module _ {place : Place} {received : List ℕ} {given : List Answered} {due : List ℕ} (r : Reaches options base place received given due) (first : place.done ≡ 0) (more : List ℕ) where
+  module _ {position : Position} {received : List ℕ} {given : List Answered} {due : List ℕ} (r : Reaches options base position received given due) (first : position.done ≡ 0) (more : List ℕ) where
     abbrev taken : ℕ
     taken = taken_by r.whole
 
     -- what stands behind what is answered, where more bytes came
-    behind : drop taken (received ++ more) ≡ drop place.dropping (place.bytes ++ more)
+    behind : drop taken (received ++ more) ≡ drop position.dropping (position.bytes ++ more)
     behind = go (ltb (length received) taken) refl
       where
-        kept : place.bytes ≡ drop taken received
-        kept = rest_is options base received r.whole place.bytes r.spells
+        kept : position.bytes ≡ drop taken received
+        kept = rest_is options base received r.whole position.bytes r.spells
 
-        go : (t : Bool) → ltb (length received) taken ≡ t → drop taken (received ++ more) ≡ drop place.dropping (place.bytes ++ more)
+        go : (t : Bool) → ltb (length received) taken ≡ t → drop taken (received ++ more) ≡ drop position.dropping (position.bytes ++ more)
         go false come =
             let fits = ltb-false _ _ come in
-            let none : place.dropping ≡ 0 = let m = r.missing in omega (arith, fits, m) in
-            drop-append-le taken received more (omega (arith, fits)) ∙ ap (λ b. b ++ more) (sym kept) ∙ ap (λ n. drop n (place.bytes ++ more)) (sym none)
+            let none : position.dropping ≡ 0 = let m = r.missing in omega (arith, fits, m) in
+            drop-append-le taken received more (omega (arith, fits)) ∙ ap (λ b. b ++ more) (sym kept) ∙ ap (λ n. drop n (position.bytes ++ more)) (sym none)
         go true come =
             let beyond = ltb-true _ _ come in
-            let all : taken ≡ length received + place.dropping = let m = r.missing in omega (arith, beyond, m) in
-            let empty : place.bytes ≡ [] = kept ∙ drop_all taken received (omega (arith, beyond)) in
-            ap (λ n. drop n (received ++ more)) all ∙ sym (drop-drop place.dropping (length received) (received ++ more))
-            ∙ ap (drop place.dropping) (drop_at received more (length received) refl) ∙ ap (λ b. drop place.dropping (b ++ more)) (sym empty)
+            let all : taken ≡ length received + position.dropping = let m = r.missing in omega (arith, beyond, m) in
+            let empty : position.bytes ≡ [] = kept ∙ drop_all taken received (omega (arith, beyond)) in
+            ap (λ n. drop n (received ++ more)) all ∙ sym (drop-drop position.dropping (length received) (received ++ more))
+            ∙ ap (drop position.dropping) (drop_at received more (length received) refl) ∙ ap (λ b. drop position.dropping (b ++ more)) (sym empty)
 
-    pub read_more : Reaches options base (record { bytes = drop place.dropping (place.bytes ++ more); done = 0; dropping = place.dropping - length (place.bytes ++ more) }) (received ++ more) given due
+    pub read_more : Reaches options base (record { bytes = drop position.dropping (position.bytes ++ more); done = 0; dropping = position.dropping - length (position.bytes ++ more) }) (received ++ more) given due
     read_more = record {
       whole = r.whole;
       part = [];
       told = r.told;
-      spells = subst (Spells options base (received ++ more) r.whole) behind (spells_more options base received more r.whole place.bytes r.spells);
+      spells = subst (Spells options base (received ++ more) r.whole) behind (spells_more options base received more r.whole position.bytes r.spells);
       follows = r.follows;
-      begins = no_answers (next_of (drop place.dropping (place.bytes ++ more)));
+      begins = no_answers (next_of (drop position.dropping (position.bytes ++ more)));
       count = refl;
       answered = ap (λ p. answers_to_all r.whole ++ p) (sym (nil_from_length r.part (r.count ∙ first))) ∙ r.answered;
       due_is =
-          ap (λ t. due_to_all options base r.whole ++ t) (none_begun (drop place.dropping (place.bytes ++ more)) [] r.told refl ∙ sym (none_begun place.bytes r.part r.told (r.count ∙ first)))
+          ap (λ t. due_to_all options base r.whole ++ t) (none_begun (drop position.dropping (position.bytes ++ more)) [] r.told refl ∙ sym (none_begun position.bytes r.part r.told (r.count ∙ first)))
           ∙ r.due_is;
       missing =
-          let kept = ap length (rest_is options base received r.whole place.bytes r.spells) ∙ length-drop taken received in
-          let both = length-append place.bytes more in
+          let kept = ap length (rest_is options base received r.whole position.bytes r.spells) ∙ length-drop taken received in
+          let both = length-append position.bytes more in
           let all = length-append received more in
           let m = r.missing in
           omega (arith, kept, both, all, m);
@@ -319,11 +319,11 @@ module _ (options : Options) (base : ℕ) where
 
   -- Where a talk stands
 
-  pub stands_more : (stand : Stand) (place : Place) (few most : ℕ) (received : List ℕ) (given : List Answered) (due : List ℕ) → few ≤ most
-      → StandsAs options base few stand place received given due → StandsAs options base most stand place received given due
-  stands_more Needs place few most received given due less is = is
-  stands_more Enough place few most received given due less is = is
-  stands_more Leaves place few most received given due less is = record {
+  pub halts_more : (halt : Halt) (position : Position) (few most : ℕ) (received : List ℕ) (given : List Answered) (due : List ℕ) → few ≤ most
+      → HaltsAs options base few halt position received given due → HaltsAs options base most halt position received given due
+  halts_more Needs position few most received given due less is = is
+  halts_more Enough position few most received given due less is = is
+  halts_more Leaves position few most received given due less is = record {
     said = is.said;
     rest = is.rest;
     spells = is.spells;

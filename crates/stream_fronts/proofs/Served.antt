@@ -18,7 +18,7 @@ use Rattle.stream_fronts.specs.Open.{IsOpen, OnLogs}
 use Rattle.stream_fronts.specs.Clients.{at}
 use Rattle.stream_fronts.specs.Closing.{MayClose}
 use Rattle.stream_fronts.specs.Traffic.{OnHeld}
-use Rattle.stream_fronts.specs.Reached.{place_of}
+use Rattle.stream_fronts.specs.Reached.{position_of}
 use Rattle.stream_fronts.specs.Turns.{most_answers}
 use Rattle.stream_fronts.specs.Held.{Holds, Visits, VisitLacks, all_to}
 use Rattle.stream_fronts.specs.Standing.{Stands, StandsBut, StandsOn}
@@ -126,7 +126,7 @@ module _ (options : Options) (base : ℕ) where
 
         -- It is asked for again
 
-        module _ (last : Client) (place : place_of last ≡ place_of now) (leaving : last.leaving ≡ now.leaving) (unsent : last.unsent ≡ now.unsent) where
+        module _ (last : Client) (position : position_of last ≡ position_of now) (leaving : last.leaving ≡ now.leaving) (unsent : last.unsent ≡ now.unsent) where
           again_at : (c : ℕ) (a b : Log) → held number (connections_of a) ≡ Some c → at new number ≡ Some last → Visits options base 2 client answers now Again c a b
               → StandsOn options base (Ready number) clients 0 (all_to c answers) new a (logged (asked c) b)
           again_at c a b here put visit = record {
@@ -138,7 +138,7 @@ module _ (options : Options) (base : ℕ) where
                 let t = visit.talks lacking all (holds_at options base c here (stands.holds number client is_held)) stands.through in
                 let s = stands_visited options base lacking {old = a} {new = b} all clients taken number c here others gone visit.passes.schedule (passes_under visit.passes) visit.passes.others answers t.0 stands in
                 let stays = stays_asked c b c in
-                let held_last = held_sent options base MOST_UNSENT c {old = b} {new = logged (asked c) b} now last place leaving (let same = ap length unsent in omega (arith, same)) stays.came
+                let held_last = held_sent options base MOST_UNSENT c {old = b} {new = logged (asked c) b} now last position leaving (let same = ap length unsent in omega (arith, same)) stays.came
                 (ap (λ u. sent_of c b.entries ++ u) unsent) stays.over t.1 in (
                   [],
                   refl,

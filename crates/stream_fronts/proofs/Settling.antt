@@ -12,7 +12,7 @@ use Rattle.stream_fronts.specs.declared.client.Client.{Client}
 use Rattle.stream_fronts.specs.declared.desk.TheConstants.{MOST_UNSENT}
 use Rattle.stream_fronts.specs.Given.{Given, given_to}
 use Rattle.stream_fronts.specs.Clients.{IsClient, AreOpen}
-use Rattle.stream_fronts.specs.Reached.{Reaches, place_of}
+use Rattle.stream_fronts.specs.Reached.{Reaches, position_of}
 use Rattle.stream_fronts.specs.Closing.{IsSettled}
 use Rattle.stream_fronts.specs.Closing.{shut as waits_shut, idle as waits_idle}
 use Rattle.stream_fronts.specs.Moments.{IsCaughtUp}
@@ -49,10 +49,10 @@ module _ (options : Options) (base : ℕ) where
         | left leaves few ends ↦ some_due some is_shut (talk_ends options base ends went (client.unsent, refl))
         | ended leaves few at none over ↦ some_due some is_shut (talk_at options base at is.begun went (client.unsent, refl))
       ]
-      | idle none reading more silent ↦
+      | idle none reading more drained ↦
           let at = held_reaches options base MOST_UNSENT c holds reading none in
-          let a = all_answered options base (subst (λ due. Reaches options base (place_of client) came given due) (append-nil went) at) is.begun more in
-          inr (silent.whole, a.talk, waits_idle a.due_is silent.read silent.goes_on a.answered)
+          let a = all_answered options base (subst (λ due. Reaches options base (position_of client) came given due) (append-nil went) at) is.begun more in
+          inr (drained.whole, a.talk, waits_idle a.due_is drained.read drained.goes_on a.answered)
     ]
 
   -- a report of the c-th connection is to come, or it is settled

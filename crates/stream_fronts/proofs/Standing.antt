@@ -12,7 +12,7 @@ use Rattle.stream_fronts.specs.declared.client.Client.{Client}
 use Rattle.stream_fronts.specs.declared.desk.TheConstants.{MOST_UNSENT}
 use Rattle.stream_fronts.specs.Given.{Given, answers_in, given_to}
 use Rattle.stream_fronts.specs.Clients.{at}
-use Rattle.stream_fronts.specs.Moments.{TalksThrough, HasCause}
+use Rattle.stream_fronts.specs.Moments.{TalksThrough, IsCaused}
 use Rattle.stream_fronts.specs.Held.{Holds, StaysAs, all_to}
 use Rattle.stream_fronts.specs.Standing.{IsUntouched, HoldsUnder, Stands}
 use Rattle.stream_fronts.proofs.Places.{there, two_places, same_held, closed_other}
@@ -120,7 +120,7 @@ module _ (options : Options) (base : ℕ) where
         (through_entry options base MOST_UNSENT log.schedule lacking (asked c) log.entries all talks tt stands.through) stands
 
     pub stands_closed : {log : Log} {all : List Given} {clients : List (Option Client)} (number c : ℕ) → held number (connections_of log) ≡ Some c → at clients number ≡ None
-        → HasCause options base log.schedule lacking (closed c) log.entries all → Stands options base lacking log all clients → Stands options base lacking (logged (closed c) log) all clients
+        → IsCaused options base log.schedule lacking (closed c) log.entries all → Stands options base lacking log all clients → Stands options base lacking (logged (closed c) log) all clients
     stands_closed {log} {all} {clients} number c here gone cause stands =
         let talks = last_moment options base MOST_UNSENT log.schedule lacking log.entries all stands.through in
         stands_moved {new = logged (closed c) log}

@@ -11,7 +11,7 @@ use Rattle.stream_io.specs.Connection.{Connection, after_read}
 use Rattle.stream_io.specs.State.{Entry, opened, reported, met, received, sent, asked, closed, held, state_after}
 use Rattle.stream_io.specs.Log.{Log, connections_of, state_of, received_of, sent_of}
 use Rattle.mica_fronts.specs.Answered.{Answered}
-use Rattle.stream_fronts.specs.declared.answer.Stand.{Stand}
+use Rattle.stream_fronts.specs.declared.answer.Halt.{Halt}
 use Rattle.stream_fronts.specs.declared.client.Client.{Client}
 use Rattle.stream_fronts.specs.Traffic.{IsSend, Sends, Reads, HasEnded, after_receiving}
 use Rattle.stream_fronts.specs.Turns.{GrowsBy}
@@ -127,7 +127,7 @@ passes_under passes n d is = passes.moves.same n ∙ is
 
 -- One look
 
-pub looks_passes : (options : Options) (base : ℕ) (client : Client) (answers : List Answered) (replies : List ℕ) (now : Client) (r : Result (Stand × Option Input) Broken) (c : ℕ) (old new : Log)
+pub looks_passes : (options : Options) (base : ℕ) (client : Client) (answers : List Answered) (replies : List ℕ) (now : Client) (r : Result (Halt × Option Input) Broken) (c : ℕ) (old new : Log)
     → Looks options base client answers replies now r c old new → Passes 1 c old new
 looks_passes options base client answers replies now (Err broken) c old new looks = passes_reads looks.2
 looks_passes options base client answers replies now (Ok r) c old new looks = elim looks as (λ _. Passes 1 c old new) [
@@ -135,6 +135,6 @@ looks_passes options base client answers replies now (Ok r) c old new looks = el
   | inr reads ↦ passes_reads reads.reads
 ]
 
-pub looks_held : (options : Options) (base : ℕ) (client : Client) (answers : List Answered) (replies : List ℕ) (now : Client) (r : Result (Stand × Option Input) Broken) (c : ℕ) (old new : Log)
+pub looks_held : (options : Options) (base : ℕ) (client : Client) (answers : List Answered) (replies : List ℕ) (now : Client) (r : Result (Halt × Option Input) Broken) (c : ℕ) (old new : Log)
     → Looks options base client answers replies now r c old new → (n d : ℕ) → held n (connections_of old) ≡ Some d → held n (connections_of new) ≡ Some d
 looks_held options base client answers replies now r c old new looks = passes_under (looks_passes options base client answers replies now r c old new looks)

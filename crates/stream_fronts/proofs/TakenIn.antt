@@ -14,7 +14,7 @@ use Rattle.stream_fronts.specs.declared.client.Client.{Client}
 use Rattle.stream_fronts.specs.Given.{Given, given_to}
 use Rattle.stream_fronts.specs.Open.{IsOpen, OnLogs}
 use Rattle.stream_fronts.specs.Clients.{at}
-use Rattle.stream_fronts.specs.Reached.{Reaches, place_of}
+use Rattle.stream_fronts.specs.Reached.{Reaches, position_of}
 use Rattle.stream_fronts.specs.Held.{goes_on}
 use Rattle.stream_fronts.specs.Standing.{IsUntouched, HoldsUnder, Stands, StandsOn}
 use Rattle.stream_fronts.specs.Resting.{idle}
@@ -28,7 +28,7 @@ use Rattle.stream_fronts.proofs.Served.{stands_none}
 
 module _ (options : Options) (base number : ℕ) (clients : List (Option Client)) where
   -- what is held of it, of which nothing is known yet
-  holds_new : (client : Client) → client.leaving ≡ false → client.unsent ≡ [] → Reaches options base (place_of client) [] [] [] → (c : ℕ) (log : Log) (all : List Given)
+  holds_new : (client : Client) → client.leaving ≡ false → client.unsent ≡ [] → Reaches options base (position_of client) [] [] [] → (c : ℕ) (log : Log) (all : List Given)
       → held number (connections_of log) ≡ Some c → IsUntouched c log.entries all → HoldsUnder options base log all number client
   holds_new client reading none talk c log all here is =
       let due_is : sent_of c log.entries ++ client.unsent ≡ [] = ap (λ s. s ++ client.unsent) is.went ∙ none in
@@ -36,13 +36,13 @@ module _ (options : Options) (base number : ℕ) (clients : List (Option Client)
         place = c;
         under = here;
         holds = goes_on reading (let len = ap length none in omega (arith, len))
-            (subst (λ r. Reaches options base (place_of client) r (given_to c all) (sent_of c log.entries ++ client.unsent)) (sym is.came)
-            (subst (λ g. Reaches options base (place_of client) [] g (sent_of c log.entries ++ client.unsent)) (sym is.given)
-            (subst (λ d. Reaches options base (place_of client) [] [] d) (sym due_is) talk)));
+            (subst (λ r. Reaches options base (position_of client) r (given_to c all) (sent_of c log.entries ++ client.unsent)) (sym is.came)
+            (subst (λ g. Reaches options base (position_of client) [] g (sent_of c log.entries ++ client.unsent)) (sym is.given)
+            (subst (λ d. Reaches options base (position_of client) [] [] d) (sym due_is) talk)));
       }
 
   pub takes_in : (now : List (Option Client)) (client : Client) → ((n : ℕ) → n ≢ number → at now n ≡ at clients n) → at now number ≡ Some client → client.leaving ≡ false → client.unsent ≡ []
-      → Reaches options base (place_of client) [] [] [] → next_of client.kept ≡ More → (log : Option Log) → IfSome log (IsOpen number 0)
+      → Reaches options base (position_of client) [] [] [] → next_of client.kept ≡ More → (log : Option Log) → IfSome log (IsOpen number 0)
       → OnLogs (StandsOn options base (Opened number) clients 0 [] now) log log
   takes_in now client others put reading none talk waits None stands = tt
   takes_in now client others put reading none talk waits (Some log) is_open = record {
@@ -59,7 +59,7 @@ module _ (options : Options) (base number : ℕ) (clients : List (Option Client)
         tends_served log.script.piece number c clients now here (moves_none c (state_of log)) others but.apart but.each (record {
           client = client;
           is_held = put;
-          rests = inr (λ moving. if_some (slice_get (connections_of log) c) (λ x silent. idle none reading waits silent) (but.told c here));
+          rests = inr (λ moving. if_some (slice_get (connections_of log) c) (λ x drained. idle none reading waits drained) (but.told c here));
         });
   }
 

@@ -18,9 +18,9 @@ use Rattle.stream_io.specs.Connection.{Connection}
 use Rattle.stream_fronts.specs.Talk.{IsBeginning, Talk, IsAllAnswered, due_in}
 use Rattle.stream_fronts.specs.Closing.{MayClose, broke, left, ended}
 use Rattle.stream_fronts.specs.Traffic.{HasEnded}
-use Rattle.stream_fronts.specs.declared.answer.Stand.{Stand}
-use Rattle.stream_fronts.specs.declared.answer.Stand.TheVariants.{Needs, Enough, Leaves}
-use Rattle.stream_fronts.specs.Reached.{Place, begun, Reaches, Ends, GoesOnTo, StandsAs, Spoke, SpokeFrom}
+use Rattle.stream_fronts.specs.declared.answer.Halt.{Halt}
+use Rattle.stream_fronts.specs.declared.answer.Halt.TheVariants.{Needs, Enough, Leaves}
+use Rattle.stream_fronts.specs.Reached.{Position, begun, Reaches, Ends, GoesOnTo, HaltsAs, Spoke, SpokeFrom}
 
 -- what was asked in part asks something
 asks_some : (next : Next) (done n : ℕ) → IsOpenAt next done → done ≡ suc n → done < length (asks_in next)
@@ -43,7 +43,7 @@ module _ (options : Options) (base : ℕ) where
           let many : count_of_answers options next ≡ length (asks_in next) = ap (λ t. cond t options.partitions (length (asks_in next))) keyed in
           absurd (omega (arith, less, all, many))
 
-  -- The talk that came to a place, what is due in it, and how many bytes are left
+  -- The talk that came to a position, what is due in it, and how many bytes are left
 
   pub record Told (received sent : List ℕ) (given : List Answered) (due : List ℕ) (most : ℕ) : Type 0 where
     pub talk : Talk options base received sent given
@@ -53,25 +53,25 @@ module _ (options : Options) (base : ℕ) where
   begins_with : (went : List ℕ) {due other : List ℕ} → other ≡ due → IsBeginning went due → IsBeginning went other
   begins_with went same begins = (begins.0, same ∙ begins.1)
 
-  module _ {place : Place} {received : List ℕ} {given : List Answered} {due : List ℕ} (r : Reaches options base place received given due) where
+  module _ {position : Position} {received : List ℕ} {given : List Answered} {due : List ℕ} (r : Reaches options base position received given due) where
     -- where nothing is answered in part
     whole_due : r.part ≡ [] → due_to_all options base r.whole ≡ due
     whole_due none =
-        sym (append-nil _) ∙ ap (λ t. due_to_all options base r.whole ++ t) (sym (nothing_before options base (next_of place.bytes) r.told))
-        ∙ ap (λ p. due_to_all options base r.whole ++ due_before options base (begun place.bytes p r.told)) (sym none) ∙ r.due_is
+        sym (append-nil _) ∙ ap (λ t. due_to_all options base r.whole ++ t) (sym (nothing_before options base (next_of position.bytes) r.told))
+        ∙ ap (λ p. due_to_all options base r.whole ++ due_before options base (begun position.bytes p r.told)) (sym none) ∙ r.due_is
 
     whole_answers : r.part ≡ [] → answers_to_all r.whole ≡ given
     whole_answers none = sym (append-nil _) ∙ ap (λ p. answers_to_all r.whole ++ p) (sym none) ∙ r.answered
 
-    pub talk_at : IsOpenAt (next_of place.bytes) place.done → (sent : List ℕ) → IsBeginning sent due → Told received sent given due (length place.bytes)
+    pub talk_at : IsOpenAt (next_of position.bytes) position.done → (sent : List ℕ) → IsBeginning sent due → Told received sent given due (length position.bytes)
     talk_at stands sent begins = by r.part refl
       where
-        by : (part : List Answered) → r.part ≡ part → Told received sent given due (length place.bytes)
+        by : (part : List Answered) → r.part ≡ part → Told received sent given due (length position.bytes)
         by [] none =
             record {
               talk = record {
                 said = r.whole;
-                rest = place.bytes;
+                rest = position.bytes;
                 spells = r.spells;
                 answered = whole_answers none;
                 begins = begins_with sent (whole_due none) begins;
@@ -80,25 +80,25 @@ module _ (options : Options) (base : ℕ) where
               few = omega arith;
             }
         by (a ∷ part) some =
-            let next = next_of place.bytes in
-            let e = begun place.bytes r.part r.told in
-            let many : place.done ≡ suc (length part) = sym r.count ∙ ap length some in
-            let less : place.done < length (asks_in next) = asks_some next place.done (length part) stands many in
-            let going : is_answered options (begun place.bytes r.part r.told) ≡ false = not_yet next r.part r.told (let count = r.count in omega (arith, count, less)) in
-            let all : due_to_all options base (r.whole ++ begun place.bytes r.part r.told ∷ []) ≡ due =
-            due_then options base r.whole (begun place.bytes r.part r.told) ∙ ap (λ t. due_to_all options base r.whole ++ t) (sym (due_still options base (begun place.bytes r.part r.told) going))
+            let next = next_of position.bytes in
+            let e = begun position.bytes r.part r.told in
+            let many : position.done ≡ suc (length part) = sym r.count ∙ ap length some in
+            let less : position.done < length (asks_in next) = asks_some next position.done (length part) stands many in
+            let going : is_answered options (begun position.bytes r.part r.told) ≡ false = not_yet next r.part r.told (let count = r.count in omega (arith, count, less)) in
+            let all : due_to_all options base (r.whole ++ begun position.bytes r.part r.told ∷ []) ≡ due =
+            due_then options base r.whole (begun position.bytes r.part r.told) ∙ ap (λ t. due_to_all options base r.whole ++ t) (sym (due_still options base (begun position.bytes r.part r.told) going))
             ∙ r.due_is in
             record {
               talk = record {
-                said = r.whole ++ begun place.bytes r.part r.told ∷ [];
-                rest = drop (len_of next) place.bytes;
-                spells = spells_next options base received r.whole place.bytes (begun place.bytes r.part r.told) r.spells r.follows
-                    (record { next = refl; some = not_more next place.done less; answers = r.begins });
-                answered = answers_then options base r.whole (begun place.bytes r.part r.told) ∙ r.answered;
+                said = r.whole ++ begun position.bytes r.part r.told ∷ [];
+                rest = drop (len_of next) position.bytes;
+                spells = spells_next options base received r.whole position.bytes (begun position.bytes r.part r.told) r.spells r.follows
+                    (record { next = refl; some = not_more next position.done less; answers = r.begins });
+                answered = answers_then options base r.whole (begun position.bytes r.part r.told) ∙ r.answered;
                 begins = begins_with sent all begins;
               };
               due_is = all;
-              few = let len = length-drop (len_of next) place.bytes in omega (arith, len);
+              few = let len = length-drop (len_of next) position.bytes in omega (arith, len);
             }
 
   module _ {most : ℕ} {received : List ℕ} {given : List Answered} {due : List ℕ} (r : Ends options base most received given due) where
@@ -110,9 +110,9 @@ module _ (options : Options) (base : ℕ) where
     }
 
   -- Memory lacked behind an answer
-  pub spoke_stands : (stand : Stand) (place at : Place) (answers : List Answered) (before after : List ℕ) (most : ℕ) → IsOpenAt (next_of at.bytes) at.done → length at.bytes ≤ most
-      → GoesOnTo options base place answers before after (StandsAs options base most stand at) → SpokeFrom options base most place answers
-  spoke_stands stand place at answers before after most stands short goes received given due r = by stand (goes.on received given due r)
+  pub spoke_halts : (halt : Halt) (position at : Position) (answers : List Answered) (before after : List ℕ) (most : ℕ) → IsOpenAt (next_of at.bytes) at.done → length at.bytes ≤ most
+      → GoesOnTo options base position answers before after (HaltsAs options base most halt at) → SpokeFrom options base most position answers
+  spoke_halts halt position at answers before after most stands short goes received given due r = by halt (goes.on received given due r)
     where
       begins : IsBeginning due (due ++ goes.text)
       begins = (goes.text, refl)
@@ -120,7 +120,7 @@ module _ (options : Options) (base : ℕ) where
       told : {few : ℕ} → few ≤ most → Told received due (given ++ answers) (due ++ goes.text) few → Spoke options base most received (given ++ answers) due
       told less t = record { talk = t.talk; few = let f = t.few in omega (arith, f, less) }
 
-      by : (s : Stand) → StandsAs options base most s at received (given ++ answers) (due ++ goes.text) → Spoke options base most received (given ++ answers) due
+      by : (s : Halt) → HaltsAs options base most s at received (given ++ answers) (due ++ goes.text) → Spoke options base most received (given ++ answers) due
       by Needs is = told short (talk_at is.0 stands due begins)
       by Enough is = told short (talk_at is stands due begins)
       by Leaves is = told (omega arith) (talk_ends is due begins)
@@ -144,9 +144,9 @@ module _ (options : Options) (base : ℕ) where
     pub due_is : sent ≡ due_in talk
     pub answered : IsAllAnswered options talk.said talk.rest
 
-  pub all_answered : {place : Place} {received sent : List ℕ} {given : List Answered} → Reaches options base place received given sent → IsOpenAt (next_of place.bytes) place.done
-      → next_of place.bytes ≡ More → AllAnswered received sent given
-  all_answered {place} {received} {sent} {given} r stands more = by r.part refl
+  pub all_answered : {position : Position} {received sent : List ℕ} {given : List Answered} → Reaches options base position received given sent → IsOpenAt (next_of position.bytes) position.done
+      → next_of position.bytes ≡ More → AllAnswered received sent given
+  all_answered {position} {received} {sent} {given} r stands more = by r.part refl
     where
       by : (part : List Answered) → r.part ≡ part → AllAnswered received sent given
       by [] none =
@@ -154,7 +154,7 @@ module _ (options : Options) (base : ℕ) where
           record {
             talk = record {
               said = r.whole;
-              rest = place.bytes;
+              rest = position.bytes;
               spells = r.spells;
               answered = whole_answers r none;
               begins = ([], all ∙ sym (append-nil sent));
@@ -163,9 +163,9 @@ module _ (options : Options) (base : ℕ) where
             answered = (r.follows, more);
           }
       by (a ∷ part) some =
-          let many : place.done ≡ suc (length part) = sym r.count ∙ ap length some in
-          absurd (not_more (next_of place.bytes) place.done (asks_some (next_of place.bytes) place.done (length part) stands many) more)
+          let many : position.done ≡ suc (length part) = sym r.count ∙ ap length some in
+          absurd (not_more (next_of position.bytes) position.done (asks_some (next_of position.bytes) position.done (length part) stands many) more)
 
-  pub may_end : {connection : Connection} {place : Place} {received sent : List ℕ} {given : List Answered} → Reaches options base place received given sent
-      → IsOpenAt (next_of place.bytes) place.done → next_of place.bytes ≡ More → HasEnded connection → MayClose options base connection received sent given
+  pub may_end : {connection : Connection} {position : Position} {received sent : List ℕ} {given : List Answered} → Reaches options base position received given sent
+      → IsOpenAt (next_of position.bytes) position.done → next_of position.bytes ≡ More → HasEnded connection → MayClose options base connection received sent given
   may_end r stands more has_ended = let a = all_answered r stands more in (a.talk, ended a.due_is has_ended.ended has_ended.read a.answered)

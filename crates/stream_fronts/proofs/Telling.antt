@@ -12,7 +12,7 @@ use Rattle.stream_io.specs.Connection.{Connection, new_connection, after_change}
 use Rattle.stream_io.specs.State.{State, changed, is_under, held, number_or, number_at, after_report}
 use Rattle.stream_io.specs.Calls.{IsNext}
 use Rattle.stream_fronts.specs.declared.client.Client.{Client}
-use Rattle.stream_fronts.specs.Traffic.{IsSilent, IsToCome}
+use Rattle.stream_fronts.specs.Traffic.{IsDrained, IsToCome}
 use Rattle.stream_fronts.specs.Resting.{IsAtRest, Rests, is_there, AreApart, Tends, TendsBut, number_in}
 use Rattle.stream_fronts.proofs.Places.{there, pushed, pushed_here, elsewhere, if_pushed}
 use Rattle.stream_fronts.proofs.Moving.{there_changed, held_changed, apart_as}
@@ -110,9 +110,9 @@ module _ (piece : ℕ) (clients : List (Option Client)) (s : State) (tends : Ten
           };
       told = λ d here.
           let x = there number d all here in
-          elim (which s.connections one d x.0 x.1) as (λ _. IfSome (slice_get all d) IsSilent) [
+          elim (which s.connections one d x.0 x.1) as (λ _. IfSome (slice_get all d) IsDrained) [
             | inl found ↦ absurd (none-some d (sym free ∙ tends.apart number d (ap (is_there number) found ∙ x.2)))
-            | inr last ↦ subst (λ o. IfSome o IsSilent) (sym x.1) (subst IsSilent (sym last.1) (record { read = refl; whole = refl; goes_on = refl }))
+            | inr last ↦ subst (λ o. IfSome o IsDrained) (sym x.1) (subst IsDrained (sym last.1) (record { read = refl; whole = refl; goes_on = refl }))
           ];
     }
 

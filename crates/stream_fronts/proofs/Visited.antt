@@ -11,14 +11,14 @@ use Rattle.stream_io.specs.declared.connections.Input.{Input}
 use Rattle.stream_io.specs.declared.connections.Input.TheVariants.{Bytes, Later, Ended}
 use Rattle.stream_io.specs.Log.{Log, state_of, connections_of, received_of, sent_of}
 use Rattle.mica_fronts.specs.Answered.{Answered}
-use Rattle.stream_fronts.specs.declared.answer.Stand.{Stand}
-use Rattle.stream_fronts.specs.declared.answer.Stand.TheVariants.{Needs, Enough, Leaves}
+use Rattle.stream_fronts.specs.declared.answer.Halt.{Halt}
+use Rattle.stream_fronts.specs.declared.answer.Halt.TheVariants.{Needs, Enough, Leaves}
 use Rattle.stream_fronts.specs.declared.client.Client.{Client}
 use Rattle.stream_fronts.specs.declared.desk.TheConstants.{MOST_UNSENT}
 use Rattle.stream_fronts.specs.declared.visit.After.{After}
 use Rattle.stream_fronts.specs.declared.visit.After.TheVariants.{Waits, Again, Over}
 use Rattle.stream_fronts.specs.Given.{Given, given_to}
-use Rattle.stream_fronts.specs.Reached.{Place, Reaches, Ends, StandsAs, Spoke, place_of}
+use Rattle.stream_fronts.specs.Reached.{Position, Reaches, Ends, HaltsAs, Spoke, position_of}
 use Rattle.stream_fronts.specs.Closing.{MayClose}
 use Rattle.stream_fronts.specs.Moments.{TalksThrough}
 use Rattle.stream_fronts.specs.Turns.{most_answers}
@@ -45,7 +45,7 @@ ends_on (Some Later) {c} {text} {old} {new} sends is =
     let moves = moves_sends sends in
     elim is as (λ _. EndsBy (Some Later) c new) [
       | inl come ↦ inl (moves.to_come c come)
-      | inr silent ↦ elim moves.own as (λ _. EndsBy (Some Later) c new) [ inl come ↦ inl come | inr on ↦ inr (on silent) ]
+      | inr drained ↦ elim moves.own as (λ _. EndsBy (Some Later) c new) [ inl come ↦ inl come | inr on ↦ inr (on drained) ]
     ]
 ends_on (Some Ended) {c} sends is = sends_ended sends c is
 
@@ -59,34 +59,34 @@ rests_shut client c log some is = inr (λ moving. if_some (slice_get (connection
 module _ (options : Options) (base : ℕ) where
   -- What is said of some bytes and answers is said of equal ones
 
-  reaches_as : {place p : Place} {received r : List ℕ} {given : List Answered} {due d : List ℕ} → p ≡ place → r ≡ received → d ≡ due → Reaches options base place received given due
+  reaches_as : {position p : Position} {received r : List ℕ} {given : List Answered} {due d : List ℕ} → p ≡ position → r ≡ received → d ≡ due → Reaches options base position received given due
       → Reaches options base p r given d
-  reaches_as {place} {p} {received} {r} {given} {due} {d} p_is r_is d_is at =
-      subst (λ x. Reaches options base x r given d) (sym p_is) (subst (λ x. Reaches options base place x given d) (sym r_is)
-      (subst (λ x. Reaches options base place received given x) (sym d_is) at))
+  reaches_as {position} {p} {received} {r} {given} {due} {d} p_is r_is d_is at =
+      subst (λ x. Reaches options base x r given d) (sym p_is) (subst (λ x. Reaches options base position x given d) (sym r_is)
+      (subst (λ x. Reaches options base position received given x) (sym d_is) at))
 
   ends_as : {most : ℕ} {received r : List ℕ} {given : List Answered} {due d : List ℕ} → r ≡ received → d ≡ due → Ends options base most received given due → Ends options base most r given d
   ends_as {most} {received} {r} {given} {due} {d} r_is d_is at =
       subst (λ x. Ends options base most x given d) (sym r_is) (subst (λ x. Ends options base most received given x) (sym d_is) at)
 
-  stands_as : (stand : Stand) (given : List Answered) {place p : Place} {received r : List ℕ} {due d : List ℕ} → p ≡ place → r ≡ received → d ≡ due
-      → StandsAs options base MAX_WAITING_LEN stand place received given due → StandsAs options base MAX_WAITING_LEN stand p r given d
-  stands_as stand given {place} {p} {received} {r} {due} {d} p_is r_is d_is at =
-      subst (λ x. StandsAs options base MAX_WAITING_LEN stand x r given d) (sym p_is) (subst (λ x. StandsAs options base MAX_WAITING_LEN stand place x given d) (sym r_is)
-      (subst (λ x. StandsAs options base MAX_WAITING_LEN stand place received given x) (sym d_is) at))
+  halts_as : (halt : Halt) (given : List Answered) {position p : Position} {received r : List ℕ} {due d : List ℕ} → p ≡ position → r ≡ received → d ≡ due
+      → HaltsAs options base MAX_WAITING_LEN halt position received given due → HaltsAs options base MAX_WAITING_LEN halt p r given d
+  halts_as halt given {position} {p} {received} {r} {due} {d} p_is r_is d_is at =
+      subst (λ x. HaltsAs options base MAX_WAITING_LEN halt x r given d) (sym p_is) (subst (λ x. HaltsAs options base MAX_WAITING_LEN halt position x given d) (sym r_is)
+      (subst (λ x. HaltsAs options base MAX_WAITING_LEN halt position received given x) (sym d_is) at))
 
   module _ (most c : ℕ) where
     -- What is held
 
     -- more was sent of what is unsent
-    pub held_sent : {old new : Log} {given : List Answered} (client now : Client) → place_of now ≡ place_of client → now.leaving ≡ client.leaving → length now.unsent ≤ length client.unsent
+    pub held_sent : {old new : Log} {given : List Answered} (client now : Client) → position_of now ≡ position_of client → now.leaving ≡ client.leaving → length now.unsent ≤ length client.unsent
         → received_of c new.entries ≡ received_of c old.entries → sent_of c new.entries ++ now.unsent ≡ sent_of c old.entries ++ client.unsent
         → (IsIn HasEnded c old → IsIn HasEnded c new) → Holds options base most c old given client → Holds options base most c new given now
-    held_sent {old} {new} {given} client now place leaving fewer received due over holds = elim holds as (λ _. Holds options base most c new given now) [
-      | goes_on stays few at ↦ goes_on (leaving ∙ stays) (omega (arith, few, fewer)) (reaches_as place received due at)
+    held_sent {old} {new} {given} client now position leaving fewer received due over holds = elim holds as (λ _. Holds options base most c new given now) [
+      | goes_on stays few at ↦ goes_on (leaving ∙ stays) (omega (arith, few, fewer)) (reaches_as position received due at)
       | left leaves few ends ↦ left (leaving ∙ leaves) (omega (arith, few, fewer)) (ends_as received due ends)
-      | ended leaves few at none is ↦ ended (leaving ∙ leaves) (omega (arith, few, fewer)) (reaches_as place received due at)
-          (ap (λ (p : Place). next_of p.bytes) place ∙ none) (over is)
+      | ended leaves few at none is ↦ ended (leaving ∙ leaves) (omega (arith, few, fewer)) (reaches_as position received due at)
+          (ap (λ (p : Position). next_of p.bytes) position ∙ none) (over is)
     ]
 
     -- once all is sent, it may be closed where no more is read
@@ -102,9 +102,9 @@ module _ (options : Options) (base : ℕ) where
         all_sent = sym (append-nil (sent_of c log.entries)) ∙ ap (λ u. sent_of c log.entries ++ u) (sym none)
 
     -- what is held once it was looked at
-    pub holds_now : (stand : Stand) (input : Option Input) (client : Client) (log : Log) (given : List Answered) → client.leaving ≡ leaves_by stand input → EndsBy input c log
+    pub holds_now : (halt : Halt) (input : Option Input) (client : Client) (log : Log) (given : List Answered) → client.leaving ≡ leaves_by halt input → EndsBy input c log
         → length client.unsent ≤ most
-        → StandsAs options base MAX_WAITING_LEN stand (place_of client) (received_of c log.entries) given (sent_of c log.entries ++ client.unsent) → Holds options base most c log given client
+        → HaltsAs options base MAX_WAITING_LEN halt (position_of client) (received_of c log.entries) given (sent_of c log.entries ++ client.unsent) → Holds options base most c log given client
     holds_now Leaves input client log given leaving over few at = left leaving few at
     holds_now Enough input client log given leaving over few at = goes_on leaving few at
     holds_now Needs None client log given leaving over few at = goes_on leaving few at.0
@@ -123,16 +123,16 @@ module _ (options : Options) (base : ℕ) where
       pub stage_unsent : Stage options base most c schedule lacking mid all rest
       stage_unsent = stage_sent options base most c rest before sends parts
 
-      pub holds_unsent : (now : Client) → place_of now ≡ place_of client → now.leaving ≡ client.leaving → now.unsent ≡ rest → Holds options base most c mid (given_to c all) now
-      holds_unsent now place leaving rest_is =
-          held_sent client now place leaving (let len = ap length parts ∙ length-append text rest in let same = ap length rest_is in omega (arith, len, same))
+      pub holds_unsent : (now : Client) → position_of now ≡ position_of client → now.leaving ≡ client.leaving → now.unsent ≡ rest → Holds options base most c mid (given_to c all) now
+      holds_unsent now position leaving rest_is =
+          held_sent client now position leaving (let len = ap length parts ∙ length-append text rest in let same = ap length rest_is in omega (arith, len, same))
           (received_same options base most c rest before sends parts) (ap (λ r. sent_of c mid.entries ++ r) rest_is ∙ due_same options base most c rest before sends parts)
           (sends_ended sends c) holds
 
-    -- where nothing waits and more may be read, it came to the place that is kept
+    -- where nothing waits and more may be read, it came to the position that is kept
     pub held_reaches : {log : Log} {client : Client} {given : List Answered} → Holds options base most c log given client → client.leaving ≡ false → client.unsent ≡ []
-        → Reaches options base (place_of client) (received_of c log.entries) given (sent_of c log.entries ++ [])
-    held_reaches {log} {client} {given} holds reading none = elim holds as (λ _. Reaches options base (place_of client) (received_of c log.entries) given (sent_of c log.entries ++ [])) [
+        → Reaches options base (position_of client) (received_of c log.entries) given (sent_of c log.entries ++ [])
+    held_reaches {log} {client} {given} holds reading none = elim holds as (λ _. Reaches options base (position_of client) (received_of c log.entries) given (sent_of c log.entries ++ [])) [
       | goes_on stays few at ↦ reaches_as refl refl (ap (λ u. sent_of c log.entries ++ u) (sym none)) at
       | left leaves few ends ↦ absurd (true≢false (sym leaves ∙ reading))
       | ended leaves few at more over ↦ absurd (true≢false (sym leaves ∙ reading))
@@ -140,14 +140,14 @@ module _ (options : Options) (base : ℕ) where
 
     -- A moment at which more was answered
 
-    pub record Looked (schedule : List Step) (lacking : List ℕ) (log : Log) (all : List Given) (answers : List Answered) (replies : List ℕ) (client : Client) (r : Stand × Option Input) : Type 0 where
+    pub record Looked (schedule : List Step) (lacking : List ℕ) (log : Log) (all : List Given) (answers : List Answered) (replies : List ℕ) (client : Client) (r : Halt × Option Input) : Type 0 where
       pub stage : Stage options base most c schedule lacking log (all ++ all_to c answers) replies
-      pub stands : StandsAs options base MAX_WAITING_LEN r.0 (place_of client) (received_of c log.entries) (given_to c all ++ answers) (sent_of c log.entries ++ replies)
+      pub stands : HaltsAs options base MAX_WAITING_LEN r.0 (position_of client) (received_of c log.entries) (given_to c all ++ answers) (sent_of c log.entries ++ replies)
       pub ends : EndsBy r.1 c log
 
     module _ {schedule : List Step} {lacking : List ℕ} {all : List Given} {mid : Log} (client : Client) (stage : Stage options base most c schedule lacking mid all [])
         (holds : Holds options base most c mid (given_to c all) client) (reading : client.leaving ≡ false) (none : client.unsent ≡ []) where
-      at : Reaches options base (place_of client) (received_of c mid.entries) (given_to c all) (sent_of c mid.entries ++ [])
+      at : Reaches options base (position_of client) (received_of c mid.entries) (given_to c all) (sent_of c mid.entries ++ [])
       at = held_reaches holds reading none
 
       -- it was broken, and nothing was read
@@ -159,19 +159,19 @@ module _ (options : Options) (base : ℕ) where
         due_now : {text : List ℕ} → replies ≡ [] ++ text → sent_of c log.entries ≡ sent_of c mid.entries → sent_of c log.entries ++ replies ≡ (sent_of c mid.entries ++ []) ++ text
         due_now {text} text_is sent = ap (λ s. s ++ replies) sent ∙ ap (λ t. sent_of c mid.entries ++ t) text_is ∙ ap (λ s. s ++ text) (sym (append-nil (sent_of c mid.entries)))
 
-        looked_by : (r : Stand × Option Input) → Stage options base most c schedule lacking log all [] → EndsBy r.1 c log
-            → StandsAs options base MAX_WAITING_LEN r.0 (place_of now) (received_of c log.entries) (given_to c all ++ answers) (sent_of c log.entries ++ replies)
+        looked_by : (r : Halt × Option Input) → Stage options base most c schedule lacking log all [] → EndsBy r.1 c log
+            → HaltsAs options base MAX_WAITING_LEN r.0 (position_of now) (received_of c log.entries) (given_to c all ++ answers) (sent_of c log.entries ++ replies)
             → Looked schedule lacking log all answers replies now r
         looked_by r here ends stands = record { stage = stage_answered options base most c r.0 answers here is_now few stands; stands = stands; ends = ends }
 
-        pub looked : (r : Stand × Option Input) → Looks options base client answers replies now (Ok r) c mid log → Looked schedule lacking log all answers replies now r
+        pub looked : (r : Halt × Option Input) → Looks options base client answers replies now (Ok r) c mid log → Looked schedule lacking log all answers replies now r
         looked r looks = elim looks as (λ _. Looked schedule lacking log all answers replies now r) [
           | inl further ↦ looked_by r (subst (λ (l : Log). Stage options base most c schedule lacking l all []) (sym further.same) stage) further.ends
-              (stands_as r.0 (given_to c all ++ answers) refl (ap (λ (l : Log). received_of c l.entries) further.same)
+              (halts_as r.0 (given_to c all ++ answers) refl (ap (λ (l : Log). received_of c l.entries) further.same)
               (due_now further.goes.appended (ap (λ (l : Log). sent_of c l.entries) further.same))
               (further.goes.on (received_of c mid.entries) (given_to c all) (sent_of c mid.entries ++ []) at))
           | inr reads ↦ looked_by r (stage_read options base most c client stage reads.reads at reads.first reads.short) reads.ends
-              (stands_as r.0 (given_to c all ++ answers) refl (received_now options base most c client stage reads.reads at reads.first reads.short)
+              (halts_as r.0 (given_to c all ++ answers) refl (received_now options base most c client stage reads.reads at reads.first reads.short)
               (due_now reads.goes.appended (sent_now options base most c client stage reads.reads at reads.first reads.short))
               (reads.goes.on (received_of c mid.entries) (given_to c all) (sent_of c mid.entries ++ []) at))
         ]
@@ -201,12 +201,12 @@ module _ (options : Options) (base : ℕ) where
             (still_through most mid old.schedule lacking all stage.through, still_becomes most mid (given_to c all) now Over (stage_breaks options base most c stage sends.1));
       }
 
-      module _ (now : Client) (place : place_of now ≡ place_of client) (leaving : now.leaving ≡ client.leaving) (all_sent : Bool)
+      module _ (now : Client) (position : position_of now ≡ position_of client) (leaving : now.leaving ≡ client.leaving) (all_sent : Bool)
           (sends : SendsFrom client.unsent now.unsent (Ok all_sent) c old mid) where
         module _ (most : ℕ) (lacking : List ℕ) (all : List Given) (holds : Holds options base most c old (given_to c all) client)
             (through : TalksThrough options base most old.schedule lacking old.entries all) where
           held_then : Holds options base most c mid (given_to c all) now
-          held_then = holds_unsent most c lacking all client refl is holds through now.unsent sends.1 sends.2 now place leaving refl
+          held_then = holds_unsent most c lacking all client refl is holds through now.unsent sends.1 sends.2 now position leaving refl
 
           stage_then : Stage options base most c old.schedule lacking mid all now.unsent
           stage_then = stage_unsent most c lacking all client refl is holds through now.unsent sends.1 sends.2
@@ -279,7 +279,7 @@ module _ (options : Options) (base : ℕ) where
 
           -- it was looked at, and the replies were sent
 
-          module _ (r : Stand × Option Input) (looks : Looks options base now answers replies then (Ok r) c mid log) (is_then : IsClient then) where
+          module _ (r : Halt × Option Input) (looks : Looks options base now answers replies then (Ok r) c mid log) (is_then : IsClient then) where
             module _ (most : ℕ) (lacking : List ℕ) (all : List Given) (few : length replies ≤ most) (holds : Holds options base most c old (given_to c all) client)
                 (through : TalksThrough options base most old.schedule lacking old.entries all) where
               found : Looked most c old.schedule lacking log all answers replies then r
@@ -322,7 +322,7 @@ module _ (options : Options) (base : ℕ) where
                     (stage.through, subst (λ g. Becomes options base most c new g last Over) (given_more c all answers) (stage_breaks options base most c stage then_sends.1));
               }
 
-              module _ (place_is : place_of last ≡ place_of then) (leaves : last.leaving ≡ leaves_by r.0 r.1) (all_taken : Bool)
+              module _ (position_is : position_of last ≡ position_of then) (leaves : last.leaving ≡ leaves_by r.0 r.1) (all_taken : Bool)
                   (then_sends : SendsFrom replies last.unsent (Ok all_taken) c log new) where
                 module _ (most : ℕ) (lacking : List ℕ) (all : List Given) (few : length replies ≤ most) (holds : Holds options base most c old (given_to c all) client)
                     (through : TalksThrough options base most old.schedule lacking old.entries all) where
@@ -335,7 +335,7 @@ module _ (options : Options) (base : ℕ) where
                   held_end : Holds options base most c new (given_to c all ++ answers) last
                   held_end =
                       holds_now most c r.0 r.1 last new (given_to c all ++ answers) leaves (ends_on r.1 then_sends.1 end.ends) stage_end.few
-                      (stands_as r.0 (given_to c all ++ answers) place_is (received_same options base most c last.unsent end.stage then_sends.1 then_sends.2)
+                      (halts_as r.0 (given_to c all ++ answers) position_is (received_same options base most c last.unsent end.stage then_sends.1 then_sends.2)
                       (due_same options base most c last.unsent end.stage then_sends.1 then_sends.2) end.stands)
 
                 -- so it waits
@@ -347,10 +347,10 @@ module _ (options : Options) (base : ℕ) where
                 waits_idle becomes reading none_left waits = λ is lacking all looked.
                     let w = waits is in
                     let over = subst (λ i. EndsBy i c new) w.1 (ends_on r.1 then_sends.1 looked.ends) in
-                    let more = (subst (λ s. StandsAs options base MAX_WAITING_LEN s (place_of then) (received_of c log.entries) (given_to c all ++ answers) (sent_of c log.entries ++ replies)) w.0 looked.stands).1 in
+                    let more = (subst (λ s. HaltsAs options base MAX_WAITING_LEN s (position_of then) (received_of c log.entries) (given_to c all ++ answers) (sent_of c log.entries ++ replies)) w.0 looked.stands).1 in
                     elim over as (λ _. Rests last c new.script.piece (state_of new)) [
                       | inl come ↦ inl come
-                      | inr silent ↦ inr (λ moving. if_some (slice_get (connections_of new) c) (λ x e. idle none_left reading (ap (λ (p : Place). next_of p.bytes) place_is ∙ more) e) silent)
+                      | inr drained ↦ inr (λ moving. if_some (slice_get (connections_of new) c) (λ x e. idle none_left reading (ap (λ (p : Position). next_of p.bytes) position_is ∙ more) e) drained)
                     ]
 
                 visit_goes_on : (becomes : After) → becomes ≢ Over → WaitsFor becomes → Visits options base 1 client answers last becomes c old new

@@ -10,12 +10,12 @@ use Rattle.stream_io.specs.State.{Entry}
 use Rattle.stream_io.specs.State as entry
 use Rattle.stream_io.specs.Log.{Log, connections_of, received_of, sent_of}
 use Rattle.mica_fronts.specs.Answered.{Answered}
-use Rattle.stream_fronts.specs.declared.answer.Stand.{Stand}
-use Rattle.stream_fronts.specs.declared.answer.Stand.TheVariants.{Needs, Enough, Leaves}
+use Rattle.stream_fronts.specs.declared.answer.Halt.{Halt}
+use Rattle.stream_fronts.specs.declared.answer.Halt.TheVariants.{Needs, Enough, Leaves}
 use Rattle.stream_fronts.specs.declared.client.Client.{Client}
 use Rattle.stream_fronts.specs.Given.{Given, given_to}
 use Rattle.stream_fronts.specs.Talk.{IsBeginning, TalksKept, TalksWith}
-use Rattle.stream_fronts.specs.Reached.{Reaches, StandsAs, Spoke, place_of}
+use Rattle.stream_fronts.specs.Reached.{Reaches, HaltsAs, Spoke, position_of}
 use Rattle.stream_fronts.specs.Closing.{MayClose}
 use Rattle.stream_fronts.specs.Moments.{IsAmong, TalksThrough}
 use Rattle.stream_fronts.specs.Clients.{IsClient}
@@ -41,12 +41,12 @@ module _ (options : Options) (base most c : ℕ) where
   told_few less t = record { talk = t.talk; due_is = t.due_is; few = let f = t.few in omega (arith, less, f) }
 
   -- the talk, by what is kept of a client
-  told_stands : (stand : Stand) (client : Client) → IsClient client → (received : List ℕ) (given : List Answered) (due : List ℕ)
-      → StandsAs options base MAX_WAITING_LEN stand (place_of client) received given due
+  told_halts : (halt : Halt) (client : Client) → IsClient client → (received : List ℕ) (given : List Answered) (due : List ℕ)
+      → HaltsAs options base MAX_WAITING_LEN halt (position_of client) received given due
       → (sent : List ℕ) → IsBeginning sent due → Told options base received sent given due MAX_WAITING_LEN
-  told_stands Needs client is received given due stands sent begins = told_few is.short (talk_at options base stands.0 is.begun sent begins)
-  told_stands Enough client is received given due stands sent begins = told_few is.short (talk_at options base stands is.begun sent begins)
-  told_stands Leaves client is received given due stands sent begins = talk_ends options base stands sent begins
+  told_halts Needs client is received given due stands sent begins = told_few is.short (talk_at options base stands.0 is.begun sent begins)
+  told_halts Enough client is received given due stands sent begins = told_few is.short (talk_at options base stands is.begun sent begins)
+  told_halts Leaves client is received given due stands sent begins = talk_ends options base stands sent begins
 
   told_held : (client : Client) → IsClient client → (log : Log) (given : List Answered) → Holds options base most c log given client
       → (sent : List ℕ) → IsBeginning sent (sent_of c log.entries ++ client.unsent)
@@ -118,7 +118,7 @@ module _ (options : Options) (base most c : ℕ) where
     -- Bytes are read
 
     module _ (client : Client) {old new : Log} {bytes : List ℕ} (stage : Stage schedule lacking old all []) (reads : Reads c bytes old new)
-        (at : Reaches options base (place_of client) (received_of c old.entries) (given_to c all) (sent_of c old.entries ++ []))
+        (at : Reaches options base (position_of client) (received_of c old.entries) (given_to c all) (sent_of c old.entries ++ []))
         (first : client.done ≡ 0) (short : length (client.kept ++ bytes) ≤ MAX_WAITING_LEN) where
       entries_received : (b : List ℕ) (entries : List Entry) → received_of c (after_receiving c b entries) ≡ received_of c entries ++ b
       entries_received [] entries = sym (append-nil (received_of c entries))
@@ -172,14 +172,14 @@ module _ (options : Options) (base most c : ℕ) where
 
     -- More is answered
 
-    pub stage_answered : (stand : Stand) (answers : List Answered) {log : Log} {replies : List ℕ} {client : Client} → Stage schedule lacking log all [] → IsClient client → length replies ≤ most
-        → StandsAs options base MAX_WAITING_LEN stand (place_of client) (received_of c log.entries) (given_to c all ++ answers) (sent_of c log.entries ++ replies)
+    pub stage_answered : (halt : Halt) (answers : List Answered) {log : Log} {replies : List ℕ} {client : Client} → Stage schedule lacking log all [] → IsClient client → length replies ≤ most
+        → HaltsAs options base MAX_WAITING_LEN halt (position_of client) (received_of c log.entries) (given_to c all ++ answers) (sent_of c log.entries ++ replies)
         → Stage schedule lacking log (all ++ all_to c answers) replies
-    stage_answered stand answers {log} {replies} {client} stage is few stands =
+    stage_answered halt answers {log} {replies} {client} stage is few stands =
         let told : (sent : List ℕ) → IsBeginning sent (sent_of c log.entries ++ replies)
         → Told options base (received_of c log.entries) sent (given_to c (all ++ all_to c answers)) (sent_of c log.entries ++ replies) MAX_WAITING_LEN =
         λ sent begins. subst (λ g. Told options base (received_of c log.entries) sent g (sent_of c log.entries ++ replies) MAX_WAITING_LEN) (sym (given_more c all answers))
-        (told_stands stand client is (received_of c log.entries) (given_to c all ++ answers) (sent_of c log.entries ++ replies) stands sent begins) in
+        (told_halts halt client is (received_of c log.entries) (given_to c all ++ answers) (sent_of c log.entries ++ replies) stands sent begins) in
         let t = told (sent_of c log.entries) (replies, refl) in
         record {
           same = stage.same;

@@ -7,8 +7,8 @@ use Rattle.memcached_fronts.specs.Exchange.{Exchange}
 use Rattle.memcached_fronts.specs.Spells.{due_to_all}
 use Rattle.stream_fronts.specs.Talk.{Talk, IsAllAnswered, has_left}
 
--- Why a connection may be closed, which stays so whatever its peer does later: it is broken; or all that is due was sent, and the client asked for the
--- end; or all that is due was sent, the client sends nothing more, and all that it said is answered.
+-- Why a connection may be closed. It stays so whatever its peer does later. It is broken; or all that is due was sent, and the client asked for the end, or
+-- sends nothing more and all that it said is answered.
 pub data Cause (options : Options) (base : ℕ) (connection : Connection) (sent : List ℕ) (said : List Exchange) (rest : List ℕ) : Type 0 where
   broke : connection.is_broken ≡ true → Cause options base connection sent said rest
   left : sent ≡ due_to_all options base said → has_left said ≡ true → Cause options base connection sent said rest

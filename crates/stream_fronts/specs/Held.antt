@@ -9,14 +9,14 @@ use Rattle.stream_io.specs.declared.connections.Input.{Input}
 use Rattle.stream_io.specs.declared.connections.Input.TheVariants.{Later, Ended}
 use Rattle.stream_io.specs.Log.{Log, state_of, connections_of, received_of, sent_of}
 use Rattle.mica_fronts.specs.Answered.{Answered}
-use Rattle.stream_fronts.specs.declared.answer.Stand.{Stand}
-use Rattle.stream_fronts.specs.declared.answer.Stand.TheVariants.{Needs, Leaves}
+use Rattle.stream_fronts.specs.declared.answer.Halt.{Halt}
+use Rattle.stream_fronts.specs.declared.answer.Halt.TheVariants.{Needs, Leaves}
 use Rattle.stream_fronts.specs.declared.client.Client.{Client}
 use Rattle.stream_fronts.specs.declared.desk.TheConstants.{MOST_UNSENT}
 use Rattle.stream_fronts.specs.declared.visit.After.{After}
 use Rattle.stream_fronts.specs.declared.visit.After.TheVariants.{Waits, Again, Over}
 use Rattle.stream_fronts.specs.Given.{Given, given_to}
-use Rattle.stream_fronts.specs.Reached.{Reaches, Ends, GoesOnTo, SpokeFrom, SpokeBehind, StandsAs, place_of}
+use Rattle.stream_fronts.specs.Reached.{Reaches, Ends, GoesOnTo, SpokeFrom, SpokeBehind, HaltsAs, position_of}
 use Rattle.stream_fronts.specs.Closing.{MayClose}
 use Rattle.stream_fronts.specs.Moments.{IsAmong, TalksThrough}
 use Rattle.stream_fronts.specs.Turns.{GrowsBy, most_answers}
@@ -24,14 +24,14 @@ use Rattle.stream_fronts.specs.Traffic.{Reads, IsIn, IsBroken, HasEnded, EndsBy}
 use Rattle.stream_fronts.specs.Resting.{Moves, Rests}
 
 -- What is held of the client of the c-th connection goes with their talk, where these answers were given. What is unsent is the end of what is due, so many
--- bytes at most. More of it is read, from the place that is kept; or it asked for the end; or it sends no more, and nothing whole is left of what it said.
+-- bytes at most. More of it is read, from the position that is kept; or it asked for the end; or it sends no more, and nothing whole is left of what it said.
 pub data Holds (options : Options) (base most c : ℕ) (log : Log) (answers : List Answered) (client : Client) : Type 0 where
   goes_on : client.leaving ≡ false → length client.unsent ≤ most
-      → Reaches options base (place_of client) (received_of c log.entries) answers (sent_of c log.entries ++ client.unsent) → Holds options base most c log answers client
+      → Reaches options base (position_of client) (received_of c log.entries) answers (sent_of c log.entries ++ client.unsent) → Holds options base most c log answers client
   left : client.leaving ≡ true → length client.unsent ≤ most
       → Ends options base MAX_WAITING_LEN (received_of c log.entries) answers (sent_of c log.entries ++ client.unsent) → Holds options base most c log answers client
   ended : client.leaving ≡ true → length client.unsent ≤ most
-      → Reaches options base (place_of client) (received_of c log.entries) answers (sent_of c log.entries ++ client.unsent) → next_of client.kept ≡ More
+      → Reaches options base (position_of client) (received_of c log.entries) answers (sent_of c log.entries ++ client.unsent) → next_of client.kept ≡ More
       → IsIn HasEnded c log → Holds options base most c log answers client
 
 -- these were given to the c-th connection
@@ -73,39 +73,39 @@ pub record Visits (options : Options) (base looks : ℕ) (client : Client) (answ
 -- One look at a connection
 
 -- no more is read of it: the client asked for the end; or it sends no more, and nothing whole is left
-abbrev pub leaves_by : Stand → Option Input → Bool
+abbrev pub leaves_by : Halt → Option Input → Bool
 leaves_by Leaves input = true
 leaves_by Needs (Some Ended) = true
 leaves_by _ _ = false
 
 -- nothing is to be done at once: no more is read, or it waits for its peer
-abbrev pub IsAtRest : Stand → Option Input → Type 0
-IsAtRest stand input = (leaves_by stand input ≡ true) ⊎ (stand ≡ Needs) × (input ≡ Some Later)
+abbrev pub IsAtRest : Halt → Option Input → Type 0
+IsAtRest halt input = (leaves_by halt input ≡ true) ⊎ (halt ≡ Needs) × (input ≡ Some Later)
 
 -- A command that was answered in part was answered further.
-pub record GoesFurther (options : Options) (base : ℕ) (client : Client) (answers : List Answered) (replies : List ℕ) (now : Client) (r : Stand × Option Input) (c : ℕ) (old new : Log)
+pub record GoesFurther (options : Options) (base : ℕ) (client : Client) (answers : List Answered) (replies : List ℕ) (now : Client) (r : Halt × Option Input) (c : ℕ) (old new : Log)
     : Type 0 where
   pub same : new ≡ old
-  pub goes : GoesOnTo options base (place_of client) answers [] replies (StandsAs options base MAX_WAITING_LEN r.0 (place_of now))
+  pub goes : GoesOnTo options base (position_of client) answers [] replies (HaltsAs options base MAX_WAITING_LEN r.0 (position_of now))
   pub few : length replies ≤ MOST_UNSENT
   pub few_answers : length answers ≤ most_answers options
   pub ends : EndsBy r.1 c new
 
 -- The connection was read once, and what had come was answered.
-pub record ReadsOn (options : Options) (base : ℕ) (client : Client) (answers : List Answered) (replies : List ℕ) (now : Client) (r : Stand × Option Input) (c : ℕ) (old new : Log)
+pub record ReadsOn (options : Options) (base : ℕ) (client : Client) (answers : List Answered) (replies : List ℕ) (now : Client) (r : Halt × Option Input) (c : ℕ) (old new : Log)
     : Type 0 where
   pub first : client.done ≡ 0
   pub bytes : List ℕ
   pub short : length (client.kept ++ bytes) ≤ MAX_WAITING_LEN
   pub reads : Reads c bytes old new
-  pub goes : GoesOnTo options base (place_of client) answers [] replies
-      (λ received given due. StandsAs options base MAX_WAITING_LEN r.0 (place_of now) (received ++ bytes) given due)
+  pub goes : GoesOnTo options base (position_of client) answers [] replies
+      (λ received given due. HaltsAs options base MAX_WAITING_LEN r.0 (position_of now) (received ++ bytes) given due)
   pub few : length replies ≤ MOST_UNSENT
   pub few_answers : length answers ≤ most_answers options
   pub ends : EndsBy r.1 c new
 
 -- Either; or the connection is broken, and nothing was answered.
-abbrev pub Looks : Options → ℕ → Client → List Answered → List ℕ → Client → Result (Stand × Option Input) Broken → ℕ → Log → Log → Type 0
+abbrev pub Looks : Options → ℕ → Client → List Answered → List ℕ → Client → Result (Halt × Option Input) Broken → ℕ → Log → Log → Type 0
 Looks options base client answers replies now (Ok r) c old new =
     GoesFurther options base client answers replies now r c old new ⊎ ReadsOn options base client answers replies now r c old new
 Looks options base client answers replies now (Err broken) c old new =
@@ -116,7 +116,7 @@ Looks options base client answers replies now (Err broken) c old new =
 -- A command that was answered in part may have been answered further.
 pub record LacksFurther (options : Options) (base : ℕ) (client : Client) (answers : List Answered) (old new : Log) : Type 0 where
   pub same : new ≡ old
-  pub spoke : SpokeFrom options base MAX_WAITING_LEN (place_of client) answers
+  pub spoke : SpokeFrom options base MAX_WAITING_LEN (position_of client) answers
   pub few_answers : length answers ≤ most_answers options
 
 -- The connection was read once, and what had come may have been answered.
@@ -125,7 +125,7 @@ pub record LacksRead (options : Options) (base : ℕ) (client : Client) (answers
   pub bytes : List ℕ
   pub short : length (client.kept ++ bytes) ≤ MAX_WAITING_LEN
   pub reads : Reads c bytes old new
-  pub spoke : SpokeBehind options base MAX_WAITING_LEN (place_of client) bytes answers
+  pub spoke : SpokeBehind options base MAX_WAITING_LEN (position_of client) bytes answers
   pub few_answers : length answers ≤ most_answers options
 
 abbrev pub Lacks : Options → ℕ → Client → List Answered → ℕ → Log → Log → Type 0

@@ -28,12 +28,12 @@ TalksWithAll options base most lacking entries all =
     (c : ℕ) → TalksWithOne options base most lacking c (received_of c entries) (sent_of c entries) (given_to c all)
 
 -- A close has a cause in what stood before it; or there was no memory for the connection.
-abbrev pub HasCause : Options → ℕ → List Step → List ℕ → Entry → List Entry → List Given → Type 0
-HasCause options base schedule lacking (closed c) entries all =
+abbrev pub IsCaused : Options → ℕ → List Step → List ℕ → Entry → List Entry → List Given → Type 0
+IsCaused options base schedule lacking (closed c) entries all =
     IsAmong c lacking
     ⊎ IfSome (slice_get (state_after schedule entries).connections c)
     (λ connection. MayClose options base connection (received_of c entries) (sent_of c entries) (given_to c all))
-HasCause options base schedule lacking _ entries all = ⊤
+IsCaused options base schedule lacking _ entries all = ⊤
 
 -- At each moment the front had talked with each client, by answers that begin those of the next moment. So what was sent to one client is due to an answer
 -- that stands before the answers to all that was received later, from whichever client.
@@ -41,7 +41,7 @@ abbrev pub TalksThrough : Options → ℕ → ℕ → List Step → List ℕ →
 TalksThrough options base most schedule lacking [] all = TalksWithAll options base most lacking [] all
 TalksThrough options base most schedule lacking (entry ∷ entries) all =
     TalksWithAll options base most lacking (entry ∷ entries) all
-    × ((first : List Given) × ByThen first all × HasCause options base schedule lacking entry entries first
+    × ((first : List Given) × ByThen first all × IsCaused options base schedule lacking entry entries first
     × TalksThrough options base most schedule lacking entries first)
 
 -- The front has caught up, where a call moves so many bytes at most, and some: each connection that was made is settled, or a report of it is to come.

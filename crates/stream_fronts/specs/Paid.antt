@@ -13,7 +13,7 @@ use Rattle.stream_fronts.specs.declared.answer.TheConstants.{LIMITS}
 use Rattle.stream_fronts.specs.declared.answer.Said.{Said}
 use Rattle.stream_fronts.specs.declared.answer.Said.TheVariants.{Nothing, Part, Whole, Last}
 use Rattle.stream_fronts.specs.declared.client.Client.{Client}
-use Rattle.stream_fronts.specs.Reached.{Place, place_of}
+use Rattle.stream_fronts.specs.Reached.{Position, position_of}
 
 -- the front may be given as many writes as one command may need
 abbrev pub MayAnswer : ℕ → ℕ → Type 0
@@ -28,19 +28,19 @@ AnswersOn bytes done (Whole len) = (done < len) × (done < length bytes)
 AnswersOn bytes done Last = done < length bytes
 
 -- So many bytes at a place are unanswered. Each answer to the command that stands there counts for one.
-abbrev pub unanswered : Place → ℕ
+abbrev pub unanswered : Position → ℕ
 unanswered place = length place.bytes - place.done
 
 -- A look goes from one place to another. No more is unanswered there than here; and less, where anything may be answered, unless what is here waits. Where
 -- bytes are still to be dropped, none is left.
-pub record Advances (may waits : Type 0) (here there : Place) : Type 0 where
+pub record Advances (may waits : Type 0) (here there : Position) : Type 0 where
   pub no_more : unanswered there ≤ unanswered here
   pub less : may → waits ⊎ (unanswered there < unanswered here)
   pub dropped : 0 < there.dropping → there.bytes ≡ []
 
 -- The connection may be asked for again once for each byte that is unanswered, and so many times more.
 abbrev pub IsPaid : ℕ → Client → Type 0
-IsPaid more client = unanswered (place_of client) + more ≤ client.asks
+IsPaid more client = unanswered (position_of client) + more ≤ client.asks
 
 -- So many bytes lie there after a read: each is paid for, and once more where it gave some. No read was made where there was no room for any.
 abbrev pub PaysFor : Client → ℕ → Option Input → Type 0

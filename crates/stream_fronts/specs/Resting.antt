@@ -8,13 +8,13 @@ use Rattle.stream_io.specs.Connection.{Connection}
 use Rattle.stream_io.specs.State.{State, is_under, held}
 use Rattle.stream_fronts.specs.declared.client.Client.{Client}
 use Rattle.stream_fronts.specs.Clients.{at}
-use Rattle.stream_fronts.specs.Traffic.{IsSilent, IsShut, IsToCome}
+use Rattle.stream_fronts.specs.Traffic.{IsDrained, IsShut, IsToCome}
 
 -- What a connection waits for, where this is held of its client: that its peer takes replies, as it takes none now; or that it sends more, where no reply and
 -- nothing whole waits.
 pub data IsAtRest (client : Client) (connection : Connection) : Type 0 where
   shut : client.unsent ≢ [] → IsShut connection → IsAtRest client connection
-  idle : client.unsent ≡ [] → client.leaving ≡ false → next_of client.kept ≡ More → IsSilent connection → IsAtRest client connection
+  idle : client.unsent ≡ [] → client.leaving ≡ false → next_of client.kept ≡ More → IsDrained connection → IsAtRest client connection
 
 -- A report of the c-th connection is to come; or it waits, where a call moves so many bytes at most, and some.
 abbrev pub Rests : Client → ℕ → ℕ → State → Type 0
@@ -46,7 +46,7 @@ number_in (Ready number) = number
 
 -- of what is reported: a new connection sent nothing yet, and another is held
 abbrev pub IsTold : Event → State → List (Option Client) → Type 0
-IsTold (Opened number) state clients = (c : ℕ) → held number state.connections ≡ Some c → IfSome (slice_get state.connections c) IsSilent
+IsTold (Opened number) state clients = (c : ℕ) → held number state.connections ≡ Some c → IfSome (slice_get state.connections c) IsDrained
 IsTold (Ready number) state clients = (c : ℕ) → held number state.connections ≡ Some c → is_some (at clients number) ≡ true
 
 -- each but the one that is reported
@@ -62,4 +62,4 @@ pub record Moves (c : ℕ) (old new : State) : Type 0 where
   pub same : (n : ℕ) → held n new.connections ≡ held n old.connections
   pub to_come : (d : ℕ) → IsToCome d old.later → IsToCome d new.later
   pub others : (d : ℕ) → (c == d) ≡ false → IsToCome d new.later ⊎ (slice_get new.connections d ≡ slice_get old.connections d)
-  pub own : IsToCome c new.later ⊎ (IfSome (slice_get old.connections c) IsSilent → IfSome (slice_get new.connections c) IsSilent)
+  pub own : IsToCome c new.later ⊎ (IfSome (slice_get old.connections c) IsDrained → IfSome (slice_get new.connections c) IsDrained)

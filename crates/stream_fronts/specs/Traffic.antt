@@ -53,7 +53,7 @@ pub record HasEnded (connection : Connection) : Type 0 where
   pub none : connection.to_come ≡ []
 
 -- it may send more, and all that came was read
-pub record IsSilent (connection : Connection) : Type 0 where
+pub record IsDrained (connection : Connection) : Type 0 where
   pub read : connection.waiting ≡ []
   pub whole : connection.is_broken ≡ false
   pub goes_on : connection.has_ended ≡ false
@@ -95,7 +95,7 @@ SendsFrom before after (Err broken) c old new = SendsSome before c old new × Is
 -- Where a read gave none: the end came, or nothing waits until there is a report.
 abbrev pub EndsBy : Option Input → ℕ → Log → Type 0
 EndsBy (Some Ended) c log = IsIn HasEnded c log
-EndsBy (Some Later) c log = IsToCome c (state_of log).later ⊎ IsIn IsSilent c log
+EndsBy (Some Later) c log = IsToCome c (state_of log).later ⊎ IsIn IsDrained c log
 EndsBy _ c log = ⊤
 
 -- what a read made of a log; where it gave none, it may have said why
@@ -108,6 +108,6 @@ abbrev pub why : Input → Option Input
 why input = Some input
 
 -- the bytes that it gave
-abbrev pub bytes_in : List ℕ → Result Input Broken → List ℕ
-bytes_in out (Ok (Bytes count)) = take count out
-bytes_in out _ = []
+abbrev pub bytes_read : List ℕ → Result Input Broken → List ℕ
+bytes_read out (Ok (Bytes count)) = take count out
+bytes_read out _ = []

@@ -8,7 +8,7 @@ ghost use Rattle.stream_fronts.specs.declared.answer.TheConstants.{LIMITS};
 ghost use Rattle.stream_fronts.specs.Paid.{Advances, AnswersOn, MayAnswer};
 ghost use Rattle.stream_fronts.specs.Turns.{most_answers, most_to_one};
 ghost use Rattle.stream_fronts.specs.Going.{GoesBy, GoesBySome};
-ghost use Rattle.stream_fronts.specs.Reached.{GoesOnTo, ReachesAfter, SpokeFrom, StandsAs, place_at, place_in};
+ghost use Rattle.stream_fronts.specs.Reached.{GoesOnTo, ReachesAfter, SpokeFrom, HaltsAs, position_at, position_in};
 
 use crate::next::{is_last, len_of, said_next};
 use memcached_fronts::{Buffers, Limits, Numbering, answer_next};
@@ -37,7 +37,7 @@ pub fn most_writes(numbering: Numbering) -> u64
 
 /// Why no more was answered.
 #[derive(Clone, Copy, Debug, PartialEq, Eq)]
-pub enum Stand {
+pub enum Halt {
     /// What is left is no whole command.
     Needs,
     /// There may be more to answer, but enough was done, or enough waits.
@@ -48,25 +48,25 @@ pub enum Stand {
 
 /// How far the bytes were answered.
 #[derive(Clone, Copy)]
-pub struct Answered {
+pub struct HowFar {
     pub taken: usize,
     /// How many answers were given to the command behind what was taken.
     pub done: usize,
     /// How many bytes of what was taken have not come.
     pub dropping: usize,
-    pub stand: Stand,
+    pub halt: Halt,
 }
 
-impl Answered {
+impl HowFar {
     /// Where all that was taken has come.
-    fn at(taken: usize, done: usize, stand: Stand) -> Answered
-        ensures { (result.taken ≡ taken) × (result.done ≡ done) × (result.dropping ≡ 0) × (result.stand ≡ stand) }
+    fn at(taken: usize, done: usize, halt: Halt) -> HowFar
+        ensures { (result.taken ≡ taken) × (result.done ≡ done) × (result.dropping ≡ 0) × (result.halt ≡ halt) }
     {
-        Answered {
+        HowFar {
             taken,
             done,
             dropping: 0,
-            stand,
+            halt,
         }
     }
 }
@@ -103,9 +103,9 @@ fn answer_one<R: Threads + Wait + Sync, F: Counts, K: Clock>(
     ensures on { IfOk result (AnswersOn bytes.now done) }
     ensures short { length out.new.items ≤ max (length out.old.items) LIMITS.bytes + MAX_REPLY_LEN }
     ensures talk { GoesBySome (F.options front.old) F.is_alone (F.sessions front.old) (F.left front.old) (K.view clock.old) (F.sessions front.new) (F.left front.new) (K.view clock.new)
-        (λ answers. (length answers ≤ most_to_one (F.options front.old)) × MatchResult result (λ said. GoesOnTo (F.options front.old) numbering.base (place_at bytes.now done) answers out.old.items out.new.items
+        (λ answers. (length answers ≤ most_to_one (F.options front.old)) × MatchResult result (λ said. GoesOnTo (F.options front.old) numbering.base (position_at bytes.now done) answers out.old.items out.new.items
         (ReachesAfter (F.options front.old) numbering.base bytes.now done said))
-        (λ _. SpokeFrom (F.options front.old) numbering.base (length bytes.now) (place_at bytes.now done) answers)) }
+        (λ _. SpokeFrom (F.options front.old) numbering.base (length bytes.now) (position_at bytes.now done) answers)) }
     ensures goes { GoesBy (F.options front.old) F.is_alone (F.sessions front.old) (F.left front.old) (K.view clock.old) (F.sessions front.new) (F.left front.new) (K.view clock.new) }
     ensures left { F.left front.old ≤ F.left front.new + LIMITS.asks + numbering.partitions }
     ensures options { F.options front.new ≡ F.options front.old }
@@ -137,18 +137,18 @@ pub fn answer_bytes<R: Threads + Wait + Sync, F: Counts, K: Clock>(
     bytes: &[u8],
     done: usize,
     out: &mut Vec<u8>,
-) -> Result<Answered, NoMemory>
+) -> Result<HowFar, NoMemory>
     requires open { IsOpenAt (next_of bytes.now) done }
     requires partitions { numbering.partitions ≡ (F.options front.old).partitions }
     ensures within { IfOk result (λ a. a.taken ≤ length bytes.now) }
     ensures open { IfOk result (λ a. IsOpenAt (next_of (drop a.taken bytes.now)) a.done) }
     ensures advances { IfOk result (λ a. Advances (MayAnswer numbering.partitions (F.left front.old) × (length out.old.items < LIMITS.bytes))
-        ((a.stand ≡ Stand.Needs) × (next_of bytes.now ≡ More)) (place_at bytes.now done) (place_in bytes.now a)) }
+        ((a.halt ≡ Halt.Needs) × (next_of bytes.now ≡ More)) (position_at bytes.now done) (position_in bytes.now a)) }
     ensures short { length out.new.items ≤ max (length out.old.items) LIMITS.bytes + MAX_REPLY_LEN }
     ensures talk { GoesBySome (F.options front.old) F.is_alone (F.sessions front.old) (F.left front.old) (K.view clock.old) (F.sessions front.new) (F.left front.new) (K.view clock.new)
-        (λ answers. (length answers ≤ most_answers (F.options front.old)) × MatchResult result (λ a. GoesOnTo (F.options front.old) numbering.base (place_at bytes.now done) answers out.old.items out.new.items
-        (StandsAs (F.options front.old) numbering.base (length bytes.now) a.stand (place_in bytes.now a)))
-        (λ _. SpokeFrom (F.options front.old) numbering.base (length bytes.now) (place_at bytes.now done) answers)) }
+        (λ answers. (length answers ≤ most_answers (F.options front.old)) × MatchResult result (λ a. GoesOnTo (F.options front.old) numbering.base (position_at bytes.now done) answers out.old.items out.new.items
+        (HaltsAs (F.options front.old) numbering.base (length bytes.now) a.halt (position_in bytes.now a)))
+        (λ _. SpokeFrom (F.options front.old) numbering.base (length bytes.now) (position_at bytes.now done) answers)) }
     ensures goes { GoesBy (F.options front.old) F.is_alone (F.sessions front.old) (F.left front.old) (K.view clock.old) (F.sessions front.new) (F.left front.new) (K.view clock.new) }
     ensures options { F.options front.new ≡ F.options front.old }
     ensures number { F.number front.new ≡ F.number front.old }
@@ -163,14 +163,14 @@ pub fn answer_bytes<R: Threads + Wait + Sync, F: Counts, K: Clock>(
         let rest = &bytes[taken..];
         let said = answer_one(rt, front, clock, numbering, buffers, rest, done, out)?;
         match said {
-            Said::Nothing => return Ok(Answered::at(taken, done, Stand::Needs)),
-            Said::Part(done) => return Ok(Answered::at(taken, done, Stand::Enough)),
-            Said::Last => return Ok(Answered::at(bytes.len(), 0, Stand::Leaves)),
-            Said::Whole(len) if len > rest.len() => return Ok(Answered {
+            Said::Nothing => return Ok(HowFar::at(taken, done, Halt::Needs)),
+            Said::Part(done) => return Ok(HowFar::at(taken, done, Halt::Enough)),
+            Said::Last => return Ok(HowFar::at(bytes.len(), 0, Halt::Leaves)),
+            Said::Whole(len) if len > rest.len() => return Ok(HowFar {
                 taken: bytes.len(),
                 done: 0,
                 dropping: len - rest.len(),
-                stand: Stand::Needs,
+                halt: Halt::Needs,
             }),
             Said::Whole(len) => {
                 taken += len;
@@ -178,5 +178,5 @@ pub fn answer_bytes<R: Threads + Wait + Sync, F: Counts, K: Clock>(
             }
         }
     }
-    Ok(Answered::at(taken, done, Stand::Enough))
+    Ok(HowFar::at(taken, done, Halt::Enough))
 }

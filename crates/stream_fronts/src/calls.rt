@@ -2,7 +2,7 @@
 ghost use Rattle.std.specs.Prelude.{◌≡◌, ◌<◌, ◌≤◌, ◌+◌, ◌-◌, length, is_some, IfOk, IfSome};
 ghost use Rattle.stream_io.specs.Calls.{FitsRoom, ReadGives, Asks, Closes};
 ghost use Rattle.stream_fronts.specs.Open.{IsOpen, Keeps, KeepsOthers, AsksOnce, OnLogs, gained};
-ghost use Rattle.stream_fronts.specs.Traffic.{OnHeld, ReadsTo, SendsOf, bytes_in, why};
+ghost use Rattle.stream_fronts.specs.Traffic.{OnHeld, ReadsTo, SendsOf, bytes_read, why};
 
 use stream_io::{Broken, Connections, Input};
 
@@ -18,7 +18,7 @@ pub fn receive<C: Connections>(
     requires open { IfSome (C.log connections.old) (IsOpen number asks) }
     ensures fits { IfOk result (FitsRoom (length out.old)) }
     ensures read { IfSome (C.log connections.old) (λ l. ReadGives number (length out.old) out.new result l (C.log connections.new)) }
-    ensures reads { OnLogs (OnHeld number (ReadsTo why (bytes_in out.new result) result)) (C.log connections.old) (C.log connections.new) }
+    ensures reads { OnLogs (OnHeld number (ReadsTo why (bytes_read out.new result) result)) (C.log connections.old) (C.log connections.new) }
     ensures keeps { OnLogs Keeps (C.log connections.old) (C.log connections.new) }
     ensures open { IfSome (C.log connections.new) (IsOpen number (asks + gained result)) }
     ensures told { is_some (C.log connections.new) ≡ is_some (C.log connections.old) }

@@ -4,16 +4,16 @@ ghost use Rattle.partition_model.specs.declared.options.Options.{Options};
 ghost use Rattle.memcached_text.specs.declared.next.Next.TheVariants.{More};
 ghost use Rattle.memcached_text.specs.Next.{next_of};
 ghost use Rattle.stream_fronts.specs.Clients.{IsClient};
-ghost use Rattle.stream_fronts.specs.Reached.{Reaches, place_of};
+ghost use Rattle.stream_fronts.specs.Reached.{Reaches, position_of};
 
-use crate::kept::Kept;
+use crate::kept::KeptBytes;
 use crate::unsent::Unsent;
 
 /// What a front holds of one connection. It has no buffer while nothing is kept and nothing is unsent.
 #[derive(Drop)]
 pub struct Client {
     /// What was received and is no whole command, or waits for those before it.
-    pub kept: Kept,
+    pub kept: KeptBytes,
     /// How many answers were given to the command that this begins with.
     pub done: usize,
     /// So many bytes of what is to be dropped have not come.
@@ -33,10 +33,10 @@ impl Client {
         ensures reading { result.leaving ≡ false }
         ensures unsent { result.unsent ≡ [] }
         ensures waits { next_of result.kept ≡ More }
-        ensures talk { (options : Options) (base : ℕ) → Reaches options base (place_of result) [] [] [] }
+        ensures talk { (options : Options) (base : ℕ) → Reaches options base (position_of result) [] [] [] }
     {
         Client {
-            kept: Kept::nothing(),
+            kept: KeptBytes::nothing(),
             done: 0,
             dropping: 0,
             leaving: false,

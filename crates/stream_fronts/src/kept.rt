@@ -8,11 +8,11 @@ use std::marker::Model;
 /// Bytes that are kept from one visit of a connection to the next. There is a buffer only where there are bytes, and else but a word that says so. Clauses see the
 /// list of the bytes.
 #[derive(Drop)]
-pub struct Kept {
+pub struct KeptBytes {
     buffer: Option<Box<Vec<u8>>>,
 }
 
-impl Model for Kept {
+impl Model for KeptBytes {
     ghost use Rattle.std.specs.Prelude.{List, ℕ, ◌<◌, IfSome, vec_len};
     ghost use Rattle.stream_fronts.specs.Buffers.{bytes_in};
 
@@ -23,23 +23,23 @@ impl Model for Kept {
     ghost invariant = { λ k. IfSome k.buffer (λ buffer. 0 < vec_len buffer.value) };
 }
 
-impl Kept {
+impl KeptBytes {
     /// No bytes.
-    pub fn nothing() -> Kept
+    pub fn nothing() -> KeptBytes
         ensures { result ≡ [] }
     {
-        Kept { buffer: None }
+        KeptBytes { buffer: None }
     }
 
     /// A copy of these.
-    pub fn copy_of(alloc: Global, bytes: &[u8]) -> Result<Kept, NoMemory>
+    pub fn copy_of(alloc: Global, bytes: &[u8]) -> Result<KeptBytes, NoMemory>
         ensures { IfOk result (λ kept. kept ≡ bytes.now) }
     {
         if bytes.is_empty() {
-            return Ok(Kept::nothing());
+            return Ok(KeptBytes::nothing());
         }
         let buffer = Box::new(alloc, Vec::from_slice(alloc, bytes)?)?;
-        Ok(Kept {
+        Ok(KeptBytes {
             buffer: Some(buffer),
         })
     }

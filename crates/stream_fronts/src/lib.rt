@@ -14,7 +14,7 @@
 //! (`specs/Reached`). `look_at` keeps what is left of a connection's bytes, no more than the longest that waits. The calls of a connection keep open what is
 //! open, ask for a connection again no more often than its bytes allow, and tell what was received and sent (`specs/Traffic`). `visit_once` sends what waits,
 //! receives once and answers; `visit_on` does so twice at most. What is held under a number is what was held there last, and of a client of whom nothing is
-//! kept and nothing is unsent there is no buffer (`Kept`, `Unsent`).
+//! kept and nothing is unsent there is no buffer (`KeptBytes`, `Unsent`).
 //!
 //! Which bytes a client gets is proved, too (`specs/Serving`). Where nothing had been done with the port before, all answers of the front are one list, each
 //! given to one client; and at each moment of the port's log the front had talked with each client by those that were given then: what was received spells
@@ -42,12 +42,12 @@ mod unsent;
 mod visit;
 mod visits;
 
-pub use answer::{Answered, LIMITS, MOST_COMMANDS, Stand, answer_bytes, most_writes};
+pub use answer::{Answered, LIMITS, MOST_COMMANDS, Halt, answer_bytes, most_writes};
 pub use calls::{ask_again, close, receive, send};
 pub use client::Client;
 pub use clients::Clients;
 pub use desk::{Desk, MOST_UNSENT};
-pub use kept::Kept;
+pub use kept::KeptBytes;
 pub use look::look_at;
 pub use ports::{MOST_STREAM_FRONTS, StreamPorts};
 pub use serve::serve_connections;

@@ -9,11 +9,11 @@ ghost use Rattle.stream_fronts.specs.Clients.{IsClient};
 ghost use Rattle.stream_fronts.specs.Going.{GoesBy, GoesBySome};
 ghost use Rattle.stream_fronts.specs.Paid.{Advances, MayAnswer, unanswered};
 ghost use Rattle.stream_fronts.specs.Turns.{most_answers};
-ghost use Rattle.stream_fronts.specs.Reached.{GoesOnTo, SpokeFrom, StandsAs, leaves, place_at, place_of};
+ghost use Rattle.stream_fronts.specs.Reached.{GoesOnTo, SpokeFrom, HaltsAs, leaves, position_at, position_of};
 
-use crate::answer::{Stand, answer_bytes};
+use crate::answer::{Halt, answer_bytes};
 use crate::client::Client;
-use crate::kept::Kept;
+use crate::kept::KeptBytes;
 use memcached_fronts::{Buffers, Numbering, load_ahead};
 use mica_clock::Clock;
 use mica_fronts::Counts;
@@ -28,7 +28,7 @@ impl Client {
         requires short { length bytes.now ≤ MAX_WAITING_LEN }
         requires open { IsOpenAt (next_of bytes.now) done }
         requires dropped { 0 < self.old.dropping → bytes.now ≡ [] }
-        requires paid { unanswered (place_at bytes.now done) ≤ self.old.asks }
+        requires paid { unanswered (position_at bytes.now done) ≤ self.old.asks }
         ensures client { IfOk result (λ _. IsClient self.new) }
         ensures kept { OnOk result ((self.new.kept ≡ bytes.now) × (self.new.done ≡ done)) }
         ensures dropping { self.new.dropping ≡ self.old.dropping }
@@ -36,7 +36,7 @@ impl Client {
         ensures unsent { self.new.unsent ≡ self.old.unsent }
         ensures asks { self.new.asks ≡ self.old.asks }
     {
-        self.kept = Kept::copy_of(alloc, bytes)?;
+        self.kept = KeptBytes::copy_of(alloc, bytes)?;
         self.done = done;
         Ok(())
     }
@@ -55,22 +55,22 @@ pub fn look_at<R: Threads + Wait + Sync, F: Counts, K: Clock>(
     done: usize,
     buffers: &mut Buffers,
     replies: &mut Vec<u8>,
-) -> Result<Stand, NoMemory>
+) -> Result<Halt, NoMemory>
     requires short { length bytes.now ≤ MAX_WAITING_LEN }
     requires open { IsOpenAt (next_of bytes.now) done }
-    requires paid { unanswered (place_at bytes.now done) ≤ client.old.asks }
+    requires paid { unanswered (position_at bytes.now done) ≤ client.old.asks }
     requires partitions { numbering.partitions ≡ (F.options front.old).partitions }
     ensures client { IfOk result (λ _. IsClient client.new) }
-    ensures leaving { IfOk result (λ stand. client.new.leaving ≡ leaves stand) }
+    ensures leaving { IfOk result (λ halt. client.new.leaving ≡ leaves halt) }
     ensures few { IfOk result (λ _. length replies.new.items ≤ MOST_UNSENT) }
     ensures unsent { client.new.unsent ≡ client.old.unsent }
     ensures asks { client.new.asks ≡ client.old.asks }
-    ensures advances { IfOk result (λ stand. Advances (MayAnswer numbering.partitions (F.left front.old)) ((stand ≡ Stand.Needs) × (next_of bytes.now ≡ More))
-        (place_at bytes.now done) (place_of client.new)) }
+    ensures advances { IfOk result (λ halt. Advances (MayAnswer numbering.partitions (F.left front.old)) ((halt ≡ Halt.Needs) × (next_of bytes.now ≡ More))
+        (position_at bytes.now done) (position_of client.new)) }
     ensures talk { GoesBySome (F.options front.old) F.is_alone (F.sessions front.old) (F.left front.old) (K.view clock.old) (F.sessions front.new) (F.left front.new) (K.view clock.new)
-        (λ answers. (length answers ≤ most_answers (F.options front.old)) × MatchResult result (λ stand. GoesOnTo (F.options front.old) numbering.base (place_at bytes.now done) answers [] replies.new.items
-        (StandsAs (F.options front.old) numbering.base (length bytes.now) stand (place_of client.new)))
-        (λ _. SpokeFrom (F.options front.old) numbering.base (length bytes.now) (place_at bytes.now done) answers)) }
+        (λ answers. (length answers ≤ most_answers (F.options front.old)) × MatchResult result (λ halt. GoesOnTo (F.options front.old) numbering.base (position_at bytes.now done) answers [] replies.new.items
+        (HaltsAs (F.options front.old) numbering.base (length bytes.now) halt (position_of client.new)))
+        (λ _. SpokeFrom (F.options front.old) numbering.base (length bytes.now) (position_at bytes.now done) answers)) }
     ensures goes { GoesBy (F.options front.old) F.is_alone (F.sessions front.old) (F.left front.old) (K.view clock.old) (F.sessions front.new) (F.left front.new) (K.view clock.new) }
     ensures options { F.options front.new ≡ F.options front.old }
     ensures number { F.number front.new ≡ F.number front.old }
@@ -80,7 +80,7 @@ pub fn look_at<R: Threads + Wait + Sync, F: Counts, K: Clock>(
     load_ahead(front, bytes);
     let answered = answer_bytes(rt, front, clock, numbering, buffers, bytes, done, replies)?;
     client.dropping = answered.dropping;
-    client.leaving = answered.stand == Stand::Leaves;
+    client.leaving = answered.halt == Halt::Leaves;
     client.keep(alloc, &bytes[answered.taken..], answered.done)?;
-    Ok(answered.stand)
+    Ok(answered.halt)
 }

@@ -1,7 +1,7 @@
 //! Replies that a peer has not taken yet.
 ghost use Rattle.std.specs.Prelude.{◌≡◌, ◌≤◌, [], length, drop, OnOk, OnErr};
 
-use crate::kept::Kept;
+use crate::kept::KeptBytes;
 use mica_io::NoMemory;
 use std::alloc::Global;
 use std::marker::Model;
@@ -9,7 +9,7 @@ use std::marker::Model;
 /// Replies that a peer has not taken yet. There is a buffer only where there are any. Clauses see the list of their bytes.
 #[derive(Drop)]
 pub struct Unsent {
-    text: Kept,
+    text: KeptBytes,
     /// So many bytes of the text were taken.
     sent: usize,
 }
@@ -30,7 +30,7 @@ impl Unsent {
         ensures { result ≡ [] }
     {
         Unsent {
-            text: Kept::nothing(),
+            text: KeptBytes::nothing(),
             sent: 0,
         }
     }
@@ -50,7 +50,7 @@ impl Unsent {
         let len = self.text.bytes().len();
         self.sent += count;
         if self.sent == len {
-            self.text = Kept::nothing();
+            self.text = KeptBytes::nothing();
             self.sent = 0;
         }
     }
@@ -60,7 +60,7 @@ impl Unsent {
         ensures ok { OnOk result (self.new ≡ text.now) }
         ensures err { OnErr result (self.new ≡ self.old) }
     {
-        self.text = Kept::copy_of(alloc, text)?;
+        self.text = KeptBytes::copy_of(alloc, text)?;
         self.sent = 0;
         Ok(())
     }

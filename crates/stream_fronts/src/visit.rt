@@ -6,16 +6,16 @@ ghost use Rattle.stream_fronts.specs.Clients.{IsClient};
 ghost use Rattle.stream_fronts.specs.Going.{GoesBy, GoesBySome};
 ghost use Rattle.stream_fronts.specs.Paid.{Advances, IsPaid, MayAnswer, PaysFor};
 ghost use Rattle.stream_fronts.specs.Turns.{most_answers};
-ghost use Rattle.stream_fronts.specs.Reached.{GoesOnTo, SpokeBehind, StandsAs, leaves, place_at, place_of};
+ghost use Rattle.stream_fronts.specs.Reached.{GoesOnTo, SpokeBehind, HaltsAs, leaves, position_at, position_of};
 ghost use Rattle.stream_fronts.specs.Traffic.{OnHeld, ReadsTo, SendsFrom, SendsSome};
 ghost use Rattle.stream_fronts.specs.Held.{IsAtRest, Lacks, Looks, VisitLacks, Visits, filled_bytes, leaves_by};
 ghost use Rattle.stream_fronts.specs.Open.{IsOpen, Keeps, OnLogs};
 
-use crate::answer::Stand;
+use crate::answer::Halt;
 use crate::calls::{receive, send};
 use crate::client::Client;
 use crate::desk::Desk;
-use crate::kept::Kept;
+use crate::kept::KeptBytes;
 use crate::look::look_at;
 use memcached_fronts::{Buffers, Numbering};
 use memcached_stats::{Counter, Tally};
@@ -50,7 +50,7 @@ fn send_unsent<C: Connections>(
     requires client { IsClient client.old }
     requires open { IfSome (C.log connections.old) (IsOpen number client.old.asks) }
     ensures client { IsClient client.new }
-    ensures place { place_of client.new ≡ place_of client.old }
+    ensures position { position_of client.new ≡ position_of client.old }
     ensures leaving { client.new.leaving ≡ client.old.leaving }
     ensures asks { client.new.asks ≡ client.old.asks }
     ensures all { IfOk result (λ all. all ≡ true → client.new.unsent ≡ []) }
@@ -82,7 +82,7 @@ fn send_new<C: Connections>(
     requires none { client.old.unsent ≡ [] }
     requires open { IfSome (C.log connections.old) (IsOpen number client.old.asks) }
     ensures client { IfOk result (λ _. IsClient client.new) }
-    ensures place { IfOk result (λ _. place_of client.new ≡ place_of client.old) }
+    ensures position { IfOk result (λ _. position_of client.new ≡ position_of client.old) }
     ensures leaving { IfOk result (λ _. client.new.leaving ≡ client.old.leaving) }
     ensures asks { client.new.asks ≡ client.old.asks }
     ensures all { IfOk result (λ sent. IfOk sent (λ all. all ≡ true → client.new.unsent ≡ [])) }
@@ -133,7 +133,7 @@ fn fill<C: Connections>(
         (C.log connections.old) (C.log connections.new) }
     ensures client { IsClient client.new }
     ensures pays { IfOk result (λ filled. PaysFor client.new filled.0 filled.1) }
-    ensures place { place_of client.new ≡ place_of client.old }
+    ensures position { position_of client.new ≡ position_of client.old }
     ensures leaving { client.new.leaving ≡ client.old.leaving }
     ensures unsent { client.new.unsent ≡ client.old.unsent }
     ensures open { IfSome (C.log connections.new) (IsOpen number client.new.asks) }
@@ -169,7 +169,7 @@ fn look_at_room<R: Threads + Wait + Sync, F: Counts, K: Clock>(
     bytes: &[u8],
     buffers: &mut Buffers,
     replies: &mut Vec<u8>,
-) -> Result<Stand, NoMemory>
+) -> Result<Halt, NoMemory>
     requires client { IsClient client.old }
     requires first { client.old.done ≡ 0 }
     requires reading { client.old.leaving ≡ false }
@@ -178,17 +178,17 @@ fn look_at_room<R: Threads + Wait + Sync, F: Counts, K: Clock>(
     requires kept { bytes.now ≡ client.old.kept ++ drop (length client.old.kept) bytes.now }
     requires partitions { numbering.partitions ≡ (F.options front.old).partitions }
     ensures client { IfOk result (λ _. IsClient client.new) }
-    ensures leaving { IfOk result (λ stand. client.new.leaving ≡ leaves stand) }
+    ensures leaving { IfOk result (λ halt. client.new.leaving ≡ leaves halt) }
     ensures few { IfOk result (λ _. length replies.new.items ≤ MOST_UNSENT) }
     ensures unsent { client.new.unsent ≡ client.old.unsent }
     ensures asks { client.new.asks ≡ client.old.asks }
-    ensures advances { IfOk result (λ stand. Advances (MayAnswer numbering.partitions (F.left front.old)) ((stand ≡ Stand.Needs) × (length client.old.kept < MAX_WAITING_LEN))
-        (place_at bytes.now 0) (place_of client.new)) }
+    ensures advances { IfOk result (λ halt. Advances (MayAnswer numbering.partitions (F.left front.old)) ((halt ≡ Halt.Needs) × (length client.old.kept < MAX_WAITING_LEN))
+        (position_at bytes.now 0) (position_of client.new)) }
     ensures talk { GoesBySome (F.options front.old) F.is_alone (F.sessions front.old) (F.left front.old) (K.view clock.old) (F.sessions front.new) (F.left front.new) (K.view clock.new)
-        (λ answers. (length answers ≤ most_answers (F.options front.old)) × MatchResult result (λ stand. GoesOnTo (F.options front.old) numbering.base (place_of client.old) answers [] replies.new.items
-        (λ received given due. StandsAs (F.options front.old) numbering.base MAX_WAITING_LEN stand (place_of client.new)
+        (λ answers. (length answers ≤ most_answers (F.options front.old)) × MatchResult result (λ halt. GoesOnTo (F.options front.old) numbering.base (position_of client.old) answers [] replies.new.items
+        (λ received given due. HaltsAs (F.options front.old) numbering.base MAX_WAITING_LEN halt (position_of client.new)
         (received ++ drop (length client.old.kept) bytes.now) given due))
-        (λ _. SpokeBehind (F.options front.old) numbering.base MAX_WAITING_LEN (place_of client.old) (drop (length client.old.kept) bytes.now) answers)) }
+        (λ _. SpokeBehind (F.options front.old) numbering.base MAX_WAITING_LEN (position_of client.old) (drop (length client.old.kept) bytes.now) answers)) }
     ensures goes { GoesBy (F.options front.old) F.is_alone (F.sessions front.old) (F.left front.old) (K.view clock.old) (F.sessions front.new) (F.left front.new) (K.view clock.new) }
     ensures options { F.options front.new ≡ F.options front.old }
     ensures number { F.number front.new ≡ F.number front.old }
@@ -197,7 +197,7 @@ fn look_at_room<R: Threads + Wait + Sync, F: Counts, K: Clock>(
     if client.dropping > bytes.len() {
         client.dropping -= bytes.len();
         replies.clear();
-        return Ok(Stand::Needs);
+        return Ok(Halt::Needs);
     }
     let bytes = &bytes[client.dropping..];
     look_at(
@@ -217,7 +217,7 @@ fn answer_more<R: Threads + Wait + Sync, F: Counts, K: Clock, C: Connections>(
     number: u32,
     client: &mut Client,
     desk: &mut Desk,
-) -> Result<Result<(Stand, Option<Input>), Broken>, NoMemory>
+) -> Result<Result<(Halt, Option<Input>), Broken>, NoMemory>
     requires room { vec_len desk.old.room ≡ MAX_WAITING_LEN }
     requires client { IsClient client.old }
     requires reading { client.old.leaving ≡ false }
@@ -249,13 +249,13 @@ fn answer_more<R: Threads + Wait + Sync, F: Counts, K: Clock, C: Connections>(
         buffers,
     } = desk;
     if client.done > 0 {
-        let kept = mem::replace(&mut client.kept, Kept::nothing());
+        let kept = mem::replace(&mut client.kept, KeptBytes::nothing());
         let done = client.done;
         let bytes = kept.bytes();
-        let stand = look_at(
+        let halt = look_at(
             rt, alloc, front, clock, numbering, client, bytes, done, buffers, replies,
         )?;
-        return Ok(Ok((stand, None)));
+        return Ok(Ok((halt, None)));
     }
     let (len, input) = match fill(connections, number, client, room.as_mut_slice()) {
         Ok(filled) => filled,
@@ -263,35 +263,35 @@ fn answer_more<R: Threads + Wait + Sync, F: Counts, K: Clock, C: Connections>(
     };
     count_input(input, &mut buffers.tally);
     let bytes = &room[..len];
-    let stand = look_at_room(
+    let halt = look_at_room(
         rt, alloc, front, clock, numbering, client, bytes, buffers, replies,
     )?;
-    Ok(Ok((stand, input)))
+    Ok(Ok((halt, input)))
 }
 
 /// Whether no more is read of a connection: the client asked for the end; or it sends no more, and nothing whole is left.
-fn leaves_by(stand: Stand, input: Option<Input>) -> bool
-    ensures { result ≡ leaves_by stand input }
+fn leaves_by(halt: Halt, input: Option<Input>) -> bool
+    ensures { result ≡ leaves_by halt input }
 {
-    match stand {
-        Stand::Leaves => true,
-        Stand::Needs => matches!(input, Some(Input::Ended)),
-        Stand::Enough => false,
+    match halt {
+        Halt::Leaves => true,
+        Halt::Needs => matches!(input, Some(Input::Ended)),
+        Halt::Enough => false,
     }
 }
 
 /// What becomes of a connection once all replies were taken.
-fn after_all(leaving: bool, stand: Stand, input: Option<Input>) -> After
+fn after_all(leaving: bool, halt: Halt, input: Option<Input>) -> After
     ensures over { leaving ≡ true → result ≡ After.Over }
     ensures open { leaving ≡ false → result ≢ After.Over }
-    ensures waits { result ≡ After.Waits → (stand ≡ Stand.Needs) × (input ≡ Some Input.Later) }
-    ensures again { leaving ≡ leaves_by stand input → IsAtRest stand input → result ≢ After.Again }
+    ensures waits { result ≡ After.Waits → (halt ≡ Halt.Needs) × (input ≡ Some Input.Later) }
+    ensures again { leaving ≡ leaves_by halt input → IsAtRest halt input → result ≢ After.Again }
 {
     if leaving {
         return After::Over;
     }
-    match (stand, input) {
-        (Stand::Needs, Some(Input::Later)) => After::Waits,
+    match (halt, input) {
+        (Halt::Needs, Some(Input::Later)) => After::Waits,
         _ => After::Again,
     }
 }
@@ -350,11 +350,11 @@ pub fn visit_once<R: Threads + Wait + Sync, F: Counts, K: Clock, C: Connections>
         client,
         desk,
     )?;
-    let (stand, input) = match answered {
+    let (halt, input) = match answered {
         Ok(answered) => answered,
         Err(Broken) => return Ok(After::Over),
     };
-    client.leaving = leaves_by(stand, input);
+    client.leaving = leaves_by(halt, input);
     let tally = &mut desk.buffers.tally;
     match send_new(
         alloc,
@@ -366,6 +366,6 @@ pub fn visit_once<R: Threads + Wait + Sync, F: Counts, K: Clock, C: Connections>
     )? {
         Err(Broken) => Ok(After::Over),
         Ok(false) => Ok(After::Waits),
-        Ok(true) => Ok(after_all(client.leaving, stand, input)),
+        Ok(true) => Ok(after_all(client.leaving, halt, input)),
     }
 }

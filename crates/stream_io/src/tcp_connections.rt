@@ -1,6 +1,5 @@
 //! TCP connections of this machine, over epoll.
-ghost use Rattle.std.specs.Prelude.{◌≡◌, ◌<◌, ◌≤◌, false, None, length, is_none, is_err, IfOk, IfSome, IfNone, OnErr};
-ghost use Rattle.mica_io.specs.Faults.{Rose, faults_after};
+ghost use Rattle.std.specs.Prelude.{◌≡◌, ◌<◌, ◌≤◌, false, None, length, IfOk};
 ghost use Rattle.stream_io.specs.Calls.{FitsRoom};
 
 use crate::{Broken, Connections, Event, Input};
@@ -22,14 +21,17 @@ const LISTENER: Token = Token(usize::MAX);
 /// The most events that one wait gives.
 const MOST_EVENTS: usize = 1_024;
 
-/// How many milliseconds to wait before the system is asked again for a connection that it refused.
-const PAUSE: u64 = 100;
+/// How long to wait before the system is asked again for a connection that it refused.
+const PAUSE_MILLIS: u64 = 100;
 
-/// After how many seconds a port that waits looks whether another one has failed.
-const LOOK: u64 = 1;
+/// How long a port waits before it looks whether another one has failed.
+const LOOK_SECONDS: u64 = 1;
 
 /// How many bytes that nobody reads any more are dropped before a close, so that the replies before it are not lost to a reset.
 const MOST_DROPPED: usize = 64 * 1_024;
+
+/// So many of them are dropped at once.
+const SCRATCH_LEN: usize = 4_096;
 
 #[derive(Drop)]
 struct Slot {
@@ -147,8 +149,8 @@ fn write_to(stream: &TcpStream, piece: &[u8]) -> Result<usize, Broken>
 /// Says that nothing more will be sent, and drops what the peer sent and nobody reads, up to a bound: a close with bytes unread loses replies.
 fn drop_unread(slot: &mut Slot) {
     let _unheeded = slot.stream.shutdown(Shutdown::Write);
-    let mut scratch = [0; 4_096];
-    for _ in 0..MOST_DROPPED / 4_096 {
+    let mut scratch = [0; SCRATCH_LEN];
+    for _ in 0..MOST_DROPPED / SCRATCH_LEN {
         match read_from(slot, &mut scratch) {
             Ok(Input::Bytes(_)) => {}
             _ => return,
@@ -248,9 +250,9 @@ impl<'a> TcpConnections<'a> {
         if !self.queue.is_empty() || self.may_accept() {
             Some(Duration::ZERO)
         } else if self.accepting == Accepting::Refused {
-            Some(Duration::from_millis(PAUSE))
+            Some(Duration::from_millis(PAUSE_MILLIS))
         } else if self.has_failed.is_some() {
-            Some(Duration::from_secs(LOOK))
+            Some(Duration::from_secs(LOOK_SECONDS))
         } else {
             None
         }

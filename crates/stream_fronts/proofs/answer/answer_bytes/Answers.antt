@@ -3,14 +3,14 @@ use Rattle.std.proofs.lemmas.List.{take_rest, length-drop}
 use Rattle.std.proofs.lemmas.Result.{err_from_is_err_and}
 use Rattle.stream_fronts.specs.declared.answer.TheConstants.{MOST_COMMANDS}
 use Rattle.stream_fronts.specs.declared.answer.Said.TheVariants.{Nothing, Part, Whole, Last}
-use Rattle.stream_fronts.specs.declared.answer.Stand.TheVariants.{Needs, Enough, Leaves}
+use Rattle.stream_fronts.specs.declared.answer.Halt.TheVariants.{Needs, Enough, Leaves}
 use Rattle.memcached_text.specs.Next.{next_of}
-use Rattle.stream_fronts.specs.Reached.{Reaches, ReachesAfter, StandsAs, place_at, place_in}
+use Rattle.stream_fronts.specs.Reached.{Reaches, ReachesAfter, HaltsAs, position_at, position_in}
 use Rattle.stream_fronts.specs.Paid.{AnswersOn}
 use Rattle.stream_fronts.proofs.Going.{these_none, these_goes}
 use Rattle.stream_fronts.proofs.Reaching.{on_none}
 use Rattle.stream_fronts.proofs.Advancing.{gains, stays, arrives}
-use Rattle.stream_fronts.proofs.Answering.{answers_then, on_said, spoke_on, match_err, some_as, stands_in, left_in, dropped_in, whole_in}
+use Rattle.stream_fronts.proofs.Answering.{answers_then, on_said, spoke_on, match_err, some_as, halts_in, left_in, dropped_in, whole_in}
 use Rattle.stream_fronts.proofs.answer.answer_bytes.Goals as goal
 use Rattle.stream_fronts.proofs.answer.answer_bytes.Goals.{else-loop-test, then-loop-test+then-writes_left-cost, then-writes_left-cost-via-then-writes_left-cost, then-writes_left-cost-via-else-writes_left-cost+then-len}
 
@@ -22,7 +22,7 @@ loop-init g c =
       (
         [],
         these_none options g.F.Front.is_alone (g.F.Front.sessions c.args.front.now) (g.F.Front.left c.args.front.now) (g.K.Clock.view c.args.clock.now),
-        (omega arith, on_none options c.args.numbering.base (place_at c.args.bytes.now c.args.done) c.args.out.now.items),
+        (omega arith, on_none options c.args.numbering.base (position_at c.args.bytes.now c.args.done) c.args.out.now.items),
       ),
       refl,
       refl,
@@ -37,7 +37,7 @@ returns-in_err-said-clause-talk g c =
     let options = g.F.Front.options c.args.front.now in
     let bytes = c.args.bytes.now in
     let len = length-drop c.loop.taken bytes in
-    let spoke = spoke_on options g.F.Front.is_alone c.args.numbering.base c.loop.counter (omega (arith, c.loop-test.true)) (length bytes) (place_at bytes c.args.done) (drop c.loop.taken bytes)
+    let spoke = spoke_on options g.F.Front.is_alone c.args.numbering.base c.loop.counter (omega (arith, c.loop-test.true)) (length bytes) (position_at bytes c.args.done) (drop c.loop.taken bytes)
     (take (length bytes - c.loop.taken) (drop c.loop.taken bytes)) c.loop.done c.args.out.now.items c.loop.out.items (g.F.Front.options c.loop.front) (take_rest bytes c.loop.taken) inv.3
     (omega (arith, len)) inv.2 c.in_err-said.ensures.talk in
     let is = err_from_is_err_and c.from_residual.result c.from_residual.ensures.1 in
@@ -57,10 +57,10 @@ returns-in-Nothing-clause-talk g c =
     let base = c.args.numbering.base in
     let bytes = c.args.bytes.now in
     let at = c.at.ensures in
-    some_as options g.F.Front.is_alone base (c.loop.counter + 1) MOST_COMMANDS (omega (arith, c.loop-test.true)) (place_at bytes c.args.done) c.args.out.now.items c.answer_one.new.out.items
-    (ReachesAfter options base (drop c.loop.taken bytes) c.loop.done Nothing) (StandsAs options base (length bytes) c.at.result.stand (place_in bytes c.at.result))
-    (stands_in options g.F.Front.is_alone base (length bytes) bytes c.at.result Needs c.loop.taken c.loop.done 0 at.0 at.1 at.2 at.3)
-    (on_said options g.F.Front.is_alone base c.loop.counter (place_at bytes c.args.done) (drop c.loop.taken bytes) (take (length bytes - c.loop.taken) (drop c.loop.taken bytes)) c.loop.done c.args.out.now.items
+    some_as options g.F.Front.is_alone base (c.loop.counter + 1) MOST_COMMANDS (omega (arith, c.loop-test.true)) (position_at bytes c.args.done) c.args.out.now.items c.answer_one.new.out.items
+    (ReachesAfter options base (drop c.loop.taken bytes) c.loop.done Nothing) (HaltsAs options base (length bytes) c.at.result.halt (position_in bytes c.at.result))
+    (halts_in options g.F.Front.is_alone base (length bytes) bytes c.at.result Needs c.loop.taken c.loop.done 0 at.0 at.1 at.2 at.3)
+    (on_said options g.F.Front.is_alone base c.loop.counter (position_at bytes c.args.done) (drop c.loop.taken bytes) (take (length bytes - c.loop.taken) (drop c.loop.taken bytes)) c.loop.done c.args.out.now.items
     c.loop.out.items c.answer_one.new.out.items (g.F.Front.options c.loop.front) c.in_ok-said.said Nothing (take_rest bytes c.loop.taken) inv.3 c.in-Nothing.is inv.2 c.in_ok-said.ensures.talk)
 
 pub returns-in-Nothing-clause-goes : goal.returns-in-Nothing-clause-goes
@@ -77,10 +77,10 @@ returns-in-Part-clause-talk g c =
     let base = c.args.numbering.base in
     let bytes = c.args.bytes.now in
     let at = c.at-in-Part.ensures in
-    some_as options g.F.Front.is_alone base (c.loop.counter + 1) MOST_COMMANDS (omega (arith, c.loop-test.true)) (place_at bytes c.args.done) c.args.out.now.items c.answer_one.new.out.items
-    (ReachesAfter options base (drop c.loop.taken bytes) c.loop.done (Part c.in-Part.done)) (StandsAs options base (length bytes) c.at-in-Part.result.stand (place_in bytes c.at-in-Part.result))
-    (stands_in options g.F.Front.is_alone base (length bytes) bytes c.at-in-Part.result Enough c.loop.taken c.in-Part.done 0 at.0 at.1 at.2 at.3)
-    (on_said options g.F.Front.is_alone base c.loop.counter (place_at bytes c.args.done) (drop c.loop.taken bytes) (take (length bytes - c.loop.taken) (drop c.loop.taken bytes)) c.loop.done c.args.out.now.items
+    some_as options g.F.Front.is_alone base (c.loop.counter + 1) MOST_COMMANDS (omega (arith, c.loop-test.true)) (position_at bytes c.args.done) c.args.out.now.items c.answer_one.new.out.items
+    (ReachesAfter options base (drop c.loop.taken bytes) c.loop.done (Part c.in-Part.done)) (HaltsAs options base (length bytes) c.at-in-Part.result.halt (position_in bytes c.at-in-Part.result))
+    (halts_in options g.F.Front.is_alone base (length bytes) bytes c.at-in-Part.result Enough c.loop.taken c.in-Part.done 0 at.0 at.1 at.2 at.3)
+    (on_said options g.F.Front.is_alone base c.loop.counter (position_at bytes c.args.done) (drop c.loop.taken bytes) (take (length bytes - c.loop.taken) (drop c.loop.taken bytes)) c.loop.done c.args.out.now.items
     c.loop.out.items c.answer_one.new.out.items (g.F.Front.options c.loop.front) c.in_ok-said.said (Part c.in-Part.done) (take_rest bytes c.loop.taken) inv.3 c.in-Part.is inv.2 c.in_ok-said.ensures.talk)
 
 pub returns-in-Part-clause-goes : goal.returns-in-Part-clause-goes
@@ -97,11 +97,11 @@ returns-in-Last-clause-talk g c =
     let base = c.args.numbering.base in
     let bytes = c.args.bytes.now in
     let at = c.at-in-Last.ensures in
-    some_as options g.F.Front.is_alone base (c.loop.counter + 1) MOST_COMMANDS (omega (arith, c.loop-test.true)) (place_at bytes c.args.done) c.args.out.now.items c.answer_one.new.out.items
-    (ReachesAfter options base (drop c.loop.taken bytes) c.loop.done Last) (StandsAs options base (length bytes) c.at-in-Last.result.stand (place_in bytes c.at-in-Last.result))
-    (λ received given due ends. stands_in options g.F.Front.is_alone base (length bytes) bytes c.at-in-Last.result Leaves (length bytes) 0 0 at.0 at.1 at.2 at.3 received given due
-    (left_in options g.F.Front.is_alone base bytes c.loop.taken (place_at bytes 0) received given due ends))
-    (on_said options g.F.Front.is_alone base c.loop.counter (place_at bytes c.args.done) (drop c.loop.taken bytes) (take (length bytes - c.loop.taken) (drop c.loop.taken bytes)) c.loop.done c.args.out.now.items
+    some_as options g.F.Front.is_alone base (c.loop.counter + 1) MOST_COMMANDS (omega (arith, c.loop-test.true)) (position_at bytes c.args.done) c.args.out.now.items c.answer_one.new.out.items
+    (ReachesAfter options base (drop c.loop.taken bytes) c.loop.done Last) (HaltsAs options base (length bytes) c.at-in-Last.result.halt (position_in bytes c.at-in-Last.result))
+    (λ received given due ends. halts_in options g.F.Front.is_alone base (length bytes) bytes c.at-in-Last.result Leaves (length bytes) 0 0 at.0 at.1 at.2 at.3 received given due
+    (left_in options g.F.Front.is_alone base bytes c.loop.taken (position_at bytes 0) received given due ends))
+    (on_said options g.F.Front.is_alone base c.loop.counter (position_at bytes c.args.done) (drop c.loop.taken bytes) (take (length bytes - c.loop.taken) (drop c.loop.taken bytes)) c.loop.done c.args.out.now.items
     c.loop.out.items c.answer_one.new.out.items (g.F.Front.options c.loop.front) c.in_ok-said.said Last (take_rest bytes c.loop.taken) inv.3 c.in-Last.is inv.2 c.in_ok-said.ensures.talk)
 
 pub returns-in-Last-clause-goes : goal.returns-in-Last-clause-goes
@@ -118,9 +118,9 @@ returns-in-Whole-clause-talk g c =
     let base = c.args.numbering.base in
     let bytes = c.args.bytes.now in
     let len = c.in-Whole.len in
-    some_as options g.F.Front.is_alone base (c.loop.counter + 1) MOST_COMMANDS (omega (arith, c.loop-test.true)) (place_at bytes c.args.done) c.args.out.now.items c.answer_one.new.out.items
+    some_as options g.F.Front.is_alone base (c.loop.counter + 1) MOST_COMMANDS (omega (arith, c.loop-test.true)) (position_at bytes c.args.done) c.args.out.now.items c.answer_one.new.out.items
     (ReachesAfter options base (drop c.loop.taken bytes) c.loop.done (Whole len)) _ (dropped_in options g.F.Front.is_alone base bytes (take (length bytes - c.loop.taken) (drop c.loop.taken bytes)) c.loop.taken len (take_rest bytes c.loop.taken) c.if-len-rest.true)
-    (on_said options g.F.Front.is_alone base c.loop.counter (place_at bytes c.args.done) (drop c.loop.taken bytes) (take (length bytes - c.loop.taken) (drop c.loop.taken bytes)) c.loop.done c.args.out.now.items
+    (on_said options g.F.Front.is_alone base c.loop.counter (position_at bytes c.args.done) (drop c.loop.taken bytes) (take (length bytes - c.loop.taken) (drop c.loop.taken bytes)) c.loop.done c.args.out.now.items
     c.loop.out.items c.answer_one.new.out.items (g.F.Front.options c.loop.front) c.in_ok-said.said (Whole len) (take_rest bytes c.loop.taken) inv.3 c.in-Whole.is inv.2 c.in_ok-said.ensures.talk)
 
 pub returns-in-Whole-clause-goes : goal.returns-in-Whole-clause-goes
@@ -143,10 +143,10 @@ loop-preserved g c =
     let on = subst (AnswersOn (take (length bytes - c.loop.taken) (drop c.loop.taken bytes)) c.loop.done) c.in-Whole-2.is c.in_ok-said.ensures.on in (
       search rules,
       inl refl,
-      some_as options g.F.Front.is_alone base (c.loop.counter + 1) (c.loop.counter + 1) (omega arith) (place_at bytes c.args.done) c.args.out.now.items c.answer_one.new.out.items
-          (ReachesAfter options base (drop c.loop.taken bytes) c.loop.done (Whole len)) (Reaches options base (place_at (drop (c.loop.taken + len) bytes) 0))
+      some_as options g.F.Front.is_alone base (c.loop.counter + 1) (c.loop.counter + 1) (omega arith) (position_at bytes c.args.done) c.args.out.now.items c.answer_one.new.out.items
+          (ReachesAfter options base (drop c.loop.taken bytes) c.loop.done (Whole len)) (Reaches options base (position_at (drop (c.loop.taken + len) bytes) 0))
           (whole_in options g.F.Front.is_alone base bytes (take (length bytes - c.loop.taken) (drop c.loop.taken bytes)) c.loop.taken len (take_rest bytes c.loop.taken) come)
-          (on_said options g.F.Front.is_alone base c.loop.counter (place_at bytes c.args.done) (drop c.loop.taken bytes) (take (length bytes - c.loop.taken) (drop c.loop.taken bytes)) c.loop.done c.args.out.now.items
+          (on_said options g.F.Front.is_alone base c.loop.counter (position_at bytes c.args.done) (drop c.loop.taken bytes) (take (length bytes - c.loop.taken) (drop c.loop.taken bytes)) c.loop.done c.args.out.now.items
           c.loop.out.items c.answer_one.new.out.items (g.F.Front.options c.loop.front) c.in_ok-said.said (Whole len) (take_rest bytes c.loop.taken) inv.3 c.in-Whole-2.is inv.2 c.in_ok-said.ensures.talk),
       c.answer_one.ensures.options ∙ inv.3,
       c.answer_one.ensures.number ∙ inv.4,
@@ -162,9 +162,9 @@ returns-clause-talk g c =
     let base = c.args.numbering.base in
     let bytes = c.args.bytes.now in
     let at = c.at-2.ensures in
-    some_as options g.F.Front.is_alone base c.loop.counter MOST_COMMANDS (omega (arith, c.loop.auto.counter-end)) (place_at bytes c.args.done) c.args.out.now.items c.loop.out.items
-    (Reaches options base (place_at (drop c.loop.taken bytes) c.loop.done)) (StandsAs options base (length bytes) c.at-2.result.stand (place_in bytes c.at-2.result))
-    (stands_in options g.F.Front.is_alone base (length bytes) bytes c.at-2.result Enough c.loop.taken c.loop.done 0 at.0 at.1 at.2 at.3) inv.2
+    some_as options g.F.Front.is_alone base c.loop.counter MOST_COMMANDS (omega (arith, c.loop.auto.counter-end)) (position_at bytes c.args.done) c.args.out.now.items c.loop.out.items
+    (Reaches options base (position_at (drop c.loop.taken bytes) c.loop.done)) (HaltsAs options base (length bytes) c.at-2.result.halt (position_in bytes c.at-2.result))
+    (halts_in options g.F.Front.is_alone base (length bytes) bytes c.at-2.result Enough c.loop.taken c.loop.done 0 at.0 at.1 at.2 at.3) inv.2
 
 pub returns-in-Nothing-clause-advances : goal.returns-in-Nothing-clause-advances
 returns-in-Nothing-clause-advances g c =
@@ -202,7 +202,7 @@ returns-in-Whole-clause-advances g c =
     let rest = take (length bytes - c.loop.taken) (drop c.loop.taken bytes) in
     let len = ap length (take_rest bytes c.loop.taken) ∙ length-drop c.loop.taken bytes in
     let on = subst (AnswersOn rest c.loop.done) c.in-Whole.is c.in_ok-said.ensures.on in
-    arrives bytes c.args.done (record { taken = length bytes; done = 0; dropping = c.in-Whole.len - length rest; stand = Needs }) (c.loop.taken + length rest)
+    arrives bytes c.args.done (record { taken = length bytes; done = 0; dropping = c.in-Whole.len - length rest; halt = Needs }) (c.loop.taken + length rest)
     (gains bytes c.args.done c.loop.taken c.loop.done c.loop.invariant.6 rest (take_rest bytes c.loop.taken) (length rest) on.1 on.1)
     (omega (arith, len, c.loop.invariant.0)) (λ some. omega arith)
 

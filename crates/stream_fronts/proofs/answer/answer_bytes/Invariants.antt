@@ -6,7 +6,7 @@ use Rattle.memcached_fronts.specs.Exchange.{IsOpenAt}
 use Rattle.stream_fronts.specs.declared.answer.TheConstants.{LIMITS}
 use Rattle.stream_fronts.specs.Going.{GoesBySome}
 use Rattle.stream_fronts.specs.Turns.{most_to_one}
-use Rattle.stream_fronts.specs.Reached.{Reaches, GoesOnTo, place_at}
+use Rattle.stream_fronts.specs.Reached.{Reaches, GoesOnTo, position_at}
 use Rattle.stream_fronts.proofs.Advancing.{HasAdvanced}
 use Rattle.stream_fronts.proofs.answer.answer_bytes.Given as goal
 
@@ -17,7 +17,7 @@ invariant-loop g l =
     (l.taken ≤ length l.bytes)
     × IsOpenAt (next_of (drop l.taken l.bytes)) l.done
     × GoesBySome options g.F.Front.is_alone (g.F.Front.sessions l.initial.front) (g.F.Front.left l.initial.front) (g.K.Clock.view l.initial.clock) (g.F.Front.sessions l.front) (g.F.Front.left l.front) (g.K.Clock.view l.clock)
-    (λ answers. (length answers ≤ l.counter * most_to_one options) × GoesOnTo options base (place_at l.bytes l.initial.done) answers l.initial.out.items l.out.items (Reaches options base (place_at (drop l.taken l.bytes) l.done)))
+    (λ answers. (length answers ≤ l.counter * most_to_one options) × GoesOnTo options base (position_at l.bytes l.initial.done) answers l.initial.out.items l.out.items (Reaches options base (position_at (drop l.taken l.bytes) l.done)))
     × (g.F.Front.options l.front ≡ options)
     × (g.F.Front.number l.front ≡ g.F.Front.number l.initial.front)
     × (g.F.Front.stands l.front ≡ g.F.Front.stands l.initial.front)

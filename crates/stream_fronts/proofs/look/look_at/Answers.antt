@@ -1,10 +1,10 @@
 use Rattle.std.proofs.Common.{◌∙◌, length, ap, arith}
 use Rattle.std.proofs.lemmas.List.{length-drop, take_rest}
 use Rattle.std.proofs.lemmas.Result.{err_from_is_err_and}
-use Rattle.stream_fronts.specs.Reached.{place_at, place_in}
+use Rattle.stream_fronts.specs.Reached.{position_at, position_in}
 use Rattle.stream_fronts.proofs.Advancing.{looks_short}
 use Rattle.stream_fronts.proofs.Answering.{match_err}
-use Rattle.stream_fronts.proofs.Talking.{spoke_stands}
+use Rattle.stream_fronts.proofs.Talking.{spoke_halts}
 use Rattle.stream_fronts.proofs.look.look_at.Goals as goal
 
 pub returns-in_err-answered-clause-talk : goal.returns-in_err-answered-clause-talk
@@ -24,8 +24,8 @@ returns-in_err-keep-clause-talk g c =
       r.1,
       (
         r.2.0,
-        match_err _ _ c.from_residual-in_err-keep.result is.0 is.1 (spoke_stands (g.F.Front.options c.args.front.now) c.args.numbering.base far.stand (place_at bytes c.args.done)
-            (place_in bytes far) r.0 _ _ (length bytes) c.in_ok-answered.ensures.«open» (omega (arith, len)) r.2.1),
+        match_err _ _ c.from_residual-in_err-keep.result is.0 is.1 (spoke_halts (g.F.Front.options c.args.front.now) c.args.numbering.base far.halt (position_at bytes c.args.done)
+            (position_in bytes far) r.0 _ _ (length bytes) c.in_ok-answered.ensures.«open» (omega (arith, len)) r.2.1),
       ),
     )
 

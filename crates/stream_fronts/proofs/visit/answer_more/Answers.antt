@@ -5,7 +5,7 @@ use Rattle.std.proofs.lemmas.Result.{err_from_is_err_and}
 use Rattle.memcached_text.specs.declared.limits.TheConstants.{MAX_WAITING_LEN}
 use Rattle.memcached_text.specs.Next.{next_of}
 use Rattle.memcached_fronts.specs.Exchange.{IsOpenAt}
-use Rattle.stream_fronts.specs.Reached.{Place, GoesOnTo, SpokeFrom, SpokeBehind, StandsAs, place_at, place_of}
+use Rattle.stream_fronts.specs.Reached.{Position, GoesOnTo, SpokeFrom, SpokeBehind, HaltsAs, position_at, position_of}
 use Rattle.stream_fronts.specs.Held.{Looks, Lacks}
 use Rattle.stream_fronts.proofs.Going.{these_none}
 use Rattle.stream_fronts.proofs.Traffic.{on_one}
@@ -20,18 +20,18 @@ returns-then-client-gt0-clause-talk g c =
     let base = c.args.numbering.base in
     let client = c.args.client.now in
     let now = c.look_at.new.client in
-    let stand = c.in_ok-stand.stand in
+    let halt = c.in_ok-halt.halt in
     let replies = c.look_at.new.replies.items in
-    let r = c.in_ok-stand.ensures.talk in
+    let r = c.in_ok-halt.ensures.talk in
     let bytes_are : c.bytes-bytes.result.now ≡ client.kept = c.bytes-bytes.ensures ∙ c.replace-kept.ensures.value in
-    let goes = subst (λ b. GoesOnTo options base (place_at b client.done) r.0 [] replies (StandsAs options base (length b) stand (place_of now))) bytes_are r.2.1 in (
+    let goes = subst (λ b. GoesOnTo options base (position_at b client.done) r.0 [] replies (HaltsAs options base (length b) halt (position_of now))) bytes_are r.2.1 in (
       r.0,
       r.1,
-      on_same c.args.number (Looks options base client r.0 replies now (Ok (stand, None))) (g.C.Connections.log c.args.connections.now)
+      on_same c.args.number (Looks options base client r.0 replies now (Ok (halt, None))) (g.C.Connections.log c.args.connections.now)
           (λ d a. inl (record {
             same = refl;
-            goes = looks_further options base client now stand r.0 replies c.requires.client c.if-client-gt0.true goes;
-            few = c.in_ok-stand.ensures.few;
+            goes = looks_further options base client now halt r.0 replies c.requires.client c.if-client-gt0.true goes;
+            few = c.in_ok-halt.ensures.few;
             few_answers = r.2.0;
             ends = tt;
           })),
@@ -44,34 +44,34 @@ returns-clause-talk g c =
     let client = c.args.client.now in
     let between = c.fill.new.client in
     let now = c.look_at_room.new.client in
-    let stand = c.in_ok-stand-2.stand in
+    let halt = c.in_ok-halt-2.halt in
     let replies = c.look_at_room.new.replies.items in
-    let r = c.in_ok-stand-2.ensures.talk in
+    let r = c.in_ok-halt-2.ensures.talk in
     let filled = c.in-Ok.filled in
     let room = c.fill.new.room in
     let room_is : c.deref.result.now ≡ room =
     c.deref.ensures.value ∙ take_at room (drop (length room) c.args.desk.now.room.items) c.args.desk.now.room.len (c.fill.ensures.room ∙ sym c.requires.room) in
-    let here = subst (λ x. GoesOnTo options base (place_of between) r.0 [] replies
-    (λ received given due. StandsAs options base MAX_WAITING_LEN stand (place_of now) (received ++ drop (length between.kept) (take filled.0 x)) given due)) room_is r.2.1 in
-    let goes = subst (λ (p : Place). GoesOnTo options base p r.0 [] replies
-    (λ received given due. StandsAs options base MAX_WAITING_LEN stand (place_of now) (received ++ drop (length p.bytes) (take filled.0 room)) given due)) c.in-Ok.ensures.place here in
+    let here = subst (λ x. GoesOnTo options base (position_of between) r.0 [] replies
+    (λ received given due. HaltsAs options base MAX_WAITING_LEN halt (position_of now) (received ++ drop (length between.kept) (take filled.0 x)) given due)) room_is r.2.1 in
+    let goes = subst (λ (p : Position). GoesOnTo options base p r.0 [] replies
+    (λ received given due. HaltsAs options base MAX_WAITING_LEN halt (position_of now) (received ++ drop (length p.bytes) (take filled.0 room)) given due)) c.in-Ok.ensures.position here in
     let first : client.done ≡ 0 = let none = c.if-client-gt0.false in omega (arith, none) in
     let short : length (client.kept ++ drop (length client.kept) (take filled.0 room)) ≤ MAX_WAITING_LEN =
     let kept = ap length c.in-Ok.ensures.kept in let len = length-take filled.0 room in let fits = c.in-Ok.ensures.fits in omega (arith, kept, len, fits) in (
       r.0,
       r.1,
-      on_one c.args.number _ (Looks options base client r.0 replies now (Ok (stand, filled.1))) (g.C.Connections.log c.args.connections.now) (g.C.Connections.log c.fill.new.connections)
-          (λ d a b x. inr (record { first = first; bytes = drop (length client.kept) (take filled.0 room); short = short; reads = x.0; goes = goes; few = c.in_ok-stand-2.ensures.few; few_answers = r.2.0; ends = x.1 })) c.in-Ok.ensures.reads,
+      on_one c.args.number _ (Looks options base client r.0 replies now (Ok (halt, filled.1))) (g.C.Connections.log c.args.connections.now) (g.C.Connections.log c.fill.new.connections)
+          (λ d a b x. inr (record { first = first; bytes = drop (length client.kept) (take filled.0 room); short = short; reads = x.0; goes = goes; few = c.in_ok-halt-2.ensures.few; few_answers = r.2.0; ends = x.1 })) c.in-Ok.ensures.reads,
     )
 
-pub returns-in_err-stand-clause-talk : goal.returns-in_err-stand-clause-talk
-returns-in_err-stand-clause-talk g c =
+pub returns-in_err-halt-clause-talk : goal.returns-in_err-halt-clause-talk
+returns-in_err-halt-clause-talk g c =
     let options = g.F.Front.options c.args.front.now in
     let base = c.args.numbering.base in
     let client = c.args.client.now in
-    let r = c.in_err-stand.ensures.talk in
+    let r = c.in_err-halt.ensures.talk in
     let bytes_are : c.bytes-bytes.result.now ≡ client.kept = c.bytes-bytes.ensures ∙ c.replace-kept.ensures.value in
-    let spoke = subst (λ b. SpokeFrom options base (length b) (place_at b client.done) r.0) bytes_are r.2.1 in
+    let spoke = subst (λ b. SpokeFrom options base (length b) (position_at b client.done) r.0) bytes_are r.2.1 in
     let is = err_from_is_err_and c.from_residual.result c.from_residual.ensures.1 in (
       r.0,
       r.1,
@@ -79,26 +79,26 @@ returns-in_err-stand-clause-talk g c =
           (λ d a. inl (record { same = refl; spoke = lacks_further options base client r.0 c.requires.client c.if-client-gt0.true spoke; few_answers = r.2.0 }))),
     )
 
-pub returns-in_err-stand-2-clause-talk : goal.returns-in_err-stand-2-clause-talk
-returns-in_err-stand-2-clause-talk g c =
+pub returns-in_err-halt-2-clause-talk : goal.returns-in_err-halt-2-clause-talk
+returns-in_err-halt-2-clause-talk g c =
     let options = g.F.Front.options c.args.front.now in
     let base = c.args.numbering.base in
     let client = c.args.client.now in
     let between = c.fill.new.client in
-    let r = c.in_err-stand-2.ensures.talk in
+    let r = c.in_err-halt-2.ensures.talk in
     let filled = c.in-Ok.filled in
     let room = c.fill.new.room in
     let room_is : c.deref.result.now ≡ room =
     c.deref.ensures.value ∙ take_at room (drop (length room) c.args.desk.now.room.items) c.args.desk.now.room.len (c.fill.ensures.room ∙ sym c.requires.room) in
-    let here = subst (λ x. SpokeBehind options base MAX_WAITING_LEN (place_of between) (drop (length between.kept) (take filled.0 x)) r.0) room_is r.2.1 in
-    let spoke = subst (λ (p : Place). SpokeBehind options base MAX_WAITING_LEN p (drop (length p.bytes) (take filled.0 room)) r.0) c.in-Ok.ensures.place here in
+    let here = subst (λ x. SpokeBehind options base MAX_WAITING_LEN (position_of between) (drop (length between.kept) (take filled.0 x)) r.0) room_is r.2.1 in
+    let spoke = subst (λ (p : Position). SpokeBehind options base MAX_WAITING_LEN p (drop (length p.bytes) (take filled.0 room)) r.0) c.in-Ok.ensures.position here in
     let first : client.done ≡ 0 = let none = c.if-client-gt0.false in omega (arith, none) in
     let short : length (client.kept ++ drop (length client.kept) (take filled.0 room)) ≤ MAX_WAITING_LEN =
     let kept = ap length c.in-Ok.ensures.kept in let len = length-take filled.0 room in let fits = c.in-Ok.ensures.fits in omega (arith, kept, len, fits) in
-    let is = err_from_is_err_and c.from_residual-in_err-stand-2.result c.from_residual-in_err-stand-2.ensures.1 in (
+    let is = err_from_is_err_and c.from_residual-in_err-halt-2.result c.from_residual-in_err-halt-2.ensures.1 in (
       r.0,
       r.1,
-      match_err _ _ c.from_residual-in_err-stand-2.result is.0 is.1
+      match_err _ _ c.from_residual-in_err-halt-2.result is.0 is.1
           (on_one c.args.number _ (Lacks options base client r.0) (g.C.Connections.log c.args.connections.now) (g.C.Connections.log c.fill.new.connections)
           (λ d a b x. inr (record { first = first; bytes = drop (length client.kept) (take filled.0 room); short = short; reads = x.0; spoke = spoke; few_answers = r.2.0 })) c.in-Ok.ensures.reads),
     )
@@ -119,7 +119,7 @@ returns-then-client-gt0-clause-again g c = λ may.
     let client = c.args.client.now in
     let bytes_are : c.bytes-bytes.result.now ≡ client.kept = c.bytes-bytes.ensures ∙ c.replace-kept.ensures.value in
     inr (paid_further c.bytes-bytes.result.now client.done client.asks c.look_at.new.client (subst (λ b. IsOpenAt (next_of b) client.done) (sym bytes_are) c.requires.client.begun)
-    c.if-client-gt0.true (let len = ap length bytes_are in let paid = c.requires.client.paid in omega (arith, len, paid)) c.in_ok-stand.ensures.advances may c.look_at.ensures.asks)
+    c.if-client-gt0.true (let len = ap length bytes_are in let paid = c.requires.client.paid in omega (arith, len, paid)) c.in_ok-halt.ensures.advances may c.look_at.ensures.asks)
 
 pub returns-clause-again : goal.returns-clause-again
 returns-clause-again g c = λ may.
@@ -129,5 +129,5 @@ returns-clause-again g c = λ may.
     let same : room ≡ c.fill.new.room =
     c.deref.ensures.value ∙ take_at c.fill.new.room (drop (length c.fill.new.room) c.args.desk.now.room.items) c.args.desk.now.room.len (c.fill.ensures.room ∙ sym c.requires.room) in
     let whole = ap length same in
-    paid_for c.fill.new.client c.look_at_room.new.client (take filled.0 room) filled.0 c.in_ok-stand-2.stand filled.1 (omega (arith, len, whole, c.fill.ensures.room, c.in-Ok.ensures.fits))
-    c.in-Ok.ensures.pays c.in_ok-stand-2.ensures.advances may c.look_at_room.ensures.asks
+    paid_for c.fill.new.client c.look_at_room.new.client (take filled.0 room) filled.0 c.in_ok-halt-2.halt filled.1 (omega (arith, len, whole, c.fill.ensures.room, c.in-Ok.ensures.fits))
+    c.in-Ok.ensures.pays c.in_ok-halt-2.ensures.advances may c.look_at_room.ensures.asks

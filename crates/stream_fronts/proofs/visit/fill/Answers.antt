@@ -2,7 +2,7 @@ use Rattle.std.proofs.Common.{rules, ◌≤◌, length, drop, subst, arith}
 use Rattle.std.specs.Prelude.{Ok}
 use Rattle.stream_io.specs.Calls.{FitsRoom}
 use Rattle.stream_fronts.specs.Open.{OnLogs}
-use Rattle.stream_fronts.specs.Traffic.{OnHeld, Reads, ReadsTo, why, bytes_in}
+use Rattle.stream_fronts.specs.Traffic.{OnHeld, Reads, ReadsTo, why, bytes_read}
 use Rattle.stream_fronts.proofs.Traffic.{on_one}
 use Rattle.stream_fronts.proofs.Filling.{filled_kept, filled_read}
 use Rattle.stream_fronts.proofs.visit.fill.Goals as goal
@@ -24,4 +24,4 @@ returns-in-Bytes-clause-reads g c =
           few) x.0,
       tt,
     ))
-    (subst (λ i. OnLogs (OnHeld c.args.number (ReadsTo why (bytes_in c.receive.new.out (Ok i)) (Ok i))) (log c.args.connections.now) (log c.receive.new.connections)) c.in-Bytes.is c.in_ok-input.ensures.reads)
+    (subst (λ i. OnLogs (OnHeld c.args.number (ReadsTo why (bytes_read c.receive.new.out (Ok i)) (Ok i))) (log c.args.connections.now) (log c.receive.new.connections)) c.in-Bytes.is c.in_ok-input.ensures.reads)

@@ -2,7 +2,7 @@ use Rattle.std.proofs.Common.{◌-◌, ◌++◌, length, take, drop, [], arith}
 use Rattle.std.proofs.lemmas.List.{take_rest}
 use Rattle.std.proofs.lemmas.Result.{IfOk-weaker}
 use Rattle.memcached_text.specs.declared.limits.TheConstants.{MAX_WAITING_LEN}
-use Rattle.stream_fronts.specs.Reached.{GoesOnTo, SpokeBehind, StandsAs, place_of}
+use Rattle.stream_fronts.specs.Reached.{GoesOnTo, SpokeBehind, HaltsAs, position_of}
 use Rattle.stream_fronts.proofs.Going.{these_none}
 use Rattle.stream_fronts.proofs.Advancing.{looks_behind}
 use Rattle.stream_fronts.proofs.Looking.{looks_at, looks_at_none, lacks_at, if_match}
@@ -36,10 +36,10 @@ returns-clause-talk g c =
       (
         r.2.0,
         if_match _
-            (λ stand. GoesOnTo options base (place_of client) r.0 [] c.look_at.new.replies.items
-            (λ received given due. StandsAs options base MAX_WAITING_LEN stand (place_of c.look_at.new.client) (received ++ more) given due)) _
-            (λ _. SpokeBehind options base MAX_WAITING_LEN (place_of client) more r.0) c.look_at.result
-            (λ stand goes. looks_at options base client bytes more c.requires.first c.requires.kept c.look_at.new.client stand r.0 c.look_at.new.replies.items
+            (λ halt. GoesOnTo options base (position_of client) r.0 [] c.look_at.new.replies.items
+            (λ received given due. HaltsAs options base MAX_WAITING_LEN halt (position_of c.look_at.new.client) (received ++ more) given due)) _
+            (λ _. SpokeBehind options base MAX_WAITING_LEN (position_of client) more r.0) c.look_at.result
+            (λ halt goes. looks_at options base client bytes more c.requires.first c.requires.kept c.look_at.new.client halt r.0 c.look_at.new.replies.items
             (take (length bytes - client.dropping) (drop client.dropping bytes)) c.if-client-bytes.false c.requires.short (take_rest bytes client.dropping) goes)
             (λ e spoke. lacks_at options base client bytes more c.requires.first c.requires.kept r.0 (take (length bytes - client.dropping) (drop client.dropping bytes)) c.if-client-bytes.false
             c.requires.short (take_rest bytes client.dropping) spoke) r.2.1,
@@ -51,4 +51,4 @@ returns-clause-advances g c =
     let client = c.args.client.now in
     let bytes = c.args.bytes.now in
     IfOk-weaker c.look_at.result _ _
-    (λ stand a. looks_behind client bytes (drop (length client.kept) bytes) _ c.requires.kept (take_rest bytes client.dropping) c.requires.client.dropped a) c.look_at.ensures.advances
+    (λ halt a. looks_behind client bytes (drop (length client.kept) bytes) _ c.requires.kept (take_rest bytes client.dropping) c.requires.client.dropped a) c.look_at.ensures.advances

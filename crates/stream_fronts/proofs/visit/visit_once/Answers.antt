@@ -68,7 +68,7 @@ returns-in-Ok-false-clause-talks g c =
       [],
       these_none options g.F.Front.is_alone (g.F.Front.sessions c.args.front.now) (g.F.Front.left c.args.front.now) (g.K.Clock.view c.args.clock.now),
       on_one c.args.number (SendsFrom client.unsent now.unsent (Ok c.in-Ok-false.field-0)) (Visits options base 1 client [] now Waits) (log c.args.connections.now)
-          (log c.send_unsent.new.connections) (λ d a b sends. visit_waits options base d c.requires.client now c.in-Ok-false.ensures.place c.in-Ok-false.ensures.leaving c.in-Ok-false.field-0 sends
+          (log c.send_unsent.new.connections) (λ d a b sends. visit_waits options base d c.requires.client now c.in-Ok-false.ensures.position c.in-Ok-false.ensures.leaving c.in-Ok-false.field-0 sends
           (c.in-Ok-false.ensures.some c.in-Ok-false.field-0-test)) c.in-Ok-false.ensures.sends,
     )
 
@@ -96,7 +96,7 @@ returns-then-client-clause-talks g c =
       [],
       these_none options g.F.Front.is_alone (g.F.Front.sessions c.args.front.now) (g.F.Front.left c.args.front.now) (g.K.Clock.view c.args.clock.now),
       on_one c.args.number (SendsFrom client.unsent now.unsent (Ok c.in-Ok-true.field-0)) (Visits options base 1 client [] now Over) (log c.args.connections.now)
-          (log c.send_unsent.new.connections) (λ d a b sends. visit_leaves options base d c.requires.client now c.in-Ok-true.ensures.place c.in-Ok-true.ensures.leaving c.in-Ok-true.field-0 sends
+          (log c.send_unsent.new.connections) (λ d a b sends. visit_leaves options base d c.requires.client now c.in-Ok-true.ensures.position c.in-Ok-true.ensures.leaving c.in-Ok-true.field-0 sends
           c.in-Ok-true.ensures.client c.if-client.true none) c.in-Ok-true.ensures.sends,
     )
 
@@ -116,7 +116,7 @@ returns-in_err-answered-clause-talks g c =
       match_err _ _ c.from_residual.result is.0 is.1 (on_two c.args.number (SendsFrom client.unsent now.unsent (Ok c.in-Ok-true.field-0)) (Lacks options base now r.0)
           (VisitLacks options base 1 client r.0) (log c.args.connections.now) (log c.send_unsent.new.connections) (log c.answer_more.new.connections)
           (λ d x y is one. from_held client.unsent now.unsent d x y (Ok c.in-Ok-true.field-0) one c.args.number d is)
-          (λ d x y z one two. visit_lacks options base d c.requires.client now c.in-Ok-true.ensures.place c.in-Ok-true.ensures.leaving c.in-Ok-true.field-0 one c.in-Ok-true.ensures.client
+          (λ d x y z one two. visit_lacks options base d c.requires.client now c.in-Ok-true.ensures.position c.in-Ok-true.ensures.leaving c.in-Ok-true.field-0 one c.in-Ok-true.ensures.client
           c.if-client.false none c.answer_more.new.client replies two) c.in-Ok-true.ensures.sends r.2),
     )
 
@@ -142,7 +142,7 @@ returns-in_err-send_new-clause-talks g c =
           (log c.send_unsent.new.connections) (log c.answer_more.new.connections) (log c.send_new.new.connections)
           (λ d x y is one. from_held client.unsent now.unsent d x y (Ok c.in-Ok-true.field-0) one c.args.number d is)
           (λ d x y is two. looks_held options base now r.0 replies then (Ok c.in-Ok.answered) d x y two c.args.number d is)
-          (λ d w x y z one two three. visit_keeps_none options base d c.requires.client now c.in-Ok-true.ensures.place c.in-Ok-true.ensures.leaving c.in-Ok-true.field-0 one c.in-Ok-true.ensures.client
+          (λ d w x y z one two three. visit_keeps_none options base d c.requires.client now c.in-Ok-true.ensures.position c.in-Ok-true.ensures.leaving c.in-Ok-true.field-0 one c.in-Ok-true.ensures.client
           c.if-client.false none then replies c.in-Ok.answered two c.in_ok-answered.ensures.client c.send_new.new.client three.0 three.1) c.in-Ok-true.ensures.sends looks sends),
     )
 
@@ -164,7 +164,7 @@ returns-in-Err-answered-clause-talks g c =
       on_two c.args.number (SendsFrom client.unsent now.unsent (Ok c.in-Ok-true.field-0)) (Looks options base now r.0 replies then (Err broken))
           (Visits options base 1 client r.0 then Over) (log c.args.connections.now) (log c.send_unsent.new.connections) (log c.answer_more.new.connections)
           (λ d x y is one. from_held client.unsent now.unsent d x y (Ok c.in-Ok-true.field-0) one c.args.number d is)
-          (λ d x y z one two. visit_unread options base d c.requires.client now c.in-Ok-true.ensures.place c.in-Ok-true.ensures.leaving c.in-Ok-true.field-0 one c.in-Ok-true.ensures.client
+          (λ d x y z one two. visit_unread options base d c.requires.client now c.in-Ok-true.ensures.position c.in-Ok-true.ensures.leaving c.in-Ok-true.field-0 one c.in-Ok-true.ensures.client
           c.if-client.false none then replies broken two) c.in-Ok-true.ensures.sends looks,
     )
 
@@ -191,7 +191,7 @@ returns-in-Err-2-clause-talks g c =
           (log c.answer_more.new.connections) (log c.send_new.new.connections)
           (λ d x y is one. from_held client.unsent now.unsent d x y (Ok c.in-Ok-true.field-0) one c.args.number d is)
           (λ d x y is two. looks_held options base now r.0 replies then (Ok c.in-Ok.answered) d x y two c.args.number d is)
-          (λ d w x y z one two three. visit_unsent options base d c.requires.client now c.in-Ok-true.ensures.place c.in-Ok-true.ensures.leaving c.in-Ok-true.field-0 one c.in-Ok-true.ensures.client
+          (λ d w x y z one two three. visit_unsent options base d c.requires.client now c.in-Ok-true.ensures.position c.in-Ok-true.ensures.leaving c.in-Ok-true.field-0 one c.in-Ok-true.ensures.client
           c.if-client.false none then replies c.in-Ok.answered two c.in_ok-answered.ensures.client last c.in-Err-2.field-0 three) c.in-Ok-true.ensures.sends looks sends,
     )
 
@@ -219,8 +219,8 @@ returns-in-Ok-false-2-clause-talks g c =
           (log c.answer_more.new.connections) (log c.send_new.new.connections)
           (λ d x y is one. from_held client.unsent now.unsent d x y (Ok c.in-Ok-true.field-0) one c.args.number d is)
           (λ d x y is two. looks_held options base now r.0 replies then (Ok c.in-Ok.answered) d x y two c.args.number d is)
-          (λ d w x y z one two three. visit_shut options base d c.requires.client now c.in-Ok-true.ensures.place c.in-Ok-true.ensures.leaving c.in-Ok-true.field-0 one c.in-Ok-true.ensures.client
-          c.if-client.false none then replies c.in-Ok.answered two c.in_ok-answered.ensures.client last c.in_ok-send_new.ensures.place (c.in_ok-send_new.ensures.leaving ∙ c.leaves_by-client.ensures) c.in-Ok-false-2.field-0 three some) c.in-Ok-true.ensures.sends looks sends,
+          (λ d w x y z one two three. visit_shut options base d c.requires.client now c.in-Ok-true.ensures.position c.in-Ok-true.ensures.leaving c.in-Ok-true.field-0 one c.in-Ok-true.ensures.client
+          c.if-client.false none then replies c.in-Ok.answered two c.in_ok-answered.ensures.client last c.in_ok-send_new.ensures.position (c.in_ok-send_new.ensures.leaving ∙ c.leaves_by-client.ensures) c.in-Ok-false-2.field-0 three some) c.in-Ok-true.ensures.sends looks sends,
     )
 
 pub returns-in-Ok-true-2-clause-talks : goal.returns-in-Ok-true-2-clause-talks
@@ -247,8 +247,8 @@ returns-in-Ok-true-2-clause-talks g c =
           (log c.answer_more.new.connections) (log c.send_new.new.connections)
           (λ d x y is one. from_held client.unsent now.unsent d x y (Ok c.in-Ok-true.field-0) one c.args.number d is)
           (λ d x y is two. looks_held options base now r.0 replies then (Ok c.in-Ok.answered) d x y two c.args.number d is)
-          (λ d w x y z one two three. visit_after options base d c.requires.client now c.in-Ok-true.ensures.place c.in-Ok-true.ensures.leaving c.in-Ok-true.field-0 one c.in-Ok-true.ensures.client
-          c.if-client.false none then replies c.in-Ok.answered two c.in_ok-answered.ensures.client last c.in_ok-send_new.ensures.place (c.in_ok-send_new.ensures.leaving ∙ c.leaves_by-client.ensures) c.in-Ok-true-2.field-0 three c.after_all.result
+          (λ d w x y z one two three. visit_after options base d c.requires.client now c.in-Ok-true.ensures.position c.in-Ok-true.ensures.leaving c.in-Ok-true.field-0 one c.in-Ok-true.ensures.client
+          c.if-client.false none then replies c.in-Ok.answered two c.in_ok-answered.ensures.client last c.in_ok-send_new.ensures.position (c.in_ok-send_new.ensures.leaving ∙ c.leaves_by-client.ensures) c.in-Ok-true-2.field-0 three c.after_all.result
           c.after_all.ensures.over c.after_all.ensures.«open» c.after_all.ensures.waits c.in_ok-send_new.ensures.client all_sent) c.in-Ok-true.ensures.sends looks sends,
     )
 
@@ -258,5 +258,5 @@ returns-in-Ok-true-2-clause-again g c = λ may again.
     let more = IfOk-at_ok _ c.in-Ok.is (c.in_ok-answered.ensures.again may) in
     elim more as (λ _. IsPaid 1 last) [
       | inl rests ↦ absurd (c.after_all.ensures.again (c.in_ok-send_new.ensures.leaving ∙ c.leaves_by-client.ensures) rests again)
-      | inr paid ↦ let same = ap unanswered c.in_ok-send_new.ensures.place in omega (arith, paid, same, c.send_new.ensures.asks)
+      | inr paid ↦ let same = ap unanswered c.in_ok-send_new.ensures.position in omega (arith, paid, same, c.send_new.ensures.asks)
     ]
