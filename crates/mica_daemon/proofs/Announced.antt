@@ -5,7 +5,7 @@ use Rattle.mica_clock.specs.Seconds.{ClockView}
 use Rattle.partition_model.specs.declared.options.Options.{Options}
 use Rattle.partition_model.specs.declared.write.Write.{Write}
 use Rattle.mica_fronts.specs.declared.totals.Totals.{Totals}
-use Rattle.mica_fronts.specs.declared.totals.ServeFault.TheVariants.{Net, NoMemory as NoRoom}
+use Rattle.mica_fronts.specs.declared.totals.ServeFault.TheVariants as faults
 use Rattle.mica_fronts.specs.declared.ports.PortOptions.{PortOptions}
 use Rattle.locked_serve.specs.declared.service.Service.{Service as LockedService}
 use Rattle.locked_serve.specs.declared.stop.Stop.{Stop}
@@ -33,8 +33,8 @@ module _ {A : Type 0} (line_of : A → List ℕ) (sink_of : A → SinkFacts) (li
   announced_by (Err Refused) before after is = ap sink_of is
   announced_by (Err Unannounced) before after is = subst (λ l. FailsToSay l (sink_of old) (sink_of new)) same is
   announced_by (Err (Unbound port)) before after is = (is.0, ap sink_of is.1)
-  announced_by (Err (Fault Net)) before after is = (is.0, said is.1)
-  announced_by (Err (Fault NoRoom)) before after is =
+  announced_by (Err (Fault faults.Net)) before after is = (is.0, said is.1)
+  announced_by (Err (Fault faults.NoMemory)) before after is =
       elim is as (λ _. (sink_of new ≡ sink_of old) ⊎ Says line (sink_of old) (sink_of new)) [
         | inl kept ↦ inl (ap sink_of kept)
         | inr told ↦ inr (said told)

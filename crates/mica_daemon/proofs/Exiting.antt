@@ -4,7 +4,7 @@ use Rattle.std.specs.Prelude.{option_map}
 use Rattle.std.proofs.KnownBytes.{Keeps-refl}
 use Rattle.mica_clock.specs.Seconds.{ClockView}
 use Rattle.mica_fronts.specs.declared.totals.Totals.{Totals}
-use Rattle.mica_fronts.specs.declared.totals.ServeFault.TheVariants.{Net, NoMemory as NoRoom}
+use Rattle.mica_fronts.specs.declared.totals.ServeFault.TheVariants as faults
 use Rattle.locked_serve.specs.declared.stop.Stop.{Stop}
 use Rattle.locked_serve.specs.declared.stop.Stop.TheVariants.{Refused, Unbound, Unannounced, Fault}
 use Rattle.mica_commands.specs.Words.{Text}
@@ -54,8 +54,8 @@ told_not_done due text old new status other told done = elim told as (λ _. ⊥)
 last_not_done : (answer : Result Totals Stop) (old new : SinkFacts) (status : Status) → WritesLast answer old new status → status ≢ Done
 last_not_done (Ok totals) old new status is = told_not_done UsedUp _ old new status (λ (no : UsedUp ≡ Done). cc) is
 last_not_done (Err (Unbound port)) old new status is = told_not_done NetFault _ old new status (λ (no : NetFault ≡ Done). cc) is
-last_not_done (Err (Fault Net)) old new status is = written_not_done NetFault _ old new status (λ (no : NetFault ≡ Done). cc) is
-last_not_done (Err (Fault NoRoom)) old new status is = λ done. let no : NoMemory ≡ Done = sym is.0 ∙ done in cc
+last_not_done (Err (Fault faults.Net)) old new status is = written_not_done NetFault _ old new status (λ (no : NetFault ≡ Done). cc) is
+last_not_done (Err (Fault faults.NoMemory)) old new status is = λ done. let no : NoMemory ≡ Done = sym is.0 ∙ done in cc
 last_not_done (Err Refused) old new status is = written_not_done ImageRefused _ old new status (λ (no : ImageRefused ≡ Done). cc) is
 last_not_done (Err Unannounced) old new status is = λ done. let no : WriteFault ≡ Done = sym is.0 ∙ done in cc
 

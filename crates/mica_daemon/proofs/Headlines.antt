@@ -17,7 +17,7 @@ use Rattle.partition_model.specs.declared.write.Write.{Write}
 use Rattle.mica_fronts.specs.Answered.{Answered}
 use Rattle.mica_fronts.specs.declared.totals.Totals.{Totals}
 use Rattle.mica_fronts.specs.declared.totals.ServeFault.{ServeFault}
-use Rattle.mica_fronts.specs.declared.totals.ServeFault.TheVariants.{Net, NoMemory as NoRoom}
+use Rattle.mica_fronts.specs.declared.totals.ServeFault.TheVariants as faults
 use Rattle.stream_fronts.specs.declared.ports.StreamPorts.{StreamPorts}
 use Rattle.stream_fronts.specs.declared.desk.TheConstants.{MOST_UNSENT}
 use Rattle.stream_fronts.specs.Open.{OnLogs}
@@ -220,10 +220,10 @@ module _ (service : Service) (base : ℕ) (clocks : List ClockView) (files after
       })
 
   to_a_fault : (writes : List Write) → Fills files service.image writes
-      → HasCause (Err (Fault Net)) locked (origin_of service.options writes) taken new.tables new.lacked before.ports new.ports
+      → HasCause (Err (Fault faults.Net)) locked (origin_of service.options writes) taken new.tables new.lacked before.ports new.ports
       → Appends old.sink.taken new.sink.taken (ready_text service.ports service.streams.ports ++ with_line_feed (codes "net fault")) → Promised NetFault
   to_a_fault writes filled c printed =
-      let said : Came writes (Err (Fault Net)) c (Some (Err Net)) = subst (Came writes (Err (Fault Net)) c) c.came_is c.said in
+      let said : Came writes (Err (Fault faults.Net)) c (Some (Err faults.Net)) = subst (Came writes (Err (Fault faults.Net)) c) c.came_is c.said in
       inr (on_ports_then old.ports.net.ports new.ports.net.ports said.1.stopped (λ x y s. record {
         answers = c.answers;
         dealings = s.fronts;
@@ -247,10 +247,10 @@ module _ (service : Service) (base : ℕ) (clocks : List ClockView) (files after
         lacks = leaves.announced.0;
         printed = subst (λ (s : SinkFacts). Appends s.taken new.sink.taken (unbound_text port)) leaves.announced.1 is.1;
       }))
-  by_answer writes filled status final said (Err (Fault Net)) cause leaves last =
+  by_answer writes filled status final said (Err (Fault faults.Net)) cause leaves last =
       let is = written NetFault status (with_line_feed (codes "net fault")) said new.sink final last in
       subst Promised (sym is.0) (to_a_fault writes filled cause (Appends-trans old.sink.taken said.taken new.sink.taken _ _ leaves.announced.1 is.1))
-  by_answer writes filled status final said (Err (Fault NoRoom)) cause leaves last = absurd (subst IsToTheLast last.0 final)
+  by_answer writes filled status final said (Err (Fault faults.NoMemory)) cause leaves last = absurd (subst IsToTheLast last.0 final)
   by_answer writes filled status final said (Err Unannounced) cause leaves last = absurd (subst IsToTheLast last.0 final)
   by_answer writes filled status final said (Err Refused) cause leaves last =
       absurd (subst IsToTheLast (written ImageRefused status (with_line_feed (codes "pair refused")) said new.sink final last).0 final)
