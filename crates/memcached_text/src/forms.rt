@@ -1,5 +1,5 @@
 //! Which line each command has.
-ghost use Rattle.std.specs.Prelude.{◌≡◌};
+ghost use Rattle.std.specs.Prelude.{◌≡◌, ◌∷◌};
 ghost use Rattle.memcached_text.specs.Forms.{other_forms, forms, line_by, ends_as_http, line_of};
 
 use crate::key_line::{count_line, delete_line, get_line, get_touch_line, touch_line};
