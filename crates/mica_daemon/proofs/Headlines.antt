@@ -1,6 +1,6 @@
 -- What a server that stays up has done, by its contract.
-use Rattle.std.proofs.Common.{◌≡◌, ℕ, ◌+◌, ◌<◌, ◌≤◌, ◌⊎◌, inl, inr, List, ◌++◌, length, map, take, Option, Some, None, slice_get, refl, sym, ap, ◌∙◌, subst, arith}
-use Rattle.std.specs.Prelude.{⊤, Result, Ok, Err, IfSome, option_map, min, sum, codes}
+use Rattle.std.proofs.Common.{◌≡◌, ℕ, ◌+◌, ◌<◌, ◌≤◌, ◌⊎◌, inl, inr, List, ◌++◌, length, take, Option, Some, None, slice_get, sym, ap, ◌∙◌, subst, arith}
+use Rattle.std.specs.Prelude.{⊤, Result, Ok, Err, IfSome, option_map, sum, codes}
 use Rattle.std.specs.Io.KnownBytes.{Appends}
 use Rattle.std.proofs.KnownBytes.{Appends-trans}
 use Rattle.std.proofs.lemmas.Bool.{cases_lt}
@@ -27,7 +27,7 @@ use Rattle.locked_serve.specs.declared.service.Service.{Service as LockedService
 use Rattle.locked_serve.specs.declared.stop.Stop.{Stop}
 use Rattle.locked_serve.specs.declared.stop.Stop.TheVariants.{Refused, Unbound, Unannounced, Fault}
 use Rattle.locked_serve.specs.Filled.{origin_of}
-use Rattle.locked_serve.specs.Streams.{StreamFacts, ListenFacts, ServesClients, HasFinished, ServesFrom, AreStreams, HaveFinished, counted_by_all, others_of, with_ports}
+use Rattle.locked_serve.specs.Streams.{StreamFacts, ListenFacts, ServesClients, ServesFrom, AreStreams, HaveFinished, counted_by_all, others_of, with_ports}
 use Rattle.locked_serve.specs.Causes.{HasCause, IsCauseOfStop, Leaves}
 use Rattle.mica_commands.specs.Words.{Text}
 use Rattle.mica_commands.specs.DaemonWords.{Service}

@@ -1,6 +1,6 @@
 -- The headline of a server: what one has done that ended with the status UsedUp, as nothing more was to come; and what one that a fault of the net stopped. `laws.rt`
 -- says that each one has.
-use Rattle.std.specs.Prelude.{◌≡◌, ◌⊎◌, ◌+◌, ◌-◌, ◌≤◌, ◌++◌, ℕ, List, [], codes, length, map, min, slice_get, Option, Some, IfSome}
+use Rattle.std.specs.Prelude.{◌≡◌, ◌⊎◌, ◌+◌, ◌-◌, ◌≤◌, ◌++◌, ℕ, List, [], codes, length, map, min, slice_get, Some, IfSome}
 use Rattle.std.specs.Io.KnownBytes.{Appends}
 use Rattle.mica_io.specs.Faults.{LAST_COUNT}
 use Rattle.mica_io.specs.PortStates.{PortStates}
