@@ -42,7 +42,7 @@ mod unsent;
 mod visit;
 mod visits;
 
-pub use answer::{Answered, LIMITS, MOST_COMMANDS, Halt, answer_bytes, most_writes};
+pub use answer::{Halt, HowFar, LIMITS, MOST_COMMANDS, answer_bytes, most_writes};
 pub use calls::{ask_again, close, receive, send};
 pub use client::Client;
 pub use clients::Clients;
