@@ -1,12 +1,14 @@
 -- Ports of connections that were listened at one after another.
-use Rattle.std.proofs.Common.{◌≡◌, ◌≢◌, ℕ, ◌+◌, ◌<◌, ◌≤◌, inl, inr, List, [], ◌∷◌, ◌++◌, length, Option, Some, None, cond, refl, sym, ap, ◌∙◌, subst, arith}
+use Rattle.std.proofs.Common.{◌≡◌, ◌≢◌, ℕ, suc, ◌+◌, ◌<◌, ◌≤◌, inl, inr, List, [], ◌∷◌, ◌++◌, length, Option, Some, None, cond, refl, sym, ap, ◌∙◌, subst, arith}
 use Rattle.std.specs.Prelude.{IfSome, option_map}
 use Rattle.std.proofs.lemmas.Bool.{ne_eqb}
 use Rattle.stream_io.specs.Log.{Log}
-use Rattle.stream_io.specs.PortLogs.{PortLogs, without_port}
+use Rattle.stream_io.specs.declared.listeners.Heard.{Heard}
+use Rattle.stream_io.specs.declared.listeners.Place.{Place}
+use Rattle.stream_io.specs.PortLogs.{PortLogs, heard_at, without_port}
 use Rattle.mica_serve.proofs.Binding.{at_snoc}
 use Rattle.stream_fronts.specs.declared.ports.StreamPorts.{StreamPorts}
-use Rattle.locked_serve.specs.Streams.{StreamFacts, ListenFacts, IsNewStream, AreNewStreams, LeavesOthers, KeepsListeners}
+use Rattle.locked_serve.specs.Streams.{StreamFacts, ListenFacts, IsNewStream, AreNewStreams, LeavesOthers, KeepsListeners, with_heard}
 
 -- what waited at the next port waits there still
 pub waits_still : (first k : ℕ) (before now : Option PortLogs) (log : Option Log) → LeavesOthers first k before now → IfSome now (λ all. all (first + k) ≡ log)
@@ -42,10 +44,22 @@ streams_more waited first all one are new k stream at =
       | inr h ↦ subst (λ (y : ℕ × StreamFacts). IsNewStream waited (first + y.0) y.1) (λ i. (sym h.0 i, h.1 i)) new
     ]
 
+-- one port more is told of, where it was listened at behind the others
+pub heard_more : {place told : Place} (first k : ℕ) {port : ℕ} (before : List Heard) {now new : List Heard} → now ≡ with_heard place first k before → told ≡ place → port ≡ first + k
+    → new ≡ now ++ heard_at told port ∷ [] → new ≡ with_heard place first (k + 1) before
+heard_more {place} first k before is here at more =
+    more ∙ (λ i. is i ++ heard_at (here i) (at i) ∷ []) ∙ ap (λ n. with_heard place first n before) (let next : suc k ≡ k + 1 = omega arith in next)
+
 -- nothing was listened at
-pub kept_unheard : (streams : StreamPorts) (all : ListenFacts) → KeepsListeners streams all all
-kept_unheard streams all =
-    record { never_fall = omega arith; others = leaves_few streams.port 0 streams.fronts all.ports all.ports (omega arith) (leaves_none streams.port all.ports); place = refl; unneeded = λ none. refl }
+pub kept_unheard : (streams : StreamPorts) (all : ListenFacts) → KeepsListeners 0 streams all all
+kept_unheard streams all = record {
+  few = omega arith;
+  heard = refl;
+  never_fall = omega arith;
+  others = leaves_few streams.port 0 streams.fronts all.ports all.ports (omega arith) (leaves_none streams.port all.ports);
+  place = refl;
+  unneeded = λ none. refl;
+}
 
 -- the ports are new, whatever waited at them
 pub new_untold : (waited : Option PortLogs) (first : ℕ) (all : List StreamFacts) → AreNewStreams waited first all → AreNewStreams None first all

@@ -1,5 +1,5 @@
 -- Ports that were let go, one after another.
-use Rattle.std.proofs.Common.{◌≡◌, ◌≤◌, List, [], ◌∷◌, ◌++◌, length, Option, None, Some, refl, sym, ap, ◌∙◌, subst, arith}
+use Rattle.std.proofs.Common.{◌≡◌, ◌≤◌, ℕ, List, [], ◌∷◌, ◌++◌, length, Option, None, Some, refl, sym, ap, ◌∙◌, subst, arith}
 use Rattle.std.specs.Prelude.{option_map}
 use Rattle.stream_io.specs.PortLogs.{PortLogs, with_port}
 use Rattle.stream_fronts.specs.declared.ports.StreamPorts.{StreamPorts}
@@ -20,13 +20,15 @@ one_released streams stream (Some all) = ap Some (with_one streams stream all)
 
 -- where there are none, nothing became of what listens
 none_left : (streams : List StreamFacts) (before after : ListenFacts) → length streams ≤ 0 → ReleasesStreams streams before after → after ≡ before
-none_left [] before after none gone = λ i. record { faults = gone.faults i; ports = gone.ports i; released = (gone.released ∙ sym (none_released before.released)) i; place = gone.place i }
+none_left [] before after none gone = λ i. record { faults = gone.faults i; ports = gone.ports i; released = (gone.released ∙ sym (none_released before.released)) i; place = gone.place i; heard = gone.heard i }
 none_left (stream ∷ streams) before after none gone = absurd (omega (arith, none))
 
 -- what listened at some ports, and let these go
-pub kept_released : (ports : StreamPorts) (streams : List StreamFacts) (before between after : ListenFacts) → length streams ≤ ports.fronts → KeepsListeners ports before between
-    → ReleasesStreams streams between after → KeepsListeners ports before after
+pub kept_released : {count : ℕ} (ports : StreamPorts) (streams : List StreamFacts) (before between after : ListenFacts) → length streams ≤ ports.fronts → KeepsListeners count ports before between
+    → ReleasesStreams streams between after → KeepsListeners count ports before after
 kept_released ports streams before between after few keeps gone = record {
+  few = keeps.few;
+  heard = gone.heard ∙ keeps.heard;
   never_fall = omega (arith, keeps.never_fall, gone.faults);
   others = subst (LeavesOthers ports.port ports.fronts before.ports) (sym gone.ports) keeps.others;
   place = gone.place ∙ keeps.place;

@@ -113,7 +113,7 @@ pub unopened : {A : Type 0} {says fails : PortOptions → StreamPorts → A → 
     → answer ≡ Err (stop_of fault) → all.net.binds ≡ 0 → Leaves says fails answer service all all a a
 unopened {says = says} {fails = fails} {service = service} {all = all} {a = a} fault is unbound =
     subst (λ (r : Result Totals Stop). Leaves says fails r service all all a a) (sym is)
-    (record { kept = net_kept service.ports all.net unbound; heard = kept_unheard service.streams all.listens; announced = at fault })
+    (record { kept = net_kept service.ports all.net unbound; count = 0; heard = kept_unheard service.streams all.listens; all = tt; announced = at fault })
   where
     at : (f : OpenFault) → HasAnnounced (says service.ports service.streams) (fails service.ports service.streams) (Err (stop_of f)) all all a a
     at open_fault.Refused = refl

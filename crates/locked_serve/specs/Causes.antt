@@ -99,8 +99,10 @@ HasAnnounced says fails (Err Unannounced) before after old new = fails old new
 HasAnnounced says fails (Err (Fault Net)) before after old new = HasPorts before after × says old new
 HasAnnounced says fails (Err (Fault NoMemory)) before after old new = (new ≡ old) ⊎ says old new
 
--- Whatever the answer: what is kept of all ports, and what became of the announcement.
+-- Whatever the answer: what is kept of all ports, at how many was listened, and what became of the announcement. Where the fronts came to totals, it was at all of theirs.
 pub record Leaves {A : Type 0} (says fails : PortOptions → StreamPorts → A → A → Type 0) (answer : Result Totals Stop) (service : Service) (before after : PortFacts) (old new : A) : Type 0 where
   pub kept : KeepsNet service.ports before.net after.net
-  pub heard : KeepsListeners service.streams before.listens after.listens
+  pub count : ℕ
+  pub heard : KeepsListeners count service.streams before.listens after.listens
+  pub all : OnOk answer (count ≡ service.streams.fronts)
   pub announced : HasAnnounced (says service.ports service.streams) (fails service.ports service.streams) answer before after old new

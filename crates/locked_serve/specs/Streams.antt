@@ -1,11 +1,13 @@
 -- The ports of connections, as contracts see them, and what their fronts make of them.
-use Rattle.std.specs.Prelude.{◌≡◌, ◌≢◌, ◌⊎◌, ◌+◌, ◌-◌, ◌<◌, ◌≤◌, ⊤, ℕ, Bool, false, List, [], ◌∷◌, length, min, sum, slice_get, Option, None, Some, IfSome, option_map, Result, OnOk}
+use Rattle.std.specs.Prelude.{◌≡◌, ◌≢◌, ◌⊎◌, ◌+◌, ◌-◌, ◌<◌, ◌≤◌, ⊤, ℕ, zero, suc, Bool, false, List, [], ◌∷◌, ◌++◌, length, min, sum, slice_get, Option, None, Some, IfSome, option_map, Result, OnOk}
 use Rattle.mica_clock.specs.Seconds.{ClockView}
 use Rattle.mica_io.specs.Faults.{Rose, LAST_COUNT}
 use Rattle.stream_io.specs.Log.{Log}
 use Rattle.stream_io.specs.declared.connections.Connections.{Ghosts as StreamTells}
+use Rattle.stream_io.specs.declared.listeners.Heard.{Heard}
 use Rattle.stream_io.specs.declared.listeners.Listeners.{Ghosts as ListenersTell}
-use Rattle.stream_io.specs.PortLogs.{Place, PortLogs, with_port}
+use Rattle.stream_io.specs.declared.listeners.Place.{Place}
+use Rattle.stream_io.specs.PortLogs.{PortLogs, heard_at, with_port}
 use Rattle.partition_model.specs.declared.options.Options.{Options}
 use Rattle.partition_model.specs.History.{History}
 use Rattle.partition_table.specs.declared.tables.KeptSeat.{KeptSeat}
@@ -38,10 +40,12 @@ pub record ListenFacts : Type 0 where
   pub ports : Option PortLogs
   pub released : Option PortLogs
   pub place : Place
+  pub heard : List Heard
 
 -- by what listeners tell
 abbrev pub listen_facts : {L C : Type 0} → ListenersTell L C → L → ListenFacts
-listen_facts listeners = λ l. record { faults = listeners.faults l; ports = listeners.ports l; released = listeners.released l; place = listeners.place l }
+listen_facts listeners =
+    λ l. record { faults = listeners.faults l; ports = listeners.ports l; released = listeners.released l; place = listeners.place l; heard = listeners.heard l }
 
 -- Before any connection came
 
@@ -71,8 +75,15 @@ LeavesOthers first count None after = after ≡ None
 LeavesOthers first count (Some before) None = ⊥
 LeavesOthers first count (Some before) (Some after) = (port : ℕ) → ((k : ℕ) → k < count → port ≢ first + k) → after port ≡ before port
 
--- Whatever the answer: only at the fronts' ports was listened, where there are any, and all at one place.
-pub record KeepsListeners (streams : StreamPorts) (before after : ListenFacts) : Type 0 where
+-- so many ports were listened at here, one after another, behind those before
+abbrev pub with_heard : Place → ℕ → ℕ → List Heard → List Heard
+with_heard place first zero before = before
+with_heard place first (suc count) before = with_heard place first count before ++ heard_at place (first + count) ∷ []
+
+-- Whatever the answer: so many of the fronts' ports were listened at, in order from the first one, all at the place that was told before, and no others.
+pub record KeepsListeners (count : ℕ) (streams : StreamPorts) (before after : ListenFacts) : Type 0 where
+  pub few : count ≤ streams.fronts
+  pub heard : after.heard ≡ with_heard before.place streams.port count before.heard
   pub never_fall : before.faults ≤ after.faults
   pub others : LeavesOthers streams.port streams.fronts before.ports after.ports
   pub place : after.place ≡ before.place
@@ -88,6 +99,7 @@ pub record ReleasesStreams (streams : List StreamFacts) (before after : ListenFa
   pub released : after.released ≡ option_map (with_ports streams) before.released
   pub ports : after.ports ≡ before.ports
   pub place : after.place ≡ before.place
+  pub heard : after.heard ≡ before.heard
   pub faults : after.faults ≡ before.faults
 
 -- Served

@@ -20,7 +20,7 @@ pub(crate) fn listen_all<L: Listeners>(
     ensures new { AreNewStreams (L.ports listeners.old) streams.now.port (map (stream_facts L.Port.Connections) connections.new.items) }
     ensures all { OnOk result (vec_len connections.new ≡ streams.now.fronts) }
     ensures few { vec_len connections.new ≤ streams.now.fronts }
-    ensures kept { KeepsListeners streams.now (listen_facts L.Listeners listeners.old) (listen_facts L.Listeners listeners.new) }
+    ensures kept { KeepsListeners (vec_len connections.new) streams.now (listen_facts L.Listeners listeners.old) (listen_facts L.Listeners listeners.new) }
     ensures unreleased { L.released listeners.new ≡ L.released listeners.old }
     ensures steady { OnOk result (L.faults listeners.new ≡ L.faults listeners.old) }
     ensures cause { OnErr result (Rose (L.faults listeners.old) (L.faults listeners.new)) }

@@ -1,5 +1,5 @@
 //! The server over partitions under locks: filled, bound, served and taken back.
-ghost use Rattle.std.specs.Prelude.{◌≡◌, ◌<◌, ◌≤◌, ℕ, [], All, length, map, vec_capacity};
+ghost use Rattle.std.specs.Prelude.{◌≡◌, ◌<◌, ◌≤◌, ℕ, [], All, length, map, vec_len, vec_capacity};
 ghost use Rattle.partition_model.specs.History.{IsHistory};
 ghost use Rattle.partition_model.specs.Write.{IsWrite};
 ghost use Rattle.partition_table.specs.Seats.{note_state, note_home};
@@ -79,7 +79,7 @@ fn bind_and_serve<
         (λ news. news ≡ map (stream_facts L.Port.Connections) connections.new.items) result shared.now.service (map K.view clocks.items) left.new.lacked
         (listen_facts L.Listeners listeners.old) (listen_facts L.Listeners listeners.new) }
     ensures unreleased { L.released listeners.new ≡ L.released listeners.old }
-    ensures heard { KeepsListeners shared.now.service.streams (listen_facts L.Listeners listeners.old) (listen_facts L.Listeners listeners.new) }
+    ensures heard { KeepsListeners (vec_len connections.new) shared.now.service.streams (listen_facts L.Listeners listeners.old) (listen_facts L.Listeners listeners.new) }
     ensures announced { HasAnnounced (A.says shared.now.service.ports shared.now.service.streams) (A.fails shared.now.service.ports shared.now.service.streams) result
         (ports_at N.Net L.Listeners net.old listeners.old) (ports_at N.Net L.Listeners net.new listeners.new) announce.old announce.new }
 {

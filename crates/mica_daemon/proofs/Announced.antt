@@ -47,7 +47,9 @@ pub leaves_by : {A : Type 0} (line_of : A → List ℕ) (sink_of : A → SinkFac
     → Leaves (λ ports streams. Says (ready_text ports streams)) (λ ports streams. FailsToSay (ready_text ports streams)) answer service before after (sink_of old) (sink_of new)
 leaves_by line_of sink_of {answer} {service} {before} {after} {old} {new} same it = record {
   kept = it.kept;
+  count = it.count;
   heard = it.heard;
+  all = it.all;
   announced = announced_by line_of sink_of (ready_text service.ports service.streams) old new same answer before after it.announced;
 }
 

@@ -4,7 +4,8 @@ use Rattle.std.specs.Fmt.{decimal}
 use Rattle.std.specs.Io.KnownBytes.{Appends}
 use Rattle.mica_clock.specs.Seconds.{ClockView}
 use Rattle.mica_io.specs.Faults.{Rose}
-use Rattle.stream_io.specs.PortLogs.{Place, place_at}
+use Rattle.stream_io.specs.declared.listeners.Place.{Place}
+use Rattle.stream_io.specs.PortLogs.{place_at}
 use Rattle.partition_model.specs.declared.options.Options.{Options}
 use Rattle.partition_model.specs.declared.write.Write.{Write}
 use Rattle.partition_sizes.specs.Bytes.{start_bytes}

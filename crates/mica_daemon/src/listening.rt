@@ -10,6 +10,7 @@ pub trait PlacedListeners: Listeners {
     /// From now on it listens there.
     fn set_place(&mut self, address: Ipv4Addr, most: u32)
         ensures place { Self.place self.new ≡ place_at address most }
+        ensures heard { Self.heard self.new ≡ Self.heard self.old }
         ensures released { Self.released self.new ≡ Self.released self.old }
         ensures ports { Self.ports self.new ≡ Self.ports self.old }
         ensures faults { Self.faults self.new ≡ Self.faults self.old };

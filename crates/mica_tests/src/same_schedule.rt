@@ -1,13 +1,12 @@
 //! Ports of connections in memory, at each of which the same schedule happens.
 ghost use Rattle.std.specs.Prelude.{◌≡◌};
-ghost use Rattle.stream_io.specs.PortLogs.{place_at};
 
 use crate::overheard::Overheard;
 use mica_daemon::PlacedListeners;
 use mica_io::Failed;
 use std::alloc::Global;
 use std::net::Ipv4Addr;
-use stream_io::{Listeners, Step};
+use stream_io::{Heard, Listeners, Place, Step};
 
 /// They tell nothing of content.
 #[derive(Drop)]
@@ -16,8 +15,8 @@ pub struct SameSchedule<'a> {
     schedule: &'a [Step],
     /// The port that can't be listened at, if there is one.
     taken: Option<u16>,
-    address: Ipv4Addr,
-    most: u32,
+    place: Place,
+    listened: Vec<Heard>,
     faults: u64,
     heard: Vec<u8>,
 }
@@ -28,8 +27,11 @@ impl<'a> SameSchedule<'a> {
             alloc,
             schedule,
             taken,
-            address: Ipv4Addr::LOCALHOST,
-            most: 0,
+            place: Place {
+                address: Ipv4Addr::LOCALHOST,
+                most: 0,
+            },
+            listened: Vec::new(alloc),
             faults: 0,
             heard: Vec::new(alloc),
         }
@@ -52,12 +54,17 @@ impl<'a> Listeners for SameSchedule<'a> {
 
     ghost released = { λ _. None };
 
-    ghost place = { λ l. place_at l.address l.most };
+    ghost place = { λ l. l.place };
+
+    ghost heard = { λ l. l.listened.items };
 
     fn listen(&mut self, port: u16) -> Result<Overheard<'a>, Failed> {
         if self.taken != Some(port) {
             if let Ok(connections) = Overheard::new(self.alloc, port, self.schedule) {
-                return Ok(connections);
+                let place = self.place;
+                if self.listened.push(Heard { port, place }).is_ok() {
+                    return Ok(connections);
+                }
             }
         }
         self.faults = self.faults.saturating_add(1);
@@ -71,7 +78,6 @@ impl<'a> Listeners for SameSchedule<'a> {
 
 impl<'a> PlacedListeners for SameSchedule<'a> {
     fn set_place(&mut self, address: Ipv4Addr, most: u32) {
-        self.address = address;
-        self.most = most;
+        self.place = Place { address, most };
     }
 }

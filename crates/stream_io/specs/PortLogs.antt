@@ -1,6 +1,8 @@
 -- What waits at the ports that connections come to, and where these are.
 use Rattle.std.specs.Prelude.{ℕ, ◌==◌, Option, None, if◌then◌else◌}
 use Rattle.std.specs.declared.net.ipv4_addr.Ipv4Addr.{Ipv4Addr}
+use Rattle.stream_io.specs.declared.listeners.Heard.{Heard}
+use Rattle.stream_io.specs.declared.listeners.Place.{Place}
 use Rattle.stream_io.specs.Log.{Log}
 
 -- the log of each port at which nobody listens yet
@@ -15,11 +17,10 @@ without_port port ports = λ n. if n == port then None else ports n
 abbrev pub with_port : ℕ → Option Log → PortLogs → PortLogs
 with_port port log ports = λ n. if n == port then log else ports n
 
--- the address that ports are of, and how many connections each of them has at most at a time
-pub record Place : Type 0 where
-  pub address : Ipv4Addr
-  pub most : ℕ
-
 -- the place of these parts
 abbrev pub place_at : Ipv4Addr → ℕ → Place
 place_at address most = record { address = address; most = most }
+
+-- a port that was listened at, where the listeners were told
+abbrev pub heard_at : Place → ℕ → Heard
+heard_at place port = record { port = port; place = place }

@@ -17,7 +17,7 @@ mod tcp_connections;
 mod tcp_listeners;
 
 pub use connections::{Broken, Connections, Event, Input};
-pub use listeners::Listeners;
+pub use listeners::{Heard, Listeners, Place};
 pub use memory_connections::MemConnections;
 pub use schedule::{Change, Step};
 pub use tcp_connections::TcpConnections;

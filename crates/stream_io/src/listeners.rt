@@ -1,13 +1,31 @@
 //! What listens at ports.
-ghost use Rattle.std.specs.Prelude.{◌≡◌, ◌≤◌, ℕ, false, [], Option, option_map, is_none, is_err, IfOk, IfSome, OnErr};
+ghost use Rattle.std.specs.Prelude.{◌≡◌, ◌≤◌, ◌++◌, ◌∷◌, ℕ, false, List, [], Option, option_map, is_none, is_err, IfOk, IfSome, OnErr};
 ghost use Rattle.mica_io.specs.Faults.{Rose, faults_after};
-ghost use Rattle.stream_io.specs.PortLogs.{Place, PortLogs, with_port, without_port};
+ghost use Rattle.stream_io.specs.PortLogs.{PortLogs, heard_at, with_port, without_port};
 
 use crate::Connections;
 use mica_io::Failed;
+use std::net::Ipv4Addr;
+
+/// Where ports are: their address, and how many connections each of them has at most at a time.
+#[derive(Clone, Copy)]
+pub struct Place {
+    pub address: Ipv4Addr,
+    pub most: u32,
+}
+
+/// A port that was listened at, and where.
+#[derive(Clone, Copy)]
+pub struct Heard {
+    pub port: u16,
+    pub place: Place,
+}
 
 /// Ports, each of which gives the connections that come to it.
 pub trait Listeners {
+    ghost use Rattle.stream_io.specs.declared.listeners.Heard.{Heard};
+    ghost use Rattle.stream_io.specs.declared.listeners.Place.{Place};
+
     type Port: Connections + Send;
 
     /// The count of faults.
@@ -22,6 +40,9 @@ pub trait Listeners {
     /// Where it listens.
     ghost place: { Self → Place };
 
+    /// The ports that were listened at, one after another, and where.
+    ghost heard: { Self → List Heard };
+
     /// Listens at a port. Nothing was reported of it yet.
     fn listen(&mut self, port: u16) -> Result<Self::Port, Failed>
         ensures port { IfOk result (λ c. Self.Port.port c ≡ port) }
@@ -30,7 +51,9 @@ pub trait Listeners {
         ensures fresh { IfOk result (λ c. IfSome (Self.Port.log c) (λ l. l.entries ≡ [])) }
         ensures waited { IfOk result (λ c. IfSome (ports self.old) (λ all. all port ≡ Self.Port.log c)) }
         ensures listens { IfOk result (λ _. ports self.new ≡ option_map (without_port port) (ports self.old)) }
+        ensures heard { IfOk result (λ _. heard self.new ≡ heard self.old ++ heard_at (place self.old) port ∷ []) }
         ensures unmoved { OnErr result (ports self.new ≡ ports self.old) }
+        ensures unheard { OnErr result (heard self.new ≡ heard self.old) }
         ensures same_place { place self.new ≡ place self.old }
         ensures same_released { released self.new ≡ released self.old }
         ensures cause { OnErr result (Rose (faults self.old) (faults self.new)) }
@@ -43,5 +66,6 @@ pub trait Listeners {
         ensures released { released self.new ≡ option_map (with_port (Self.Port.port connections) (Self.Port.log connections)) (released self.old) }
         ensures ports { ports self.new ≡ ports self.old }
         ensures place { place self.new ≡ place self.old }
+        ensures heard { heard self.new ≡ heard self.old }
         ensures faults { faults self.new ≡ faults self.old };
 }

@@ -3,7 +3,7 @@ ghost use Rattle.std.specs.Prelude.{◌≡◌, ◌≤◌, false, None, is_err, I
 ghost use Rattle.mica_io.specs.Faults.{Rose, faults_after};
 ghost use Rattle.stream_io.specs.PortLogs.{place_at};
 
-use crate::{Listeners, TcpConnections};
+use crate::{Heard, Listeners, Place, TcpConnections};
 use mica_io::Failed;
 use std::alloc::Global;
 use std::net::{Ipv4Addr, Net as Sockets};
@@ -14,8 +14,8 @@ use std::sync::atomic::AtomicBool;
 pub struct TcpListeners<'a, R> {
     rt: &'a R,
     alloc: Global,
-    address: Ipv4Addr,
-    most: u32,
+    place: Place,
+    heard: Vec<Heard>,
     has_failed: Option<&'a AtomicBool>,
     faults: u64,
 }
@@ -29,8 +29,8 @@ impl<'a, R: Sockets> TcpListeners<'a, R> {
         TcpListeners {
             rt,
             alloc,
-            address,
-            most,
+            place: Place { address, most },
+            heard: Vec::new(alloc),
             has_failed: None,
             faults: 0,
         }
@@ -51,8 +51,8 @@ impl<'a, R: Sockets> TcpListeners<'a, R> {
         TcpListeners {
             rt,
             alloc,
-            address,
-            most,
+            place: Place { address, most },
+            heard: Vec::new(alloc),
             has_failed: Some(has_failed),
             faults: 0,
         }
@@ -61,10 +61,10 @@ impl<'a, R: Sockets> TcpListeners<'a, R> {
     /// From now on it listens at this address, where a port has at most so many connections at a time.
     pub fn set_place(&mut self, address: Ipv4Addr, most: u32)
         ensures place { ⟦<TcpListeners<'a, R> as Listeners>⟧.place self.new ≡ place_at address most }
+        ensures heard { ⟦<TcpListeners<'a, R> as Listeners>⟧.heard self.new ≡ ⟦<TcpListeners<'a, R> as Listeners>⟧.heard self.old }
         ensures faults { ⟦<TcpListeners<'a, R> as Listeners>⟧.faults self.new ≡ ⟦<TcpListeners<'a, R> as Listeners>⟧.faults self.old }
     {
-        self.address = address;
-        self.most = most;
+        self.place = Place { address, most };
     }
 }
 
@@ -77,24 +77,27 @@ impl<'a, R: Sockets> Listeners for TcpListeners<'a, R> {
 
     ghost released = { λ _. None };
 
-    ghost place = { λ l. place_at l.address l.most };
+    ghost place = { λ l. l.place };
+
+    ghost heard = { λ l. l.heard.items };
 
     fn listen(&mut self, port: u16) -> Result<TcpConnections<'a>, Failed> {
         let opened = TcpConnections::open(
             self.rt,
             self.alloc,
-            self.address,
+            self.place.address,
             port,
-            self.most as usize,
+            self.place.most as usize,
             self.has_failed,
         );
-        match opened {
-            Ok(connections) => Ok(connections),
-            Err(_) => {
-                self.faults = self.faults.saturating_add(1);
-                Err(Failed)
+        if let Ok(connections) = opened {
+            let place = self.place;
+            if self.heard.push(Heard { port, place }).is_ok() {
+                return Ok(connections);
             }
         }
+        self.faults = self.faults.saturating_add(1);
+        Err(Failed)
     }
 
     fn release(&mut self, _connections: TcpConnections<'a>) {}

@@ -1,13 +1,14 @@
-use Rattle.std.proofs.Common.{rules, ◌≡◌, ◌+◌, ◌++◌, ◌∷◌, [], ℕ, length, vec_len, map, refl, sym, ap, ◌∙◌, subst, arith}
+use Rattle.std.proofs.Common.{rules, ◌≡◌, ◌+◌, ◌++◌, ◌∷◌, [], ℕ, List, length, vec_len, map, refl, sym, ap, ◌∙◌, subst, arith}
 use Rattle.std.specs.Prelude.{⊤, IfSome, option_map, Result, OnErr}
 use Rattle.std.proofs.lemmas.Result.{err_from_is_err_and}
 use Rattle.mica_io.specs.declared.fault.Failed.{Failed}
 use Rattle.std.proofs.lemmas.List.{length-map, map-append}
 use Rattle.std.proofs.lemmas.Option.{slice_get_within}
 use Rattle.mica_io.specs.Faults.{Rose}
+use Rattle.stream_io.specs.declared.listeners.Heard.{Heard}
 use Rattle.stream_io.specs.PortLogs.{without_port}
-use Rattle.locked_serve.specs.Streams.{StreamFacts, ListenFacts, AreNewStreams, LeavesOthers, listen_facts, stream_facts}
-use Rattle.locked_serve.proofs.Heard.{waits_still, leaves_none, leaves_more, leaves_few, streams_more}
+use Rattle.locked_serve.specs.Streams.{StreamFacts, ListenFacts, AreNewStreams, LeavesOthers, listen_facts, stream_facts, with_heard}
+use Rattle.locked_serve.proofs.Heard.{waits_still, leaves_none, leaves_more, leaves_few, streams_more, heard_more}
 use Rattle.locked_serve.proofs.listening.listen_all.Given as given
 use Rattle.locked_serve.proofs.listening.listen_all.Goals as goal
 
@@ -16,6 +17,10 @@ facts g = stream_facts g.L.Port.Connections
 
 abbrev listens_at : (g : given.Over) → g.row.L.Denot → ListenFacts
 listens_at g = listen_facts g.L.Listeners
+
+-- so many ports from this one on were listened at
+abbrev heard_by : (g : given.Over) → g.row.L.Denot → ℕ → ℕ → List Heard
+heard_by g l first count = with_heard (g.L.Listeners.place l) first count (g.L.Listeners.heard l)
 
 pub loop-k-init : goal.loop-k-init
 loop-k-init g c =
@@ -28,6 +33,7 @@ loop-k-init g c =
       faults = refl;
       released = refl;
       place = refl;
+      heard = refl;
       untouched = λ none. refl;
     }
 
@@ -64,6 +70,7 @@ loop-k-preserved g c =
       faults = heard.counted ∙ inv.faults;
       released = c.listen.ensures.same_released ∙ inv.released;
       place = c.listen.ensures.same_place ∙ inv.place;
+      heard = heard_more first c.loop-k.k (g.L.Listeners.heard c.args.listeners.now) inv.heard inv.place place heard.heard;
       untouched = λ none. absurd (omega (arith, none));
     }
 
@@ -71,6 +78,8 @@ pub returns-clause-kept : goal.returns-clause-kept
 returns-clause-kept g c =
     let inv = c.loop-k.invariant in
     record {
+      few = omega (arith, inv.len, c.loop-k.auto.k-end);
+      heard = inv.heard ∙ ap (heard_by g c.args.listeners.now c.args.streams.now.port) (sym inv.len);
       never_fall = omega (arith, inv.faults);
       others = leaves_few c.args.streams.now.port c.loop-k.k c.args.streams.now.fronts (g.L.Listeners.ports c.args.listeners.now) (g.L.Listeners.ports c.loop-k.listeners)
           (omega (arith, c.loop-k-test.false, c.loop-k.auto.k-end)) inv.others;
@@ -84,6 +93,8 @@ returns-in_err-port-clause-kept g c =
     let failed = c.in_err-port.ensures in
     let before = g.L.Listeners.ports c.args.listeners.now in
     record {
+      few = omega (arith, inv.len, c.loop-k-test.true);
+      heard = failed.unheard ∙ inv.heard ∙ ap (heard_by g c.args.listeners.now c.args.streams.now.port) (sym inv.len);
       never_fall = omega (arith, inv.faults, c.listen.ensures.never_fall);
       others = subst (LeavesOthers c.args.streams.now.port c.args.streams.now.fronts before) (sym failed.unmoved)
           (leaves_few c.args.streams.now.port c.loop-k.k c.args.streams.now.fronts before (g.L.Listeners.ports c.loop-k.listeners) (omega (arith, c.loop-k-test.true)) inv.others);

@@ -1,5 +1,5 @@
 use Rattle.std.proofs.Common.{◌≡◌, ◌≤◌, map, vec_len, vec_capacity}
-use Rattle.locked_serve.specs.Streams.{AreNewStreams, LeavesOthers, stream_facts}
+use Rattle.locked_serve.specs.Streams.{AreNewStreams, LeavesOthers, stream_facts, with_heard}
 use Rattle.locked_serve.proofs.listening.listen_all.Given as goal
 
 abbrev pub invariant-loop-k : goal.invariant-loop-k
@@ -12,5 +12,6 @@ invariant-loop-k g l = record {
   faults : g.L.Listeners.faults l.listeners ≡ g.L.Listeners.faults l.initial.listeners;
   released : g.L.Listeners.released l.listeners ≡ g.L.Listeners.released l.initial.listeners;
   place : g.L.Listeners.place l.listeners ≡ g.L.Listeners.place l.initial.listeners;
+  heard : g.L.Listeners.heard l.listeners ≡ with_heard (g.L.Listeners.place l.initial.listeners) l.streams.port l.k (g.L.Listeners.heard l.initial.listeners);
   untouched : l.k ≡ 0 → l.listeners ≡ l.initial.listeners;
 }

@@ -11,7 +11,7 @@ abbrev facts : (g : given.Over) → g.row.L-Port.Denot → StreamFacts
 facts g = stream_facts g.L.Port.Connections
 
 pub loop-port-init : goal.loop-port-init
-loop-port-init g c = record { released = none_released (g.L.Listeners.released c.args.listeners.now); ports = refl; place = refl; faults = refl }
+loop-port-init g c = record { released = none_released (g.L.Listeners.released c.args.listeners.now); ports = refl; place = refl; heard = refl; faults = refl }
 
 pub loop-port-preserved : goal.loop-port-preserved
 loop-port-preserved g c =
@@ -25,5 +25,6 @@ loop-port-preserved g c =
           ∙ ap (λ (l : List StreamFacts). option_map (with_ports l) before) (sym more);
       ports = c.release.ensures.ports ∙ inv.ports;
       place = c.release.ensures.place ∙ inv.place;
+      heard = c.release.ensures.heard ∙ inv.heard;
       faults = c.release.ensures.faults ∙ inv.faults;
     }

@@ -1,4 +1,4 @@
-use Rattle.std.proofs.Common.{◌≡◌, ◌≤◌, inl, inr, [], length, vec_len, List, map, refl, sym, ap, ◌∙◌, subst, arith}
+use Rattle.std.proofs.Common.{◌≡◌, ◌≤◌, ℕ, inl, inr, [], length, vec_len, List, map, refl, sym, ap, ◌∙◌, subst, arith}
 use Rattle.std.specs.Prelude.{None, Ok, Err}
 use Rattle.std.proofs.lemmas.List.{length-map}
 use Rattle.mica_serve.specs.Ends.{EndFacts, AreNewEnds, end_facts}
@@ -6,7 +6,7 @@ use Rattle.mica_serve.specs.NetRun.{NetFacts, net_facts}
 use Rattle.mica_serve.proofs.Whole.{Bound, run_failed, run_left, run_served}
 use Rattle.mica_fronts.specs.declared.totals.ServeFault.TheVariants.{Net}
 use Rattle.locked_serve.specs.declared.stop.Stop.TheVariants.{Unbound, Unannounced}
-use Rattle.locked_serve.specs.Streams.{StreamFacts, AreNewStreams, listen_facts, stream_facts}
+use Rattle.locked_serve.specs.Streams.{StreamFacts, AreNewStreams, KeepsListeners, listen_facts, stream_facts}
 use Rattle.locked_serve.specs.Causes.{PortFacts, ports_at}
 use Rattle.locked_serve.proofs.Bound.{unbound, unserved, came_ok, came_err, silent}
 use Rattle.locked_serve.proofs.Heard.{kept_unheard, new_untold}
@@ -45,6 +45,11 @@ module _ (g : given.Over) (c : After-listen_all g) where
   heard_few : length (map (of_stream g) c.listen_all.new.connections.items) ≤ c.args.shared.now.service.streams.fronts
   heard_few = omega (arith, c.listen_all.ensures.few, heard_long)
 
+  kept_then : (count : ℕ) → count ≡ length (map (of_stream g) c.listen_all.new.connections.items)
+      → KeepsListeners count c.args.shared.now.service.streams (listen_facts g.L.Listeners c.args.listeners.now) (listen_facts g.L.Listeners c.listen_all.new.listeners)
+  kept_then count is = subst (λ (n : ℕ). KeepsListeners n c.args.shared.now.service.streams (listen_facts g.L.Listeners c.args.listeners.now) (listen_facts g.L.Listeners c.listen_all.new.listeners))
+      (sym (is ∙ heard_long)) c.listen_all.ensures.kept
+
 pub serve_all-requires-clause-unserved : goal.serve_all-requires-clause-unserved
 serve_all-requires-clause-unserved g c _ _ i e is = let new = c.bind_all.ensures.new i e is in (new.unended, new.fresh)
 
@@ -70,7 +75,10 @@ returns-in-Err-clause-served g c =
     (run_failed (bound g z) c.requires.filled refl c.requires.tables failed.cause (omega (arith, failed.refused)) (silent c.args.shared.now.service.streams [] []))
 
 pub returns-in-Err-clause-heard : goal.returns-in-Err-clause-heard
-returns-in-Err-clause-heard g c = kept_unheard c.args.shared.now.service.streams (listen_facts g.L.Listeners c.args.listeners.now)
+returns-in-Err-clause-heard g c =
+    let listens = listen_facts g.L.Listeners c.args.listeners.now in
+    let none : 0 ≡ vec_len c.args.connections.now = omega (arith, ap length c.requires.no_streams, c.args.connections.now.ok) in
+    subst (λ (n : ℕ). KeepsListeners n c.args.shared.now.service.streams listens listens) none (kept_unheard c.args.shared.now.service.streams listens)
 
 pub returns-in-Err-clause-announced : goal.returns-in-Err-clause-announced
 returns-in-Err-clause-announced g c =
@@ -124,6 +132,12 @@ returns-in_err-totals-clause-announced g c =
     (ports_of g c.bind_all.new.net c.listen_all.new.listeners) c.args.announce.now c.ready.new.self (ended_with c.from_residual-in_err-totals.result c.from_residual-in_err-totals.ensures.1)
     (c.in-Ok.ensures.none_refused, c.in-Ok-listen_all.ensures.steady) c.in_ok-ready.ensures.said
 
+pub returns-in_err-totals-clause-heard : goal.returns-in_err-totals-clause-heard
+returns-in_err-totals-clause-heard g c =
+    let at = goal.at.returns-in_err-totals-clause-heard g c in
+    let news = c.serve_all.new.connections in
+    kept_then g at.After-listen_all (vec_len news) (omega (arith, length-map news.items (of_stream g), news.ok, c.in_err-totals.ensures.streams.many))
+
 -- All were served
 
 pub returns-clause-served : goal.returns-clause-served
@@ -131,3 +145,9 @@ returns-clause-served g c =
     let at = goal.at.returns-clause-served g c in
     came_ok (map (of_stream g) c.listen_all.new.connections.items) c.listen_all.ensures.new (heard_few g at.After-listen_all) (heard_long g at.After-listen_all ∙ c.in-Ok-listen_all.ensures.all) c.in_ok-totals.totals refl c.in_ok-totals.ensures refl
     (run_served (bound g at.After-bind_all) c.requires.filled (Ok c.in_ok-totals.totals) (ends_long g at.After-bind_all ∙ c.in-Ok.ensures.all) c.in-Ok.ensures.steady c.in_ok-totals.ensures.fronts)
+
+pub returns-clause-heard : goal.returns-clause-heard
+returns-clause-heard g c =
+    let at = goal.at.returns-clause-heard g c in
+    let news = c.serve_all.new.connections in
+    kept_then g at.After-listen_all (vec_len news) (omega (arith, length-map news.items (of_stream g), news.ok, c.in_ok-totals.ensures.streams.many))

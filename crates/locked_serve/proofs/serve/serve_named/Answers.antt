@@ -1,5 +1,5 @@
 use Rattle.std.proofs.Common.{rules, ◌≡◌, ◌+◌, ◌<◌, ℕ, length, vec_len, map, sym, ap, ◌∙◌, subst, arith}
-use Rattle.std.specs.Prelude.{IfSome, Option, option_map, Result}
+use Rattle.std.specs.Prelude.{IfSome, Option, option_map, Result, OnOk}
 use Rattle.std.proofs.lemmas.List.{length-map}
 use Rattle.mica_io.specs.PortStates.{out}
 use Rattle.mica_fronts.specs.declared.totals.Totals.{Totals}
@@ -72,10 +72,14 @@ pub returns-clause-leaves : goal.returns-clause-leaves
 returns-clause-leaves g c =
     let service = c.args.shared.now.service in
     let served = c.bind_and_serve-answer.ensures.served in
+    let left = c.bind_and_serve-answer.new.connections in
+    let many : length served.olds ≡ vec_len left = omega (arith, ap length served.left, served.are.served.many, length-map left.items (of_stream g), left.ok) in
     record {
       kept = keeps _ service.options c.requires.service.options.partitions.0 g.J.ServerPlan.plan.origin service.ports c.bind_and_serve-answer.new.left.tables (net_at g c.args.net.now)
           (net_at g c.bind_and_serve-answer.new.net) (net_at g c.release_all.new.net) (map (facts g) c.bind_and_serve-answer.new.ends.items) c.release_all.ensures served.came served.said;
-      heard = kept_released service.streams (map (of_stream g) c.bind_and_serve-answer.new.connections.items) (listens_at g c.args.listeners.now) (listens_at g c.bind_and_serve-answer.new.listeners)
+      count = vec_len left;
+      all = subst (λ (n : ℕ). OnOk c.bind_and_serve-answer.result (n ≡ service.streams.fronts)) many served.all;
+      heard = kept_released service.streams (map (of_stream g) left.items) (listens_at g c.args.listeners.now) (listens_at g c.bind_and_serve-answer.new.listeners)
           (listens_at g c.release_streams.new.listeners) (omega (arith, ap length served.left, served.are.served.many, served.are.within)) c.bind_and_serve-answer.ensures.heard c.release_streams.ensures;
       announced = still_told c.bind_and_serve-answer.result (g.A.Announce.says service.ports service.streams) (g.A.Announce.fails service.ports service.streams)
           (ports_of g c.args.net.now c.args.listeners.now) (ports_of g c.bind_and_serve-answer.new.net c.bind_and_serve-answer.new.listeners) (ports_of g c.release_all.new.net c.release_streams.new.listeners)

@@ -15,7 +15,7 @@ returns-in-Ok-ready_line g c =
     (daemon_outside (sink_facts g.K.Sink c.args.speaker.now.sink) (ports_at g.N.Net g.L.Listeners c.args.net.now c.args.listeners.now) c.args.left.now.tables c.args.left.now.lacked) (take-map g.C.Clock.view c.args.streams.now.ports.fronts c.args.start.clocks.items ∙ ap (map g.C.Clock.view) (sym c.truncate.ensures.items))
     (λ i. daemon_outside (sink_facts g.K.Sink c.args.speaker.now.sink) (record {
       net = net_facts g.N.Net c.args.net.now;
-      listens = record { faults = set.faults i; ports = set.ports i; released = set.released i; place = set.place i };
+      listens = record { faults = set.faults i; ports = set.ports i; released = set.released i; place = set.place i; heard = set.heard i };
     }) c.args.left.now.tables c.args.left.now.lacked)
     c.serve_aloud.ensures)
 
