@@ -45,9 +45,9 @@ streams_more waited first all one are new k stream at =
     ]
 
 -- one port more is told of, where it was listened at behind the others
-pub heard_more : {place told : Place} (first k : ℕ) {port : ℕ} {before now new : List Heard} → now ≡ with_heard place first k before → told ≡ place → port ≡ first + k
+pub heard_more : {place told : Place} (first k : ℕ) {port : ℕ} (before : List Heard) {now new : List Heard} → now ≡ with_heard place first k before → told ≡ place → port ≡ first + k
     → new ≡ now ++ heard_at told port ∷ [] → new ≡ with_heard place first (k + 1) before
-heard_more {place} first k {before = before} is here at more =
+heard_more {place} first k before is here at more =
     more ∙ (λ i. is i ++ heard_at (here i) (at i) ∷ []) ∙ ap (λ n. with_heard place first n before) (let next : suc k ≡ k + 1 = omega arith in next)
 
 -- nothing was listened at

@@ -70,7 +70,7 @@ loop-k-preserved g c =
       faults = heard.counted ∙ inv.faults;
       released = c.listen.ensures.same_released ∙ inv.released;
       place = c.listen.ensures.same_place ∙ inv.place;
-      heard = heard_more first c.loop-k.k inv.heard inv.place place heard.heard;
+      heard = heard_more first c.loop-k.k (g.L.Listeners.heard c.args.listeners.now) inv.heard inv.place place heard.heard;
       untouched = λ none. absurd (omega (arith, none));
     }
 
