@@ -22,4 +22,4 @@ pub use answer::{Limits, Numbering, Progress, answer_next};
 pub use buffers::Buffers;
 pub use laws::spells_on;
 pub use noted::Noted;
-pub use sweeper::{Sweeper, sweep};
+pub use sweeper::{MOST_SWEPT, Sweeper, sweep};
