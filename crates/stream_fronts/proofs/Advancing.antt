@@ -26,7 +26,7 @@ use Rattle.memcached_fronts.proofs.AskLaws.{quiet_none}
 use Rattle.memcached_fronts.proofs.ExchangeLaws.{asks_are_due, at_first, is_below, no_asks}
 use Rattle.stream_io.specs.declared.connections.Input.{Input}
 use Rattle.stream_io.specs.declared.connections.Input.TheVariants.{Bytes, Later, Ended}
-use Rattle.stream_fronts.specs.declared.answer.Answered.{Answered as HowFar}
+use Rattle.stream_fronts.specs.declared.answer.HowFar.{HowFar}
 use Rattle.stream_fronts.specs.declared.answer.Said.TheVariants.{Part, Whole}
 use Rattle.stream_fronts.specs.declared.answer.Halt.{Halt}
 use Rattle.stream_fronts.specs.declared.answer.Halt.TheVariants.{Needs}
