@@ -1,11 +1,12 @@
 -- What a server has told, and why it stopped, where it was filled and where it was not.
-use Rattle.std.proofs.Common.{◌≡◌, ℕ, inl, inr, List, [], Option, Some, refl, sym, ap, ◌∙◌, subst, arith}
-use Rattle.std.specs.Prelude.{Result, Ok, Err, IsErrAnd}
+use Rattle.std.proofs.Common.{◌≡◌, ℕ, inl, inr, List, [], length, Option, Some, refl, sym, ap, ◌∙◌, subst, arith}
+use Rattle.std.specs.Prelude.{Result, Ok, Err, IsErrAnd, OnOk}
 use Rattle.mica_clock.specs.Seconds.{ClockView}
 use Rattle.mica_io.specs.Faults.{Rose}
 use Rattle.partition_model.specs.declared.write.Write.{Write}
 use Rattle.partition_model.specs.History.{History}
 use Rattle.partition_table.specs.declared.tables.KeptSeat.{KeptSeat}
+use Rattle.mica_fronts.specs.Answered.{Answered}
 use Rattle.mica_fronts.specs.declared.ports.PortOptions.{PortOptions}
 use Rattle.mica_fronts.specs.declared.totals.Totals.{Totals}
 use Rattle.mica_fronts.specs.declared.totals.ServeFault.{ServeFault}
@@ -22,7 +23,7 @@ use Rattle.locked_serve.specs.declared.stop.Stop.{Stop}
 use Rattle.locked_serve.specs.declared.stop.Stop.TheVariants.{Refused, Unbound, Unannounced, Fault}
 use Rattle.locked_serve.specs.Filled.{origin_of, RefusesFilling}
 use Rattle.locked_serve.specs.Streams.{StreamFacts, ListenFacts}
-use Rattle.locked_serve.specs.Causes.{PortFacts, HasPorts, LacksPort, CameTo, ComesBeside, HasCause, stop_of, IsCauseOfStop, HasAnnounced, Leaves}
+use Rattle.locked_serve.specs.Causes.{PortFacts, HasPorts, LacksPort, CameTo, StopsStreams, ComesBeside, HasCause, stop_of, IsCauseOfStop, HasAnnounced, Leaves}
 use Rattle.locked_serve.proofs.Heard.{kept_unheard}
 use Rattle.locked_serve.proofs.Released.{none_released}
 use Rattle.locked_serve.proofs.Bound.{unbound}
@@ -31,6 +32,12 @@ use Rattle.locked_serve.proofs.Bound.{unbound}
 pub ended_with : {T E : Type 0} {e : E} (r : Result T E) → IsErrAnd r (λ y. y ≡ e) → r ≡ Err e
 ended_with (Ok x) is = absurd is
 ended_with (Err y) is = ap Err is
+
+-- with totals each front of connections had its port
+pub had_ports : (answer : Result Totals Stop) (service : Service) (answers : List (List Answered)) (olds news : List StreamFacts) → StopsStreams answer service answers olds news
+    → OnOk answer (length olds ≡ service.streams.fronts)
+had_ports (Ok totals) service answers olds news stopped = stopped.0
+had_ports (Err stop) service answers olds news stopped = tt
 
 -- it could not be told
 pub fails_to_tell : {A : Type 0} {answer : Result Totals Stop} (says fails : A → A → Type 0) (before after : PortFacts) (old new : A) → answer ≡ Err Unannounced → fails old new

@@ -17,7 +17,7 @@ use Rattle.locked_serve.specs.Streams.{StreamFacts, ListenFacts, listen_facts, s
 use Rattle.locked_serve.specs.Causes.{PortFacts, ports_at}
 use Rattle.locked_serve.proofs.Released.{kept_released}
 use Rattle.locked_serve.proofs.Named.{accepted}
-use Rattle.locked_serve.proofs.Stopped.{ended_with, says_then, still_told, no_memory, unopened}
+use Rattle.locked_serve.proofs.Stopped.{ended_with, had_ports, says_then, still_told, no_memory, unopened}
 use Rattle.locked_serve.proofs.serve.serve_named.Given as given
 use Rattle.locked_serve.proofs.serve.serve_named.Goals as goal
 
@@ -78,7 +78,8 @@ returns-clause-leaves g c =
       kept = keeps _ service.options c.requires.service.options.partitions.0 g.J.ServerPlan.plan.origin service.ports c.bind_and_serve-answer.new.left.tables (net_at g c.args.net.now)
           (net_at g c.bind_and_serve-answer.new.net) (net_at g c.release_all.new.net) (map (facts g) c.bind_and_serve-answer.new.ends.items) c.release_all.ensures served.came served.said;
       count = vec_len left;
-      all = subst (λ (n : ℕ). OnOk c.bind_and_serve-answer.result (n ≡ service.streams.fronts)) many served.all;
+      all = subst (λ (n : ℕ). OnOk c.bind_and_serve-answer.result (n ≡ service.streams.fronts)) many
+          (had_ports c.bind_and_serve-answer.result service served.answers served.olds served.news served.stopped);
       heard = kept_released service.streams (map (of_stream g) left.items) (listens_at g c.args.listeners.now) (listens_at g c.bind_and_serve-answer.new.listeners)
           (listens_at g c.release_streams.new.listeners) (omega (arith, ap length served.left, served.are.served.many, served.are.within)) c.bind_and_serve-answer.ensures.heard c.release_streams.ensures;
       announced = still_told c.bind_and_serve-answer.result (g.A.Announce.says service.ports service.streams) (g.A.Announce.fails service.ports service.streams)
