@@ -214,7 +214,7 @@ module _ (service : Service) (base : ℕ) (clocks : List ClockView) (files after
         answers = c.answers;
         dealings = s.fronts;
         lawful = record { writes = writes; filled = filled; runs = s.runs; lawful = s.served.answered };
-        connections = talk_to_their_ends service.options base service.streams.ports taken new.lacked old.ports.listens new.ports.listens c.counts c.answers c.olds c.news c.are c.lacked_is c.left all_taken c.all c.finished;
+        connections = talk_to_their_ends service.options base service.streams.ports taken new.lacked old.ports.listens new.ports.listens c.counts c.answers c.olds c.news c.are c.lacked_is c.left all_taken c.stopped.0 c.stopped.1;
         datagrams = (s.served.many, s.served.datagrams);
         printed = (totals, s.counted, printed);
       })
