@@ -1,5 +1,5 @@
 -- What each answer of a server says that was filled, and that tells once it listens at its ports.
-use Rattle.std.specs.Prelude.{◌≡◌, ◌⊎◌, ◌+◌, ◌<◌, ℕ, ⊤, List, [], length, Option, Some, None, option_map, Result, Ok, Err}
+use Rattle.std.specs.Prelude.{◌≡◌, ◌⊎◌, ◌+◌, ◌<◌, ℕ, ⊤, List, [], length, Option, Some, None, option_map, Result, Ok, Err, OnOk}
 use Rattle.mica_clock.specs.Seconds.{ClockView}
 use Rattle.mica_io.specs.Faults.{Rose}
 use Rattle.mica_io.specs.declared.net.Net.{Ghosts as NetTells}
