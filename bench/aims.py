@@ -2,7 +2,14 @@
 import statistics
 
 STORE, CACHE = "micad, store", "micad, cache"
-RATE, TIME = 0, 1
+RATE, TIME, _, TURNS = range(4)
+
+
+def ratio_of(own, peer, number):
+    """The ratio of two servers' numbers. Where these tell their turns, it is the median of the ratios of turns side by side: what disturbs a machine lasts for longer than a turn."""
+    if len(own) > TURNS and len(peer) > TURNS:
+        return statistics.median(mine[number] / theirs[number] for mine, theirs in zip(own[TURNS], peer[TURNS]))
+    return own[number] / peer[number]
 
 
 class Aim:
@@ -15,7 +22,7 @@ class Aim:
     def ratios(self, rows):
         """The ratio of each row that it speaks of. Rows are labels, and the numbers of each server by its name."""
         here = ((labels, found) for labels, found in rows if self.is_of(*labels) and found.get(self.own) and found.get(self.peer))
-        return [(found[self.own][self.number] / found[self.peer][self.number], labels) for labels, found in here]
+        return [(ratio_of(found[self.own], found[self.peer], self.number), labels) for labels, found in here]
 
     def falls_short(self, ratio):
         return self.bound is not None and (ratio < self.bound if self.is_least else ratio > self.bound)

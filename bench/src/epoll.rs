@@ -9,6 +9,10 @@ const EDGE: u32 = 1 << 31;
 const ADD: i32 = 1;
 const MOST: usize = 256;
 
+/// How often a server looks for more before it sleeps, at most, and one sleep of how many begins with all looks. micad's ports have the same numbers.
+const LOOKS: u32 = 128;
+const SLEEPS: u32 = 64;
+
 #[repr(C, packed)]
 #[derive(Clone, Copy)]
 struct Event {
@@ -25,6 +29,8 @@ unsafe extern "C" {
 pub struct Poll {
     epoll: OwnedFd,
     events: [Event; MOST],
+    looks: u32,
+    sleeps: u32,
 }
 
 impl Poll {
@@ -36,7 +42,7 @@ impl Poll {
         }
         // SAFETY: as above.
         let epoll = unsafe { OwnedFd::from_raw_fd(epoll) };
-        Ok(Poll { epoll, events: [Event { events: 0, data: 0 }; MOST] })
+        Ok(Poll { epoll, events: [Event { events: 0, data: 0 }; MOST], looks: LOOKS, sleeps: 0 })
     }
 
     /// Has each change of a socket told once, under this number.
@@ -49,11 +55,36 @@ impl Poll {
         }
     }
 
-    /// The numbers of what changed, after at most so many milliseconds.
-    pub fn wait(&mut self, milliseconds: i32) -> impl Iterator<Item = u64> + use<> {
+    fn ask(&mut self, milliseconds: i32) -> usize {
         // SAFETY: there is room for so many events.
         let count = unsafe { epoll_wait(self.epoll.as_raw_fd(), self.events.as_mut_ptr(), MOST as i32, milliseconds) };
-        let numbers: Vec<u64> = self.events[..count.max(0) as usize].iter().map(|event| event.data).collect();
+        count.max(0) as usize
+    }
+
+    fn numbers(&self, count: usize) -> impl Iterator<Item = u64> + use<> {
+        let numbers: Vec<u64> = self.events[..count].iter().map(|event| event.data).collect();
         numbers.into_iter()
+    }
+
+    /// The numbers of what changed, after at most so many milliseconds.
+    pub fn wait(&mut self, milliseconds: i32) -> impl Iterator<Item = u64> + use<> {
+        let count = self.ask(milliseconds);
+        self.numbers(count)
+    }
+
+    /// The numbers of what changed, for which it looks a few times over before it sleeps, where that has paid.
+    pub fn wait_awake(&mut self) -> impl Iterator<Item = u64> + use<> {
+        let found = (0..self.looks).map(|_| self.ask(0)).find(|count| *count > 0);
+        let count = found.unwrap_or_else(|| self.sleep());
+        if found.is_some() {
+            self.looks = LOOKS;
+        }
+        self.numbers(count)
+    }
+
+    fn sleep(&mut self) -> usize {
+        self.sleeps = (self.sleeps + 1) % SLEEPS;
+        self.looks = if self.sleeps == 0 { LOOKS } else { self.looks / 2 };
+        self.ask(-1)
     }
 }

@@ -215,7 +215,7 @@ fn run_front(mut front: Front<'_>, listener: &TcpListener) -> io::Result<()> {
     let mut clients: Vec<Option<Client>> = Vec::new();
     let mut room = vec![0; 1 << 16];
     loop {
-        for number in poll.wait(-1) {
+        for number in poll.wait_awake() {
             if number == LISTENER {
                 while let Ok((stream, _)) = listener.accept() {
                     stream.set_nonblocking(true)?;
