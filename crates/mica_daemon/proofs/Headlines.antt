@@ -3,14 +3,13 @@ use Rattle.std.proofs.Common.{◌≡◌, ℕ, ◌+◌, ◌<◌, ◌≤◌, ◌�
 use Rattle.std.specs.Prelude.{⊤, Result, Ok, Err, IfSome, option_map, sum, codes}
 use Rattle.std.specs.Io.KnownBytes.{Appends}
 use Rattle.std.proofs.KnownBytes.{Appends-trans}
-use Rattle.std.proofs.lemmas.Bool.{cases_lt}
 use Rattle.std.proofs.lemmas.List.{length-take-le}
 use Rattle.std.proofs.lemmas.List.Sums.{get_or-le-sum_by}
 use Rattle.std.proofs.lemmas.Option.{IfSome_then, same_Some, slice_get_within, get_or_from_slice_get}
 use Rattle.list_laws.proofs.Places.{element_at}
 use Rattle.mica_clock.specs.Seconds.{ClockView}
 use Rattle.mica_io.specs.PortStates.{PortStates}
-use Rattle.stream_io.specs.Log.{Log}
+use Rattle.stream_io.specs.Log.{Log, LastFailed}
 use Rattle.stream_io.specs.PortLogs.{PortLogs}
 use Rattle.partition_model.specs.declared.options.Options.{Options}
 use Rattle.partition_model.specs.declared.write.Write.{Write}
@@ -27,7 +26,7 @@ use Rattle.locked_serve.specs.declared.service.Service.{Service as LockedService
 use Rattle.locked_serve.specs.declared.stop.Stop.{Stop}
 use Rattle.locked_serve.specs.declared.stop.Stop.TheVariants.{Refused, Unbound, Unannounced, Fault}
 use Rattle.locked_serve.specs.Filled.{origin_of}
-use Rattle.locked_serve.specs.Streams.{StreamFacts, ListenFacts, ServesClients, ServesFrom, AreStreams, HaveFinished, counted_by_all, others_of, with_ports}
+use Rattle.locked_serve.specs.Streams.{StreamFacts, ListenFacts, ServesClients, ServesFrom, AreStreams, HasFinished, HaveFinished, HaveStopped, counted_by_all, others_of, with_ports}
 use Rattle.locked_serve.specs.Causes.{HasCause, IsCauseOfStop, Leaves}
 use Rattle.mica_commands.specs.Words.{Text}
 use Rattle.mica_commands.specs.DaemonWords.{Service}
@@ -40,15 +39,15 @@ use Rattle.mica_cmd.specs.Input.{with_line_feed}
 use Rattle.mica_daemon.specs.Files.{FilesFacts}
 use Rattle.mica_daemon.specs.Filling.{Fills, IsDueOfFile}
 use Rattle.mica_daemon.specs.Daemon.{DaemonOutside, Says, FailsToSay, ready_text, unbound_text, WritesLast, placed, place_of, FillsAndServes}
-use Rattle.mica_daemon.specs.Headline.{OnPortLogs, TalksLawfully, TalksToItsEnd, TalkAtPorts, TalkAtPortsHad, ServesLawfully, StopsLawfully, NamesPort}
-use Rattle.mica_daemon.proofs.LeftLogs.{left_of, left_alone}
+use Rattle.mica_daemon.specs.Headline.{OnPortLogs, TalksLawfully, HasTalkedOut, TalksToItsEnd, TalksToAStop, TalkAtPorts, ServesLawfully, StopsLawfully, NamesPort}
+use Rattle.mica_daemon.proofs.LeftLogs.{left_of}
 
 -- What follows from a fact that is told
 
-on_logs_then : {P Q : Log → Log → Type 0} (b a : Option Log) → OnLogs P b a → ((x y : Log) → P x y → Q x y) → OnLogs Q b a
-on_logs_then None a is f = tt
-on_logs_then (Some b) None is f = absurd is
-on_logs_then (Some b) (Some a) is f = f b a is
+on_logs_then : {P Q : Log → Log → Type 0} {R : Log → Type 0} (b a : Option Log) → OnLogs P b a → IfSome a R → ((x y : Log) → P x y → R y → Q x y) → OnLogs Q b a
+on_logs_then None a is r f = tt
+on_logs_then (Some b) None is r f = absurd is
+on_logs_then (Some b) (Some a) is r f = f b a is r
 
 on_ports_then : {P Q : PortStates → PortStates → Type 0} (b a : Option PortStates) → OnPorts P b a → ((x y : PortStates) → P x y → Q x y) → OnPorts Q b a
 on_ports_then None a is f = is
@@ -59,9 +58,9 @@ if_mapped : {X Y : Type 0} (Q : Y → Type 0) (g : X → Y) (o : Option X) → (
 if_mapped Q g None h = tt
 if_mapped Q g (Some x) h = h x
 
-if_both : {X : Type 0} (Q : X → X → Type 0) (g : X → X) (o : Option X) → ((x : X) → Q x (g x)) → IfSome o (λ x. IfSome (option_map g o) (Q x))
-if_both Q g None h = tt
-if_both Q g (Some x) h = h x
+if_any : {X : Type 0} {Q : X → Type 0} (o : Option X) → ((x : X) → Q x) → IfSome o Q
+if_any None h = tt
+if_any (Some x) h = h x
 
 -- Connections
 
@@ -118,40 +117,44 @@ module _ (options : Options) (base : ℕ) (streams : StreamPorts) (clocks : List
   once_let_go : (Q : PortLogs → Type 0) → ((logs : PortLogs) → Q (with_ports news logs)) → IfSome after.released Q
   once_let_go Q f = subst (λ (o : Option PortLogs). IfSome o Q) (sym left) (if_mapped Q (with_ports news) before.released f)
 
-  on_port : (P : Log → Log → Type 0) (k : ℕ) (own : List Answered) (h : Heard k own) → ((x y : Log) → ServesClients options base h.serves.old h.serves.new own x y → P x y)
-      → OnPortLogs P (streams.port + k) before after
-  on_port P k own h f = IfSome_then before.ports (are.are_new k h.old h.was).waited_is (λ waited here. once_let_go (λ logs. OnLogs P (waited (streams.port + k)) (logs (streams.port + k)))
+  on_port : (P : Log → Log → Type 0) (R : Log → Type 0) (k : ℕ) (own : List Answered) (h : Heard k own) → IfSome h.new.log R
+      → ((x y : Log) → ServesClients options base h.serves.old h.serves.new own x y → R y → P x y) → OnPortLogs P (streams.port + k) before after
+  on_port P R k own h r f = IfSome_then before.ports (are.are_new k h.old h.was).waited_is (λ waited here. once_let_go (λ logs. OnLogs P (waited (streams.port + k)) (logs (streams.port + k)))
       (λ logs. subst (λ (y : Option Log × Option Log). OnLogs P y.0 y.1) (λ i. (sym here i, sym (left_of streams.port news at logs k h.new h.is) i))
-      (on_logs_then h.old.log h.new.log h.serves.serves.clients f)))
+      (on_logs_then h.old.log h.new.log h.serves.serves.clients r f)))
 
-  -- each talked to its end, where all had their ports and have finished
+  -- nothing more was to come, or the front was spent
+  talked_out : (k : ℕ) (own : List Answered) (h : Heard k own) → HasFinished options own h.new → (x y : Log) → ServesClients options base h.serves.old h.serves.new own x y → HasTalkedOut options own y
+  talked_out k own h finished x y it = elim finished [
+    | inl ended ↦ inl (it.0.serves.over (h.serves.serves.ended ∙ ended))
+    | inr spent ↦ inr spent
+  ]
+
+  -- the front at each place, where all had their ports
+  each : length olds ≡ streams.fronts → (f : ℕ) (own : List Answered) → slice_get answers f ≡ Some own → Heard f own
+  each all f own own_at = heard f own own_at (omega (arith, slice_get_within answers f own own_at, are.fronts, all))
+
+  -- each talked to its end, where all have finished
   pub talk_to_their_ends : length olds ≡ streams.fronts → HaveFinished options answers news
       → TalkAtPorts (TalksToItsEnd options base lacked) streams answers before after
   talk_to_their_ends all finished = (
     are.fronts,
     λ f own own_at.
-        let h = heard f own own_at (omega (arith, slice_get_within answers f own own_at, are.fronts, all)) in
-        on_port (TalksToItsEnd options base lacked own) f own h (λ x y it. (
-          talks f own h x y it,
-          elim (finished f own h.new own_at h.is) [
-            | inl ended ↦ inl (it.0.serves.over (h.serves.serves.ended ∙ ended))
-            | inr spent ↦ inr spent
-          ],
-        )),
+        let h = each all f own own_at in
+        on_port (TalksToItsEnd options base lacked own) (λ _. ⊤) f own h (if_any h.new.log (λ _. tt)) (λ x y it _. (talks f own h x y it, talked_out f own h (finished f own h.new own_at h.is) x y it)),
   )
 
-  -- each talked, or had no port
-  pub talk_or_had_none : TalkAtPortsHad (TalksLawfully options base lacked) streams answers before after
-  talk_or_had_none = (
+  -- each talked to a stop, where all have stopped
+  pub talk_to_a_stop : length olds ≡ streams.fronts → HaveStopped options answers olds news
+      → TalkAtPorts (TalksToAStop options base lacked) streams answers before after
+  talk_to_a_stop all stopped = (
     are.fronts,
-    λ f own own_at. elim (cases_lt f (length olds)) [
-      | inl low ↦ inl (let h = heard f own own_at low in on_port (TalksLawfully options base lacked own) f own h (talks f own h))
-      | inr past ↦ inr (
-        are.unheard f own own_at past,
-        subst (λ (o : Option PortLogs). IfSome before.released (λ was. IfSome o (λ l. l (streams.port + f) ≡ was (streams.port + f)))) (sym left)
-            (if_both (λ was l. l (streams.port + f) ≡ was (streams.port + f)) (with_ports news) before.released (λ l. left_alone streams.port news at l f (omega (arith, past, are.served.many)))),
-      )
-    ],
+    λ f own own_at.
+        let h = each all f own own_at in
+        elim (stopped f own h.old h.new own_at h.was h.is) [
+          | inl finished ↦ on_port (TalksToAStop options base lacked own) (λ _. ⊤) f own h (if_any h.new.log (λ _. tt)) (λ x y it _. (talks f own h x y it, inl (talked_out f own h finished x y it)))
+          | inr failed ↦ on_port (TalksToAStop options base lacked own) LastFailed f own h failed.last (λ x y it last. (talks f own h x y it, inr last))
+        ],
   )
 
 -- What is written
@@ -228,7 +231,7 @@ module _ (service : Service) (base : ℕ) (clocks : List ClockView) (files after
         answers = c.answers;
         dealings = s.fronts;
         lawful = record { writes = writes; filled = filled; runs = s.runs; lawful = s.answered };
-        connections = talk_or_had_none service.options base service.streams.ports taken new.lacked old.ports.listens new.ports.listens c.counts c.answers c.olds c.news c.are c.lacked_is c.left all_taken;
+        connections = talk_to_a_stop service.options base service.streams.ports taken new.lacked old.ports.listens new.ports.listens c.counts c.answers c.olds c.news c.are c.lacked_is c.left all_taken c.stopped.0 c.stopped.1;
         datagrams = (s.many, s.each);
         printed = printed;
       }))

@@ -1,6 +1,6 @@
 -- What is told of ports that were let go.
-use Rattle.std.proofs.Common.{◌≡◌, ℕ, zero, suc, ◌+◌, ◌≤◌, ◌⊎◌, inl, inr, Bool, true, false, cond, List, [], ◌∷◌, length, Option, Some, slice_get, eqb, eqb-true, eq-eqb, true≢false, refl, sym, ap, ◌∙◌, arith}
-use Rattle.std.proofs.lemmas.Option.{none-some, same_Some, slice_get_within}
+use Rattle.std.proofs.Common.{◌≡◌, ℕ, zero, suc, ◌+◌, ◌⊎◌, inl, inr, Bool, true, false, cond, List, [], ◌∷◌, Option, Some, slice_get, eqb, eqb-true, eq-eqb, true≢false, refl, sym, ap, ◌∙◌, arith}
+use Rattle.std.proofs.lemmas.Option.{none-some, same_Some}
 use Rattle.stream_io.specs.Log.{Log}
 use Rattle.stream_io.specs.PortLogs.{PortLogs, with_port}
 use Rattle.locked_serve.specs.Streams.{StreamFacts, with_ports}
@@ -32,7 +32,3 @@ module _ (first : ℕ) (streams : List StreamFacts) (at : (k : ℕ) (s : StreamF
       let its = at k s at_k in
       let same : k ≡ f = omega (arith, its, here) in
       ap (λ (x : StreamFacts). x.log) (same_Some s a (sym at_k ∙ ap (slice_get streams) same ∙ is))) (inr (f, a, is, at f a is))
-
-  pub left_alone : (f : ℕ) → length streams ≤ f → with_ports streams ports (first + f) ≡ ports (first + f)
-  left_alone f past = left_at (first + f) (ports (first + f)) streams ports
-      (λ k s at_k here. absurd (let its = at k s at_k in let low = slice_get_within streams k s at_k in omega (arith, its, here, low, past))) (inl refl)

@@ -4,7 +4,7 @@ use Rattle.std.specs.Prelude.{◌≡◌, ◌⊎◌, ◌+◌, ◌-◌, ◌≤◌,
 use Rattle.std.specs.Io.KnownBytes.{Appends}
 use Rattle.mica_io.specs.Faults.{LAST_COUNT}
 use Rattle.mica_io.specs.PortStates.{PortStates}
-use Rattle.stream_io.specs.Log.{Log, state_of}
+use Rattle.stream_io.specs.Log.{Log, LastFailed, state_of}
 use Rattle.partition_model.specs.declared.options.Options.{Options}
 use Rattle.partition_model.specs.declared.write.Write.{Write}
 use Rattle.mica_fronts.specs.declared.ports.PortOptions.{PortOptions}
@@ -65,10 +65,17 @@ pub record TalksLawfully (options : Options) (base lacked : ℕ) (answers : List
   -- and in the end each connection is settled, or a report of it is to come
   pub caught_up : IsCaughtUp options base after.schedule after.script.piece after.entries given
 
--- it talked so until nothing more was to come, or too few writes were left to it for one command
+-- nothing more was to come, or too few writes were left to it for one command
+abbrev pub HasTalkedOut : Options → List Answered → Log → Type 0
+HasTalkedOut options answers after = ((state_of after).later ≡ []) ⊎ IsSpent options (most_turns - count_of_writes answers)
+
+-- it talked so until then
 abbrev pub TalksToItsEnd : Options → ℕ → ℕ → List Answered → Log → Log → Type 0
-TalksToItsEnd options base lacked answers before after =
-    TalksLawfully options base lacked answers before after × (((state_of after).later ≡ []) ⊎ IsSpent options (most_turns - count_of_writes answers))
+TalksToItsEnd options base lacked answers before after = TalksLawfully options base lacked answers before after × HasTalkedOut options answers after
+
+-- or until a call for what comes next failed
+abbrev pub TalksToAStop : Options → ℕ → ℕ → List Answered → Log → Log → Type 0
+TalksToAStop options base lacked answers before after = TalksLawfully options base lacked answers before after × (HasTalkedOut options answers after ⊎ LastFailed after)
 
 -- this holds of the front at each port of connections, with what it answered
 abbrev pub TalkAtPorts : (List Answered → Log → Log → Type 0) → StreamPorts → List (List Answered) → ListenFacts → ListenFacts → Type 0
@@ -95,15 +102,6 @@ pub record ServesLawfully (service : Service) (base : ℕ) (files : FilesFacts) 
 
 -- Where a fault of the net stopped it
 
--- a front that had no port answered nothing, and what was told of its port is told still
-abbrev pub IsUnheard : List Answered → ℕ → ListenFacts → ListenFacts → Type 0
-IsUnheard answers port before after = (answers ≡ []) × IfSome before.released (λ was. IfSome after.released (λ left. left port ≡ was port))
-
--- this holds of the front at each port of connections that was had
-abbrev pub TalkAtPortsHad : (List Answered → Log → Log → Type 0) → StreamPorts → List (List Answered) → ListenFacts → ListenFacts → Type 0
-TalkAtPortsHad talks streams answers before after =
-    OfEach streams.fronts answers (λ f own. OnPortLogs (talks own) (streams.port + f) before after ⊎ IsUnheard own (streams.port + f) before after)
-
 -- each front over datagrams served its port so far
 abbrev pub LeavePorts : PortOptions → List (List Dealing) → PortStates → PortStates → Type 0
 LeavePorts ports dealings before after = OfEach ports.fronts dealings (λ f own. LeavesPort ports.batches (before (ports.port + f)) (after (ports.port + f)) own [])
@@ -116,8 +114,8 @@ pub record StopsLawfully (service : Service) (base : ℕ) (files : FilesFacts) (
   pub dealings : List (List Dealing)
   -- All their answers are lawful: one run of each partition's machine has them all.
   pub lawful : AnswersFromFilling files service (answers ++ map answered_in dealings)
-  -- At each port of connections what was sent to each client is due to what it said, at each moment.
-  pub connections : TalkAtPortsHad (TalksLawfully service.options base new.lacked) service.streams.ports answers old.ports.listens new.ports.listens
+  -- At each port of connections what was sent to each client is due to what it said, at each moment, until there was a cause to stop.
+  pub connections : TalkAtPorts (TalksToAStop service.options base new.lacked) service.streams.ports answers old.ports.listens new.ports.listens
   -- At each port of datagrams a beginning of what waited was received, and what was sent is a beginning of what is due to that.
   pub datagrams : LeavePorts service.ports dealings ports ports'
   -- The sink took the line that names the ports, then `net fault`, and nothing else.
