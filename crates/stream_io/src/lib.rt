@@ -11,6 +11,7 @@ mod memory_connection;
 mod memory_connections;
 mod memory_list;
 mod memory_log;
+mod patience;
 mod schedule;
 mod stage;
 mod tcp_connections;

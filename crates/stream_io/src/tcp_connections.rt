@@ -2,6 +2,7 @@
 ghost use Rattle.std.specs.Prelude.{◌≡◌, ◌<◌, ◌≤◌, false, None, length, IfOk};
 ghost use Rattle.stream_io.specs.Calls.{FitsRoom};
 
+use crate::patience::Patience;
 use crate::{Broken, Connections, Event, Input};
 use mica_io::Failed;
 use mio::event::Events;
@@ -71,6 +72,7 @@ pub struct TcpConnections<'a> {
     turns: usize,
     /// Whether this round may still end with a connection that waits to be accepted.
     may_open: bool,
+    patience: Patience,
     faults: u64,
 }
 
@@ -186,6 +188,7 @@ impl<'a> TcpConnections<'a> {
             queue: VecDeque::new(alloc),
             turns: 0,
             may_open: false,
+            patience: Patience::new(),
             faults: 0,
         })
     }
@@ -264,6 +267,32 @@ impl<'a> TcpConnections<'a> {
             .is_some_and(|told| told.load(Ordering::Relaxed))
     }
 
+    /// Looks for what is ready at once, a few times over, and says whether something is.
+    fn finds_some(&mut self) -> io::Result<bool>
+        ensures { (self.new.port ≡ self.old.port) × (self.new.faults ≡ self.old.faults) }
+    {
+        for _ in 0..self.patience.looks() {
+            self.poll.poll(&mut self.events, Some(Duration::ZERO))?;
+            if !self.events.is_empty() {
+                self.patience.has_paid();
+                return Ok(true);
+            }
+        }
+        self.patience.has_slept();
+        Ok(false)
+    }
+
+    /// Waits until something is ready. Where it may sleep, it looks for more first.
+    fn wait(&mut self) -> io::Result<()>
+        ensures { (self.new.port ≡ self.old.port) × (self.new.faults ≡ self.old.faults) }
+    {
+        let timeout = self.timeout();
+        if timeout != Some(Duration::ZERO) && self.finds_some()? {
+            return Ok(());
+        }
+        self.poll.poll(&mut self.events, timeout)
+    }
+
     /// Asks the system what is ready. All of it is one round of reports.
     fn ask(&mut self) -> io::Result<()>
         ensures { (self.new.port ≡ self.old.port) × (self.new.faults ≡ self.old.faults) }
@@ -271,8 +300,7 @@ impl<'a> TcpConnections<'a> {
         if self.tells_failure() {
             return Err(ErrorKind::Other.into());
         }
-        let timeout = self.timeout();
-        self.poll.poll(&mut self.events, timeout)?;
+        self.wait()?;
         let listens = put_events(&self.events, &mut self.slots, &mut self.queue);
         if listens || self.accepting == Accepting::Refused {
             self.accepting = Accepting::Ready;
