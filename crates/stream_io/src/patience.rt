@@ -33,10 +33,11 @@ impl Patience {
 
     /// Nothing was found, and the port sleeps.
     pub(crate) fn has_slept(&mut self) {
-        self.sleeps = (self.sleeps + 1) % SLEEPS_BETWEEN;
-        self.looks = match self.sleeps {
-            0 => MOST_LOOKS,
-            _ => self.looks / 2,
+        self.sleeps = self.sleeps.wrapping_add(1);
+        self.looks = if self.sleeps % SLEEPS_BETWEEN == 0 {
+            MOST_LOOKS
+        } else {
+            self.looks / 2
         };
     }
 }
