@@ -13,7 +13,7 @@ use Rattle.stream_fronts.specs.declared.answer.HowFar.{HowFar}
 use Rattle.stream_fronts.specs.declared.answer.Said.{Said}
 use Rattle.stream_fronts.specs.declared.answer.Halt.{Halt}
 use Rattle.stream_fronts.specs.declared.answer.Halt.TheVariants.{Needs, Leaves}
-use Rattle.stream_fronts.specs.Going.{GoesByThese, GoesBySome}
+use Rattle.stream_fronts.specs.Going.{GoesBySome}
 use Rattle.stream_fronts.specs.Reached.{Position, position_at, position_in, Reaches, Ends, GoesOnTo, ReachesAfter, SpokeFrom, HaltsAs}
 use Rattle.stream_fronts.specs.Turns.{most_to_one, most_answers}
 use Rattle.stream_fronts.proofs.Going.{these_then}
@@ -26,11 +26,6 @@ times_most : (n m k a : ℕ) → n ≤ m → a ≤ n * k → a ≤ m * k
 times_most n m k a within few = let most = mul-le-mul_right k within in omega (arith, most, few)
 
 module _ (options : Options) (is_alone : Bool) (base : ℕ) where
-  -- sessions went on by their answers under equal options
-  these_cast : {o : Options} {old new : Sessions} {left left_after : ℕ} {told tells : ClockView} {answers : List Answered} → o ≡ options → GoesByThese o is_alone old left told answers new left_after tells
-      → GoesByThese options is_alone old left told answers new left_after tells
-  these_cast {o} {old} {new} {left} {left_after} {told} {tells} {answers} same these = subst (λ (x : Options). GoesByThese x is_alone old left told answers new left_after tells) same these
-
   few_then : (count : ℕ) (one two : List Answered) → length one ≤ count * most_to_one options → length two ≤ most_to_one options → length (one ++ two) ≤ (count + 1) * most_to_one options
   few_then count one two first second =
       subst (λ n. n ≤ (count + 1) * most_to_one options) (sym (length-append one two)) (times_more count (most_to_one options) (length one) (length two) first second)
@@ -40,10 +35,6 @@ module _ (options : Options) (is_alone : Bool) (base : ℕ) where
 
   module _ {old between new : Sessions} {left then_left left_after : ℕ} {told then tells : ClockView} where
     -- a command more was answered
-    pub answers_then : (one two : List Answered) (o : Options) → o ≡ options → GoesByThese options is_alone old left told one between then_left then → GoesByThese o is_alone between then_left then two new left_after tells
-        → GoesByThese options is_alone old left told (one ++ two) new left_after tells
-    answers_then one two o same first second = these_then options is_alone first (these_cast same second)
-
     pub on_said : (count : ℕ) (position : Position) (bytes rest : List ℕ) (done : ℕ) (before here after : List ℕ) (o : Options) (said is : Said) → rest ≡ bytes → o ≡ options → said ≡ is
         → GoesBySome options is_alone old left told between then_left then (λ answers. (length answers ≤ count * most_to_one options) × GoesOnTo options base position answers before here (Reaches options base (position_at bytes done)))
         → GoesBySome o is_alone between then_left then new left_after tells (λ answers. (length answers ≤ most_to_one o) × GoesOnTo o base (position_at rest done) answers here after (ReachesAfter o base rest done said))

@@ -28,11 +28,6 @@ module _ (options : Options) (is_alone : Bool) where
     few = omega (arith, first.few, second.few, writes_append first.answers second.answers);
   }
 
-  pub by_answers : (old : Sessions) (left : ℕ) (told : ClockView) (new : Sessions) (left_after : ℕ) (tells : ClockView) (base : ℕ) (next : Next) (done : ℕ) (answers : List Answered)
-      → GoesOn options is_alone base next done old told new tells answers → left ≤ left_after + count_of_writes answers
-      → GoesBy options is_alone old left told new left_after tells
-  by_answers old left told new left_after tells base next done answers goes few = record { answers = answers; in_order = goes.in_order; seconds = goes.seconds; few = few }
-
   pub these_none : (old : Sessions) (left : ℕ) (told : ClockView) → GoesByThese options is_alone old left told [] old left told
   these_none old left told = record { in_order = λ q. refl; seconds = refl; few = omega arith }
 

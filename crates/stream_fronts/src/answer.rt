@@ -7,7 +7,7 @@ ghost use Rattle.memcached_fronts.specs.Exchange.{IsOpenAt};
 ghost use Rattle.stream_fronts.specs.declared.answer.TheConstants.{LIMITS};
 ghost use Rattle.stream_fronts.specs.Paid.{Advances, AnswersOn, MayAnswer};
 ghost use Rattle.stream_fronts.specs.Turns.{most_answers, most_to_one};
-ghost use Rattle.stream_fronts.specs.Going.{GoesBy, GoesBySome};
+ghost use Rattle.stream_fronts.specs.Going.{GoesBySome};
 ghost use Rattle.stream_fronts.specs.Reached.{GoesOnTo, ReachesAfter, SpokeFrom, HaltsAs, position_at, position_in};
 
 use crate::next::{is_last, len_of, said_next};
@@ -85,7 +85,6 @@ pub enum Said {
 }
 
 /// Answers the command that the bytes begin with, to which so many answers were given, and appends its replies.
-#[tactic(auto, using(crate::proofs::Going::by_none, crate::proofs::Going::by_answers))]
 fn answer_one<R: Threads + Wait + Sync, F: Counts, K: Clock>(
     rt: &R,
     front: &mut F,
@@ -106,7 +105,6 @@ fn answer_one<R: Threads + Wait + Sync, F: Counts, K: Clock>(
         (λ answers. (length answers ≤ most_to_one (F.options front.old)) × MatchResult result (λ said. GoesOnTo (F.options front.old) numbering.base (position_at bytes.now done) answers out.old.items out.new.items
         (ReachesAfter (F.options front.old) numbering.base bytes.now done said))
         (λ _. SpokeFrom (F.options front.old) numbering.base (length bytes.now) (position_at bytes.now done) answers)) }
-    ensures goes { GoesBy (F.options front.old) F.is_alone (F.sessions front.old) (F.left front.old) (K.view clock.old) (F.sessions front.new) (F.left front.new) (K.view clock.new) }
     ensures left { F.left front.old ≤ F.left front.new + LIMITS.asks + numbering.partitions }
     ensures options { F.options front.new ≡ F.options front.old }
     ensures number { F.number front.new ≡ F.number front.old }
@@ -127,7 +125,6 @@ fn answer_one<R: Threads + Wait + Sync, F: Counts, K: Clock>(
 }
 
 /// Answers what the bytes spell, in order, to whose first command so many answers were given, and appends the replies.
-#[tactic(auto, using(crate::proofs::Going::by_none, crate::proofs::Going::by_both))]
 pub fn answer_bytes<R: Threads + Wait + Sync, F: Counts, K: Clock>(
     rt: &R,
     front: &mut F,
@@ -149,7 +146,6 @@ pub fn answer_bytes<R: Threads + Wait + Sync, F: Counts, K: Clock>(
         (λ answers. (length answers ≤ most_answers (F.options front.old)) × MatchResult result (λ a. GoesOnTo (F.options front.old) numbering.base (position_at bytes.now done) answers out.old.items out.new.items
         (HaltsAs (F.options front.old) numbering.base (length bytes.now) a.halt (position_in bytes.now a)))
         (λ _. SpokeFrom (F.options front.old) numbering.base (length bytes.now) (position_at bytes.now done) answers)) }
-    ensures goes { GoesBy (F.options front.old) F.is_alone (F.sessions front.old) (F.left front.old) (K.view clock.old) (F.sessions front.new) (F.left front.new) (K.view clock.new) }
     ensures options { F.options front.new ≡ F.options front.old }
     ensures number { F.number front.new ≡ F.number front.old }
     ensures stands { F.stands front.new ≡ F.stands front.old }

@@ -6,7 +6,7 @@ ghost use Rattle.memcached_text.specs.Next.{next_of};
 ghost use Rattle.memcached_fronts.specs.Exchange.{IsOpenAt};
 ghost use Rattle.stream_fronts.specs.declared.desk.TheConstants.{MOST_UNSENT};
 ghost use Rattle.stream_fronts.specs.Clients.{IsClient};
-ghost use Rattle.stream_fronts.specs.Going.{GoesBy, GoesBySome};
+ghost use Rattle.stream_fronts.specs.Going.{GoesBySome};
 ghost use Rattle.stream_fronts.specs.Paid.{Advances, MayAnswer, unanswered};
 ghost use Rattle.stream_fronts.specs.Turns.{most_answers};
 ghost use Rattle.stream_fronts.specs.Reached.{GoesOnTo, SpokeFrom, HaltsAs, leaves, position_at, position_of};
@@ -71,7 +71,6 @@ pub fn look_at<R: Threads + Wait + Sync, F: Counts, K: Clock>(
         (λ answers. (length answers ≤ most_answers (F.options front.old)) × MatchResult result (λ halt. GoesOnTo (F.options front.old) numbering.base (position_at bytes.now done) answers [] replies.new.items
         (HaltsAs (F.options front.old) numbering.base (length bytes.now) halt (position_of client.new)))
         (λ _. SpokeFrom (F.options front.old) numbering.base (length bytes.now) (position_at bytes.now done) answers)) }
-    ensures goes { GoesBy (F.options front.old) F.is_alone (F.sessions front.old) (F.left front.old) (K.view clock.old) (F.sessions front.new) (F.left front.new) (K.view clock.new) }
     ensures options { F.options front.new ≡ F.options front.old }
     ensures number { F.number front.new ≡ F.number front.old }
     ensures stands { F.stands front.new ≡ F.stands front.old }

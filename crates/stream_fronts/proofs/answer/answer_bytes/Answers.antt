@@ -7,10 +7,10 @@ use Rattle.stream_fronts.specs.declared.answer.Halt.TheVariants.{Needs, Enough, 
 use Rattle.memcached_text.specs.Next.{next_of}
 use Rattle.stream_fronts.specs.Reached.{Reaches, ReachesAfter, HaltsAs, position_at, position_in}
 use Rattle.stream_fronts.specs.Paid.{AnswersOn}
-use Rattle.stream_fronts.proofs.Going.{these_none, these_goes}
+use Rattle.stream_fronts.proofs.Going.{these_none}
 use Rattle.stream_fronts.proofs.Reaching.{on_none}
 use Rattle.stream_fronts.proofs.Advancing.{gains, stays, arrives}
-use Rattle.stream_fronts.proofs.Answering.{answers_then, on_said, spoke_on, match_err, some_as, halts_in, left_in, dropped_in, whole_in}
+use Rattle.stream_fronts.proofs.Answering.{on_said, spoke_on, match_err, some_as, halts_in, left_in, dropped_in, whole_in}
 use Rattle.stream_fronts.proofs.answer.answer_bytes.Goals as goal
 use Rattle.stream_fronts.proofs.answer.answer_bytes.Goals.{else-loop-test, then-loop-test+then-writes_left-cost, then-writes_left-cost-via-then-writes_left-cost, then-writes_left-cost-via-else-writes_left-cost+then-len}
 
@@ -43,13 +43,6 @@ returns-in_err-said-clause-talk g c =
     let is = err_from_is_err_and c.from_residual.result c.from_residual.ensures.1 in
     (spoke.0, spoke.1, (spoke.2.0, match_err _ _ c.from_residual.result is.0 is.1 spoke.2.1))
 
-pub returns-in_err-said-clause-goes : goal.returns-in_err-said-clause-goes
-returns-in_err-said-clause-goes g c =
-    let inv = c.loop.invariant in
-    let one = c.in_err-said.ensures.talk in
-    let options = g.F.Front.options c.args.front.now in
-    these_goes options g.F.Front.is_alone (answers_then options g.F.Front.is_alone c.args.numbering.base inv.2.0 one.0 _ inv.3 inv.2.1 one.1)
-
 pub returns-in-Nothing-clause-talk : goal.returns-in-Nothing-clause-talk
 returns-in-Nothing-clause-talk g c =
     let inv = c.loop.invariant in
@@ -63,13 +56,6 @@ returns-in-Nothing-clause-talk g c =
     (on_said options g.F.Front.is_alone base c.loop.counter (position_at bytes c.args.done) (drop c.loop.taken bytes) (take (length bytes - c.loop.taken) (drop c.loop.taken bytes)) c.loop.done c.args.out.now.items
     c.loop.out.items c.answer_one.new.out.items (g.F.Front.options c.loop.front) c.in_ok-said.said Nothing (take_rest bytes c.loop.taken) inv.3 c.in-Nothing.is inv.2 c.in_ok-said.ensures.talk)
 
-pub returns-in-Nothing-clause-goes : goal.returns-in-Nothing-clause-goes
-returns-in-Nothing-clause-goes g c =
-    let inv = c.loop.invariant in
-    let one = c.in_ok-said.ensures.talk in
-    let options = g.F.Front.options c.args.front.now in
-    these_goes options g.F.Front.is_alone (answers_then options g.F.Front.is_alone c.args.numbering.base inv.2.0 one.0 _ inv.3 inv.2.1 one.1)
-
 pub returns-in-Part-clause-talk : goal.returns-in-Part-clause-talk
 returns-in-Part-clause-talk g c =
     let inv = c.loop.invariant in
@@ -82,13 +68,6 @@ returns-in-Part-clause-talk g c =
     (halts_in options g.F.Front.is_alone base (length bytes) bytes c.at-in-Part.result Enough c.loop.taken c.in-Part.done 0 at.0 at.1 at.2 at.3)
     (on_said options g.F.Front.is_alone base c.loop.counter (position_at bytes c.args.done) (drop c.loop.taken bytes) (take (length bytes - c.loop.taken) (drop c.loop.taken bytes)) c.loop.done c.args.out.now.items
     c.loop.out.items c.answer_one.new.out.items (g.F.Front.options c.loop.front) c.in_ok-said.said (Part c.in-Part.done) (take_rest bytes c.loop.taken) inv.3 c.in-Part.is inv.2 c.in_ok-said.ensures.talk)
-
-pub returns-in-Part-clause-goes : goal.returns-in-Part-clause-goes
-returns-in-Part-clause-goes g c =
-    let inv = c.loop.invariant in
-    let one = c.in_ok-said.ensures.talk in
-    let options = g.F.Front.options c.args.front.now in
-    these_goes options g.F.Front.is_alone (answers_then options g.F.Front.is_alone c.args.numbering.base inv.2.0 one.0 _ inv.3 inv.2.1 one.1)
 
 pub returns-in-Last-clause-talk : goal.returns-in-Last-clause-talk
 returns-in-Last-clause-talk g c =
@@ -104,13 +83,6 @@ returns-in-Last-clause-talk g c =
     (on_said options g.F.Front.is_alone base c.loop.counter (position_at bytes c.args.done) (drop c.loop.taken bytes) (take (length bytes - c.loop.taken) (drop c.loop.taken bytes)) c.loop.done c.args.out.now.items
     c.loop.out.items c.answer_one.new.out.items (g.F.Front.options c.loop.front) c.in_ok-said.said Last (take_rest bytes c.loop.taken) inv.3 c.in-Last.is inv.2 c.in_ok-said.ensures.talk)
 
-pub returns-in-Last-clause-goes : goal.returns-in-Last-clause-goes
-returns-in-Last-clause-goes g c =
-    let inv = c.loop.invariant in
-    let one = c.in_ok-said.ensures.talk in
-    let options = g.F.Front.options c.args.front.now in
-    these_goes options g.F.Front.is_alone (answers_then options g.F.Front.is_alone c.args.numbering.base inv.2.0 one.0 _ inv.3 inv.2.1 one.1)
-
 pub returns-in-Whole-clause-talk : goal.returns-in-Whole-clause-talk
 returns-in-Whole-clause-talk g c =
     let inv = c.loop.invariant in
@@ -122,13 +94,6 @@ returns-in-Whole-clause-talk g c =
     (ReachesAfter options base (drop c.loop.taken bytes) c.loop.done (Whole len)) _ (dropped_in options g.F.Front.is_alone base bytes (take (length bytes - c.loop.taken) (drop c.loop.taken bytes)) c.loop.taken len (take_rest bytes c.loop.taken) c.if-len-rest.true)
     (on_said options g.F.Front.is_alone base c.loop.counter (position_at bytes c.args.done) (drop c.loop.taken bytes) (take (length bytes - c.loop.taken) (drop c.loop.taken bytes)) c.loop.done c.args.out.now.items
     c.loop.out.items c.answer_one.new.out.items (g.F.Front.options c.loop.front) c.in_ok-said.said (Whole len) (take_rest bytes c.loop.taken) inv.3 c.in-Whole.is inv.2 c.in_ok-said.ensures.talk)
-
-pub returns-in-Whole-clause-goes : goal.returns-in-Whole-clause-goes
-returns-in-Whole-clause-goes g c =
-    let inv = c.loop.invariant in
-    let one = c.in_ok-said.ensures.talk in
-    let options = g.F.Front.options c.args.front.now in
-    these_goes options g.F.Front.is_alone (answers_then options g.F.Front.is_alone c.args.numbering.base inv.2.0 one.0 _ inv.3 inv.2.1 one.1)
 
 pub loop-preserved : goal.loop-preserved
 loop-preserved g c =

@@ -37,7 +37,31 @@ returns-clause-talks g c =
 pub returns-clause-keeps : goal.returns-clause-keeps
 returns-clause-keeps g c =
     let log = g.C.Connections.log in
-    keeps_on (log c.args.connections.now) (log c.visit_once.new.connections) (log c.visit_once-2.new.connections) c.visit_once.ensures.told c.visit_once.ensures.keeps c.visit_once-2.ensures.keeps
+    keeps_on (log c.args.connections.now) (log c.visit_once.new.connections) (log c.visit_once-2.new.connections) c.visit_once.ensures.port.told c.visit_once.ensures.keeps c.visit_once-2.ensures.keeps
+
+pub returns-in_err-after-clause-front : goal.returns-in_err-after-clause-front
+returns-in_err-after-clause-front g c = record {
+  goes = these_goes (g.F.Front.options c.args.front.now) g.F.Front.is_alone c.in_err-after.ensures.talks.1;
+  same_options = c.visit_once.ensures.options;
+  same_number = c.visit_once.ensures.number;
+  same_stands = c.visit_once.ensures.stands;
+}
+
+pub returns-in_default-clause-front : goal.returns-in_default-clause-front
+returns-in_default-clause-front g c = record {
+  goes = these_goes (g.F.Front.options c.args.front.now) g.F.Front.is_alone c.in_ok-after.ensures.talks.1;
+  same_options = c.visit_once.ensures.options;
+  same_number = c.visit_once.ensures.number;
+  same_stands = c.visit_once.ensures.stands;
+}
+
+pub returns-then-writes_left-most_writes-clause-front : goal.returns-then-writes_left-most_writes-clause-front
+returns-then-writes_left-most_writes-clause-front g c = record {
+  goes = these_goes (g.F.Front.options c.args.front.now) g.F.Front.is_alone c.in_ok-after.ensures.talks.1;
+  same_options = c.visit_once.ensures.options;
+  same_number = c.visit_once.ensures.number;
+  same_stands = c.visit_once.ensures.stands;
+}
 
 pub returns-clause-front : goal.returns-clause-front
 returns-clause-front g c =
