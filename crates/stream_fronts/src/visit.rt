@@ -5,7 +5,9 @@ ghost use Rattle.stream_fronts.specs.declared.desk.TheConstants.{MOST_UNSENT};
 ghost use Rattle.stream_fronts.specs.Calls.{LeavesPort};
 ghost use Rattle.stream_fronts.specs.Clients.{IsClient};
 ghost use Rattle.stream_fronts.specs.Going.{GoesBySome};
-ghost use Rattle.stream_fronts.specs.Paid.{Advances, IsPaid, MayAnswer, PaysFor};
+ghost use Rattle.memcached_text.specs.declared.next.Next.TheVariants.{More};
+ghost use Rattle.memcached_text.specs.Next.{next_of};
+ghost use Rattle.stream_fronts.specs.Paid.{Advances, IsPaid, MayAnswer, PaysFor, SpeaksWhere};
 ghost use Rattle.stream_fronts.specs.Turns.{most_answers};
 ghost use Rattle.stream_fronts.specs.Reached.{GoesOnTo, SpokeBehind, HaltsAs, leaves, position_at, position_of};
 ghost use Rattle.stream_fronts.specs.Traffic.{OnHeld, ReadsTo, SendsFrom, SendsSome};
@@ -173,12 +175,14 @@ fn look_at_room<R: Threads + Wait + Sync, F: Counts, K: Clock>(
     ensures few { IfOk result (λ _. length replies.new.items ≤ MOST_UNSENT) }
     ensures unsent { client.new.unsent ≡ client.old.unsent }
     ensures asks { client.new.asks ≡ client.old.asks }
+    ensures waits { IfOk result (λ halt. halt ≡ Halt.Needs → next_of client.new.kept ≡ More) }
     ensures advances { IfOk result (λ halt. Advances (MayAnswer numbering.partitions (F.left front.old)) ((halt ≡ Halt.Needs) × (length client.old.kept < MAX_WAITING_LEN))
         (position_at bytes.now 0) (position_of client.new)) }
     ensures talk { GoesBySome (F.options front.old) F.is_alone (F.sessions front.old) (F.left front.old) (K.view clock.old) (F.sessions front.new) (F.left front.new) (K.view clock.new)
         (λ answers. (length answers ≤ most_answers (F.options front.old)) × MatchResult result (λ halt. GoesOnTo (F.options front.old) numbering.base (position_of client.old) answers [] replies.new.items
         (λ received given due. HaltsAs (F.options front.old) numbering.base MAX_WAITING_LEN halt (position_of client.new)
-        (received ++ drop (length client.old.kept) bytes.now) given due))
+        (received ++ drop (length client.old.kept) bytes.now) given due)
+        × SpeaksWhere (MayAnswer numbering.partitions (F.left front.old)) halt answers [] replies.new.items)
         (λ _. SpokeBehind (F.options front.old) numbering.base MAX_WAITING_LEN (position_of client.old) (drop (length client.old.kept) bytes.now) answers)) }
     ensures options { F.options front.new ≡ F.options front.old }
     ensures number { F.number front.new ≡ F.number front.old }
@@ -213,11 +217,12 @@ fn answer_more<R: Threads + Wait + Sync, F: Counts, K: Clock, C: Connections>(
     requires reading { client.old.leaving ≡ false }
     requires open { IfSome (C.log connections.old) (IsOpen number client.old.asks) }
     requires partitions { numbering.partitions ≡ (F.options front.old).partitions }
+    requires left { MayAnswer numbering.partitions (F.left front.old) }
     ensures room { vec_len desk.new.room ≡ MAX_WAITING_LEN }
     ensures client { IfOk result (λ _. IsClient client.new) }
     ensures leaving { IfOk result (λ r. IfOk r (λ stood. client.new.leaving ≡ leaves stood.0)) }
     ensures unsent { IfOk result (λ _. client.new.unsent ≡ client.old.unsent) }
-    ensures again { MayAnswer numbering.partitions (F.left front.old) → IfOk result (λ r. IfOk r (λ stood. IsAtRest stood.0 stood.1 ⊎ IsPaid 1 client.new)) }
+    ensures again { IfOk result (λ r. IfOk r (λ stood. IsAtRest stood.0 stood.1 ⊎ IsPaid 1 client.new)) }
     ensures talk { GoesBySome (F.options front.old) F.is_alone (F.sessions front.old) (F.left front.old) (K.view clock.old) (F.sessions front.new) (F.left front.new) (K.view clock.new)
         (λ answers. MatchResult result
         (λ r. OnLogs (OnHeld number (Looks (F.options front.old) numbering.base client.old answers desk.new.replies.items client.new r)) (C.log connections.old) (C.log connections.new))
@@ -284,7 +289,7 @@ fn after_all(leaving: bool, halt: Halt, input: Option<Input>) -> After
 
 /// Sends what waits; where all of it was taken, answers more, and sends the replies.
 #[tactic(auto, using(crate::proofs::Opening::still_open, crate::proofs::Opening::keeps_on))]
-pub fn visit_once<R: Threads + Wait + Sync, F: Counts, K: Clock, C: Connections>(
+pub(crate) fn visit_once<R: Threads + Wait + Sync, F: Counts, K: Clock, C: Connections>(
     rt: &R,
     alloc: Global,
     front: &mut F,
@@ -299,9 +304,10 @@ pub fn visit_once<R: Threads + Wait + Sync, F: Counts, K: Clock, C: Connections>
     requires client { IsClient client.old }
     requires open { IfSome (C.log connections.old) (IsOpen number client.old.asks) }
     requires partitions { numbering.partitions ≡ (F.options front.old).partitions }
+    requires left { MayAnswer numbering.partitions (F.left front.old) }
     ensures room { vec_len desk.new.room ≡ MAX_WAITING_LEN }
     ensures client { IfOk result (λ _. IsClient client.new) }
-    ensures again { MayAnswer numbering.partitions (F.left front.old) → IfOk result (λ after. after ≡ After.Again → IsPaid 1 client.new) }
+    ensures again { IfOk result (λ after. after ≡ After.Again → IsPaid 1 client.new) }
     ensures talks { GoesBySome (F.options front.old) F.is_alone (F.sessions front.old) (F.left front.old) (K.view clock.old) (F.sessions front.new) (F.left front.new) (K.view clock.new)
         (λ answers. MatchResult result
         (λ after. OnLogs (OnHeld number (Visits (F.options front.old) numbering.base 1 client.old answers client.new after)) (C.log connections.old) (C.log connections.new))

@@ -42,7 +42,7 @@ returns-in-Again-clause-clients g c =
     let after = log c.ask_again.new.connections in
     let asks = visit.new.client.asks in
     let fit = c.in-Ok.ensures.client in
-    let paid = c.in-Ok.ensures.again c.requires.left c.in-Again.is in
+    let paid = c.in-Ok.ensures.again c.in-Again.is in
     let moves = moves_then c.args.number before between after (moves_keeps c.args.number before between visit.ensures.port.told visit.ensures.keeps) c.ask_again.ensures.port.told
     (others_of_asked c.args.number asks between after c.ask_again.ensures.asked) in
     put_back c.args.number c.args.clients.now.held.items c.take.new.self.held.items c.put-in-Again.new.self.held.items before after _ c.requires.clients c.take.ensures.others
