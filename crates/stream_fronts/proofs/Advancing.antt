@@ -1,7 +1,7 @@
 -- Each look leaves less unanswered, unless all that it found waits.
 use Rattle.std.proofs.Common.{◌≡◌, ◌≢◌, ◌⊎◌, inl, inr, ℕ, zero, suc, ◌+◌, ◌-◌, ◌==◌, ◌<◌, ◌≤◌, Bool, true, false, true≢false, cond, List, [], ◌∷◌, ◌++◌, length, drop, refl, sym, ap, ◌∙◌, subst, arith, length-append, length-drop}
 use Rattle.std.specs.Prelude.{Option, Some, None}
-use Rattle.std.proofs.lemmas.List.{drop_all}
+use Rattle.std.proofs.lemmas.List.{append-nil, drop_all, nil_from_length}
 use Rattle.std.proofs.lemmas.Bool.{eq-eqb}
 use Rattle.partition_model.specs.declared.options.Options.{Options}
 use Rattle.partition_model.specs.declared.write.Outcome.TheVariants.{Stored}
@@ -29,11 +29,11 @@ use Rattle.stream_io.specs.declared.connections.Input.TheVariants.{Bytes, Later,
 use Rattle.stream_fronts.specs.declared.answer.HowFar.{HowFar}
 use Rattle.stream_fronts.specs.declared.answer.Said.TheVariants.{Part, Whole}
 use Rattle.stream_fronts.specs.declared.answer.Halt.{Halt}
-use Rattle.stream_fronts.specs.declared.answer.Halt.TheVariants.{Needs}
+use Rattle.stream_fronts.specs.declared.answer.Halt.TheVariants.{Needs, Enough, Leaves}
 use Rattle.stream_fronts.specs.declared.client.Client.{Client}
 use Rattle.stream_fronts.specs.Reached.{Position, position_at, position_in, position_of}
-use Rattle.stream_fronts.specs.Held.{IsAtRest, leaves_by}
-use Rattle.stream_fronts.specs.Paid.{Advances, AnswersOn, IsPaid, PaysFor, unanswered}
+use Rattle.stream_fronts.specs.Held.{IsAtRest, KeepsWhole, leaves_by}
+use Rattle.stream_fronts.specs.Paid.{Advances, AnswersOn, IsPaid, PaysFor, Speaks, SpeaksAs, unanswered}
 use Rattle.stream_fronts.proofs.Few.{few_asks}
 use Rattle.stream_fronts.proofs.Reaching.{no_answers, nothing_next}
 
@@ -103,6 +103,27 @@ module _ (options : Options) (base : ℕ) (next : Next) (done : ℕ) (stands : I
           let grown = ap length r.appended ∙ length-append old r.text in
           elim (r.stops part).1 as (λ _. done < progress.done) [ inl all ↦ absurd (omega (arith, all, many, some)) | inr full ↦ absurd (omega (arith, full, grown, none, room)) ]
 
+-- What spoke
+
+module _ {options : Options} {base : ℕ} {next : Next} {done : ℕ} {limits : Limits} {answers : List Answered} {old new : List ℕ} {progress : Progress}
+    (r : Replies options base next done limits answers old new progress) where
+  -- more answers were given
+  pub speaks_more : done < progress.done → Speaks answers old new
+  speaks_more more = let count = r.count in let grown = ap length r.appended ∙ length-append old r.text in omega (arith, more, count, grown)
+
+  pub speaks_whole : (len before after : ℕ) (spoke : Bool) → before ≡ length old → after ≡ length new → (spoke ≡ true → (done < progress.done) ⊎ (before < after))
+      → (spoke ≡ false → (progress.done ≤ done) × (after ≤ before)) → SpeaksAs (Whole len spoke) answers old new
+  speaks_whole len before after true had has more silent = elim (more refl) as (λ _. Speaks answers old new) [ inl given ↦ speaks_more given | inr grew ↦ omega (arith, had, has, grew) ]
+  speaks_whole len before after false had has more silent =
+      let none = silent refl in
+      let few = none.0 in
+      let short = none.1 in
+      let count = r.count in
+      let grown = ap length r.appended ∙ length-append old r.text in (
+        nil_from_length answers (omega (arith, few, count)),
+        r.appended ∙ ap (λ t. old ++ t) (nil_from_length r.text (omega (arith, had, has, short, grown))) ∙ append-nil old,
+      )
+
 -- The command that bytes begin with takes more than it had answers
 
 takes_some : (come : ℕ) (next : Next) → IsWithin come next → next ≢ More → is_last next ≡ false → 0 < len_of next
@@ -128,8 +149,8 @@ module _ (bytes : List ℕ) (done : ℕ) (next : Next) (is : next ≡ next_of by
       let here = subst (λ (n : Next). Replies options base n done limits answers old new progress) is r in
       ((here.stops part).0, goes_further options base (next_of bytes) done stands here asks room part, few_given)
 
-  pub whole_on : is_last next ≡ false → (len : ℕ) → len ≡ len_of next → AnswersOn bytes done (Whole len)
-  whole_on on len len_is =
+  pub whole_on : is_last next ≡ false → (len : ℕ) (spoke : Bool) → len ≡ len_of next → AnswersOn bytes done (Whole len spoke)
+  whole_on on len spoke len_is =
       let taken : len ≡ len_of (next_of bytes) = len_is ∙ ap len_of is in
       let there = takes_some (length bytes) (next_of bytes) (within bytes) (λ more. some (is ∙ more)) (ap is_last (sym is) ∙ on) in (
         elim stands as (λ _. done < len) [ inl none ↦ omega (arith, none, taken, there) | inr less ↦ let few = (few_asks bytes).taken in omega (arith, less, few, taken) ],
@@ -222,7 +243,7 @@ paid_for client now bytes count halt None len pays a may same = elim (a.less may
   | inl waits ↦ let room = waits.1 in let full = pays.1 in absurd (omega (arith, room, full))
   | inr less ↦ let most = pays.0 in inr (omega (arith, less, most, len, same))
 ]
-paid_for client now bytes count halt (Some (Bytes some)) len pays a may same = let no_more = a.no_more in inr (omega (arith, no_more, pays, len, same))
+paid_for client now bytes count halt (Some (Bytes some)) len pays a may same = let no_more = a.no_more in let paid = pays.0 in inr (omega (arith, no_more, paid, len, same))
 paid_for client now bytes count halt (Some Later) len pays a may same = elim (a.less may) as (λ _. IsAtRest halt (Some Later) ⊎ IsPaid 1 now) [
   | inl waits ↦ inl (inr (waits.0, refl))
   | inr less ↦ inr (omega (arith, less, pays, len, same))
@@ -231,3 +252,26 @@ paid_for client now bytes count halt (Some Ended) len pays a may same = elim (a.
   | inl waits ↦ inl (inl (ap (λ (s : Halt). leaves_by s (Some Ended)) waits.0))
   | inr less ↦ inr (omega (arith, less, pays, len, same))
 ]
+
+-- What earns that it is looked at again
+
+-- a command that was answered in part was answered further
+pub earns_further : (halt : Halt) (client now : Client) (answers : List Answered) (replies : List ℕ) → IsOpenAt (next_of client.kept) client.done → 0 < client.done
+    → (halt ≡ Needs → next_of now.kept ≡ More) → (halt ≡ Enough → 0 < length answers + length replies) → KeepsWhole client now
+    → IsAtRest halt None ⊎ (0 < length answers + length replies)
+earns_further Leaves client now answers replies stands some waits speaks whole = inl (inl refl)
+earns_further Enough client now answers replies stands some waits speaks whole = inr (speaks refl)
+earns_further Needs client now answers replies stands some waits speaks whole =
+    absurd (omega (arith, some, at_first (next_of client.kept) client.done stands (ap asks_in (whole (waits refl)))))
+
+-- bytes were read, or none came
+pub earns_reading : (halt : Halt) (input : Option Input) (client now : Client) (bytes : List ℕ) (count : ℕ) (answers : List Answered) (replies : List ℕ) → PaysFor client count input
+    → count ≡ length client.kept + length bytes → (halt ≡ Needs → next_of now.kept ≡ More) → (halt ≡ Enough → 0 < length answers + length replies) → KeepsWhole client now
+    → IsAtRest halt input ⊎ (0 < length bytes + length answers + length replies)
+earns_reading Leaves input client now bytes count answers replies pays len waits speaks whole = inl (inl refl)
+earns_reading Enough input client now bytes count answers replies pays len waits speaks whole = let some = speaks refl in inr (omega (arith, some))
+earns_reading Needs None client now bytes count answers replies pays len waits speaks whole =
+    let fits = waits_within client.kept (whole (waits refl)) in let full = pays.1 in absurd (omega (arith, fits, full))
+earns_reading Needs (Some (Bytes some)) client now bytes count answers replies pays len waits speaks whole = let more = pays.1 in inr (omega (arith, more, len))
+earns_reading Needs (Some Later) client now bytes count answers replies pays len waits speaks whole = inl (inr (refl, refl))
+earns_reading Needs (Some Ended) client now bytes count answers replies pays len waits speaks whole = inl (inl refl)

@@ -1,8 +1,9 @@
 -- Commands that bytes spell are answered one after another.
-use Rattle.std.proofs.Common.{◌≡◌, ℕ, ◌+◌, ◌-◌, ◌*◌, ◌≤◌, ◌<◌, Bool, List, [], ◌++◌, length, drop, sym, ap, ◌∙◌, subst, arith, length-append, length-drop}
+use Rattle.std.proofs.Common.{◌≡◌, ◌≢◌, ℕ, zero, suc, ◌+◌, ◌-◌, ◌*◌, ◌≤◌, ◌<◌, Bool, true, false, List, [], ◌++◌, length, drop, refl, sym, ap, ◌∙◌, subst, arith, length-append, length-drop}
 use Rattle.std.specs.Prelude.{MatchResult, Result, Err}
 use Rattle.std.proofs.Math.Nat.{add-mul, mul-le-mul_right, one-mul}
-use Rattle.std.proofs.lemmas.List.{drop-drop, drop_all}
+use Rattle.std.proofs.lemmas.List.{append-nil, drop-drop, drop_all}
+use mir.Val.{bool_byte}
 use Rattle.mica_clock.specs.Seconds.{ClockView}
 use Rattle.partition_model.specs.declared.options.Options.{Options}
 use Rattle.memcached_text.specs.Next.{next_of}
@@ -11,9 +12,11 @@ use Rattle.mica_fronts.specs.Session.{Sessions}
 use Rattle.stream_fronts.specs.declared.answer.TheConstants.{MOST_COMMANDS}
 use Rattle.stream_fronts.specs.declared.answer.HowFar.{HowFar}
 use Rattle.stream_fronts.specs.declared.answer.Said.{Said}
+use Rattle.stream_fronts.specs.declared.answer.Said.TheVariants.{Nothing, Part, Whole, Last}
 use Rattle.stream_fronts.specs.declared.answer.Halt.{Halt}
-use Rattle.stream_fronts.specs.declared.answer.Halt.TheVariants.{Needs, Leaves}
+use Rattle.stream_fronts.specs.declared.answer.Halt.TheVariants.{Needs, Enough, Leaves}
 use Rattle.stream_fronts.specs.Going.{GoesByThese, GoesBySome}
+use Rattle.stream_fronts.specs.Paid.{Speaks, SpeaksAs, SpeaksWhere}
 use Rattle.stream_fronts.specs.Reached.{Position, position_at, position_in, Reaches, Ends, GoesOnTo, ReachesAfter, SpokeFrom, HaltsAs}
 use Rattle.stream_fronts.specs.Turns.{most_to_one, most_answers}
 use Rattle.stream_fronts.proofs.Going.{these_then}
@@ -26,40 +29,74 @@ times_most : (n m k a : ℕ) → n ≤ m → a ≤ n * k → a ≤ m * k
 times_most n m k a within few = let most = mul-le-mul_right k within in omega (arith, most, few)
 
 module _ (options : Options) (is_alone : Bool) (base : ℕ) where
-  -- sessions went on by their answers under equal options
-  these_cast : {o : Options} {old new : Sessions} {left left_after : ℕ} {told tells : ClockView} {answers : List Answered} → o ≡ options → GoesByThese o is_alone old left told answers new left_after tells
-      → GoesByThese options is_alone old left told answers new left_after tells
-  these_cast {o} {old} {new} {left} {left_after} {told} {tells} {answers} same these = subst (λ (x : Options). GoesByThese x is_alone old left told answers new left_after tells) same these
-
   few_then : (count : ℕ) (one two : List Answered) → length one ≤ count * most_to_one options → length two ≤ most_to_one options → length (one ++ two) ≤ (count + 1) * most_to_one options
   few_then count one two first second =
       subst (λ n. n ≤ (count + 1) * most_to_one options) (sym (length-append one two)) (times_more count (most_to_one options) (length one) (length two) first second)
+
+  -- So many commands spoke; where none did, nothing did.
+  pub record HasSpoken (spoken : ℕ) (answers : List Answered) (old new : List ℕ) : Type 0 where
+    pub few : length answers ≤ spoken * most_to_one options
+    pub grew : length old + spoken ≤ length answers + length new
+    pub silent : spoken ≡ 0 → (answers ≡ []) × (new ≡ old)
+
+  pub spoken_none : (old : List ℕ) → HasSpoken 0 [] old old
+  spoken_none old = record { few = omega arith; grew = omega arith; silent = λ none. (refl, refl) }
+
+  -- and what one more made of it
+  abbrev pub SpokenOn : ℕ → Said → List Answered → List ℕ → List ℕ → Type 0
+  SpokenOn spoken (Part more) answers old new = (length answers ≤ (spoken + 1) * most_to_one options) × Speaks answers old new
+  SpokenOn spoken (Whole len spoke) answers old new = HasSpoken (spoken + bool_byte spoke) answers old new
+  SpokenOn spoken _ answers old new = length answers ≤ (spoken + 1) * most_to_one options
+
+  module _ (spoken : ℕ) (one two : List Answered) (old mid new : List ℕ) (first : HasSpoken spoken one old mid) (few : length two ≤ most_to_one options) where
+    spoken_on : (said : Said) → SpeaksAs said two mid new → length mid ≤ length new → SpokenOn spoken said (one ++ two) old new
+    spoken_on Nothing speaks grows = few_then spoken one two first.few few
+    spoken_on (Part more) speaks grows =
+        (few_then spoken one two first.few few, let len = length-append one two in let grew = first.grew in omega (arith, len, grew, speaks))
+    spoken_on (Whole len true) speaks grows = record {
+      few = few_then spoken one two first.few few;
+      grew = let all = length-append one two in let grew = first.grew in omega (arith, all, grew, speaks);
+      silent = λ none. absurd (omega (arith, none));
+    }
+    spoken_on (Whole len false) speaks grows =
+        let answers : one ++ two ≡ one = ap (λ t. one ++ t) speaks.0 ∙ append-nil one in
+        let same : HasSpoken spoken (one ++ two) old new =
+        subst (λ t. HasSpoken spoken (one ++ two) old t) (sym speaks.1) (subst (λ a. HasSpoken spoken a old mid) (sym answers) first) in
+        let none : spoken + bool_byte false ≡ spoken = omega arith in subst (λ n. HasSpoken n (one ++ two) old new) (sym none) same
+    spoken_on Last speaks grows = few_then spoken one two first.few few
 
   few_in_all : (answers : List Answered) (count : ℕ) → count ≤ MOST_COMMANDS → length answers ≤ count * most_to_one options → length answers ≤ most_answers options
   few_in_all answers count within few = times_most count MOST_COMMANDS (most_to_one options) (length answers) within few
 
   module _ {old between new : Sessions} {left then_left left_after : ℕ} {told then tells : ClockView} where
     -- a command more was answered
-    pub answers_then : (one two : List Answered) (o : Options) → o ≡ options → GoesByThese options is_alone old left told one between then_left then → GoesByThese o is_alone between then_left then two new left_after tells
-        → GoesByThese options is_alone old left told (one ++ two) new left_after tells
-    answers_then one two o same first second = these_then options is_alone first (these_cast same second)
-
     pub on_said : (count : ℕ) (position : Position) (bytes rest : List ℕ) (done : ℕ) (before here after : List ℕ) (o : Options) (said is : Said) → rest ≡ bytes → o ≡ options → said ≡ is
-        → GoesBySome options is_alone old left told between then_left then (λ answers. (length answers ≤ count * most_to_one options) × GoesOnTo options base position answers before here (Reaches options base (position_at bytes done)))
-        → GoesBySome o is_alone between then_left then new left_after tells (λ answers. (length answers ≤ most_to_one o) × GoesOnTo o base (position_at rest done) answers here after (ReachesAfter o base rest done said))
-        → GoesBySome options is_alone old left told new left_after tells (λ answers. (length answers ≤ (count + 1) * most_to_one options) × GoesOnTo options base position answers before after (ReachesAfter options base bytes done is))
+        → GoesBySome options is_alone old left told between then_left then
+        (λ answers. GoesOnTo options base position answers before here (Reaches options base (position_at bytes done)) × HasSpoken count answers before here)
+        → GoesBySome o is_alone between then_left then new left_after tells
+        (λ answers. (length answers ≤ most_to_one o) × (GoesOnTo o base (position_at rest done) answers here after (ReachesAfter o base rest done said) × SpeaksAs said answers here after))
+        → GoesBySome options is_alone old left told new left_after tells
+        (λ answers. GoesOnTo options base position answers before after (ReachesAfter options base bytes done is) × SpokenOn count is answers before after)
     on_said count position bytes rest done before here after o said is rest_is same said_is first second =
-        let one = subst (λ (x : Options). GoesBySome x is_alone between then_left then new left_after tells (λ answers. (length answers ≤ most_to_one x) × GoesOnTo x base (position_at rest done) answers here after (ReachesAfter x base rest done said)))
+        let one = subst (λ (x : Options). GoesBySome x is_alone between then_left then new left_after tells
+        (λ answers. (length answers ≤ most_to_one x) × (GoesOnTo x base (position_at rest done) answers here after (ReachesAfter x base rest done said) × SpeaksAs said answers here after)))
         same second in
         let by_said = subst (λ (s : Said). GoesBySome options is_alone between then_left then new left_after tells
-        (λ answers. (length answers ≤ most_to_one options) × GoesOnTo options base (position_at rest done) answers here after (ReachesAfter options base rest done s))) said_is one in
+        (λ answers. (length answers ≤ most_to_one options) × (GoesOnTo options base (position_at rest done) answers here after (ReachesAfter options base rest done s) × SpeaksAs s answers here after))) said_is one in
         let all = subst (λ r. GoesBySome options is_alone between then_left then new left_after tells
-        (λ answers. (length answers ≤ most_to_one options) × GoesOnTo options base (position_at r done) answers here after (ReachesAfter options base r done is))) rest_is by_said in
-        (first.0 ++ all.0, these_then options is_alone first.1 all.1, (few_then count first.0 all.0 first.2.0 all.2.0, on_then options base first.2.1 all.2.1))
+        (λ answers. (length answers ≤ most_to_one options) × (GoesOnTo options base (position_at r done) answers here after (ReachesAfter options base r done is) × SpeaksAs is answers here after))) rest_is by_said in
+        let grown = ap length all.2.1.0.appended ∙ length-append here all.2.1.0.text in (
+          first.0 ++ all.0,
+          these_then options is_alone first.1 all.1,
+          (
+            on_then options base first.2.0 all.2.1.0,
+            spoken_on count first.0 all.0 before here after first.2.1 all.2.0 is all.2.1.1 (omega (arith, grown)),
+          ),
+        )
 
     -- memory lacked
     pub spoke_on : (count : ℕ) → count + 1 ≤ MOST_COMMANDS → (most : ℕ) (position : Position) (bytes rest : List ℕ) (done : ℕ) (before here : List ℕ) (o : Options) → rest ≡ bytes → o ≡ options → length bytes ≤ most
-        → GoesBySome options is_alone old left told between then_left then (λ answers. (length answers ≤ count * most_to_one options) × GoesOnTo options base position answers before here (Reaches options base (position_at bytes done)))
+        → GoesBySome options is_alone old left told between then_left then (λ answers. GoesOnTo options base position answers before here (Reaches options base (position_at bytes done)) × HasSpoken count answers before here)
         → GoesBySome o is_alone between then_left then new left_after tells (λ answers. (length answers ≤ most_to_one o) × SpokeFrom o base (length rest) (position_at rest done) answers)
         → GoesBySome options is_alone old left told new left_after tells (λ answers. (length answers ≤ most_answers options) × SpokeFrom options base most position answers)
     spoke_on count within most position bytes rest done before here o rest_is same less first second =
@@ -67,16 +104,47 @@ module _ (options : Options) (is_alone : Bool) (base : ℕ) where
         let all = subst (λ r. GoesBySome options is_alone between then_left then new left_after tells (λ answers. (length answers ≤ most_to_one options) × SpokeFrom options base (length r) (position_at r done) answers)) rest_is one in (
           first.0 ++ all.0,
           these_then options is_alone first.1 all.1,
-          (few_in_all (first.0 ++ all.0) (count + 1) within (few_then count first.0 all.0 first.2.0 all.2.0), spoke_then options base less first.2.1 all.2.1),
+          (few_in_all (first.0 ++ all.0) (count + 1) within (few_then count first.0 all.0 first.2.1.few all.2.0), spoke_then options base less first.2.0 all.2.1),
         )
 
   -- by the same answers, more is said of where the talk came to
-  pub some_as : {old new : Sessions} {left left_after : ℕ} {told tells : ClockView} (few most : ℕ) → few ≤ most → (position : Position) (before after : List ℕ) (P Q : List ℕ → List Answered → List ℕ → Type 0)
+  pub some_as : {old new : Sessions} {left left_after : ℕ} {told tells : ClockView} (position : Position) (before after : List ℕ) (P Q : List ℕ → List Answered → List ℕ → Type 0)
       → ((received : List ℕ) (given : List Answered) (due : List ℕ) → P received given due → Q received given due)
-      → GoesBySome options is_alone old left told new left_after tells (λ answers. (length answers ≤ few * most_to_one options) × GoesOnTo options base position answers before after P)
-      → GoesBySome options is_alone old left told new left_after tells (λ answers. (length answers ≤ most * most_to_one options) × GoesOnTo options base position answers before after Q)
-  some_as few most less position before after P Q as_q some =
-      (some.0, some.1, (times_most few most (most_to_one options) (length some.0) less some.2.0, on_as options base {P = P} {Q = Q} as_q some.2.1))
+      → (R S : List Answered → Type 0) → ((answers : List Answered) → GoesByThese options is_alone old left told answers new left_after tells → R answers → (length answers ≤ most_answers options) × S answers)
+      → GoesBySome options is_alone old left told new left_after tells (λ answers. GoesOnTo options base position answers before after P × R answers)
+      → GoesBySome options is_alone old left told new left_after tells (λ answers. (length answers ≤ most_answers options) × (GoesOnTo options base position answers before after Q × S answers))
+  some_as position before after P Q as_q R S as_s some =
+      let said = as_s some.0 some.1 some.2.1 in (some.0, some.1, (said.0, (on_as options base {P = P} {Q = Q} as_q some.2.0, said.1)))
+
+  pub some_on : {old new : Sessions} {left left_after : ℕ} {told tells : ClockView} (position : Position) (before after : List ℕ) (P Q : List ℕ → List Answered → List ℕ → Type 0)
+      → ((received : List ℕ) (given : List Answered) (due : List ℕ) → P received given due → Q received given due)
+      → (R S : List Answered → Type 0) → ((answers : List Answered) → R answers → S answers)
+      → GoesBySome options is_alone old left told new left_after tells (λ answers. GoesOnTo options base position answers before after P × R answers)
+      → GoesBySome options is_alone old left told new left_after tells (λ answers. GoesOnTo options base position answers before after Q × S answers)
+  some_on position before after P Q as_q R S as_s some = (some.0, some.1, (on_as options base {P = P} {Q = Q} as_q some.2.0, as_s some.0 some.2.1))
+
+  pub few_said : (count : ℕ) → count + 1 ≤ MOST_COMMANDS → (answers : List Answered) → length answers ≤ (count + 1) * most_to_one options → length answers ≤ most_answers options
+  few_said count within answers few = few_in_all answers (count + 1) within few
+
+  pub few_spoken : (count : ℕ) → count ≤ MOST_COMMANDS → {answers : List Answered} {before after : List ℕ} → HasSpoken count answers before after → length answers ≤ most_answers options
+  few_spoken count within {answers} has = few_in_all answers count within has.few
+
+  -- of what came no whole command is left, or nothing more is read
+  pub halts_by : {old new : Sessions} {left left_after : ℕ} {told tells : ClockView} (may : Type 0) (halt is : Halt) → halt ≡ is → is ≢ Enough → (position : Position) (before after : List ℕ)
+      → (P Q : List ℕ → List Answered → List ℕ → Type 0) → ((received : List ℕ) (given : List Answered) (due : List ℕ) → P received given due → Q received given due)
+      → (R : List Answered → Type 0) → ((answers : List Answered) → R answers → length answers ≤ most_answers options)
+      → GoesBySome options is_alone old left told new left_after tells (λ answers. GoesOnTo options base position answers before after P × R answers)
+      → GoesBySome options is_alone old left told new left_after tells
+      (λ answers. (length answers ≤ most_answers options) × (GoesOnTo options base position answers before after Q × SpeaksWhere may halt answers before after))
+  halts_by may halt is same other position before after P Q as_q R few some =
+      some_as position before after P Q as_q R (λ answers. SpeaksWhere may halt answers before after)
+      (λ answers these r. (few answers r, λ m enough. absurd (other (sym same ∙ enough)))) some
+
+  -- it ends where enough spoke
+  pub speaks_end : (spoken : ℕ) {answers : List Answered} {before after : List ℕ} → HasSpoken spoken answers before after → (spoken ≡ 0 → answers ≡ [] → after ≡ before → ⊥)
+      → Speaks answers before after
+  speaks_end zero has none = absurd (none refl (has.silent refl).0 (has.silent refl).1)
+  speaks_end (suc n) has none = let grew = has.grew in omega (arith, grew)
 
   -- Where bytes were answered to
 
@@ -121,3 +189,13 @@ module _ (options : Options) (is_alone : Bool) (base : ℕ) where
 
 pub match_err : {T E : Type 0} (P : T → Type 0) (Q : E → Type 0) (r : Result T E) (e : E) → r ≡ Err e → Q e → MatchResult r P Q
 match_err P Q r e is q = subst (λ x. MatchResult x P Q) (sym is) q
+
+pub byte_small : (b : Bool) → bool_byte b ≤ 1
+byte_small true = omega arith
+byte_small false = omega arith
+
+pub needs_on : Needs ≢ Enough
+needs_on is = cc
+
+pub leaves_on : Leaves ≢ Enough
+leaves_on is = cc

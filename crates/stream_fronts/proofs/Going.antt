@@ -1,5 +1,5 @@
 -- Answers that were given one after another.
-use Rattle.std.proofs.Common.{◌≡◌, ◌+◌, ◌≤◌, ℕ, Bool, List, [], ◌++◌, length, refl, sym, ap, ◌∙◌, subst, arith, length-append}
+use Rattle.std.proofs.Common.{◌≡◌, ◌+◌, ◌<◌, ◌≤◌, ℕ, Bool, List, [], ◌∷◌, ◌++◌, length, refl, sym, ap, ◌∙◌, subst, arith, length-append}
 use Rattle.std.proofs.lemmas.List.Elements.{filter_map-append}
 use Rattle.mica_clock.specs.Seconds.{ClockView}
 use Rattle.partition_model.specs.declared.options.Options.{Options}
@@ -28,11 +28,6 @@ module _ (options : Options) (is_alone : Bool) where
     few = omega (arith, first.few, second.few, writes_append first.answers second.answers);
   }
 
-  pub by_answers : (old : Sessions) (left : ℕ) (told : ClockView) (new : Sessions) (left_after : ℕ) (tells : ClockView) (base : ℕ) (next : Next) (done : ℕ) (answers : List Answered)
-      → GoesOn options is_alone base next done old told new tells answers → left ≤ left_after + count_of_writes answers
-      → GoesBy options is_alone old left told new left_after tells
-  by_answers old left told new left_after tells base next done answers goes few = record { answers = answers; in_order = goes.in_order; seconds = goes.seconds; few = few }
-
   pub these_none : (old : Sessions) (left : ℕ) (told : ClockView) → GoesByThese options is_alone old left told [] old left told
   these_none old left told = record { in_order = λ q. refl; seconds = refl; few = omega arith }
 
@@ -53,6 +48,17 @@ module _ (options : Options) (is_alone : Bool) where
   pub these_goes : {old : Sessions} {left : ℕ} {told : ClockView} {answers : List Answered} {new : Sessions} {left_after : ℕ} {tells : ClockView}
       → GoesByThese options is_alone old left told answers new left_after tells → GoesBy options is_alone old left told new left_after tells
   these_goes {answers = answers} these = record { answers = answers; in_order = these.in_order; seconds = these.seconds; few = these.few }
+
+  -- and no fewer writes are left, where there were none
+  pub none_fewer : {old : Sessions} {left : ℕ} {told : ClockView} {answers : List Answered} {new : Sessions} {left_after : ℕ} {tells : ClockView}
+      → GoesByThese options is_alone old left told answers new left_after tells → answers ≡ [] → left ≤ left_after
+  none_fewer these none = let few = these.few in let same = ap count_of_writes none in omega (arith, few, same)
+
+  -- some were given, where the front may be given fewer writes
+  pub these_some : {old : Sessions} {left : ℕ} {told : ClockView} (answers : List Answered) {new : Sessions} {left_after : ℕ} {tells : ClockView}
+      → GoesByThese options is_alone old left told answers new left_after tells → left_after < left → 0 < length answers
+  these_some [] these fewer = let few = these.few in absurd (omega (arith, few, fewer))
+  these_some (a ∷ answers) these fewer = omega arith
 
   -- by the same answers, of which more is known
   pub these_given : {old : Sessions} {left : ℕ} {told : ClockView} {new : Sessions} {left_after : ℕ} {tells : ClockView} (answers : List Answered) (given : List Given) → answers_in given ≡ answers

@@ -1,5 +1,5 @@
 -- Visits go on, as the front's sessions do by their answers.
-use Rattle.std.proofs.Common.{◌≡◌, ℕ, Bool, ◌++◌, subst}
+use Rattle.std.proofs.Common.{◌≡◌, ℕ, ◌<◌, Bool, ◌++◌, length, subst}
 use Rattle.std.specs.Prelude.{Option, Result, Ok, Err, MatchResult}
 use Rattle.mica_clock.specs.Seconds.{ClockView}
 use Rattle.partition_model.specs.declared.options.Options.{Options}
@@ -20,13 +20,14 @@ use Rattle.stream_fronts.proofs.Revisiting.{visits_once, lacks_once, visits_then
 module _ (options : Options) (is_alone : Bool) (base number : ℕ) where
   module _ {old new : Sessions} {left left_after : ℕ} {told tells : ClockView} (client : Client) (a b : Option Log) where
     -- one visit was enough
-    pub goes_once : (now : Client) (x after : After) → x ≡ after → GoesBySome options is_alone old left told new left_after tells (λ answers. OnLogs (OnHeld number (Visits options base 1 client answers now x)) a b)
+    pub goes_once : (now : Client) (x after : After) → x ≡ after
+        → (some : GoesBySome options is_alone old left told new left_after tells (λ answers. OnLogs (OnHeld number (Visits options base 1 client answers now x)) a b)) → (after ≡ Again → 0 < length some.0)
         → GoesBySome options is_alone old left told new left_after tells (λ answers. OnLogs (OnHeld number (Visits options base 2 client answers now after)) a b)
-    goes_once now x after is some = (
+    goes_once now x after is some given = (
       some.0,
       some.1,
       on_one number (Visits options base 1 client some.0 now x) (Visits options base 2 client some.0 now after) a b
-          (λ c y z one. visits_once options base c after (subst (λ (w : After). Visits options base 1 client some.0 now w c y z) is one)) some.2,
+          (λ c y z one. visits_once options base c after given (subst (λ (w : After). Visits options base 1 client some.0 now w c y z) is one)) some.2,
     )
 
     -- memory lacked at the first

@@ -14,6 +14,7 @@ pub mod Moving
 pub mod Tending
 pub mod Talking
 pub mod Moments
+pub mod Earning
 pub mod Turning
 pub mod Drying
 pub mod Making

@@ -149,9 +149,9 @@ module _ (options : Options) (base : ℕ) where
       some_here : next_of bytes ≢ More
       some_here none = some (is ∙ none)
 
-      pub whole_of : progress.is_whole ≡ true → is_last next ≡ false → (len : ℕ) → len ≡ len_of next
-          → GoesOnTo options base (position_at bytes done) answers before after (ReachesAfter options base bytes done (Whole len))
-      whole_of answered goes_on len len_is = record {
+      pub whole_of : progress.is_whole ≡ true → is_last next ≡ false → (len : ℕ) (spoke : Bool) → len ≡ len_of next
+          → GoesOnTo options base (position_at bytes done) answers before after (ReachesAfter options base bytes done (Whole len spoke))
+      whole_of answered goes_on len spoke len_is = record {
         text = all.text;
         appended = all.appended;
         on = λ received given due r. as_whole r all.told answers all.text (by_all.next_ones (begun bytes r.part r.told) (here r)) (all.due (begun bytes r.part r.told) (here r)) some_here

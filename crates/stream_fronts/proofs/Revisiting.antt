@@ -1,7 +1,10 @@
 -- Visits of one connection, one after another.
-use Rattle.std.proofs.Common.{◌≡◌, ℕ, ◌*◌, ◌≤◌, List, ◌++◌, length, sym, ap, ◌∙◌, subst, arith, append_assoc, length-append}
+use Rattle.std.proofs.Common.{◌≡◌, ◌≢◌, ◌⊎◌, inl, inr, ℕ, ◌+◌, ◌*◌, ◌<◌, ◌≤◌, List, ◌++◌, length, refl, sym, ap, ◌∙◌, subst, arith, append_assoc, length-append}
 use Rattle.std.proofs.lemmas.List.{map-append}
 use Rattle.partition_model.specs.declared.options.Options.{Options}
+use Rattle.memcached_text.specs.declared.next.Next.{Next}
+use Rattle.memcached_text.specs.declared.next.Next.TheVariants.{Command, Refused, More, LongLine}
+use Rattle.memcached_text.specs.Next.{next_of}
 use Rattle.stream_io.specs.declared.schedule.Step.{Step}
 use Rattle.stream_io.specs.Log.{Log}
 use Rattle.mica_fronts.specs.Answered.{Answered}
@@ -11,17 +14,29 @@ use Rattle.stream_fronts.specs.declared.visit.After.{After}
 use Rattle.stream_fronts.specs.declared.visit.After.TheVariants.{Again}
 use Rattle.stream_fronts.specs.Given.{Given, given_to}
 use Rattle.stream_fronts.specs.Moments.{TalksThrough}
-use Rattle.stream_fronts.specs.Turns.{most_answers}
+use Rattle.stream_fronts.specs.Turns.{moved, most_answers}
 use Rattle.stream_fronts.specs.Held.{Holds, all_to, Becomes, Visits, VisitLacks}
+use Rattle.stream_fronts.proofs.Earning.{grows_moved}
 use Rattle.stream_fronts.proofs.Moments.{given_more}
 use Rattle.stream_fronts.proofs.Staying.{passes_fewer, passes_then}
 
+-- a whole command stands there, or none does
+more_or : (next : Next) → (next ≡ More) ⊎ (next ≢ More)
+more_or More = inl refl
+more_or (Command command len) = inr (λ is. cc)
+more_or (Refused fault stale quiet len) = inr (λ is. cc)
+more_or LongLine = inr (λ is. cc)
+
 module _ (options : Options) (base c : ℕ) where
   -- one look is not more than two
-  pub visits_once : {client now : Client} {answers : List Answered} {old new : Log} (becomes : After) → Visits options base 1 client answers now becomes c old new
-      → Visits options base 2 client answers now becomes c old new
-  visits_once becomes visit =
-      record { passes = passes_fewer (omega arith) visit.passes; few_answers = let few = visit.few_answers in omega (arith, few); talks = visit.talks }
+  pub visits_once : {client now : Client} {answers : List Answered} {old new : Log} (becomes : After) → (becomes ≡ Again → 0 < length answers)
+      → Visits options base 1 client answers now becomes c old new → Visits options base 2 client answers now becomes c old new
+  visits_once becomes some visit = record {
+    passes = passes_fewer (omega arith) visit.passes;
+    few_answers = let few = visit.few_answers in omega (arith, few);
+    earns = λ is whole. let more = some is in let kept = grows_moved visit.passes.few_calls c in omega (arith, more, kept);
+    talks = visit.talks;
+  }
 
   pub lacks_once : {client : Client} {answers : List Answered} {old new : Log} → VisitLacks options base 1 client answers c old new → VisitLacks options base 2 client answers c old new
   lacks_once visit = record { passes = passes_fewer (omega arith) visit.passes; few_answers = let few = visit.few_answers in omega (arith, few); talks = visit.talks }
@@ -53,6 +68,14 @@ module _ (options : Options) (base c : ℕ) where
     visits_then {now} {two} {new} becomes second = record {
       passes = passes_then first.passes second.passes;
       few_answers = few_both two second.few_answers;
+      earns = λ is whole.
+          let all = length-append one two in
+          let before = grows_moved first.passes.few_calls c in
+          let after = grows_moved second.passes.few_calls c in
+          elim (more_or (next_of between.kept)) as (λ _. moved c old.entries < moved c new.entries + length (one ++ two)) [
+            | inl more ↦ let some = second.earns is (λ single waits. more) in omega (arith, all, before, some)
+            | inr none ↦ let some = first.earns refl (λ single waits. absurd (none waits)) in omega (arith, all, after, some)
+          ];
       talks = λ lacking all holds through.
           let s = second.talks lacking (all ++ all_to c one) (held_between lacking all holds through) (through_between lacking all holds through) in (
             through_both two new lacking all s.0,

@@ -1,7 +1,8 @@
 -- What serving a report makes of what stands.
-use Rattle.std.proofs.Common.{◌≡◌, ◌≢◌, inl, inr, ℕ, ◌*◌, ◌≤◌, true≢false, List, [], ◌∷◌, ◌++◌, length, refl, sym, ap, ◌∙◌, subst, arith}
+use Rattle.std.proofs.Common.{◌≡◌, ◌≢◌, inl, inr, ℕ, suc, ◌+◌, ◌*◌, ◌<◌, ◌≤◌, ◌==◌, Bool, true, false, true≢false, cond, List, [], ◌∷◌, ◌++◌, length, refl, sym, ap, ◌∙◌, subst, arith}
 use Rattle.std.specs.Prelude.{slice_get, Option, None, Some, is_some, IfSome}
 use Rattle.std.proofs.lemmas.List.{append-nil, length-map}
+use Rattle.std.proofs.lemmas.Bool.{eqb-true}
 use Rattle.std.proofs.lemmas.Option.{none-some}
 use Rattle.partition_model.specs.declared.options.Options.{Options}
 use Rattle.stream_io.specs.declared.connections.Event.TheVariants.{Ready}
@@ -13,20 +14,21 @@ use Rattle.stream_fronts.specs.declared.client.Client.{Client}
 use Rattle.stream_fronts.specs.declared.desk.TheConstants.{MOST_UNSENT}
 use Rattle.stream_fronts.specs.declared.visit.After.{After}
 use Rattle.stream_fronts.specs.declared.visit.After.TheVariants.{Waits, Again, Over}
-use Rattle.stream_fronts.specs.Given.{Given, answers_in}
+use Rattle.stream_fronts.specs.Given.{Given, answers_in, given_to}
 use Rattle.stream_fronts.specs.Open.{IsOpen, OnLogs}
 use Rattle.stream_fronts.specs.Clients.{at}
 use Rattle.stream_fronts.specs.Closing.{MayClose}
 use Rattle.stream_fronts.specs.Traffic.{OnHeld}
 use Rattle.stream_fronts.specs.Reached.{position_of}
-use Rattle.stream_fronts.specs.Turns.{most_answers}
-use Rattle.stream_fronts.specs.Held.{Holds, Visits, VisitLacks, all_to}
+use Rattle.stream_fronts.specs.Turns.{asks_of, moved, most_answers}
+use Rattle.stream_fronts.specs.Held.{Holds, Passes, Visits, VisitLacks, all_to}
 use Rattle.stream_fronts.specs.Standing.{Stands, StandsBut, StandsOn}
 use Rattle.stream_fronts.specs.Resting.{Rests}
 use Rattle.stream_fronts.proofs.Opening.{found}
 use Rattle.stream_fronts.proofs.Staying.{passes_under}
 use Rattle.stream_fronts.proofs.Moving.{moves_then, moves_asked, asked_comes}
 use Rattle.stream_fronts.proofs.Tending.{tends_served, tends_closed}
+use Rattle.stream_fronts.proofs.Earning.{grows_moved}
 use Rattle.stream_fronts.proofs.Moments.{given_more}
 use Rattle.stream_fronts.proofs.Turning.{grows_none, grows_call}
 use Rattle.stream_fronts.proofs.Visited.{held_sent}
@@ -51,6 +53,25 @@ answers_by number (Some log) answers = answers_all_to (place_under (held number 
 abbrev pub VisitsTo : Options → ℕ → ℕ → Client → List Answered → Client → Option Log → Option Log → After → Type 0
 VisitsTo options base number client answers now old new after = OnLogs (OnHeld number (Visits options base 2 client answers now after)) old new
 
+-- nothing was asked for again
+earns_none : {reads c : ℕ} {old new : Log} → Passes reads c old new → (d : ℕ) (given : List Given)
+    → asks_of d new.entries + moved d old.entries ≤ asks_of d old.entries + moved d new.entries + length (given_to d given)
+earns_none passes d given = let same = passes.unasked d in let kept = grows_moved passes.few_calls d in omega (arith, same, kept)
+
+-- a connection was, for which something was done
+earns_asked : {reads c : ℕ} {old new : Log} → Passes reads c old new → (answers : List Answered) → moved c old.entries < moved c new.entries + length answers → (d : ℕ)
+    → asks_of d (asked c ∷ new.entries) + moved d old.entries ≤ asks_of d old.entries + moved d new.entries + length (given_to d (all_to c answers))
+earns_asked {reads} {c} {old} {new} passes answers more d = by (c == d) refl
+  where
+    by : (b : Bool) → (c == d) ≡ b → cond b (suc (asks_of d new.entries)) (asks_of d new.entries) + moved d old.entries ≤ asks_of d old.entries + moved d new.entries + length (given_to d (all_to c answers))
+    by false is = earns_none passes d (all_to c answers)
+    by true is =
+        let same = passes.unasked d in
+        let to = ap length (given_more c [] answers) in
+        let here : moved c old.entries < moved c new.entries + length (given_to c (all_to c answers)) = omega (arith, more, to) in
+        let there = subst (λ e. moved e old.entries < moved e new.entries + length (given_to e (all_to c answers))) (eqb-true c d is) here in
+        omega (arith, same, there)
+
 module _ (options : Options) (base : ℕ) where
   pub stands_none : (lacking : List ℕ) (log : Log) (all : List Given) (now : List (Option Client)) → Stands options base lacking log all now → StandsBut options base lacking 0 log (all ++ []) now
   stands_none lacking log all now stands = ([], refl, subst (λ l. Stands options base lacking log l now) (sym (append-nil all)) stands)
@@ -68,6 +89,7 @@ module _ (options : Options) (base : ℕ) where
       piece = refl;
       few_calls = grows_none 2 log.entries;
       few_answers = omega arith;
+      earns = λ d. omega arith;
       on = λ lacking all new stands. stands_none lacking log all taken (stands_less options base lacking less_held stands);
       tends = λ lacking all stands but. record {
         apart = but.apart;
@@ -99,6 +121,7 @@ module _ (options : Options) (base : ℕ) where
           piece = visit.passes.piece;
           few_calls = visit.passes.few_calls;
           few_answers = few_to c visit.few_answers;
+          earns = λ d. earns_none visit.passes d (all_to c answers);
           on = λ lacking all is_new stands.
               let t = visit.talks lacking all (holds_at options base c here (stands.holds number client is_held)) stands.through in
               let s = stands_visited options base lacking {old = a} {new = b} all clients taken number c here others gone visit.passes.schedule (passes_under visit.passes) visit.passes.others answers t.0 stands in (
@@ -134,6 +157,7 @@ module _ (options : Options) (base : ℕ) where
             piece = visit.passes.piece;
             few_calls = grows_call (asked c) refl refl visit.passes.few_calls;
             few_answers = few_to c visit.few_answers;
+            earns = earns_asked visit.passes answers (visit.earns refl (λ single. absurd (omega (arith, single))));
             on = λ lacking all is_new stands.
                 let t = visit.talks lacking all (holds_at options base c here (stands.holds number client is_held)) stands.through in
                 let s = stands_visited options base lacking {old = a} {new = b} all clients taken number c here others gone visit.passes.schedule (passes_under visit.passes) visit.passes.others answers t.0 stands in
@@ -175,6 +199,7 @@ module _ (options : Options) (base : ℕ) where
         piece = visit.passes.piece;
         few_calls = grows_call (closed c) refl refl visit.passes.few_calls;
         few_answers = few_to c visit.few_answers;
+        earns = λ d. earns_none visit.passes d (all_to c answers);
         on = λ lacking all is_new stands.
             let t = visit.talks lacking all (holds_at options base c here (stands.holds number client is_held)) stands.through in
             let s = stands_visited options base lacking {old = a} {new = b} all clients taken number c here others gone visit.passes.schedule (passes_under visit.passes) visit.passes.others answers t.0 stands in
@@ -190,6 +215,7 @@ module _ (options : Options) (base : ℕ) where
         piece = visit.passes.piece;
         few_calls = grows_call (closed c) refl refl visit.passes.few_calls;
         few_answers = few_to c visit.few_answers;
+        earns = λ d. earns_none visit.passes d (all_to c answers);
         on = λ lacking all is_new before.
             let stands = stands_lacking options base c before in
             let through = visit.talks (c ∷ lacking) all ([], lacking, refl) (holds_at options base c here (stands.holds number client is_held)) stands.through in

@@ -126,7 +126,7 @@ module _ (options : Options) (is_alone : Bool) (base : ℕ) (old : Sessions) (le
             turns = subst (λ (l : List Step). TakesTurns options base MOST_UNSENT l w.script.piece (s.0 ++ by.lacking) w.entries (f.0 ++ second.0) answers) (sym schedule)
                 (subst (λ p. TakesTurns options base MOST_UNSENT y.schedule p (s.0 ++ by.lacking) w.entries (f.0 ++ second.0) answers) (sym piece)
                 (turns_more options base MOST_UNSENT y.schedule y.script.piece s.0 by.lacking event y.entries z.entries w.entries f.0 second.0 f.1 sweeps.answers
-                (ap (λ (l : Log). l.entries) (same_Some z (logged (entry_of event) (called y)) reports.result)) second.2.few_calls second.2.few_answers sweeps.sweeps sweeps.bounded
+                (ap (λ (l : Log). l.entries) (same_Some z (logged (entry_of event) (called y)) reports.result)) second.2.few_calls second.2.few_answers second.2.earns sweeps.sweeps sweeps.bounded
                 (last_moment options base MOST_UNSENT y.schedule by.lacking y.entries f.0 by.stands.through) by.caught_up by.turns));
             tends = tends;
             caught_up = all_caught_up options base (s.0 ++ by.lacking) w (f.0 ++ second.0) now are s.2 tends;

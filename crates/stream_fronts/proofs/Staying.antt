@@ -18,6 +18,7 @@ use Rattle.stream_fronts.specs.Turns.{GrowsBy}
 use Rattle.stream_fronts.specs.Held.{StaysAs, Passes, Looks}
 use Rattle.stream_fronts.proofs.Traffic.{sends_received, mets_sent, mets_received, mets_send}
 use Rattle.stream_fronts.proofs.Turning.{grows_none, grows_then, grows_fewer, grows_sends, grows_read}
+use Rattle.stream_fronts.proofs.Earning.{sends_unasked, reads_unasked}
 use Rattle.stream_fronts.proofs.Drying.{sends_ended, ended_sends, in_changed}
 use Rattle.stream_fronts.proofs.Making.{made_sends, made_reads}
 use Rattle.stream_fronts.proofs.Moving.{moves_none, moves_then, moves_sends, moves_reads}
@@ -88,7 +89,7 @@ stays_read {c} {bytes} {old} {new} reads d other = record {
 
 pub passes_same : (reads c : ℕ) (log : Log) → Passes reads c log log
 passes_same reads c log =
-    record { schedule = refl; piece = refl; few_calls = grows_none reads log.entries; moves = moves_none c (state_of log); others = λ d other. stays_same d log }
+    record { schedule = refl; piece = refl; few_calls = grows_none reads log.entries; moves = moves_none c (state_of log); others = λ d other. stays_same d log; unasked = λ d. refl }
 
 pub passes_then : {reads more c : ℕ} {old between new : Log} → Passes reads c old between → Passes more c between new → Passes (reads + more) c old new
 passes_then first second = record {
@@ -97,11 +98,12 @@ passes_then first second = record {
   few_calls = grows_then first.few_calls second.few_calls;
   moves = moves_then first.moves second.moves;
   others = λ d other. stays_then (first.others d other) (second.others d other);
+  unasked = λ d. second.unasked d ∙ first.unasked d;
 }
 
 pub passes_fewer : {reads more c : ℕ} {old new : Log} → reads ≤ more → Passes reads c old new → Passes more c old new
 passes_fewer less passes =
-    record { schedule = passes.schedule; piece = passes.piece; few_calls = grows_fewer less passes.few_calls; moves = passes.moves; others = passes.others }
+    record { schedule = passes.schedule; piece = passes.piece; few_calls = grows_fewer less passes.few_calls; moves = passes.moves; others = passes.others; unasked = passes.unasked }
 
 pub passes_sends : (reads : ℕ) {c : ℕ} {text : List ℕ} {old new : Log} → Sends c text old new → Passes reads c old new
 passes_sends reads {c} {text} {old} sends = record {
@@ -110,6 +112,7 @@ passes_sends reads {c} {text} {old} sends = record {
   few_calls = subst (λ (e : List Entry). GrowsBy reads old.entries e) (sym sends.entries) (grows_sends reads c sends.more old.entries sends.each);
   moves = moves_sends sends;
   others = stays_sent sends;
+  unasked = sends_unasked sends;
 }
 
 pub passes_reads : {c : ℕ} {bytes : List ℕ} {old new : Log} → Reads c bytes old new → Passes 1 c old new
@@ -119,6 +122,7 @@ passes_reads {c} {bytes} {old} reads = record {
   few_calls = subst (λ (e : List Entry). GrowsBy 1 old.entries e) (sym reads.entries) (grows_read c bytes reads.mets old.entries (mets_send c reads.mets reads.each));
   moves = moves_reads reads;
   others = stays_read reads;
+  unasked = reads_unasked reads;
 }
 
 -- what is under a number is there still

@@ -50,6 +50,7 @@ module _ (options : Options) (base number : ℕ) (clients : List (Option Client)
     piece = refl;
     few_calls = grows_none 2 log.entries;
     few_answers = omega arith;
+    earns = λ d. omega arith;
     on = λ lacking all is_new stands.
         let c = is_open.0 in
         stands_none options base lacking log all now (stands_put options base lacking number client others put (holds_new client reading none talk c log all is_open.1.0 (is_new c is_open.1.0)) stands);
@@ -76,6 +77,7 @@ module _ (options : Options) (base number : ℕ) (clients : List (Option Client)
         piece = refl;
         few_calls = grows_call (closed c) refl refl (grows_none 2 log.entries);
         few_answers = omega arith;
+        earns = λ d. omega arith;
         on = λ lacking all is_new stands.
             let less = stands_less options base lacking {now = taken}
             (λ n x held_so. sym (others n (λ same. none-some x (sym gone ∙ subst (λ m. at taken m ≡ Some x) same held_so))) ∙ held_so) stands in (

@@ -12,10 +12,11 @@ use Rattle.stream_io.specs.Calls.{entry_of}
 use Rattle.mica_fronts.specs.Answered.{Answered}
 use Rattle.memcached_fronts.specs.declared.sweeper.TheConstants.{MOST_SWEPT}
 use Rattle.memcached_fronts.specs.Sweeps.{IsSweep}
-use Rattle.stream_fronts.specs.Given.{Given, answers_in}
+use Rattle.stream_fronts.specs.Given.{Given, answers_in, given_to}
 use Rattle.stream_fronts.specs.Moments.{TalksWithAll, IsCaughtUp}
 use Rattle.stream_fronts.specs.Traffic.{IsSend, after_receiving}
-use Rattle.stream_fronts.specs.Turns.{is_report, is_read, most_answers, AreFew, GrowsBy, Turn, AreShort, TakesTurns, calls_in, given_in}
+use Rattle.stream_fronts.specs.Turns.{is_report, is_read, asks_of, moved, most_answers, AreFew, GrowsBy, Turn, AreShort, TakesTurns, calls_in, given_in}
+use Rattle.stream_fronts.proofs.Earning.{asks_append, moved_append}
 use Rattle.stream_fronts.proofs.Moments.{all_lacking}
 
 -- Few calls
@@ -91,17 +92,28 @@ module _ (options : Options) (base most : ℕ) (schedule : List Step) (piece : �
 
   -- one turn more
   pub turns_more : (more lacking : List ℕ) (event : Event) (old between new : List Entry) (all given : List Given) (answers swept : List Answered) → between ≡ entry_of event ∷ old
-      → GrowsBy 2 between new → length given ≤ 2 * most_answers options → AllByRecursion (IsSweep options base) swept → length swept ≤ MOST_SWEPT
+      → GrowsBy 2 between new → length given ≤ 2 * most_answers options
+      → ((c : ℕ) → asks_of c new + moved c between ≤ asks_of c between + moved c new + length (given_to c given)) → AllByRecursion (IsSweep options base) swept → length swept ≤ MOST_SWEPT
       → TalksWithAll options base most lacking old all → IsCaughtUp options base schedule piece old all
       → TakesTurns options base most schedule piece lacking old all answers
       → TakesTurns options base most schedule piece (more ++ lacking) new (all ++ given) (answers ++ answers_in given ++ swept)
-  turns_more more lacking event old between new all given answers swept reports grows few sweeps few_sweeps talks caught_up before = record {
+  turns_more more lacking event old between new all given answers swept reports grows few earns sweeps few_sweeps talks caught_up before = record {
     turns = record { report = entry_of event; calls = grows.0; given = given; swept = swept } ∷ before.turns;
     calls = ap (λ e. grows.0 ++ entry_of event ∷ e) before.calls ∙ ap (λ e. grows.0 ++ e) (sym reports) ∙ sym grows.1;
     given = ap (λ g. g ++ given) before.given;
     answered = ap (λ a. a ++ answers_in given ++ swept) before.answered;
     short = (
-      record { begins = begins event; few_calls = grows.2; few_answers = few; sweeps = sweeps; few_sweeps = few_sweeps },
+      record {
+        begins = begins event;
+        few_calls = grows.2;
+        few_answers = few;
+        earns = λ c.
+            let asks = ap (asks_of c) grows.1 ∙ asks_append c grows.0 between in
+            let moves = ap (moved c) grows.1 ∙ moved_append c grows.0 between in
+            let more = earns c in omega (arith, asks, moves, more);
+        sweeps = sweeps;
+        few_sweeps = few_sweeps;
+      },
       all_lacking options base most more lacking (calls_in before.turns) (given_in before.turns) (as_turned (TalksWithAll options base most lacking) talks),
       as_turned (IsCaughtUp options base schedule piece) caught_up,
       short_lacking more lacking before.turns before.short,

@@ -1,5 +1,5 @@
 -- What a visit makes of a talk, by what each part of it did.
-use Rattle.std.proofs.Common.{◌≡◌, ◌≢◌, ℕ, ◌*◌, ◌≤◌, inl, inr, Bool, true, false, true≢false, List, [], ◌++◌, length, take, drop, refl, sym, ap, ◌∙◌, subst, arith, length-append}
+use Rattle.std.proofs.Common.{◌≡◌, ◌≢◌, ℕ, ◌+◌, ◌*◌, ◌<◌, ◌≤◌, inl, inr, Bool, true, false, true≢false, List, [], ◌++◌, length, take, drop, refl, sym, ap, ◌∙◌, subst, arith, length-append}
 use Rattle.std.specs.Prelude.{slice_get, Option, Some, None, IfSome, Ok, Err}
 use Rattle.std.proofs.lemmas.List.{append-nil, take-append-drop}
 use Rattle.partition_model.specs.declared.options.Options.{Options}
@@ -21,40 +21,26 @@ use Rattle.stream_fronts.specs.Given.{Given, given_to}
 use Rattle.stream_fronts.specs.Reached.{Position, Reaches, Ends, HaltsAs, Spoke, position_of}
 use Rattle.stream_fronts.specs.Closing.{MayClose}
 use Rattle.stream_fronts.specs.Moments.{TalksThrough}
-use Rattle.stream_fronts.specs.Turns.{most_answers}
+use Rattle.stream_fronts.specs.Turns.{moved, most_answers}
 use Rattle.stream_fronts.specs.Clients.{IsClient}
-use Rattle.stream_fronts.specs.Traffic.{Sends, SendsFrom, Reads, IsIn, IsShutIn, HasEnded, EndsBy}
-use Rattle.stream_fronts.specs.Resting.{shut, idle, Rests}
-use Rattle.stream_fronts.specs.Held.{Passes, Holds, goes_on, left, ended, all_to, Becomes, Visits, leaves_by, Looks, Lacks, VisitLacks}
+use Rattle.stream_fronts.specs.Traffic.{Sends, SendsFrom, Reads, IsIn, HasEnded, EndsBy}
+use Rattle.stream_fronts.specs.Resting.{idle, Rests}
+use Rattle.stream_fronts.specs.Held.{IsAtRest, KeepsWhole, Passes, Holds, goes_on, left, ended, all_to, Becomes, Visits, leaves_by, Looks, Lacks, VisitLacks}
 use Rattle.stream_fronts.proofs.Talking.{may_leave, may_end}
 use Rattle.stream_fronts.proofs.Staying.{passes_then, passes_sends, passes_reads, looks_passes}
-use Rattle.stream_fronts.proofs.Moving.{moves_sends}
+use Rattle.stream_fronts.proofs.Earning.{looked_earns}
 use Rattle.stream_fronts.proofs.Drying.{sends_ended}
 use Rattle.stream_fronts.proofs.Moments.{given_more}
-use Rattle.stream_fronts.proofs.Visiting.{if_some, Stage, stage_held, stage_sent, due_same, received_same, stage_breaks, stage_read, received_now, sent_now, stage_answered, stage_lacking}
-
-for_any : {X : Type 0} {Q : X → Type 0} (o : Option X) → ((x : X) → Q x) → IfSome o Q
-for_any None then = tt
-for_any (Some x) then = then x
-
--- an end that a read told stays
-ends_on : (input : Option Input) {c : ℕ} {text : List ℕ} {old new : Log} → Sends c text old new → EndsBy input c old → EndsBy input c new
-ends_on None sends is = tt
-ends_on (Some (Bytes count)) sends is = tt
-ends_on (Some Later) {c} {text} {old} {new} sends is =
-    let moves = moves_sends sends in
-    elim is as (λ _. EndsBy (Some Later) c new) [
-      | inl come ↦ inl (moves.to_come c come)
-      | inr drained ↦ elim moves.own as (λ _. EndsBy (Some Later) c new) [ inl come ↦ inl come | inr on ↦ inr (on drained) ]
-    ]
-ends_on (Some Ended) {c} sends is = sends_ended sends c is
+use Rattle.stream_fronts.proofs.Visiting.{if_some, for_any, ends_on, rests_shut, Stage, stage_held, stage_sent, due_same, received_same, stage_breaks, stage_read, received_now, sent_now, stage_answered, stage_lacking}
 
 waits_not_over : Waits ≢ Over
 waits_not_over is = cc
 
--- replies wait, and the peer takes none
-rests_shut : (client : Client) (c : ℕ) (log : Log) → client.unsent ≢ [] → IsShutIn c log → Rests client c log.script.piece (state_of log)
-rests_shut client c log some is = inr (λ moving. if_some (slice_get (connections_of log) c) (λ x e. shut some e) (is moving))
+waits_not_again : Waits ≢ Again
+waits_not_again is = cc
+
+over_not_again : Over ≢ Again
+over_not_again is = cc
 
 module _ (options : Options) (base : ℕ) where
   -- What is said of some bytes and answers is said of equal ones
@@ -195,6 +181,7 @@ module _ (options : Options) (base : ℕ) where
       visit_breaks now broken sends = record {
         passes = passes_sends 1 sends.0.1;
         few_answers = omega arith;
+        earns = λ is. absurd (over_not_again is);
         talks = λ lacking all holds through.
             let most = MOST_UNSENT in
             let stage = stage_unsent most c lacking all client refl is holds through (drop sends.0.0 client.unsent) sends.0.1 (sym (take-append-drop sends.0.0 client.unsent)) in
@@ -215,6 +202,7 @@ module _ (options : Options) (base : ℕ) where
         visit_waits some = record {
           passes = passes_sends 1 sends.1;
           few_answers = omega arith;
+          earns = λ is. absurd (waits_not_again is);
           talks = λ lacking all holds through.
               let most = MOST_UNSENT in
               let stage = stage_then most lacking all holds through in
@@ -225,6 +213,7 @@ module _ (options : Options) (base : ℕ) where
         visit_leaves is_now ends none = record {
           passes = passes_sends 1 sends.1;
           few_answers = omega arith;
+          earns = λ is. absurd (over_not_again is);
           talks = λ lacking all holds through.
               let most = MOST_UNSENT in
               let stage = stage_then most lacking all holds through in (
@@ -240,6 +229,7 @@ module _ (options : Options) (base : ℕ) where
               let still : Visits options base 1 client [] then Over c old log = record {
                 passes = passes_then (passes_sends 0 sends.1) (passes_reads looks.2);
                 few_answers = omega arith;
+                earns = λ is. absurd (over_not_again is);
                 talks = λ lacking all holds through.
                     let most = MOST_UNSENT in
                     let before = subst (λ r. Stage options base most c old.schedule lacking mid all r) none (stage_then most lacking all holds through) in
@@ -315,6 +305,7 @@ module _ (options : Options) (base : ℕ) where
               visit_unsent broken then_sends = record {
                 passes = passes_then looked_passes (passes_sends 0 then_sends.0.1);
                 few_answers = answers_few;
+                earns = λ is. absurd (over_not_again is);
                 talks = λ lacking all holds through.
                     let most = MOST_UNSENT in
                     let f = found most lacking all looks_few holds through in
@@ -353,31 +344,44 @@ module _ (options : Options) (base : ℕ) where
                       | inr drained ↦ inr (λ moving. if_some (slice_get (connections_of new) c) (λ x e. idle none_left reading (ap (λ (p : Position). next_of p.bytes) position_is ∙ more) e) drained)
                     ]
 
-                visit_goes_on : (becomes : After) → becomes ≢ Over → WaitsFor becomes → Visits options base 1 client answers last becomes c old new
-                visit_goes_on Over other rests = absurd (other refl)
-                visit_goes_on Waits other rests = record {
+                -- where there is more to do at once, something was done
+                abbrev Earned : After → Type 0
+                Earned becomes = becomes ≡ Again → KeepsWhole client last → moved c old.entries < moved c new.entries + length answers
+
+                earns_again : (becomes : After) → last.unsent ≡ [] → (IsAtRest r.0 r.1 → becomes ≢ Again) → Earned becomes
+                earns_again becomes none_left busy = λ again whole.
+                    let all = ap length then_sends.2 ∙ length-append then_sends.0 last.unsent in
+                    let none = ap length none_left in
+                    looked_earns options base client now then last answers replies r position position_is sends.1 looks then_sends.1 (omega (arith, all, none)) (λ rest. busy rest again) whole
+
+                visit_goes_on : (becomes : After) → becomes ≢ Over → WaitsFor becomes → Earned becomes → Visits options base 1 client answers last becomes c old new
+                visit_goes_on Over other rests earned = absurd (other refl)
+                visit_goes_on Waits other rests earned = record {
                   passes = passes_then looked_passes (passes_sends 0 then_sends.1);
                   few_answers = answers_few;
+                  earns = λ is. absurd (waits_not_again is);
                   talks = λ lacking all holds through.
                       let most = MOST_UNSENT in
                       let stage = stage_end most lacking all looks_few holds through in
                       (stage.through, (held_end most lacking all looks_few holds through, rests refl lacking all (end most lacking all looks_few holds through)));
                 }
-                visit_goes_on Again other rests = record {
+                visit_goes_on Again other rests earned = record {
                   passes = passes_then looked_passes (passes_sends 0 then_sends.1);
                   few_answers = answers_few;
+                  earns = λ is whole. earned is (whole refl);
                   talks = λ lacking all holds through.
                       let most = MOST_UNSENT in
                       let stage = stage_end most lacking all looks_few holds through in (stage.through, held_end most lacking all looks_few holds through);
                 }
 
                 pub visit_shut : last.unsent ≢ [] → Visits options base 1 client answers last Waits c old new
-                visit_shut some = visit_goes_on Waits waits_not_over (λ is lacking all looked. rests_shut last c new some (then_sends.3 some))
+                visit_shut some = visit_goes_on Waits waits_not_over (λ is lacking all looked. rests_shut last c new some (then_sends.3 some)) (λ is. absurd (waits_not_again is))
 
                 pub visit_ends : IsClient last → last.leaving ≡ true → last.unsent ≡ [] → Visits options base 1 client answers last Over c old new
                 visit_ends is_last over none_left = record {
                   passes = passes_then looked_passes (passes_sends 0 then_sends.1);
                   few_answers = answers_few;
+                  earns = λ is. absurd (over_not_again is);
                   talks = λ lacking all holds through.
                       let most = MOST_UNSENT in
                       let stage = stage_end most lacking all looks_few holds through in
@@ -385,9 +389,9 @@ module _ (options : Options) (base : ℕ) where
                 }
 
                 pub visit_after : (becomes : After) → (last.leaving ≡ true → becomes ≡ Over) → (last.leaving ≡ false → becomes ≢ Over) → (becomes ≡ Waits → (r.0 ≡ Needs) × (r.1 ≡ Some Later))
-                    → IsClient last → last.unsent ≡ [] → Visits options base 1 client answers last becomes c old new
-                visit_after becomes over stays waits is_last none_left = by last.leaving refl
+                    → (IsAtRest r.0 r.1 → becomes ≢ Again) → IsClient last → last.unsent ≡ [] → Visits options base 1 client answers last becomes c old new
+                visit_after becomes over stays waits busy is_last none_left = by last.leaving refl
                   where
                     by : (b : Bool) → last.leaving ≡ b → Visits options base 1 client answers last becomes c old new
                     by true is_over = subst (λ (a : After). Visits options base 1 client answers last a c old new) (sym (over is_over)) (visit_ends is_last is_over none_left)
-                    by false is_open = visit_goes_on becomes (stays is_open) (waits_idle becomes is_open none_left waits)
+                    by false is_open = visit_goes_on becomes (stays is_open) (waits_idle becomes is_open none_left waits) (earns_again becomes none_left busy)

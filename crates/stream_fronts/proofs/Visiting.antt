@@ -1,14 +1,16 @@
 -- One visit of a connection, from moment to moment.
-use Rattle.std.proofs.Common.{◌≡◌, ℕ, ◌+◌, ◌-◌, ◌≤◌, inl, inr, cond, List, [], ◌∷◌, ◌++◌, length, drop, refl, sym, ap, ◌∙◌, subst, arith, append_assoc, length-append, length-drop}
+use Rattle.std.proofs.Common.{◌≡◌, ◌≢◌, ℕ, ◌+◌, ◌-◌, ◌≤◌, inl, inr, cond, List, [], ◌∷◌, ◌++◌, length, drop, refl, sym, ap, ◌∙◌, subst, arith, append_assoc, length-append, length-drop}
 use Rattle.std.specs.Prelude.{slice_get, Option, Some, None, IfSome}
 use Rattle.std.proofs.lemmas.List.{append-nil}
 use Rattle.std.proofs.lemmas.Bool.{eq-eqb}
 use Rattle.partition_model.specs.declared.options.Options.{Options}
 use Rattle.memcached_text.specs.declared.limits.TheConstants.{MAX_WAITING_LEN}
 use Rattle.stream_io.specs.declared.schedule.Step.{Step}
+use Rattle.stream_io.specs.declared.connections.Input.{Input}
+use Rattle.stream_io.specs.declared.connections.Input.TheVariants.{Bytes, Later, Ended}
 use Rattle.stream_io.specs.State.{Entry}
 use Rattle.stream_io.specs.State as entry
-use Rattle.stream_io.specs.Log.{Log, connections_of, received_of, sent_of}
+use Rattle.stream_io.specs.Log.{Log, state_of, connections_of, received_of, sent_of}
 use Rattle.mica_fronts.specs.Answered.{Answered}
 use Rattle.stream_fronts.specs.declared.answer.Halt.{Halt}
 use Rattle.stream_fronts.specs.declared.answer.Halt.TheVariants.{Needs, Enough, Leaves}
@@ -19,10 +21,13 @@ use Rattle.stream_fronts.specs.Reached.{Reaches, HaltsAs, Spoke, position_of}
 use Rattle.stream_fronts.specs.Closing.{MayClose}
 use Rattle.stream_fronts.specs.Moments.{IsAmong, TalksThrough}
 use Rattle.stream_fronts.specs.Clients.{IsClient}
-use Rattle.stream_fronts.specs.Traffic.{Sends, Reads, IsIn, IsBroken, after_receiving}
+use Rattle.stream_fronts.specs.Traffic.{Sends, Reads, IsIn, IsBroken, IsShutIn, EndsBy, after_receiving}
+use Rattle.stream_fronts.specs.Resting.{shut, Rests}
 use Rattle.stream_fronts.specs.Held.{Holds, goes_on, left, ended, all_to}
 use Rattle.stream_fronts.proofs.Reaching.{read_more}
 use Rattle.stream_fronts.proofs.Talking.{Told, talk_at, talk_ends, may_break}
+use Rattle.stream_fronts.proofs.Moving.{moves_sends}
+use Rattle.stream_fronts.proofs.Drying.{sends_ended}
 use Rattle.stream_fronts.proofs.Staying.{receiving_others, receiving_sent}
 use Rattle.stream_fronts.proofs.Traffic.{sends_received, mets_received, mets_sent, mets_send}
 use Rattle.stream_fronts.proofs.Moments.{with_all, last_moment, through_entry, through_answers, through_sends, given_more, given_others}
@@ -30,6 +35,26 @@ use Rattle.stream_fronts.proofs.Moments.{with_all, last_moment, through_entry, t
 pub if_some : {X : Type 0} {P Q : X → Type 0} (o : Option X) → ((x : X) → P x → Q x) → IfSome o P → IfSome o Q
 if_some None then is = tt
 if_some (Some x) then is = then x is
+
+pub for_any : {X : Type 0} {Q : X → Type 0} (o : Option X) → ((x : X) → Q x) → IfSome o Q
+for_any None then = tt
+for_any (Some x) then = then x
+
+-- an end that a read told stays
+pub ends_on : (input : Option Input) {c : ℕ} {text : List ℕ} {old new : Log} → Sends c text old new → EndsBy input c old → EndsBy input c new
+ends_on None sends is = tt
+ends_on (Some (Bytes count)) sends is = tt
+ends_on (Some Later) {c} {text} {old} {new} sends is =
+    let moves = moves_sends sends in
+    elim is as (λ _. EndsBy (Some Later) c new) [
+      | inl come ↦ inl (moves.to_come c come)
+      | inr drained ↦ elim moves.own as (λ _. EndsBy (Some Later) c new) [ inl come ↦ inl come | inr on ↦ inr (on drained) ]
+    ]
+ends_on (Some Ended) {c} sends is = sends_ended sends c is
+
+-- replies wait, and the peer takes none
+pub rests_shut : (client : Client) (c : ℕ) (log : Log) → client.unsent ≢ [] → IsShutIn c log → Rests client c log.script.piece (state_of log)
+rests_shut client c log some is = inr (λ moving. if_some (slice_get (connections_of log) c) (λ x e. shut some e) (is moving))
 
 -- a connection has its own bytes
 own_received : (c : ℕ) (bytes : List ℕ) (entries : List Entry) → received_of c (entry.received c bytes ∷ entries) ≡ received_of c entries ++ bytes

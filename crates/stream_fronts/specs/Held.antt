@@ -1,5 +1,5 @@
 -- What is held of a client beside its talk, and what a visit makes of both.
-use Rattle.std.specs.Prelude.{◌≡◌, ◌⊎◌, ℕ, ◌==◌, ◌*◌, ◌≤◌, Bool, true, false, List, [], ◌++◌, length, map, take, drop, slice_get, Option, None, Some, IfSome, Result, Ok, Err}
+use Rattle.std.specs.Prelude.{◌≡◌, ◌⊎◌, ℕ, ◌==◌, ◌+◌, ◌*◌, ◌<◌, ◌≤◌, Bool, true, false, List, [], ◌++◌, length, map, take, drop, slice_get, Option, None, Some, IfSome, Result, Ok, Err}
 use Rattle.partition_model.specs.declared.options.Options.{Options}
 use Rattle.memcached_text.specs.declared.next.Next.TheVariants.{More}
 use Rattle.memcached_text.specs.declared.limits.TheConstants.{MAX_WAITING_LEN}
@@ -19,7 +19,7 @@ use Rattle.stream_fronts.specs.Given.{Given, given_to}
 use Rattle.stream_fronts.specs.Reached.{Reaches, Ends, GoesOnTo, SpokeFrom, SpokeBehind, HaltsAs, position_of}
 use Rattle.stream_fronts.specs.Closing.{MayClose}
 use Rattle.stream_fronts.specs.Moments.{IsAmong, TalksThrough}
-use Rattle.stream_fronts.specs.Turns.{GrowsBy, most_answers}
+use Rattle.stream_fronts.specs.Turns.{GrowsBy, asks_of, moved, most_answers}
 use Rattle.stream_fronts.specs.Traffic.{Reads, IsIn, IsBroken, HasEnded, EndsBy}
 use Rattle.stream_fronts.specs.Resting.{Moves, Rests}
 
@@ -52,19 +52,26 @@ pub record StaysAs (d : ℕ) (old new : Log) : Type 0 where
   pub over : IsIn HasEnded d old → IsIn HasEnded d new
   pub made : slice_get (connections_of new) d ≡ None → slice_get (connections_of old) d ≡ None
 
--- Calls were made for the c-th connection, and for no other, of which so many reads at most gave bytes.
+-- Calls were made for the c-th connection, and for no other, of which so many reads at most gave bytes. None was asked for again.
 pub record Passes (reads c : ℕ) (old new : Log) : Type 0 where
   pub schedule : new.schedule ≡ old.schedule
   pub piece : new.script.piece ≡ old.script.piece
   pub few_calls : GrowsBy reads old.entries new.entries
   pub moves : Moves c (state_of old) (state_of new)
   pub others : (d : ℕ) → (c == d) ≡ false → StaysAs d old new
+  pub unasked : (d : ℕ) → asks_of d new.entries ≡ asks_of d old.entries
+
+-- what is kept begins with a whole command still, where it did
+abbrev pub KeepsWhole : Client → Client → Type 0
+KeepsWhole client now = next_of now.kept ≡ More → next_of client.kept ≡ More
 
 -- The c-th connection was looked at so often at most, where this was held of its client. Where the front had talked with all clients before, at each moment, it
--- has with these answers to this one.
+-- has with these answers to this one. Where there may be more to do at once, bytes were received or sent, or it was answered; but one look alone may
+-- have found nothing but commands in what was kept that get no answer and no reply.
 pub record Visits (options : Options) (base looks : ℕ) (client : Client) (answers : List Answered) (now : Client) (becomes : After) (c : ℕ) (old new : Log) : Type 0 where
   pub passes : Passes looks c old new
   pub few_answers : length answers ≤ looks * most_answers options
+  pub earns : becomes ≡ Again → (looks ≡ 1 → KeepsWhole client now) → moved c old.entries < moved c new.entries + length answers
   pub talks : (lacking : List ℕ) (all : List Given) → Holds options base MOST_UNSENT c old (given_to c all) client
       → TalksThrough options base MOST_UNSENT old.schedule lacking old.entries all
       → TalksThrough options base MOST_UNSENT old.schedule lacking new.entries (all ++ all_to c answers)
@@ -90,6 +97,7 @@ pub record GoesFurther (options : Options) (base : ℕ) (client : Client) (answe
   pub few : length replies ≤ MOST_UNSENT
   pub few_answers : length answers ≤ most_answers options
   pub ends : EndsBy r.1 c new
+  pub earns : KeepsWhole client now → IsAtRest r.0 r.1 ⊎ (0 < length answers + length replies)
 
 -- The connection was read once, and what had come was answered.
 pub record ReadsOn (options : Options) (base : ℕ) (client : Client) (answers : List Answered) (replies : List ℕ) (now : Client) (r : Halt × Option Input) (c : ℕ) (old new : Log)
@@ -103,6 +111,7 @@ pub record ReadsOn (options : Options) (base : ℕ) (client : Client) (answers :
   pub few : length replies ≤ MOST_UNSENT
   pub few_answers : length answers ≤ most_answers options
   pub ends : EndsBy r.1 c new
+  pub earns : KeepsWhole client now → IsAtRest r.0 r.1 ⊎ (0 < length bytes + length answers + length replies)
 
 -- Either; or the connection is broken, and nothing was answered.
 abbrev pub Looks : Options → ℕ → Client → List Answered → List ℕ → Client → Result (Halt × Option Input) Broken → ℕ → Log → Log → Type 0

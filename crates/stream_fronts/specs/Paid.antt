@@ -2,14 +2,17 @@
 --
 -- A read allows two asks for each byte that it gives. One pays for the visit that read it; the other is kept until the byte is answered. So what is left with
 -- more to do may always be asked for again.
-use Rattle.std.specs.Prelude.{◌≡◌, ◌⊎◌, ℕ, ◌+◌, ◌-◌, ◌<◌, ◌≤◌, List, [], length, Option, Some, None}
+use Rattle.std.specs.Prelude.{◌≡◌, ◌⊎◌, ℕ, ◌+◌, ◌-◌, ◌<◌, ◌≤◌, ⊤, true, false, List, [], length, Option, Some, None}
 use Rattle.memcached_text.specs.declared.next.Next.TheVariants.{More}
 use Rattle.memcached_text.specs.declared.limits.TheConstants.{MAX_WAITING_LEN}
 use Rattle.memcached_text.specs.Next.{next_of}
 use Rattle.memcached_fronts.specs.Exchange.{IsOpenAt}
 use Rattle.stream_io.specs.declared.connections.Input.{Input}
 use Rattle.stream_io.specs.declared.connections.Input.TheVariants.{Bytes}
+use Rattle.mica_fronts.specs.Answered.{Answered}
 use Rattle.stream_fronts.specs.declared.answer.TheConstants.{LIMITS}
+use Rattle.stream_fronts.specs.declared.answer.Halt.{Halt}
+use Rattle.stream_fronts.specs.declared.answer.Halt.TheVariants.{Enough}
 use Rattle.stream_fronts.specs.declared.answer.Said.{Said}
 use Rattle.stream_fronts.specs.declared.answer.Said.TheVariants.{Nothing, Part, Whole, Last}
 use Rattle.stream_fronts.specs.declared.client.Client.{Client}
@@ -24,8 +27,23 @@ MayAnswer partitions left = LIMITS.asks + partitions ≤ left
 abbrev pub AnswersOn : List ℕ → ℕ → Said → Type 0
 AnswersOn bytes done Nothing = next_of bytes ≡ More
 AnswersOn bytes done (Part more) = IsOpenAt (next_of bytes) more × (done < more) × (done < length bytes)
-AnswersOn bytes done (Whole len) = (done < len) × (done < length bytes)
+AnswersOn bytes done (Whole len spoke) = (done < len) × (done < length bytes)
 AnswersOn bytes done Last = done < length bytes
+
+-- an answer was given, or the text grew
+abbrev pub Speaks : List Answered → List ℕ → List ℕ → Type 0
+Speaks answers old new = length old < length answers + length new
+
+-- What came of a command, as it says: it spoke so, or it was silent.
+abbrev pub SpeaksAs : Said → List Answered → List ℕ → List ℕ → Type 0
+SpeaksAs (Part more) answers old new = Speaks answers old new
+SpeaksAs (Whole len true) answers old new = Speaks answers old new
+SpeaksAs (Whole len false) answers old new = (answers ≡ []) × (new ≡ old)
+SpeaksAs _ answers old new = ⊤
+
+-- Where anything may be answered, and there may be more to answer, one command at least spoke so.
+abbrev pub SpeaksWhere : Type 0 → Halt → List Answered → List ℕ → List ℕ → Type 0
+SpeaksWhere may halt answers old new = may → halt ≡ Enough → Speaks answers old new
 
 -- So many bytes at a place are unanswered. Each answer to the command that stands there counts for one.
 abbrev pub unanswered : Position → ℕ
@@ -42,8 +60,9 @@ pub record Advances (may waits : Type 0) (here there : Position) : Type 0 where
 abbrev pub IsPaid : ℕ → Client → Type 0
 IsPaid more client = unanswered (position_of client) + more ≤ client.asks
 
--- So many bytes lie there after a read: each is paid for, and once more where it gave some. No read was made where there was no room for any.
+-- So many bytes lie there after a read: each is paid for. Where it gave some, one ask more is, and more lie there than were kept. No read was made where there
+-- was no room for any.
 abbrev pub PaysFor : Client → ℕ → Option Input → Type 0
 PaysFor client count None = (count ≤ client.asks) × (length client.kept ≡ MAX_WAITING_LEN)
-PaysFor client count (Some (Bytes some)) = count < client.asks
+PaysFor client count (Some (Bytes some)) = (count < client.asks) × (length client.kept < count)
 PaysFor client count (Some _) = count ≤ client.asks

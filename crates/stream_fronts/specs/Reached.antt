@@ -65,7 +65,7 @@ pub record GoesOnTo (options : Options) (base : ℕ) (position : Position) (answ
 abbrev pub ReachesAfter : Options → ℕ → List ℕ → ℕ → Said → List ℕ → List Answered → List ℕ → Type 0
 ReachesAfter options base bytes done Nothing received answers due = Reaches options base (position_at bytes done) received answers due × (next_of bytes ≡ More)
 ReachesAfter options base bytes done (Part more) received answers due = Reaches options base (position_at bytes more) received answers due
-ReachesAfter options base bytes done (Whole len) received answers due =
+ReachesAfter options base bytes done (Whole len spoke) received answers due =
     Reaches options base (record { bytes = drop len bytes; done = 0; dropping = len - length bytes }) received answers due
 ReachesAfter options base bytes done Last received answers due = Ends options base (length bytes) received answers due
 

@@ -1,5 +1,5 @@
 -- What stands between a front and all its clients at one moment, and what a report makes of that.
-use Rattle.std.specs.Prelude.{◌≡◌, ⊤, ℕ, ◌*◌, ◌≤◌, Bool, List, [], ◌++◌, length, slice_get, Option, None, Some}
+use Rattle.std.specs.Prelude.{◌≡◌, ⊤, ℕ, ◌+◌, ◌*◌, ◌≤◌, Bool, List, [], ◌++◌, length, slice_get, Option, None, Some}
 use Rattle.mica_clock.specs.Seconds.{ClockView}
 use Rattle.partition_model.specs.declared.options.Options.{Options}
 use Rattle.stream_io.specs.declared.connections.Event.{Event}
@@ -13,7 +13,7 @@ use Rattle.stream_fronts.specs.Given.{Given, answers_in, given_to}
 use Rattle.stream_fronts.specs.Clients.{at}
 use Rattle.stream_fronts.specs.Going.{GoesByThese}
 use Rattle.stream_fronts.specs.Moments.{TalksThrough}
-use Rattle.stream_fronts.specs.Turns.{GrowsBy, most_answers}
+use Rattle.stream_fronts.specs.Turns.{GrowsBy, asks_of, moved, most_answers}
 use Rattle.stream_fronts.specs.Held.{Holds}
 use Rattle.stream_fronts.specs.Resting.{Tends, TendsBut}
 
@@ -46,12 +46,14 @@ IsNew (Opened number) log all = (c : ℕ) → held number (connections_of log) �
 IsNew (Ready number) log all = ⊤
 
 -- Whatever stood as this was reported, stands after it was served, with these answers more, where memory lacked for so many connections. Few calls were made,
--- and few answers given. And where each other waited, each waits.
+-- and few answers given; no connection was asked for again more often than bytes of it were received or sent, or it was answered. And where each other
+-- waited, each waits.
 pub record StandsOn (options : Options) (base : ℕ) (event : Event) (clients : List (Option Client)) (count : ℕ) (given : List Given) (now : List (Option Client)) (old new : Log) : Type 0 where
   pub schedule : new.schedule ≡ old.schedule
   pub piece : new.script.piece ≡ old.script.piece
   pub few_calls : GrowsBy 2 old.entries new.entries
   pub few_answers : length given ≤ 2 * most_answers options
+  pub earns : (c : ℕ) → asks_of c new.entries + moved c old.entries ≤ asks_of c old.entries + moved c new.entries + length (given_to c given)
   pub on : (lacking : List ℕ) (all : List Given) → IsNew event old all → Stands options base lacking old all clients
       → StandsBut options base lacking count new (all ++ given) now
   pub tends : (lacking : List ℕ) (all : List Given) → Stands options base lacking old all clients

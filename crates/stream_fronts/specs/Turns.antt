@@ -1,14 +1,15 @@
 -- How much a front does for one report of its port.
-use Rattle.std.specs.Prelude.{◌≡◌, ⊤, ℕ, ◌+◌, ◌*◌, ◌≤◌, Bool, true, false, List, [], ◌∷◌, ◌++◌, length, filter}
+use Rattle.std.specs.Prelude.{◌≡◌, ⊤, ℕ, suc, ◌==◌, ◌+◌, ◌*◌, ◌≤◌, Bool, true, false, List, [], ◌∷◌, ◌++◌, length, filter, if◌then◌else◌}
 use Rattle.std.specs.List.{AllByRecursion}
 use Rattle.partition_model.specs.declared.options.Options.{Options}
 use Rattle.stream_io.specs.declared.schedule.Step.{Step}
-use Rattle.stream_io.specs.State.{Entry, opened, reported, received}
+use Rattle.stream_io.specs.State.{Entry, opened, reported, received, asked}
+use Rattle.stream_io.specs.Log.{received_of, sent_of}
 use Rattle.mica_fronts.specs.Answered.{Answered}
 use Rattle.memcached_fronts.specs.declared.sweeper.TheConstants.{MOST_SWEPT}
 use Rattle.memcached_fronts.specs.Sweeps.{IsSweep}
 use Rattle.stream_fronts.specs.declared.answer.TheConstants.{LIMITS, MOST_COMMANDS}
-use Rattle.stream_fronts.specs.Given.{Given, answers_in}
+use Rattle.stream_fronts.specs.Given.{Given, answers_in, given_to}
 use Rattle.stream_fronts.specs.Moments.{TalksWithAll, IsCaughtUp}
 
 -- a connection was reported
@@ -39,6 +40,20 @@ pub record AreFew (reads : ℕ) (calls : List Entry) : Type 0 where
 abbrev pub GrowsBy : ℕ → List Entry → List Entry → Type 0
 GrowsBy reads old new = (calls : List Entry) × (new ≡ calls ++ old) × AreFew reads calls
 
+-- how often the c-th connection was asked for again
+abbrev pub asks_of : ℕ → List Entry → ℕ
+asks_of c [] = 0
+asks_of c (asked d ∷ calls) = if d == c then suc (asks_of c calls) else asks_of c calls
+asks_of c (_ ∷ calls) = asks_of c calls
+
+-- how many bytes were received of it, and sent to it
+abbrev pub moved : ℕ → List Entry → ℕ
+moved c calls = length (received_of c calls) + length (sent_of c calls)
+
+-- It was asked for again no more often than bytes of it were received or sent, or answers were given to its client.
+abbrev pub EarnsAsks : ℕ → List Entry → List Given → Type 0
+EarnsAsks c calls given = asks_of c calls ≤ moved c calls + length (given_to c given)
+
 -- a report, what calls did from there to the next one, the last of them first, the answers that were given to clients meanwhile, and sweeps behind these
 pub record Turn : Type 0 where
   pub report : Entry
@@ -46,11 +61,13 @@ pub record Turn : Type 0 where
   pub given : List Given
   pub swept : List Answered
 
--- It reads bytes at most twice, gives clients no more answers than two looks do, and sweeps little.
+-- It reads bytes at most twice, gives clients no more answers than two looks do, and sweeps little. None is asked for again for nothing: bytes of it were
+-- received or sent in this turn, or its client was answered.
 pub record IsShort (options : Options) (base : ℕ) (turn : Turn) : Type 0 where
   pub begins : is_report turn.report ≡ true
   pub few_calls : AreFew 2 turn.calls
   pub few_answers : length turn.given ≤ 2 * most_answers options
+  pub earns : (c : ℕ) → EarnsAsks c turn.calls turn.given
   pub sweeps : AllByRecursion (IsSweep options base) turn.swept
   pub few_sweeps : length turn.swept ≤ MOST_SWEPT
 

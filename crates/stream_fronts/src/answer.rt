@@ -1,13 +1,13 @@
 //! What is answered at one look at a connection.
-ghost use Rattle.std.specs.Prelude.{◌≡◌, ◌<◌, ◌≤◌, ◌+◌, length, drop, max, IfOk, MatchResult};
+ghost use Rattle.std.specs.Prelude.{◌≡◌, ◌⊎◌, ◌<◌, ◌≤◌, ◌+◌, true, false, length, drop, max, IfOk, MatchResult};
 ghost use Rattle.memcached_text.specs.declared.limits.TheConstants.{MAX_REPLY_LEN};
 ghost use Rattle.memcached_text.specs.declared.next.Next.TheVariants.{More};
 ghost use Rattle.memcached_text.specs.Next.{next_of};
 ghost use Rattle.memcached_fronts.specs.Exchange.{IsOpenAt};
 ghost use Rattle.stream_fronts.specs.declared.answer.TheConstants.{LIMITS};
-ghost use Rattle.stream_fronts.specs.Paid.{Advances, AnswersOn, MayAnswer};
+ghost use Rattle.stream_fronts.specs.Paid.{Advances, AnswersOn, MayAnswer, SpeaksAs, SpeaksWhere};
 ghost use Rattle.stream_fronts.specs.Turns.{most_answers, most_to_one};
-ghost use Rattle.stream_fronts.specs.Going.{GoesBy, GoesBySome};
+ghost use Rattle.stream_fronts.specs.Going.{GoesBySome};
 ghost use Rattle.stream_fronts.specs.Reached.{GoesOnTo, ReachesAfter, SpokeFrom, HaltsAs, position_at, position_in};
 
 use crate::next::{is_last, len_of, said_next};
@@ -19,7 +19,7 @@ use mica_io::NoMemory;
 use std::sync::Wait;
 use std::thread::Threads;
 
-/// The most commands that are answered at one look, so that no connection holds up the others.
+/// The most commands that are answered at one look, so that no connection holds up the others. One that gets no answer and no reply is not counted.
 pub const MOST_COMMANDS: u32 = 256;
 
 /// The most keys of one command that are answered at one look, and for how many bytes of replies that wait no more is answered.
@@ -78,14 +78,21 @@ pub enum Said {
     Nothing,
     /// So many answers were given to it, and more are due.
     Part(usize),
-    /// It was answered, and takes so many bytes.
-    Whole(usize),
+    /// It was answered, and takes so many bytes; and whether any answer or reply came of it.
+    Whole(usize, bool),
     /// It was answered, and ends the connection.
     Last,
 }
 
+/// Whether there are more answers than before, or more bytes.
+fn speaks(done: usize, answers: usize, before: usize, len: usize) -> bool
+    ensures spoke { result ≡ true → (done < answers) ⊎ (before < len) }
+    ensures silent { result ≡ false → (answers ≤ done) × (len ≤ before) }
+{
+    answers > done || len > before
+}
+
 /// Answers the command that the bytes begin with, to which so many answers were given, and appends its replies.
-#[tactic(auto, using(crate::proofs::Going::by_none, crate::proofs::Going::by_answers))]
 fn answer_one<R: Threads + Wait + Sync, F: Counts, K: Clock>(
     rt: &R,
     front: &mut F,
@@ -104,9 +111,8 @@ fn answer_one<R: Threads + Wait + Sync, F: Counts, K: Clock>(
     ensures short { length out.new.items ≤ max (length out.old.items) LIMITS.bytes + MAX_REPLY_LEN }
     ensures talk { GoesBySome (F.options front.old) F.is_alone (F.sessions front.old) (F.left front.old) (K.view clock.old) (F.sessions front.new) (F.left front.new) (K.view clock.new)
         (λ answers. (length answers ≤ most_to_one (F.options front.old)) × MatchResult result (λ said. GoesOnTo (F.options front.old) numbering.base (position_at bytes.now done) answers out.old.items out.new.items
-        (ReachesAfter (F.options front.old) numbering.base bytes.now done said))
+        (ReachesAfter (F.options front.old) numbering.base bytes.now done said) × SpeaksAs said answers out.old.items out.new.items)
         (λ _. SpokeFrom (F.options front.old) numbering.base (length bytes.now) (position_at bytes.now done) answers)) }
-    ensures goes { GoesBy (F.options front.old) F.is_alone (F.sessions front.old) (F.left front.old) (K.view clock.old) (F.sessions front.new) (F.left front.new) (K.view clock.new) }
     ensures left { F.left front.old ≤ F.left front.new + LIMITS.asks + numbering.partitions }
     ensures options { F.options front.new ≡ F.options front.old }
     ensures number { F.number front.new ≡ F.number front.old }
@@ -117,17 +123,22 @@ fn answer_one<R: Threads + Wait + Sync, F: Counts, K: Clock>(
         return Ok(Said::Nothing);
     }
     let (len, last) = (len_of(&next), is_last(&next));
+    let before = out.len();
     let progress = answer_next(
         rt, front, clock, numbering, buffers, next, done, LIMITS, out,
     )?;
     if !progress.is_whole {
         return Ok(Said::Part(progress.done));
     }
-    Ok(if last { Said::Last } else { Said::Whole(len) })
+    let spoke = speaks(done, progress.done, before, out.len());
+    Ok(if last {
+        Said::Last
+    } else {
+        Said::Whole(len, spoke)
+    })
 }
 
 /// Answers what the bytes spell, in order, to whose first command so many answers were given, and appends the replies.
-#[tactic(auto, using(crate::proofs::Going::by_none, crate::proofs::Going::by_both))]
 pub fn answer_bytes<R: Threads + Wait + Sync, F: Counts, K: Clock>(
     rt: &R,
     front: &mut F,
@@ -142,21 +153,22 @@ pub fn answer_bytes<R: Threads + Wait + Sync, F: Counts, K: Clock>(
     requires partitions { numbering.partitions ≡ (F.options front.old).partitions }
     ensures within { IfOk result (λ a. a.taken ≤ length bytes.now) }
     ensures open { IfOk result (λ a. IsOpenAt (next_of (drop a.taken bytes.now)) a.done) }
+    ensures waits { IfOk result (λ a. a.halt ≡ Halt.Needs → next_of (drop a.taken bytes.now) ≡ More) }
     ensures advances { IfOk result (λ a. Advances (MayAnswer numbering.partitions (F.left front.old) × (length out.old.items < LIMITS.bytes))
         ((a.halt ≡ Halt.Needs) × (next_of bytes.now ≡ More)) (position_at bytes.now done) (position_in bytes.now a)) }
     ensures short { length out.new.items ≤ max (length out.old.items) LIMITS.bytes + MAX_REPLY_LEN }
     ensures talk { GoesBySome (F.options front.old) F.is_alone (F.sessions front.old) (F.left front.old) (K.view clock.old) (F.sessions front.new) (F.left front.new) (K.view clock.new)
         (λ answers. (length answers ≤ most_answers (F.options front.old)) × MatchResult result (λ a. GoesOnTo (F.options front.old) numbering.base (position_at bytes.now done) answers out.old.items out.new.items
-        (HaltsAs (F.options front.old) numbering.base (length bytes.now) a.halt (position_in bytes.now a)))
+        (HaltsAs (F.options front.old) numbering.base (length bytes.now) a.halt (position_in bytes.now a))
+        × SpeaksWhere (MayAnswer numbering.partitions (F.left front.old) × (length out.old.items < LIMITS.bytes)) a.halt answers out.old.items out.new.items)
         (λ _. SpokeFrom (F.options front.old) numbering.base (length bytes.now) (position_at bytes.now done) answers)) }
-    ensures goes { GoesBy (F.options front.old) F.is_alone (F.sessions front.old) (F.left front.old) (K.view clock.old) (F.sessions front.new) (F.left front.new) (K.view clock.new) }
     ensures options { F.options front.new ≡ F.options front.old }
     ensures number { F.number front.new ≡ F.number front.old }
     ensures stands { F.stands front.new ≡ F.stands front.old }
 {
     let cost = most_writes(numbering);
-    let (mut taken, mut done) = (0, done);
-    for _ in 0..MOST_COMMANDS {
+    let (mut taken, mut done, mut spoken) = (0, done, 0);
+    while spoken < MOST_COMMANDS {
         if front.writes_left() < cost || out.len() >= LIMITS.bytes {
             break;
         }
@@ -166,15 +178,16 @@ pub fn answer_bytes<R: Threads + Wait + Sync, F: Counts, K: Clock>(
             Said::Nothing => return Ok(HowFar::at(taken, done, Halt::Needs)),
             Said::Part(done) => return Ok(HowFar::at(taken, done, Halt::Enough)),
             Said::Last => return Ok(HowFar::at(bytes.len(), 0, Halt::Leaves)),
-            Said::Whole(len) if len > rest.len() => return Ok(HowFar {
+            Said::Whole(len, _) if len > rest.len() => return Ok(HowFar {
                 taken: bytes.len(),
                 done: 0,
                 dropping: len - rest.len(),
                 halt: Halt::Needs,
             }),
-            Said::Whole(len) => {
+            Said::Whole(len, spoke) => {
                 taken += len;
                 done = 0;
+                spoken += u32::from(spoke);
             }
         }
     }

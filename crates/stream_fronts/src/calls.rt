@@ -1,6 +1,7 @@
 //! Calls of connections, by numbers under which they are open.
-ghost use Rattle.std.specs.Prelude.{◌≡◌, ◌<◌, ◌≤◌, ◌+◌, ◌-◌, length, is_some, IfOk, IfSome};
+ghost use Rattle.std.specs.Prelude.{◌<◌, ◌≤◌, ◌+◌, ◌-◌, length, IfOk, IfSome};
 ghost use Rattle.stream_io.specs.Calls.{FitsRoom, ReadGives, Asks, Closes};
+ghost use Rattle.stream_fronts.specs.Calls.{LeavesPort};
 ghost use Rattle.stream_fronts.specs.Open.{IsOpen, Keeps, KeepsOthers, AsksOnce, OnLogs, gained};
 ghost use Rattle.stream_fronts.specs.Traffic.{OnHeld, ReadsTo, SendsOf, bytes_read, why};
 
@@ -21,10 +22,7 @@ pub fn receive<C: Connections>(
     ensures reads { OnLogs (OnHeld number (ReadsTo why (bytes_read out.new result) result)) (C.log connections.old) (C.log connections.new) }
     ensures keeps { OnLogs Keeps (C.log connections.old) (C.log connections.new) }
     ensures open { IfSome (C.log connections.new) (IsOpen number (asks + gained result)) }
-    ensures told { is_some (C.log connections.new) ≡ is_some (C.log connections.old) }
-    ensures ended { C.has_ended connections.new ≡ C.has_ended connections.old }
-    ensures faults { C.faults connections.new ≡ C.faults connections.old }
-    ensures port { C.port connections.new ≡ C.port connections.old }
+    ensures port { LeavesPort C.log C.has_ended C.faults C.port connections.old connections.new }
 {
     connections.read(number, out)
 }
@@ -42,10 +40,7 @@ pub fn send<C: Connections>(
     ensures sends { OnLogs (OnHeld number (SendsOf text.now result)) (C.log connections.old) (C.log connections.new) }
     ensures keeps { OnLogs Keeps (C.log connections.old) (C.log connections.new) }
     ensures open { IfSome (C.log connections.new) (IsOpen number asks) }
-    ensures told { is_some (C.log connections.new) ≡ is_some (C.log connections.old) }
-    ensures ended { C.has_ended connections.new ≡ C.has_ended connections.old }
-    ensures faults { C.faults connections.new ≡ C.faults connections.old }
-    ensures port { C.port connections.new ≡ C.port connections.old }
+    ensures port { LeavesPort C.log C.has_ended C.faults C.port connections.old connections.new }
 {
     let mut sent = 0;
     while sent < text.len() {
@@ -65,10 +60,7 @@ pub fn ask_again<C: Connections>(connections: &mut C, number: u32, asks: u64)
     requires open { IfSome (C.log connections.old) (IsOpen number asks) }
     ensures asks { IfSome (C.log connections.old) (λ l. Asks number l (C.log connections.new)) }
     ensures asked { OnLogs (AsksOnce number asks) (C.log connections.old) (C.log connections.new) }
-    ensures told { is_some (C.log connections.new) ≡ is_some (C.log connections.old) }
-    ensures ended { C.has_ended connections.new ≡ C.has_ended connections.old }
-    ensures faults { C.faults connections.new ≡ C.faults connections.old }
-    ensures port { C.port connections.new ≡ C.port connections.old }
+    ensures port { LeavesPort C.log C.has_ended C.faults C.port connections.old connections.new }
 {
     connections.again(number);
 }
@@ -79,10 +71,7 @@ pub fn close<C: Connections>(connections: &mut C, number: u32, asks: u64)
     requires open { IfSome (C.log connections.old) (IsOpen number asks) }
     ensures closed { IfSome (C.log connections.old) (λ l. Closes number l (C.log connections.new)) }
     ensures others { OnLogs (KeepsOthers number) (C.log connections.old) (C.log connections.new) }
-    ensures told { is_some (C.log connections.new) ≡ is_some (C.log connections.old) }
-    ensures ended { C.has_ended connections.new ≡ C.has_ended connections.old }
-    ensures faults { C.faults connections.new ≡ C.faults connections.old }
-    ensures port { C.port connections.new ≡ C.port connections.old }
+    ensures port { LeavesPort C.log C.has_ended C.faults C.port connections.old connections.new }
 {
     connections.close(number);
 }

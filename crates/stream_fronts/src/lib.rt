@@ -21,7 +21,8 @@
 //! what was answered, and what was sent is a beginning of what is due to that (`specs/Talk`, `specs/Moments`). A connection is closed where there is a cause
 //! for it, or no memory (`specs/Closing`). Of one visit this says `specs/Held`, and of what is held of all clients between visits `specs/Standing`.
 //!
-//! No client keeps the others waiting: for one report bytes are read twice at most, and few answers are given (`specs/Turns`).
+//! No client keeps the others waiting: for one report bytes are read twice at most, and few answers are given. Nor is a connection asked for
+//! again for nothing: bytes of it were received or sent for that report, or its client was answered (`specs/Turns`).
 //!
 //! As each report comes, and when it returns, the front has caught up (`IsCaughtUp`): each connection is closed, or waits for its peer to take replies or to send
 //! more, or a report of it is to come. Of a connection and its client that is `specs/Resting`, which goes on as others are served. Connections that there was no
@@ -48,9 +49,7 @@ pub use client::Client;
 pub use clients::Clients;
 pub use desk::{Desk, MOST_UNSENT};
 pub use kept::KeptBytes;
-pub use look::look_at;
 pub use ports::{MOST_STREAM_FRONTS, StreamPorts};
 pub use serve::serve_connections;
 pub use unsent::Unsent;
-pub use visit::{After, visit_once};
-pub use visits::visit_on;
+pub use visit::After;

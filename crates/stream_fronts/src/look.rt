@@ -6,8 +6,8 @@ ghost use Rattle.memcached_text.specs.Next.{next_of};
 ghost use Rattle.memcached_fronts.specs.Exchange.{IsOpenAt};
 ghost use Rattle.stream_fronts.specs.declared.desk.TheConstants.{MOST_UNSENT};
 ghost use Rattle.stream_fronts.specs.Clients.{IsClient};
-ghost use Rattle.stream_fronts.specs.Going.{GoesBy, GoesBySome};
-ghost use Rattle.stream_fronts.specs.Paid.{Advances, MayAnswer, unanswered};
+ghost use Rattle.stream_fronts.specs.Going.{GoesBySome};
+ghost use Rattle.stream_fronts.specs.Paid.{Advances, MayAnswer, SpeaksWhere, unanswered};
 ghost use Rattle.stream_fronts.specs.Turns.{most_answers};
 ghost use Rattle.stream_fronts.specs.Reached.{GoesOnTo, SpokeFrom, HaltsAs, leaves, position_at, position_of};
 
@@ -44,7 +44,7 @@ impl Client {
 
 /// Answers what the bytes spell, where so many answers were given to their first command, and keeps what is left of them. The replies are no more than may be
 /// kept.
-pub fn look_at<R: Threads + Wait + Sync, F: Counts, K: Clock>(
+pub(crate) fn look_at<R: Threads + Wait + Sync, F: Counts, K: Clock>(
     rt: &R,
     alloc: Global,
     front: &mut F,
@@ -65,13 +65,14 @@ pub fn look_at<R: Threads + Wait + Sync, F: Counts, K: Clock>(
     ensures few { IfOk result (λ _. length replies.new.items ≤ MOST_UNSENT) }
     ensures unsent { client.new.unsent ≡ client.old.unsent }
     ensures asks { client.new.asks ≡ client.old.asks }
+    ensures waits { IfOk result (λ halt. halt ≡ Halt.Needs → next_of client.new.kept ≡ More) }
     ensures advances { IfOk result (λ halt. Advances (MayAnswer numbering.partitions (F.left front.old)) ((halt ≡ Halt.Needs) × (next_of bytes.now ≡ More))
         (position_at bytes.now done) (position_of client.new)) }
     ensures talk { GoesBySome (F.options front.old) F.is_alone (F.sessions front.old) (F.left front.old) (K.view clock.old) (F.sessions front.new) (F.left front.new) (K.view clock.new)
         (λ answers. (length answers ≤ most_answers (F.options front.old)) × MatchResult result (λ halt. GoesOnTo (F.options front.old) numbering.base (position_at bytes.now done) answers [] replies.new.items
-        (HaltsAs (F.options front.old) numbering.base (length bytes.now) halt (position_of client.new)))
+        (HaltsAs (F.options front.old) numbering.base (length bytes.now) halt (position_of client.new))
+        × SpeaksWhere (MayAnswer numbering.partitions (F.left front.old)) halt answers [] replies.new.items)
         (λ _. SpokeFrom (F.options front.old) numbering.base (length bytes.now) (position_at bytes.now done) answers)) }
-    ensures goes { GoesBy (F.options front.old) F.is_alone (F.sessions front.old) (F.left front.old) (K.view clock.old) (F.sessions front.new) (F.left front.new) (K.view clock.new) }
     ensures options { F.options front.new ≡ F.options front.old }
     ensures number { F.number front.new ≡ F.number front.old }
     ensures stands { F.stands front.new ≡ F.stands front.old }

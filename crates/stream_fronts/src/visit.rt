@@ -1,10 +1,13 @@
 //! One visit of a connection.
-ghost use Rattle.std.specs.Prelude.{◌≡◌, ◌≢◌, ◌⊎◌, ◌<◌, ◌≤◌, ◌+◌, ◌++◌, true, false, [], length, take, drop, Some, is_some, IfOk, IfSome, MatchResult, vec_len};
+ghost use Rattle.std.specs.Prelude.{◌≡◌, ◌≢◌, ◌⊎◌, ◌<◌, ◌≤◌, ◌+◌, ◌++◌, true, false, [], length, take, drop, Some, IfOk, IfSome, MatchResult, vec_len};
 ghost use Rattle.memcached_text.specs.declared.limits.TheConstants.{MAX_WAITING_LEN};
 ghost use Rattle.stream_fronts.specs.declared.desk.TheConstants.{MOST_UNSENT};
+ghost use Rattle.stream_fronts.specs.Calls.{LeavesPort};
 ghost use Rattle.stream_fronts.specs.Clients.{IsClient};
-ghost use Rattle.stream_fronts.specs.Going.{GoesBy, GoesBySome};
-ghost use Rattle.stream_fronts.specs.Paid.{Advances, IsPaid, MayAnswer, PaysFor};
+ghost use Rattle.stream_fronts.specs.Going.{GoesBySome};
+ghost use Rattle.memcached_text.specs.declared.next.Next.TheVariants.{More};
+ghost use Rattle.memcached_text.specs.Next.{next_of};
+ghost use Rattle.stream_fronts.specs.Paid.{Advances, IsPaid, MayAnswer, PaysFor, SpeaksWhere};
 ghost use Rattle.stream_fronts.specs.Turns.{most_answers};
 ghost use Rattle.stream_fronts.specs.Reached.{GoesOnTo, SpokeBehind, HaltsAs, leaves, position_at, position_of};
 ghost use Rattle.stream_fronts.specs.Traffic.{OnHeld, ReadsTo, SendsFrom, SendsSome};
@@ -57,10 +60,7 @@ fn send_unsent<C: Connections>(
     ensures some { IfOk result (λ all. all ≡ false → client.new.unsent ≢ []) }
     ensures sends { OnLogs (OnHeld number (SendsFrom client.old.unsent client.new.unsent result)) (C.log connections.old) (C.log connections.new) }
     ensures keeps { OnLogs Keeps (C.log connections.old) (C.log connections.new) }
-    ensures told { is_some (C.log connections.new) ≡ is_some (C.log connections.old) }
-    ensures ended { C.has_ended connections.new ≡ C.has_ended connections.old }
-    ensures faults { C.faults connections.new ≡ C.faults connections.old }
-    ensures port { C.port connections.new ≡ C.port connections.old }
+    ensures port { LeavesPort C.log C.has_ended C.faults C.port connections.old connections.new }
 {
     let sent = send(connections, number, client.asks, client.unsent.bytes())?;
     tally.raise(Counter::Sent, sent as u64);
@@ -90,10 +90,7 @@ fn send_new<C: Connections>(
     ensures sends { MatchResult result (λ sent. OnLogs (OnHeld number (SendsFrom replies.now client.new.unsent sent)) (C.log connections.old) (C.log connections.new))
         (λ _. OnLogs (OnHeld number (SendsSome replies.now)) (C.log connections.old) (C.log connections.new)) }
     ensures keeps { OnLogs Keeps (C.log connections.old) (C.log connections.new) }
-    ensures told { is_some (C.log connections.new) ≡ is_some (C.log connections.old) }
-    ensures ended { C.has_ended connections.new ≡ C.has_ended connections.old }
-    ensures faults { C.faults connections.new ≡ C.faults connections.old }
-    ensures port { C.port connections.new ≡ C.port connections.old }
+    ensures port { LeavesPort C.log C.has_ended C.faults C.port connections.old connections.new }
 {
     let sent = match send(connections, number, client.asks, replies) {
         Ok(sent) => sent,
@@ -138,10 +135,7 @@ fn fill<C: Connections>(
     ensures unsent { client.new.unsent ≡ client.old.unsent }
     ensures open { IfSome (C.log connections.new) (IsOpen number client.new.asks) }
     ensures keeps { OnLogs Keeps (C.log connections.old) (C.log connections.new) }
-    ensures told { is_some (C.log connections.new) ≡ is_some (C.log connections.old) }
-    ensures ended { C.has_ended connections.new ≡ C.has_ended connections.old }
-    ensures faults { C.faults connections.new ≡ C.faults connections.old }
-    ensures port { C.port connections.new ≡ C.port connections.old }
+    ensures port { LeavesPort C.log C.has_ended C.faults C.port connections.old connections.new }
 {
     let kept = client.kept.bytes();
     let had = kept.len();
@@ -158,7 +152,6 @@ fn fill<C: Connections>(
 }
 
 /// Answers what lies in the room, but for what is to be dropped.
-#[tactic(auto, using(crate::proofs::Going::by_none))]
 fn look_at_room<R: Threads + Wait + Sync, F: Counts, K: Clock>(
     rt: &R,
     alloc: Global,
@@ -182,14 +175,15 @@ fn look_at_room<R: Threads + Wait + Sync, F: Counts, K: Clock>(
     ensures few { IfOk result (λ _. length replies.new.items ≤ MOST_UNSENT) }
     ensures unsent { client.new.unsent ≡ client.old.unsent }
     ensures asks { client.new.asks ≡ client.old.asks }
+    ensures waits { IfOk result (λ halt. halt ≡ Halt.Needs → next_of client.new.kept ≡ More) }
     ensures advances { IfOk result (λ halt. Advances (MayAnswer numbering.partitions (F.left front.old)) ((halt ≡ Halt.Needs) × (length client.old.kept < MAX_WAITING_LEN))
         (position_at bytes.now 0) (position_of client.new)) }
     ensures talk { GoesBySome (F.options front.old) F.is_alone (F.sessions front.old) (F.left front.old) (K.view clock.old) (F.sessions front.new) (F.left front.new) (K.view clock.new)
         (λ answers. (length answers ≤ most_answers (F.options front.old)) × MatchResult result (λ halt. GoesOnTo (F.options front.old) numbering.base (position_of client.old) answers [] replies.new.items
         (λ received given due. HaltsAs (F.options front.old) numbering.base MAX_WAITING_LEN halt (position_of client.new)
-        (received ++ drop (length client.old.kept) bytes.now) given due))
+        (received ++ drop (length client.old.kept) bytes.now) given due)
+        × SpeaksWhere (MayAnswer numbering.partitions (F.left front.old)) halt answers [] replies.new.items)
         (λ _. SpokeBehind (F.options front.old) numbering.base MAX_WAITING_LEN (position_of client.old) (drop (length client.old.kept) bytes.now) answers)) }
-    ensures goes { GoesBy (F.options front.old) F.is_alone (F.sessions front.old) (F.left front.old) (K.view clock.old) (F.sessions front.new) (F.left front.new) (K.view clock.new) }
     ensures options { F.options front.new ≡ F.options front.old }
     ensures number { F.number front.new ≡ F.number front.old }
     ensures stands { F.stands front.new ≡ F.stands front.old }
@@ -206,7 +200,7 @@ fn look_at_room<R: Threads + Wait + Sync, F: Counts, K: Clock>(
 }
 
 /// Goes on with a command that was answered in part, or reads once and answers. Says why no more was answered, and what the read gave.
-#[tactic(auto, using(crate::proofs::Opening::still_open, crate::proofs::Opening::same_keeps, crate::proofs::Going::by_none))]
+#[tactic(auto, using(crate::proofs::Opening::still_open, crate::proofs::Opening::same_keeps))]
 fn answer_more<R: Threads + Wait + Sync, F: Counts, K: Clock, C: Connections>(
     rt: &R,
     alloc: Global,
@@ -223,22 +217,19 @@ fn answer_more<R: Threads + Wait + Sync, F: Counts, K: Clock, C: Connections>(
     requires reading { client.old.leaving ≡ false }
     requires open { IfSome (C.log connections.old) (IsOpen number client.old.asks) }
     requires partitions { numbering.partitions ≡ (F.options front.old).partitions }
+    requires left { MayAnswer numbering.partitions (F.left front.old) }
     ensures room { vec_len desk.new.room ≡ MAX_WAITING_LEN }
     ensures client { IfOk result (λ _. IsClient client.new) }
     ensures leaving { IfOk result (λ r. IfOk r (λ stood. client.new.leaving ≡ leaves stood.0)) }
     ensures unsent { IfOk result (λ _. client.new.unsent ≡ client.old.unsent) }
-    ensures again { MayAnswer numbering.partitions (F.left front.old) → IfOk result (λ r. IfOk r (λ stood. IsAtRest stood.0 stood.1 ⊎ IsPaid 1 client.new)) }
+    ensures again { IfOk result (λ r. IfOk r (λ stood. IsAtRest stood.0 stood.1 ⊎ IsPaid 1 client.new)) }
     ensures talk { GoesBySome (F.options front.old) F.is_alone (F.sessions front.old) (F.left front.old) (K.view clock.old) (F.sessions front.new) (F.left front.new) (K.view clock.new)
         (λ answers. MatchResult result
         (λ r. OnLogs (OnHeld number (Looks (F.options front.old) numbering.base client.old answers desk.new.replies.items client.new r)) (C.log connections.old) (C.log connections.new))
         (λ _. OnLogs (OnHeld number (Lacks (F.options front.old) numbering.base client.old answers)) (C.log connections.old) (C.log connections.new))) }
     ensures open { IfSome (C.log connections.new) (IsOpen number client.new.asks) }
     ensures keeps { OnLogs Keeps (C.log connections.old) (C.log connections.new) }
-    ensures told { is_some (C.log connections.new) ≡ is_some (C.log connections.old) }
-    ensures ended { C.has_ended connections.new ≡ C.has_ended connections.old }
-    ensures faults { C.faults connections.new ≡ C.faults connections.old }
-    ensures port { C.port connections.new ≡ C.port connections.old }
-    ensures goes { GoesBy (F.options front.old) F.is_alone (F.sessions front.old) (F.left front.old) (K.view clock.old) (F.sessions front.new) (F.left front.new) (K.view clock.new) }
+    ensures port { LeavesPort C.log C.has_ended C.faults C.port connections.old connections.new }
     ensures options { F.options front.new ≡ F.options front.old }
     ensures number { F.number front.new ≡ F.number front.old }
     ensures stands { F.stands front.new ≡ F.stands front.old }
@@ -297,8 +288,8 @@ fn after_all(leaving: bool, halt: Halt, input: Option<Input>) -> After
 }
 
 /// Sends what waits; where all of it was taken, answers more, and sends the replies.
-#[tactic(auto, using(crate::proofs::Opening::still_open, crate::proofs::Opening::keeps_on, crate::proofs::Going::by_none))]
-pub fn visit_once<R: Threads + Wait + Sync, F: Counts, K: Clock, C: Connections>(
+#[tactic(auto, using(crate::proofs::Opening::still_open, crate::proofs::Opening::keeps_on))]
+pub(crate) fn visit_once<R: Threads + Wait + Sync, F: Counts, K: Clock, C: Connections>(
     rt: &R,
     alloc: Global,
     front: &mut F,
@@ -313,20 +304,17 @@ pub fn visit_once<R: Threads + Wait + Sync, F: Counts, K: Clock, C: Connections>
     requires client { IsClient client.old }
     requires open { IfSome (C.log connections.old) (IsOpen number client.old.asks) }
     requires partitions { numbering.partitions ≡ (F.options front.old).partitions }
+    requires left { MayAnswer numbering.partitions (F.left front.old) }
     ensures room { vec_len desk.new.room ≡ MAX_WAITING_LEN }
     ensures client { IfOk result (λ _. IsClient client.new) }
-    ensures again { MayAnswer numbering.partitions (F.left front.old) → IfOk result (λ after. after ≡ After.Again → IsPaid 1 client.new) }
+    ensures again { IfOk result (λ after. after ≡ After.Again → IsPaid 1 client.new) }
     ensures talks { GoesBySome (F.options front.old) F.is_alone (F.sessions front.old) (F.left front.old) (K.view clock.old) (F.sessions front.new) (F.left front.new) (K.view clock.new)
         (λ answers. MatchResult result
         (λ after. OnLogs (OnHeld number (Visits (F.options front.old) numbering.base 1 client.old answers client.new after)) (C.log connections.old) (C.log connections.new))
         (λ _. OnLogs (OnHeld number (VisitLacks (F.options front.old) numbering.base 1 client.old answers)) (C.log connections.old) (C.log connections.new))) }
     ensures open { IfSome (C.log connections.new) (IsOpen number client.new.asks) }
     ensures keeps { OnLogs Keeps (C.log connections.old) (C.log connections.new) }
-    ensures told { is_some (C.log connections.new) ≡ is_some (C.log connections.old) }
-    ensures ended { C.has_ended connections.new ≡ C.has_ended connections.old }
-    ensures faults { C.faults connections.new ≡ C.faults connections.old }
-    ensures port { C.port connections.new ≡ C.port connections.old }
-    ensures goes { GoesBy (F.options front.old) F.is_alone (F.sessions front.old) (F.left front.old) (K.view clock.old) (F.sessions front.new) (F.left front.new) (K.view clock.new) }
+    ensures port { LeavesPort C.log C.has_ended C.faults C.port connections.old connections.new }
     ensures options { F.options front.new ≡ F.options front.old }
     ensures number { F.number front.new ≡ F.number front.old }
     ensures stands { F.stands front.new ≡ F.stands front.old }

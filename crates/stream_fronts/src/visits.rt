@@ -25,7 +25,7 @@ use stream_io::Connections;
 /// Visits a connection once, and once more where there may be more to do at once. Mostly the second visit finds that nothing more came: then it need not be
 /// reported again. Where there is more to do still, it is to be asked for again, and it may be: whoever is left so has sent bytes that pay for it. Where the
 /// front may be given too few writes for one command, it is visited once.
-pub fn visit_on<R: Threads + Wait + Sync, F: Counts, K: Clock, C: Connections>(
+pub(crate) fn visit_on<R: Threads + Wait + Sync, F: Counts, K: Clock, C: Connections>(
     rt: &R,
     alloc: Global,
     front: &mut F,
@@ -40,7 +40,8 @@ pub fn visit_on<R: Threads + Wait + Sync, F: Counts, K: Clock, C: Connections>(
     requires client { IsClient client.old }
     requires open { IfSome (C.log connections.old) (IsOpen number client.old.asks) }
     requires partitions { numbering.partitions ≡ (F.options front.old).partitions }
-    ensures again { MayAnswer numbering.partitions (F.left front.old) → IfOk result (λ after. after ≡ After.Again → IsPaid 1 client.new) }
+    requires left { MayAnswer numbering.partitions (F.left front.old) }
+    ensures again { IfOk result (λ after. after ≡ After.Again → IsPaid 1 client.new) }
     ensures room { vec_len desk.new.room ≡ MAX_WAITING_LEN }
     ensures client { IfOk result (λ _. IsClient client.new) }
     ensures talks { GoesBySome (F.options front.old) F.is_alone (F.sessions front.old) (F.left front.old) (K.view clock.old) (F.sessions front.new) (F.left front.new) (K.view clock.new)

@@ -18,7 +18,7 @@ returns-in-Err-clause-clients g c =
     let before = log c.args.connections.now in
     let_go c.args.number c.args.clients.now.held.items c.take-gone.new.self.held.items before (log c.close.new.connections) c.requires.clients
     (λ n other. c.take-gone.ensures.others n other ∙ c.make_room.ensures.same n) c.take-gone.ensures.gone
-    (moves_then c.args.number before before (log c.close.new.connections) (λ n a other is. is) c.close.ensures.told c.close.ensures.others)
+    (moves_then c.args.number before before (log c.close.new.connections) (λ n a other is. is) c.close.ensures.port.told c.close.ensures.others)
 
 pub returns-in-Ok-clause-serves : goal.returns-in-Ok-clause-serves
 returns-in-Ok-clause-serves g c = λ options base.

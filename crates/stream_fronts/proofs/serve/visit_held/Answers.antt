@@ -42,12 +42,12 @@ returns-in-Again-clause-clients g c =
     let after = log c.ask_again.new.connections in
     let asks = visit.new.client.asks in
     let fit = c.in-Ok.ensures.client in
-    let paid = c.in-Ok.ensures.again c.requires.left c.in-Again.is in
-    let moves = moves_then c.args.number before between after (moves_keeps c.args.number before between visit.ensures.port.told visit.ensures.keeps) c.ask_again.ensures.told
+    let paid = c.in-Ok.ensures.again c.in-Again.is in
+    let moves = moves_then c.args.number before between after (moves_keeps c.args.number before between visit.ensures.port.told visit.ensures.keeps) c.ask_again.ensures.port.told
     (others_of_asked c.args.number asks between after c.ask_again.ensures.asked) in
     put_back c.args.number c.args.clients.now.held.items c.take.new.self.held.items c.put-in-Again.new.self.held.items before after _ c.requires.clients c.take.ensures.others
     c.put-in-Again.ensures.others c.put-in-Again.ensures.here moves (record { short = fit.short; begun = fit.begun; dropped = fit.dropped; paid = omega (arith, paid) })
-    (asked_open c.args.number asks between after c.ask_again.ensures.told c.ask_again.ensures.asked)
+    (asked_open c.args.number asks between after c.ask_again.ensures.port.told c.ask_again.ensures.asked)
 
 pub returns-in-Over-clause-clients : goal.returns-in-Over-clause-clients
 returns-in-Over-clause-clients g c =
@@ -57,7 +57,7 @@ returns-in-Over-clause-clients g c =
     let between = log visit.new.connections in
     let after = log c.close-in-Over.new.connections in
     let_go c.args.number c.args.clients.now.held.items c.take.new.self.held.items before after c.requires.clients c.take.ensures.others c.take.ensures.gone
-    (moves_then c.args.number before between after (moves_keeps c.args.number before between visit.ensures.port.told visit.ensures.keeps) c.close-in-Over.ensures.told c.close-in-Over.ensures.others)
+    (moves_then c.args.number before between after (moves_keeps c.args.number before between visit.ensures.port.told visit.ensures.keeps) c.close-in-Over.ensures.port.told c.close-in-Over.ensures.others)
 
 pub returns-in_default-clause-serves : goal.returns-in_default-clause-serves
 returns-in_default-clause-serves g c =
@@ -142,7 +142,7 @@ returns-in-Err-clause-clients g c =
     let between = log visit.new.connections in
     let after = log c.close.new.connections in
     let_go c.args.number c.args.clients.now.held.items c.take.new.self.held.items before after c.requires.clients c.take.ensures.others c.take.ensures.gone
-    (moves_then c.args.number before between after (moves_keeps c.args.number before between visit.ensures.port.told visit.ensures.keeps) c.close.ensures.told c.close.ensures.others)
+    (moves_then c.args.number before between after (moves_keeps c.args.number before between visit.ensures.port.told visit.ensures.keeps) c.close.ensures.port.told c.close.ensures.others)
 
 pub returns-in-Err-clause-serves : goal.returns-in-Err-clause-serves
 returns-in-Err-clause-serves g c =

@@ -1,4 +1,4 @@
-use Rattle.std.proofs.Common.{◌≡◌, ◌≤◌, ◌++◌, length, take, drop, [], refl, sym, ap, ◌∙◌, subst, arith, inl, inr}
+use Rattle.std.proofs.Common.{◌≡◌, ◌+◌, ◌≤◌, ◌++◌, length, length-append, take, drop, [], refl, sym, ap, ◌∙◌, subst, arith, inl, inr}
 use Rattle.std.specs.Prelude.{Ok, Err, None}
 use Rattle.std.proofs.lemmas.List.{length-take, take_at}
 use Rattle.std.proofs.lemmas.Result.{err_from_is_err_and}
@@ -10,7 +10,7 @@ use Rattle.stream_fronts.specs.Held.{Looks, Lacks}
 use Rattle.stream_fronts.proofs.Going.{these_none}
 use Rattle.stream_fronts.proofs.Traffic.{on_one}
 use Rattle.stream_fronts.proofs.Answering.{match_err}
-use Rattle.stream_fronts.proofs.Advancing.{paid_further, paid_for}
+use Rattle.stream_fronts.proofs.Advancing.{earns_further, earns_reading, paid_further, paid_for}
 use Rattle.stream_fronts.proofs.Looking.{looks_further, lacks_further, on_same}
 use Rattle.stream_fronts.proofs.visit.answer_more.Goals as goal
 
@@ -24,7 +24,7 @@ returns-then-client-gt0-clause-talk g c =
     let replies = c.look_at.new.replies.items in
     let r = c.in_ok-halt.ensures.talk in
     let bytes_are : c.bytes-bytes.result.now ≡ client.kept = c.bytes-bytes.ensures ∙ c.replace-kept.ensures.value in
-    let goes = subst (λ b. GoesOnTo options base (position_at b client.done) r.0 [] replies (HaltsAs options base (length b) halt (position_of now))) bytes_are r.2.1 in (
+    let goes = subst (λ b. GoesOnTo options base (position_at b client.done) r.0 [] replies (HaltsAs options base (length b) halt (position_of now))) bytes_are r.2.1.0 in (
       r.0,
       r.1,
       on_same c.args.number (Looks options base client r.0 replies now (Ok (halt, None))) (g.C.Connections.log c.args.connections.now)
@@ -34,6 +34,7 @@ returns-then-client-gt0-clause-talk g c =
             few = c.in_ok-halt.ensures.few;
             few_answers = r.2.0;
             ends = tt;
+            earns = earns_further halt client now r.0 replies c.requires.client.begun c.if-client-gt0.true c.in_ok-halt.ensures.waits (r.2.1.1 c.requires.left);
           })),
     )
 
@@ -52,16 +53,31 @@ returns-clause-talk g c =
     let room_is : c.deref.result.now ≡ room =
     c.deref.ensures.value ∙ take_at room (drop (length room) c.args.desk.now.room.items) c.args.desk.now.room.len (c.fill.ensures.room ∙ sym c.requires.room) in
     let here = subst (λ x. GoesOnTo options base (position_of between) r.0 [] replies
-    (λ received given due. HaltsAs options base MAX_WAITING_LEN halt (position_of now) (received ++ drop (length between.kept) (take filled.0 x)) given due)) room_is r.2.1 in
+    (λ received given due. HaltsAs options base MAX_WAITING_LEN halt (position_of now) (received ++ drop (length between.kept) (take filled.0 x)) given due)) room_is r.2.1.0 in
     let goes = subst (λ (p : Position). GoesOnTo options base p r.0 [] replies
     (λ received given due. HaltsAs options base MAX_WAITING_LEN halt (position_of now) (received ++ drop (length p.bytes) (take filled.0 room)) given due)) c.in-Ok.ensures.position here in
     let first : client.done ≡ 0 = let none = c.if-client-gt0.false in omega (arith, none) in
     let short : length (client.kept ++ drop (length client.kept) (take filled.0 room)) ≤ MAX_WAITING_LEN =
-    let kept = ap length c.in-Ok.ensures.kept in let len = length-take filled.0 room in let fits = c.in-Ok.ensures.fits in omega (arith, kept, len, fits) in (
+    let kept = ap length c.in-Ok.ensures.kept in let len = length-take filled.0 room in let fits = c.in-Ok.ensures.fits in omega (arith, kept, len, fits) in
+    let same : between.kept ≡ client.kept = ap (λ (p : Position). p.bytes) c.in-Ok.ensures.position in
+    let all : filled.0 ≡ length between.kept + length (drop (length client.kept) (take filled.0 room)) =
+    let had = ap length same in let kept = ap length c.in-Ok.ensures.kept ∙ length-append client.kept (drop (length client.kept) (take filled.0 room)) in let len = length-take filled.0 room in
+    omega (arith, had, kept, len, c.in-Ok.ensures.fits, c.fill.ensures.room) in (
       r.0,
       r.1,
       on_one c.args.number _ (Looks options base client r.0 replies now (Ok (halt, filled.1))) (g.C.Connections.log c.args.connections.now) (g.C.Connections.log c.fill.new.connections)
-          (λ d a b x. inr (record { first = first; bytes = drop (length client.kept) (take filled.0 room); short = short; reads = x.0; goes = goes; few = c.in_ok-halt-2.ensures.few; few_answers = r.2.0; ends = x.1 })) c.in-Ok.ensures.reads,
+          (λ d a b x. inr (record {
+            first = first;
+            bytes = drop (length client.kept) (take filled.0 room);
+            short = short;
+            reads = x.0;
+            goes = goes;
+            few = c.in_ok-halt-2.ensures.few;
+            few_answers = r.2.0;
+            ends = x.1;
+            earns = λ whole. earns_reading halt filled.1 between now (drop (length client.kept) (take filled.0 room)) filled.0 r.0 replies c.in-Ok.ensures.pays all c.in_ok-halt-2.ensures.waits
+                (r.2.1.1 c.requires.left) (λ more. ap next_of same ∙ whole more);
+          })) c.in-Ok.ensures.reads,
     )
 
 pub returns-in_err-halt-clause-talk : goal.returns-in_err-halt-clause-talk
@@ -115,14 +131,14 @@ returns-in-Err-clause-talk g c =
     )
 
 pub returns-then-client-gt0-clause-again : goal.returns-then-client-gt0-clause-again
-returns-then-client-gt0-clause-again g c = λ may.
+returns-then-client-gt0-clause-again g c =
     let client = c.args.client.now in
     let bytes_are : c.bytes-bytes.result.now ≡ client.kept = c.bytes-bytes.ensures ∙ c.replace-kept.ensures.value in
     inr (paid_further c.bytes-bytes.result.now client.done client.asks c.look_at.new.client (subst (λ b. IsOpenAt (next_of b) client.done) (sym bytes_are) c.requires.client.begun)
-    c.if-client-gt0.true (let len = ap length bytes_are in let paid = c.requires.client.paid in omega (arith, len, paid)) c.in_ok-halt.ensures.advances may c.look_at.ensures.asks)
+    c.if-client-gt0.true (let len = ap length bytes_are in let paid = c.requires.client.paid in omega (arith, len, paid)) c.in_ok-halt.ensures.advances c.requires.left c.look_at.ensures.asks)
 
 pub returns-clause-again : goal.returns-clause-again
-returns-clause-again g c = λ may.
+returns-clause-again g c =
     let filled = c.in-Ok.filled in
     let room = c.deref.result.now in
     let len = length-take filled.0 room in
@@ -130,4 +146,4 @@ returns-clause-again g c = λ may.
     c.deref.ensures.value ∙ take_at c.fill.new.room (drop (length c.fill.new.room) c.args.desk.now.room.items) c.args.desk.now.room.len (c.fill.ensures.room ∙ sym c.requires.room) in
     let whole = ap length same in
     paid_for c.fill.new.client c.look_at_room.new.client (take filled.0 room) filled.0 c.in_ok-halt-2.halt filled.1 (omega (arith, len, whole, c.fill.ensures.room, c.in-Ok.ensures.fits))
-    c.in-Ok.ensures.pays c.in_ok-halt-2.ensures.advances may c.look_at_room.ensures.asks
+    c.in-Ok.ensures.pays c.in_ok-halt-2.ensures.advances c.requires.left c.look_at_room.ensures.asks

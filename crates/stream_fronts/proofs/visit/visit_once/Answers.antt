@@ -17,45 +17,45 @@ use Rattle.stream_fronts.proofs.visit.visit_once.Goals as goal
 pub returns-in_err-answered-clause-keeps : goal.returns-in_err-answered-clause-keeps
 returns-in_err-answered-clause-keeps g c =
     let log = g.C.Connections.log in
-    keeps_on (log c.args.connections.now) (log c.send_unsent.new.connections) (log c.answer_more.new.connections) c.send_unsent.ensures.told c.send_unsent.ensures.keeps
+    keeps_on (log c.args.connections.now) (log c.send_unsent.new.connections) (log c.answer_more.new.connections) c.send_unsent.ensures.port.told c.send_unsent.ensures.keeps
     c.answer_more.ensures.keeps
 
 pub returns-in-Err-answered-clause-keeps : goal.returns-in-Err-answered-clause-keeps
 returns-in-Err-answered-clause-keeps g c =
     let log = g.C.Connections.log in
-    keeps_on (log c.args.connections.now) (log c.send_unsent.new.connections) (log c.answer_more.new.connections) c.send_unsent.ensures.told c.send_unsent.ensures.keeps
+    keeps_on (log c.args.connections.now) (log c.send_unsent.new.connections) (log c.answer_more.new.connections) c.send_unsent.ensures.port.told c.send_unsent.ensures.keeps
     c.answer_more.ensures.keeps
 
 pub returns-in_err-send_new-clause-keeps : goal.returns-in_err-send_new-clause-keeps
 returns-in_err-send_new-clause-keeps g c =
     let log = g.C.Connections.log in
-    let both = keeps_on (log c.args.connections.now) (log c.send_unsent.new.connections) (log c.answer_more.new.connections) c.send_unsent.ensures.told c.send_unsent.ensures.keeps
+    let both = keeps_on (log c.args.connections.now) (log c.send_unsent.new.connections) (log c.answer_more.new.connections) c.send_unsent.ensures.port.told c.send_unsent.ensures.keeps
     c.answer_more.ensures.keeps in
-    keeps_on (log c.args.connections.now) (log c.answer_more.new.connections) (log c.send_new.new.connections) (c.answer_more.ensures.told ∙ c.send_unsent.ensures.told) both
+    keeps_on (log c.args.connections.now) (log c.answer_more.new.connections) (log c.send_new.new.connections) (c.answer_more.ensures.port.told ∙ c.send_unsent.ensures.port.told) both
     c.send_new.ensures.keeps
 
 pub returns-in-Err-2-clause-keeps : goal.returns-in-Err-2-clause-keeps
 returns-in-Err-2-clause-keeps g c =
     let log = g.C.Connections.log in
-    let both = keeps_on (log c.args.connections.now) (log c.send_unsent.new.connections) (log c.answer_more.new.connections) c.send_unsent.ensures.told c.send_unsent.ensures.keeps
+    let both = keeps_on (log c.args.connections.now) (log c.send_unsent.new.connections) (log c.answer_more.new.connections) c.send_unsent.ensures.port.told c.send_unsent.ensures.keeps
     c.answer_more.ensures.keeps in
-    keeps_on (log c.args.connections.now) (log c.answer_more.new.connections) (log c.send_new.new.connections) (c.answer_more.ensures.told ∙ c.send_unsent.ensures.told) both
+    keeps_on (log c.args.connections.now) (log c.answer_more.new.connections) (log c.send_new.new.connections) (c.answer_more.ensures.port.told ∙ c.send_unsent.ensures.port.told) both
     c.send_new.ensures.keeps
 
 pub returns-in-Ok-true-2-clause-keeps : goal.returns-in-Ok-true-2-clause-keeps
 returns-in-Ok-true-2-clause-keeps g c =
     let log = g.C.Connections.log in
-    let both = keeps_on (log c.args.connections.now) (log c.send_unsent.new.connections) (log c.answer_more.new.connections) c.send_unsent.ensures.told c.send_unsent.ensures.keeps
+    let both = keeps_on (log c.args.connections.now) (log c.send_unsent.new.connections) (log c.answer_more.new.connections) c.send_unsent.ensures.port.told c.send_unsent.ensures.keeps
     c.answer_more.ensures.keeps in
-    keeps_on (log c.args.connections.now) (log c.answer_more.new.connections) (log c.send_new.new.connections) (c.answer_more.ensures.told ∙ c.send_unsent.ensures.told) both
+    keeps_on (log c.args.connections.now) (log c.answer_more.new.connections) (log c.send_new.new.connections) (c.answer_more.ensures.port.told ∙ c.send_unsent.ensures.port.told) both
     c.send_new.ensures.keeps
 
 pub returns-in-Ok-false-2-clause-keeps : goal.returns-in-Ok-false-2-clause-keeps
 returns-in-Ok-false-2-clause-keeps g c =
     let log = g.C.Connections.log in
-    let both = keeps_on (log c.args.connections.now) (log c.send_unsent.new.connections) (log c.answer_more.new.connections) c.send_unsent.ensures.told c.send_unsent.ensures.keeps
+    let both = keeps_on (log c.args.connections.now) (log c.send_unsent.new.connections) (log c.answer_more.new.connections) c.send_unsent.ensures.port.told c.send_unsent.ensures.keeps
     c.answer_more.ensures.keeps in
-    keeps_on (log c.args.connections.now) (log c.answer_more.new.connections) (log c.send_new.new.connections) (c.answer_more.ensures.told ∙ c.send_unsent.ensures.told) both
+    keeps_on (log c.args.connections.now) (log c.answer_more.new.connections) (log c.send_new.new.connections) (c.answer_more.ensures.port.told ∙ c.send_unsent.ensures.port.told) both
     c.send_new.ensures.keeps
 
 pub returns-in-Ok-false-clause-talks : goal.returns-in-Ok-false-clause-talks
@@ -249,13 +249,14 @@ returns-in-Ok-true-2-clause-talks g c =
           (λ d x y is two. looks_held options base now r.0 replies then (Ok c.in-Ok.answered) d x y two c.args.number d is)
           (λ d w x y z one two three. visit_after options base d c.requires.client now c.in-Ok-true.ensures.position c.in-Ok-true.ensures.leaving c.in-Ok-true.field-0 one c.in-Ok-true.ensures.client
           c.if-client.false none then replies c.in-Ok.answered two c.in_ok-answered.ensures.client last c.in_ok-send_new.ensures.position (c.in_ok-send_new.ensures.leaving ∙ c.leaves_by-client.ensures) c.in-Ok-true-2.field-0 three c.after_all.result
-          c.after_all.ensures.over c.after_all.ensures.«open» c.after_all.ensures.waits c.in_ok-send_new.ensures.client all_sent) c.in-Ok-true.ensures.sends looks sends,
+          c.after_all.ensures.over c.after_all.ensures.«open» c.after_all.ensures.waits (c.after_all.ensures.again (c.in_ok-send_new.ensures.leaving ∙ c.leaves_by-client.ensures))
+          c.in_ok-send_new.ensures.client all_sent) c.in-Ok-true.ensures.sends looks sends,
     )
 
 pub returns-in-Ok-true-2-clause-again : goal.returns-in-Ok-true-2-clause-again
-returns-in-Ok-true-2-clause-again g c = λ may again.
+returns-in-Ok-true-2-clause-again g c = λ again.
     let last = c.send_new.new.client in
-    let more = IfOk-at_ok _ c.in-Ok.is (c.in_ok-answered.ensures.again may) in
+    let more = IfOk-at_ok _ c.in-Ok.is c.in_ok-answered.ensures.again in
     elim more as (λ _. IsPaid 1 last) [
       | inl rests ↦ absurd (c.after_all.ensures.again (c.in_ok-send_new.ensures.leaving ∙ c.leaves_by-client.ensures) rests again)
       | inr paid ↦ let same = ap unanswered c.in_ok-send_new.ensures.position in omega (arith, paid, same, c.send_new.ensures.asks)

@@ -1,7 +1,7 @@
-use Rattle.std.proofs.Common.{refl, ◌∙◌}
+use Rattle.std.proofs.Common.{refl, ◌∙◌, arith}
 use Rattle.std.proofs.lemmas.Result.{err_from_is_err_and}
 use Rattle.stream_fronts.specs.declared.visit.After.TheVariants.{Again}
-use Rattle.stream_fronts.proofs.Going.{these_goes}
+use Rattle.stream_fronts.proofs.Going.{these_goes, these_some}
 use Rattle.stream_fronts.proofs.Opening.{keeps_on}
 use Rattle.stream_fronts.proofs.Answering.{match_err}
 use Rattle.stream_fronts.proofs.GoingOn.{goes_once, goes_lack_once, goes_on}
@@ -19,13 +19,15 @@ pub returns-in_default-clause-talks : goal.returns-in_default-clause-talks
 returns-in_default-clause-talks g c =
     let log = g.C.Connections.log in
     goes_once (g.F.Front.options c.args.front.now) g.F.Front.is_alone c.args.numbering.base c.args.number c.args.client.now (log c.args.connections.now) (log c.visit_once.new.connections)
-    c.visit_once.new.client c.in_ok-after.after c.in_ok-after.after refl c.in_ok-after.ensures.talks
+    c.visit_once.new.client c.in_ok-after.after c.in_ok-after.after refl c.in_ok-after.ensures.talks (λ again. absurd (c.in_default.not-Again again))
 
 pub returns-then-writes_left-most_writes-clause-talks : goal.returns-then-writes_left-most_writes-clause-talks
 returns-then-writes_left-most_writes-clause-talks g c =
     let log = g.C.Connections.log in
     goes_once (g.F.Front.options c.args.front.now) g.F.Front.is_alone c.args.numbering.base c.args.number c.args.client.now (log c.args.connections.now) (log c.visit_once.new.connections)
     c.visit_once.new.client c.in_ok-after.after Again c.in-Again.is c.in_ok-after.ensures.talks
+    (λ again. these_some (g.F.Front.options c.args.front.now) g.F.Front.is_alone c.in_ok-after.ensures.talks.0 c.in_ok-after.ensures.talks.1
+    (omega (arith, c.if-writes_left-most_writes.true, c.writes_left.ensures, c.most_writes.ensures, c.requires.left)))
 
 pub returns-clause-talks : goal.returns-clause-talks
 returns-clause-talks g c =
@@ -37,7 +39,31 @@ returns-clause-talks g c =
 pub returns-clause-keeps : goal.returns-clause-keeps
 returns-clause-keeps g c =
     let log = g.C.Connections.log in
-    keeps_on (log c.args.connections.now) (log c.visit_once.new.connections) (log c.visit_once-2.new.connections) c.visit_once.ensures.told c.visit_once.ensures.keeps c.visit_once-2.ensures.keeps
+    keeps_on (log c.args.connections.now) (log c.visit_once.new.connections) (log c.visit_once-2.new.connections) c.visit_once.ensures.port.told c.visit_once.ensures.keeps c.visit_once-2.ensures.keeps
+
+pub returns-in_err-after-clause-front : goal.returns-in_err-after-clause-front
+returns-in_err-after-clause-front g c = record {
+  goes = these_goes (g.F.Front.options c.args.front.now) g.F.Front.is_alone c.in_err-after.ensures.talks.1;
+  same_options = c.visit_once.ensures.options;
+  same_number = c.visit_once.ensures.number;
+  same_stands = c.visit_once.ensures.stands;
+}
+
+pub returns-in_default-clause-front : goal.returns-in_default-clause-front
+returns-in_default-clause-front g c = record {
+  goes = these_goes (g.F.Front.options c.args.front.now) g.F.Front.is_alone c.in_ok-after.ensures.talks.1;
+  same_options = c.visit_once.ensures.options;
+  same_number = c.visit_once.ensures.number;
+  same_stands = c.visit_once.ensures.stands;
+}
+
+pub returns-then-writes_left-most_writes-clause-front : goal.returns-then-writes_left-most_writes-clause-front
+returns-then-writes_left-most_writes-clause-front g c = record {
+  goes = these_goes (g.F.Front.options c.args.front.now) g.F.Front.is_alone c.in_ok-after.ensures.talks.1;
+  same_options = c.visit_once.ensures.options;
+  same_number = c.visit_once.ensures.number;
+  same_stands = c.visit_once.ensures.stands;
+}
 
 pub returns-clause-front : goal.returns-clause-front
 returns-clause-front g c =
