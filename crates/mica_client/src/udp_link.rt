@@ -2,13 +2,18 @@
 ghost use Rattle.std.specs.Prelude.{◌≡◌, ◌≤◌, false, None, length, IfOk, IfSome};
 
 use crate::Link;
+use libc::net as c;
 use mica_io::Failed;
 use std::io::{self, ErrorKind};
 use std::net::{Net as Sockets, UdpSocket};
+use std::os::fd::AsRawFd;
 use std::time::Duration;
 
 /// The silence of a new link, in seconds.
 const SILENCE: u32 = 5;
+
+/// How many bytes of datagrams may wait at a socket: more than any system gives.
+const WAITING_LEN: i32 = 1 << 30;
 
 /// A UDP socket, from which datagrams go to ports of 127.0.0.1. The first one that is sent opens it, at a port that the system picks.
 /// It takes a datagram from any sender of this machine, and tells nothing of content. Where nothing comes for the silence, it has ended.
@@ -37,9 +42,18 @@ impl<'a, R: Sockets> UdpLink<'a, R> {
     }
 }
 
+/// Asks for the largest receive buffer that the system gives.
+fn widen(socket: &UdpSocket) {
+    let mut value = [0; 16];
+    value[..4].copy_from_slice(&WAITING_LEN.to_ne_bytes());
+    let fd = socket.as_raw_fd();
+    let _unheeded = unsafe { c::setsockopt(fd, c::SOL_SOCKET, c::SO_RCVBUF, &value, 4) };
+}
+
 /// A socket whose receive gives up after so many seconds.
 fn open<R: Sockets>(rt: &R, silence: u32) -> io::Result<UdpSocket> {
     let socket = UdpSocket::bind(rt, ("127.0.0.1", 0))?;
+    widen(&socket);
     socket.set_read_timeout(Some(Duration::from_secs(u64::from(silence))))?;
     Ok(socket)
 }
