@@ -1,5 +1,5 @@
 -- What numbers as values have.
-use Rattle.std.proofs.Common.{◌≡◌, ◌<◌, ◌≤◌, ◌+◌, ◌-◌, ◌^◌, ℕ, zero, suc, List, [], ◌∷◌, ◌++◌, Bool, true, false, Option, Some, None, Result, Ok, Err, cond, nat_le, nat_lt, length, take, replicate, max, refl, ap, ◌∙◌, subst, arith, length-append, unwrap_or, MatchResult, sym}
+use Rattle.std.proofs.Common.{◌≡◌, ◌<◌, ◌≤◌, ◌+◌, ◌-◌, ◌^◌, ℕ, zero, suc, List, [], ◌∷◌, ◌++◌, Bool, true, false, Option, Some, None, cond, length, take, replicate, max, refl, ap, ◌∙◌, subst, arith, length-append, unwrap_or}
 use Rattle.std.specs.Option.{IfSome}
 use Rattle.std.specs.Fmt.{decimal}
 use Rattle.std.specs.Char.{is_ascii_digit}
@@ -9,13 +9,6 @@ use Rattle.std.proofs.lemmas.Fmt.{length-decimal-le}
 use Rattle.std.proofs.lemmas.List.{length-replicate}
 use Rattle.std.proofs.lemmas.Nat.{mod_below}
 use Rattle.std.proofs.lemmas.Option.{none-some}
-use Rattle.std.proofs.lemmas.Bool.{leb-true, le-leb, lt-ltb, ltb-true}
-use Rattle.std.proofs.lemmas.Fmt.{IsAscii-from_digits}
-use Rattle.std.proofs.lemmas.Str.{IsUtf8-from_ascii}
-use Rattle.std.proofs.lemmas.Str.Parse.{IsNumeralModel, parse_digits, numerals_by_value, tells_all_ascii_digits}
-use Rattle.std.specs.Result.{OkIff, result_ok}
-use Rattle.std.specs.Str.{IsUtf8}
-use Rattle.std.specs.Str.Parse.{digits_value, ParsesUnsigned}
 use Rattle.memcached_text.specs.declared.command.Direction.{Direction}
 use Rattle.memcached_text.specs.declared.command.Direction.TheVariants.{Up, Down}
 use Rattle.memcached_text.specs.Numbers.{number_of}
@@ -39,45 +32,6 @@ digits_before value rest is =
     let whole = split value in
     let len : length value - length rest ≡ length (digits_of value) = omega (arith, ap length whole, length-append (digits_of value) (after_digits value), ap length is) in
     ap (λ n. take n value) len ∙ ap (λ v. take (length (digits_of value)) v) whole ∙ take-append_seam (digits_of value) (after_digits value)
-
-all_digits : (value : List ℕ) → all_ascii_digits (digits_of value) ≡ true
-all_digits [] = refl
-all_digits (byte ∷ bytes) = go (is_ascii_digit byte) refl (all_digits bytes)
-  where
-    go : (t : Bool) → is_ascii_digit byte ≡ t → all_ascii_digits (digits_of bytes) ≡ true → all_ascii_digits (cond t (byte ∷ digits_of bytes) []) ≡ true
-    go true is later = rw is later
-    go false is later = refl
-
--- and they are digits alone
-pub digits_alone : (value rest : List ℕ) → rest ≡ after_digits value → all_ascii_digits (take (length value - length rest) value) ≡ true
-digits_alone value rest is = ap all_ascii_digits (digits_before value rest is) ∙ all_digits value
-
-abbrev own : IsNumeralModel (λ ds. all_ascii_digits ds ≡ true) (digits_value 10)
-own = numerals_by_value _ tells_all_ascii_digits
-
-pub digits_are_text : (digits : List ℕ) → all_ascii_digits digits ≡ true → IsUtf8 digits
-digits_are_text digits all = IsUtf8-from_ascii digits (IsAscii-from_digits digits (own.to digits all))
-
-module _ {E : Type 0} (digits : List ℕ) (all : all_ascii_digits digits ≡ true) where
-  told : (r : Result ℕ E) → ParsesUnsigned 64 10 digits r → OkIff r ((0 < length digits) × (digits_value 10 digits < 2 ^ 64)) (digits_value 10 digits)
-  told r parse = parse_digits own 64 digits r parse all
-
-  read : (r : Result ℕ E) → OkIff r ((0 < length digits) × (digits_value 10 digits < 2 ^ 64)) (digits_value 10 digits) → result_ok r ≡ number_of most digits
-  unfolding number_of
-  read (Ok n) is =
-      let some : nat_lt 0 (length digits) ≡ true = lt-ltb _ _ is.0.0 in
-      let low : nat_le (digits_value 10 digits) most ≡ true = le-leb _ _ (let small = is.0.1 in omega arith) in
-      rw (some, all, low) (ap (λ k. Some k) is.1)
-  read (Err e) not = go (nat_lt 0 (length digits)) refl (nat_le (digits_value 10 digits) most) refl
-    where
-      go : (some : Bool) → nat_lt 0 (length digits) ≡ some → (low : Bool) → nat_le (digits_value 10 digits) most ≡ low → None ≡ number_of most digits
-      go true some true low = absurd (not (ltb-true _ _ some, (let small = leb-true _ _ low in omega arith)))
-      go true some false high = rw (some, all, high) refl
-      go false none low is = rw none refl
-
-  -- what std's `parse` makes of digits
-  pub number_parsed : (r : Result ℕ E) → ParsesUnsigned 64 10 digits r → result_ok r ≡ number_of most digits
-  number_parsed r parse = read r (told r parse)
 
 if_some : {A : Type 0} (o : Option A) (x : A) (P : A → Type 0) → IfSome o P → o ≡ Some x → P x
 if_some (Some y) x P holds is = subst P (ap (λ p. unwrap_or p y) is) holds
@@ -121,12 +75,3 @@ padded_reads len n small =
     let spaces = spaces_end (len - length (decimal n)) in
     let ends = digits_end (decimal n) (replicate (len - length (decimal n)) 32) (decimal_digits n small) spaces.0 spaces.1 in
     rw (ends.0, ends.1, spaces.2) (number_of_decimal most n (omega arith) small)
-
--- what std's `from_utf8` tells of an error, and of a text
-pub utf8_err : {T E : Type 0} (r : Result T E) (P : T → Type 0) (Q : E → Type 0) (N : Type 0) → MatchResult r P (λ e. N × Q e) → None ≡ result_ok r → N
-utf8_err (Ok x) P Q N cases is = absurd (none-some x is)
-utf8_err (Err e) P Q N cases is = cases.0
-
-pub utf8_ok : {T E : Type 0} (r : Result T E) (x : T) (P : T → Type 0) (Q : E → Type 0) → MatchResult r P Q → Some x ≡ result_ok r → P x
-utf8_ok (Ok y) x P Q cases is = subst P (sym (cc)) cases
-utf8_ok (Err e) x P Q cases is = absurd (none-some x (sym is))

@@ -1,11 +1,8 @@
 //! Values that are numbers, and counting with them.
-ghost use Rattle.std.specs.Prelude.{◌≡◌, ◌≤◌, true, length};
-ghost use Rattle.std.specs.Str.{all_ascii_digits};
-ghost use Rattle.memcached_text.specs.Numbers.{number_of};
+ghost use Rattle.std.specs.Prelude.{◌≡◌, ◌≤◌, length};
 ghost use Rattle.memcached_commands.specs.Counting.{after_digits, may_end, number_in, counted};
 
-use memcached_text::Direction;
-use std::str;
+use memcached_text::{Direction, number_of};
 
 // What stands behind the digits that a value begins with.
 fn after_digits(value: &[u8]) -> &[u8]
@@ -32,16 +29,8 @@ fn may_end(rest: &[u8]) -> bool
     }
 }
 
-// The number that digits write, where 64 bits hold it.
-fn number_by(digits: &[u8]) -> Option<u64>
-    requires { all_ascii_digits digits.now ≡ true }
-    ensures { result ≡ number_of 18446744073709551615 digits.now }
-{
-    str::from_utf8(digits).ok()?.parse().ok()
-}
-
 /// The number of a value, of 64 bits: its digits, up to the first byte that ends a number.
-#[tactic(auto, unfolding(crate::specs::Counting::number_in), using(crate::proofs::CountLaws::digits_before, crate::proofs::CountLaws::digits_alone))]
+#[tactic(auto, unfolding(crate::specs::Counting::number_in), using(crate::proofs::CountLaws::digits_before))]
 pub fn number_in(value: &[u8]) -> Option<u64>
     ensures { result ≡ number_in value.now }
 {
@@ -49,7 +38,7 @@ pub fn number_in(value: &[u8]) -> Option<u64>
     if !may_end(rest) {
         return None;
     }
-    number_by(&value[..value.len() - rest.len()])
+    number_of(u64::MAX, &value[..value.len() - rest.len()])
 }
 
 /// A number that is counted by this much.

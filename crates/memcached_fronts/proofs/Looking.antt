@@ -18,6 +18,7 @@ use Rattle.memcached_commands.specs.Moments.{found_in}
 use Rattle.memcached_commands.specs.Changes.{looks}
 use Rattle.memcached_commands.specs.Decide as decided
 use Rattle.memcached_changes.specs.Numbered.{Order, moment_at, value_in, becoming_by, unless_refused, says_by}
+use Rattle.memcached_stats.specs.Tallies.{Numbers}
 use Rattle.mica_fronts.specs.declared.changing.Changed.{Changed}
 use Rattle.mica_fronts.specs.declared.changing.When.{When}
 use Rattle.mica_fronts.specs.Answered.{Answered, changed, kept, count_of_writes}
@@ -29,7 +30,6 @@ use Rattle.memcached_changes.proofs.Becomings.{says_alike}
 use Rattle.memcached_fronts.specs.AskAnswers.{order_of, said_of}
 use Rattle.memcached_fronts.specs.Going.{AnswersAt, value_found}
 use Rattle.memcached_fronts.specs.Counting.{noted_if, noted_by}
-use Rattle.memcached_stats.specs.declared.tally.Tally.{Tally}
 
 -- What is said
 
@@ -71,7 +71,7 @@ module _ (options : Options) (is_alone : Bool) (base second : ℕ) (asked : Aske
     pub at : AnswersAt options is_alone base second old asked new answered
     pub said : says_by (order_of base asked) changed.when (value_found changed.found buffer) changed.outcome ≡ said_of base asked answered
     pub count : count_of_writes (answered ∷ []) ≡ count_of changed.outcome
-    pub noted : (partitions : ℕ) (tally : Tally) → noted_if partitions asked.key changed.when changed.outcome changed.stamp tally ≡ noted_by partitions answered tally
+    pub noted : (partitions : ℕ) (tally : Numbers) → noted_if partitions asked.key changed.when changed.outcome changed.stamp tally ≡ noted_by partitions answered tally
 
   pub answered_by : (c : Changed) (buffer : List ℕ)
       → ComesTo options is_alone second asked.key (looks asked.ask) (becoming_by (order_of base asked)) (old (partition_of asked.key options.partitions)) c buffer

@@ -4,6 +4,9 @@ use memcached_text::spelled_key;
 use mica_fronts::{Front, load_all};
 use mica_words::key_hash;
 
+/// Fewer bytes than these hold a few commands at most. That is not worth a look.
+const LEAST_AHEAD: usize = 128;
+
 /// So many commands are looked at.
 const MOST_AHEAD: usize = 255;
 
@@ -17,7 +20,7 @@ fn has_more(bytes: &[u8]) -> bool {
 
 /// Loads what the commands that the bytes begin with will look at, where the front's tables are larger than the caches. One alone has none to miss beside.
 pub fn load_ahead<F: Front>(front: &F, bytes: &[u8]) {
-    if !front.loads_ahead() || !has_more(bytes) {
+    if bytes.len() < LEAST_AHEAD || !front.loads_ahead() || !has_more(bytes) {
         return;
     }
     let mut hashes = [0; MOST_AHEAD];

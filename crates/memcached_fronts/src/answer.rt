@@ -69,7 +69,7 @@ fn is_stats(next: &Next) -> bool
 fn answer_stats<C: Clock>(
     clock: &C,
     partitions: u32,
-    buffers: &Buffers,
+    buffers: &mut Buffers,
     done: usize,
     out: &mut Vec<u8>,
 ) -> Result<Progress, NoMemory>
@@ -77,8 +77,9 @@ fn answer_stats<C: Clock>(
         × ((told : Told) × (out.new.items ≡ out.old.items ++ stats_text partitions told))) }
     ensures err { OnErr result (out.new.items ≡ out.old.items) }
     ensures short { length out.new.items ≤ length out.old.items + MAX_REPLY_LEN }
+    ensures tally { buffers.new.tally ≡ buffers.old.tally }
 {
-    buffers.show_all();
+    buffers.show();
     buffers.board.put_stats(clock.present(), partitions, out)?;
     Ok(Progress {
         done,

@@ -36,19 +36,10 @@ impl<'a> Buffers<'a> {
         })
     }
 
-    /// Shows what the front has counted.
-    pub fn show_all(&self) {
-        self.board.show(self.place, &self.tally);
-    }
-
-    /// Shows what the front has counted since this was asked last.
+    /// Shows what the front has counted since this was done last.
     pub fn show(&mut self)
         ensures { self.new.tally ≡ self.old.tally }
     {
-        if self.noted.take_written() {
-            self.show_all();
-        } else {
-            self.board.show_counters(self.place, &self.tally);
-        }
+        self.board.show(self.place, &mut self.tally);
     }
 }

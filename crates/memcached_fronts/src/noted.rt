@@ -4,7 +4,6 @@ ghost use Rattle.memcached_fronts.specs.declared.noted.TheConstants.{MOST_USED};
 
 use memcached_commands::Ask;
 use partition_model::Outcome;
-use std::mem;
 
 /// So many keys are noted between two sweeps at most.
 pub const MOST_USED: usize = 64;
@@ -17,8 +16,6 @@ pub struct Noted {
     // The hashes of keys that were touched or counted, so many of them.
     used: [u64; MOST_USED],
     count: usize,
-    // Whether a write was noted since this was asked last.
-    written: bool,
 }
 
 impl Noted {
@@ -28,13 +25,11 @@ impl Noted {
             full: None,
             used: [0; MOST_USED],
             count: 0,
-            written: false,
         }
     }
 
     /// Notes what came of an ask of a key with this hash.
     pub fn note(&mut self, ask: &Ask, hash: u64, partition: u32, outcome: Outcome) {
-        self.written = true;
         match outcome {
             Outcome::FullBlock | Outcome::FullSpare => self.full = Some(partition),
             Outcome::Stored if uses(ask) => self.note_used(hash),
@@ -47,11 +42,6 @@ impl Noted {
             *place = hash;
             self.count += 1;
         }
-    }
-
-    /// Whether a write was noted since this was asked last.
-    pub fn take_written(&mut self) -> bool {
-        mem::replace(&mut self.written, false)
     }
 
     /// The partition where a write found no room since this was asked last.

@@ -5,7 +5,7 @@ ghost use Rattle.memcached_fronts.specs.declared.pace.TheConstants.{LONG_STRETCH
 use mica_clock::Clock;
 
 /// The fewest places that one sweep looks at: so many where the last one found nothing to take away.
-const LEAST_STRETCH: u32 = 4;
+const LEAST_STRETCH: u32 = 1;
 
 /// The most places that one sweep looks at where nobody wants room.
 const MOST_STRETCH: u32 = 512;

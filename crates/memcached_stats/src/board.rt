@@ -6,7 +6,7 @@ ghost use Rattle.memcached_stats.specs.Stats.{Told, stats_text};
 use crate::counter::COUNTERS;
 use crate::figures::{About, Counts, Wear};
 use crate::lines::put_stats;
-use crate::tally::{Tally, place_of_partition};
+use crate::tally::{MOST_NUMBERS, Tally, place_of_partition};
 use mica_io::NoMemory;
 use mica_words::tail_of;
 use partition_model::{LAST_TAIL, MOST_PARTITIONS, Mode, Options};
@@ -44,10 +44,18 @@ impl Shown {
         Ok(Shown { numbers })
     }
 
-    // Shows what has changed of these, which are the first numbers of a tally.
-    fn show(&self, numbers: &[u64]) {
-        for (shown, number) in self.numbers.iter().zip(numbers) {
-            if shown.load(Ordering::Relaxed) != *number {
+    // Shows what has changed of a tally.
+    fn show(&self, tally: &mut Tally)
+        ensures { tally.new ≡ tally.old }
+    {
+        for _ in 0..MOST_NUMBERS {
+            let Some(place) = tally.take_changed() else {
+                return;
+            };
+            if let (Some(shown), Some(number)) = (
+                self.numbers.get(place),
+                tally.numbers.get(place),
+            ) {
                 shown.store(*number, Ordering::Relaxed);
             }
         }
@@ -88,17 +96,12 @@ impl Board {
         })
     }
 
-    /// Shows what the front of this number has counted.
-    pub fn show(&self, front: u32, tally: &Tally) {
+    /// Shows what the front of this number has counted since this was done last.
+    pub fn show(&self, front: u32, tally: &mut Tally)
+        ensures { tally.new ≡ tally.old }
+    {
         if let Some(shown) = self.fronts.get(front as usize) {
-            shown.show(tally.numbers.as_slice());
-        }
-    }
-
-    /// Shows its counters alone, where no partition was noted since all was shown.
-    pub fn show_counters(&self, front: u32, tally: &Tally) {
-        if let Some(shown) = self.fronts.get(front as usize) {
-            shown.show(&tally.numbers[..COUNTERS]);
+            shown.show(tally);
         }
     }
 

@@ -5,9 +5,13 @@ ghost use Rattle.memcached_stats.specs.Tallies.{counted, none_tallied, noted, nu
 
 use crate::counter::{COUNTERS, Counter};
 use partition_model::MOST_PARTITIONS;
+use std::marker::Model;
 
 /// How many numbers a front counts at most: its counters, and two of each partition.
 pub const MOST_NUMBERS: usize = COUNTERS + 2 * MOST_PARTITIONS as usize;
+
+// So many words hold a bit for each.
+const MARK_WORDS: usize = MOST_NUMBERS / 64 + 1;
 
 /// The place of the first number of a partition.
 pub fn place_of_partition(partition: u32) -> usize
@@ -18,9 +22,20 @@ pub fn place_of_partition(partition: u32) -> usize
 }
 
 /// What a front counts for itself: how often each counter was raised, and how many writes each partition had accepted and its stamp, as the front saw it last.
+/// Clauses see the list of these numbers.
 #[derive(Drop)]
 pub struct Tally {
-    pub numbers: [u64; MOST_NUMBERS],
+    pub(crate) numbers: [u64; MOST_NUMBERS],
+    // The places whose numbers changed since they were taken for changed last, a bit for each.
+    changed: [u64; MARK_WORDS],
+}
+
+impl Model for Tally {
+    ghost use Rattle.std.specs.Prelude.{List, ℕ};
+
+    ghost Value = { List ℕ };
+
+    ghost view = { λ t. t.numbers };
 }
 
 impl Tally {
@@ -30,6 +45,7 @@ impl Tally {
     {
         Tally {
             numbers: [0; MOST_NUMBERS],
+            changed: [0; MARK_WORDS],
         }
     }
 
@@ -45,8 +61,25 @@ impl Tally {
         ensures { self.new ≡ put_at place number self.old }
     {
         if place < MOST_NUMBERS {
+            if self.numbers[place] != number {
+                self.changed[place / 64] |= 1 << (place % 64);
+            }
             self.numbers[place] = number;
         }
+    }
+
+    // A place whose number has changed, which counts for unchanged from now on.
+    pub(crate) fn take_changed(&mut self) -> Option<usize>
+        ensures { self.new ≡ self.old }
+    {
+        for at in 0..MARK_WORDS {
+            let marks = self.changed[at];
+            if marks != 0 {
+                self.changed[at] = marks & (marks - 1);
+                return Some(at * 64 + marks.trailing_zeros() as usize);
+            }
+        }
+        None
     }
 
     /// Raises a counter by so many.

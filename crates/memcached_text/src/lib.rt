@@ -37,6 +37,7 @@ pub use limits::{
     MAX_WAITING_LEN,
 };
 pub use next::{Next, next_command};
+pub use number::number_of;
 pub use reply::{Reply, fault_line, put_last_value, put_number, put_stat, put_value, reply_line};
 pub use spelled::spelled_key;
 pub use text::Text;

@@ -2,7 +2,7 @@
 ghost use Rattle.std.specs.Prelude.{◌≡◌, ◌≤◌, IfSome};
 ghost use Rattle.memcached_text.specs.Numbers.{number_of};
 
-// The number that a word writes, where it is at most this.
+/// The number that a word writes, where it is at most this.
 pub fn number_of(most: u64, word: &[u8]) -> Option<u64>
     ensures reads { result ≡ number_of most word.now }
     ensures small { IfSome result (λ n. n ≤ most) }

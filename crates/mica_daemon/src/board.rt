@@ -45,6 +45,6 @@ pub(crate) fn board_of<C: Clock>(
         connections: u64::from(fronts) * u64::from(streams.connections),
     };
     let board = Board::new(alloc, server, options, fronts.saturating_add(1))?;
-    board.show(fronts, &tally_of(options.partitions, filling));
+    board.show(fronts, &mut tally_of(options.partitions, filling));
     Ok(board)
 }
