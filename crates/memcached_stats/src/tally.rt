@@ -72,14 +72,10 @@ impl Tally {
     pub(crate) fn take_changed(&mut self) -> Option<usize>
         ensures { self.new ≡ self.old }
     {
-        for at in 0..MARK_WORDS {
-            let marks = self.changed[at];
-            if marks != 0 {
-                self.changed[at] = marks & (marks - 1);
-                return Some(at * 64 + marks.trailing_zeros() as usize);
-            }
-        }
-        None
+        let at = self.changed.iter().position(|marks| *marks != 0)?;
+        let marks = self.changed[at];
+        self.changed[at] = marks & marks.wrapping_sub(1);
+        Some(at * 64 + marks.trailing_zeros() as usize)
     }
 
     /// Raises a counter by so many.

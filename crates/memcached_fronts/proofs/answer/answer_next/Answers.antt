@@ -76,7 +76,7 @@ returns-then-is_stats-clause-answered g c =
           (all.1.1 ∙ ap (λ n. before ++ stats_text n all.1.0) c.requires.partitions ∙ ap (λ text. before ++ text) (sym (is.due options.partitions all.1.0)))))
           c.answer_stats.ensures.told,
       omega arith,
-      c.count.ensures ∙ ap (λ k. counted k c.args.buffers.now.tally) c.counter_by.ensures
+      c.answer_stats.ensures.tally ∙ c.count.ensures ∙ ap (λ k. counted k c.args.buffers.now.tally) c.counter_by.ensures
           ∙ sym (counted_plain c.args.numbering.base c.args.numbering.partitions next c.args.done c.args.buffers.now.tally),
       omega arith,
     )
