@@ -5,7 +5,7 @@ use mica_fronts::{Front, load_all};
 use mica_words::key_hash;
 
 /// Fewer bytes than these hold a few commands at most. That is not worth a look.
-const LEAST_AHEAD: usize = 128;
+const LEAST_AHEAD: usize = 96;
 
 /// So many commands are looked at.
 const MOST_AHEAD: usize = 255;
