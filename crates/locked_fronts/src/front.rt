@@ -244,9 +244,11 @@ impl<'a, J: ServerPlan, P: LendPartition<Reader = ReaderSeat, Note = Note> + Dro
     }
 
     fn glance_old(&self, hash: u64, key: &mut ItemBuf) -> bool {
-        let part = &self.parts[partition_of(hash, self.options.partitions) as usize];
         match self.options.mode {
-            Mode::Cache => seat_loads::glance_old(&part.seat, part.newest, hash, key),
+            Mode::Cache => {
+                let part = &self.parts[partition_of(hash, self.options.partitions) as usize];
+                seat_loads::glance_old(&part.seat, part.newest, hash, key)
+            }
             Mode::Store => false,
         }
     }
