@@ -3,7 +3,7 @@ ghost use Rattle.std.specs.Prelude.{◌≡◌};
 ghost use Rattle.stream_io.specs.PortLogs.{place_at};
 
 use std::net::{Ipv4Addr, Net as Sockets};
-use stream_io::{Listeners, TcpListeners};
+use stream_io::{Listeners, MemListeners, TcpListeners};
 
 /// Listeners that are told at which address they listen, and how many connections each port has at most at a time.
 pub trait PlacedListeners: Listeners {
@@ -17,6 +17,12 @@ pub trait PlacedListeners: Listeners {
 }
 
 impl<'a, R: Sockets> PlacedListeners for TcpListeners<'a, R> {
+    fn set_place(&mut self, address: Ipv4Addr, most: u32) {
+        self.set_place(address, most);
+    }
+}
+
+impl<'a> PlacedListeners for MemListeners<'a> {
     fn set_place(&mut self, address: Ipv4Addr, most: u32) {
         self.set_place(address, most);
     }

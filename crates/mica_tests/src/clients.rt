@@ -70,7 +70,7 @@ fn is_heard(
     let alloc = rt.alloc();
     let steps = schedule_of(alloc, said)?;
     let script = script_of(alloc, seconds)?;
-    let mut listeners = SameSchedule::new(alloc, steps.as_slice(), None);
+    let mut listeners = SameSchedule::new(alloc, steps.as_slice());
     let mut net = MemNet::new(alloc, &[])?;
     let mut files = MemFiles::new(alloc);
     let (status, _, lacked) = run_whole(

@@ -13,12 +13,13 @@ use mica_commands::MOST_FRONTS;
 use mica_daemon::{Files, MemFiles, PlacedListeners, Process, Speaker, daemon};
 use mica_io::{Bytes, FreeGate, Gate, MemNet, MemSink, Net, NoMemory};
 use std::alloc::Global;
+use std::net::Ipv4Addr;
 use std::process::Abort;
 use std::sync::Wait;
 use std::sync::atomic::AtomicBool;
 use std::test::Fail;
 use std::thread::Threads;
-use stream_io::{Change, Step};
+use stream_io::{Change, MemListeners, Step};
 
 // As many clocks as there may be fronts, each of which shows these seconds.
 fn clocks_of(alloc: Global, seconds: &[Option<u64>]) -> Result<Vec<MemClock<'_>>, NoMemory>
@@ -113,7 +114,7 @@ pub fn run_gated<W: Threads + Wait + Sync, F: Files, N: Net, G: Gate>(
 ) -> Result<(Status, MemSink), NoMemory>
     requires { N.binds net.old ≡ 0 }
 {
-    let mut listeners = SameSchedule::new(alloc, &[], None);
+    let mut listeners = SameSchedule::new(alloc, &[]);
     let (status, sink, _) = run_whole(
         rt,
         alloc,
@@ -200,6 +201,19 @@ fn needs_no_port_of_datagrams(rt: HostRuntime) -> Result<(), Fail> {
     Ok(())
 }
 
+// Ports at each of which the same happens.
+fn ports_of<'a>(
+    alloc: Global,
+    ports: &[u16],
+    schedule: &'a [Step],
+) -> Result<MemListeners<'a>, NoMemory> {
+    let mut listeners = MemListeners::new(alloc, Ipv4Addr::LOCALHOST, 0)?;
+    for port in ports {
+        listeners.add_port(alloc, *port, schedule, 1_024, &[])?;
+    }
+    Ok(listeners)
+}
+
 // One client sets a value, gets it and ends; another breaks off in the midst of a command.
 fn two_clients(alloc: Global) -> Result<Vec<Step>, NoMemory> {
     let whole = b"set a 0 0 1\r\n1\r\nget a\r\n";
@@ -227,7 +241,7 @@ fn closes_no_connection_for_want_of_memory(rt: HostRuntime) -> Result<(), Fail> 
     let alloc = rt.alloc();
     let mut net = MemNet::new(alloc, &[])?;
     let steps = two_clients(alloc)?;
-    let mut listeners = SameSchedule::new(alloc, steps.as_slice(), None);
+    let mut listeners = ports_of(alloc, &[11_211, 11_212], steps.as_slice())?;
     let (status, sink, lacked) = run_whole(
         &rt,
         alloc,
@@ -246,12 +260,12 @@ fn closes_no_connection_for_want_of_memory(rt: HostRuntime) -> Result<(), Fail> 
     Ok(())
 }
 
-// The second port of connections is taken.
+// The second port of connections is not there.
 #[test]
 fn is_not_ready_where_it_cannot_listen(rt: HostRuntime) -> Result<(), Fail> {
     let alloc = rt.alloc();
     let mut net = MemNet::new(alloc, &[])?;
-    let mut listeners = SameSchedule::new(alloc, &[], Some(11_212));
+    let mut listeners = ports_of(alloc, &[11_211], &[])?;
     let (status, sink) = run_listening(
         &rt,
         alloc,
@@ -276,11 +290,11 @@ fn is_not_ready_where_a_bind_fails(rt: HostRuntime) -> Result<(), Fail> {
     Ok(())
 }
 
-// The words ask for three ports of each kind, and those of datagrams are all there.
+// The words ask for three ports of each kind. Those of datagrams are all there, and these of connections.
 fn expect_unbound(
     rt: &(impl Abort + AllocGlobal + Threads + Wait + Sync),
     fails: &[u32],
-    taken: Option<u16>,
+    there: &[u16],
     said: &[u8],
 ) -> Result<(), Fail> {
     let alloc = rt.alloc();
@@ -288,7 +302,7 @@ fn expect_unbound(
     net.add_port(alloc, 9_000, 100, &[], &[])?;
     net.add_port(alloc, 9_001, 100, &[], &[])?;
     net.add_port(alloc, 9_002, 100, &[], &[])?;
-    let mut listeners = SameSchedule::new(alloc, &[], taken);
+    let mut listeners = ports_of(alloc, there, &[])?;
     let (status, sink) = run_listening(
         rt,
         alloc,
@@ -305,11 +319,12 @@ fn expect_unbound(
 // The second of three ports is taken, or the first or the last one.
 #[test]
 fn names_the_port_that_is_taken(rt: HostRuntime) -> Result<(), Fail> {
-    expect_unbound(&rt, &[2], None, b"port 9001 not bound\n")?;
-    expect_unbound(&rt, &[1], None, b"port 9000 not bound\n")?;
-    expect_unbound(&rt, &[3], Some(11_211), b"port 9002 not bound\n")?;
-    expect_unbound(&rt, &[], Some(11_212), b"port 11212 not bound\n")?;
-    expect_unbound(&rt, &[4], Some(11_213), b"port 11213 not bound\n")
+    let all = [11_211, 11_212, 11_213];
+    expect_unbound(&rt, &[2], &all, b"port 9001 not bound\n")?;
+    expect_unbound(&rt, &[1], &all, b"port 9000 not bound\n")?;
+    expect_unbound(&rt, &[3], &all[1..], b"port 9002 not bound\n")?;
+    expect_unbound(&rt, &[], &[11_211, 11_213], b"port 11212 not bound\n")?;
+    expect_unbound(&rt, &[4], &all[..2], b"port 11213 not bound\n")
 }
 
 // The sink has no room for the line, so nothing is received.

@@ -14,6 +14,8 @@ mod counts;
 #[cfg(test)]
 mod datagrams;
 #[cfg(test)]
+mod each_port;
+#[cfg(test)]
 mod exclusive;
 #[cfg(test)]
 mod filled;

@@ -1,4 +1,4 @@
-//! Ports of connections in memory, at each of which the same schedule happens.
+//! Ports of connections in memory, at each of which the same schedule happens, and all that is sent in the order in which it is sent.
 ghost use Rattle.std.specs.Prelude.{◌≡◌};
 
 use crate::overheard::Overheard;
@@ -13,8 +13,6 @@ use stream_io::{Heard, Listeners, Place, Step};
 pub struct SameSchedule<'a> {
     alloc: Global,
     schedule: &'a [Step],
-    /// The port that can't be listened at, if there is one.
-    taken: Option<u16>,
     place: Place,
     listened: Vec<Heard>,
     faults: u64,
@@ -22,11 +20,10 @@ pub struct SameSchedule<'a> {
 }
 
 impl<'a> SameSchedule<'a> {
-    pub fn new(alloc: Global, schedule: &'a [Step], taken: Option<u16>) -> SameSchedule<'a> {
+    pub fn new(alloc: Global, schedule: &'a [Step]) -> SameSchedule<'a> {
         SameSchedule {
             alloc,
             schedule,
-            taken,
             place: Place {
                 address: Ipv4Addr::LOCALHOST,
                 most: 0,
@@ -59,12 +56,10 @@ impl<'a> Listeners for SameSchedule<'a> {
     ghost heard = { λ l. l.listened.items };
 
     fn listen(&mut self, port: u16) -> Result<Overheard<'a>, Failed> {
-        if self.taken != Some(port) {
-            if let Ok(connections) = Overheard::new(self.alloc, port, self.schedule) {
-                let place = self.place;
-                if self.listened.push(Heard { port, place }).is_ok() {
-                    return Ok(connections);
-                }
+        if let Ok(connections) = Overheard::new(self.alloc, port, self.schedule) {
+            let place = self.place;
+            if self.listened.push(Heard { port, place }).is_ok() {
+                return Ok(connections);
             }
         }
         self.faults = self.faults.saturating_add(1);

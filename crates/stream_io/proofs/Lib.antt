@@ -5,3 +5,4 @@ pub mod Pending
 pub mod Stages
 pub mod Views
 pub mod Told
+pub mod Seats

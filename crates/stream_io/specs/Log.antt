@@ -13,6 +13,10 @@ pub record Log : Type 0 where
   pub script : Script
   pub entries : List Entry
 
+-- the log of a schedule with which nothing was done yet
+abbrev pub new_log : List Step → Script → Log
+new_log schedule script = record { schedule = schedule; script = script; entries = [] }
+
 -- the log with its entries changed
 abbrev pub with_entries : (List Entry → List Entry) → Log → Log
 with_entries f log = record log { entries = f log.entries }

@@ -5,12 +5,15 @@
 //! doing and no fault: `next` alone answers `Failed`, where the count of faults rose in that call.
 #![tactic(auto)]
 
+mod boxed_connections;
 mod connections;
 mod listeners;
 mod memory_connection;
 mod memory_connections;
 mod memory_list;
+mod memory_listeners;
 mod memory_log;
+mod memory_ports;
 mod patience;
 mod schedule;
 mod stage;
@@ -20,6 +23,7 @@ mod tcp_listeners;
 pub use connections::{Broken, Connections, Event, Input};
 pub use listeners::{Heard, Listeners, Place};
 pub use memory_connections::MemConnections;
+pub use memory_listeners::MemListeners;
 pub use schedule::{Change, Step};
 pub use tcp_connections::TcpConnections;
 pub use tcp_listeners::TcpListeners;

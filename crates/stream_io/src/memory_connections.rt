@@ -1,5 +1,6 @@
 //! Connections in memory.
 ghost use Rattle.std.specs.Prelude.{◌≡◌, ◌<◌, [], false, IfOk};
+ghost use Rattle.stream_io.specs.Log.{sent_of};
 
 use crate::stage::Stage;
 use crate::{Broken, Connections, Event, Input, Step};
@@ -44,6 +45,13 @@ impl<'a> MemConnections<'a> {
             ended: false,
             faults: 0,
         })
+    }
+
+    /// All bytes that were sent for the connection that was made as this one, from 0.
+    pub fn sent(&self, alloc: Global, connection: u32) -> Result<Vec<u8>, NoMemory>
+        ensures { IfOk result (λ all. all.items ≡ sent_of connection self.now.stage.entries) }
+    {
+        self.stage.sent(alloc, connection as usize)
     }
 }
 

@@ -1,7 +1,8 @@
 //! What calls did, in room that was taken beforehand.
-ghost use Rattle.std.specs.Prelude.{◌≡◌, ◌-◌, ◌<◌, ◌≤◌, ◌∷◌, [], length, IfOk};
+ghost use Rattle.std.specs.Prelude.{◌≡◌, ◌-◌, ◌<◌, ◌≤◌, ◌∷◌, [], All, length, IfOk};
 ghost use Rattle.stream_io.specs.State.{sent};
-ghost use Rattle.stream_io.specs.MemoryLog.{noted};
+ghost use Rattle.stream_io.specs.Log.{sent_of};
+ghost use Rattle.stream_io.specs.MemoryLog.{noted, entry_in, entries_in, IsWithin};
 
 use mica_io::NoMemory;
 use std::alloc::Global;
@@ -46,6 +47,42 @@ impl<'a> Model for MemLog<'a> {
         × All (IsWithin (length l.bytes.items)) l.marks.items };
 }
 
+// What a mark keeps of the bytes that were sent for the connection of a place.
+#[tactic(auto, using(crate::proofs::Marks::none_noted))]
+fn sent_by<'b>(bytes: &'b [u8], mark: &Mark<'_>, place: usize) -> &'b [u8]
+    requires { IsWithin (length bytes.now) mark.now }
+    ensures { result.now ≡ sent_of place (entry_in bytes.now mark.now ∷ []) }
+{
+    match mark {
+        Mark::Noted(_) => &[],
+        Mark::Sent(connection, from, to) => {
+            if *connection == place {
+                &bytes[*from..*to]
+            } else {
+                &[]
+            }
+        }
+    }
+}
+
+// All bytes that were sent for the connection of a place, by these marks.
+#[tactic(auto, using(crate::proofs::Marks::sent_on))]
+fn sent_in(
+    alloc: Global,
+    bytes: &[u8],
+    marks: &[Mark<'_>],
+    place: usize,
+) -> Result<Vec<u8>, NoMemory>
+    requires { All (IsWithin (length bytes.now)) marks.now }
+    ensures { IfOk result (λ all. all.items ≡ sent_of place (entries_in bytes.now marks.now)) }
+{
+    let mut all = Vec::new(alloc);
+    for mark in marks {
+        all.extend_from_slice(sent_by(bytes, mark, place))?;
+    }
+    Ok(all)
+}
+
 impl<'a> MemLog<'a> {
     /// An entry takes a place of the room, or one for each byte that was sent.
     pub fn new(alloc: Global, room: usize) -> Result<Self, NoMemory>
@@ -83,5 +120,12 @@ impl<'a> MemLog<'a> {
         let to = self.bytes.len();
         self.marks.push_reserved(Mark::Sent(place, from, to));
         self.room -= bytes.len();
+    }
+
+    /// All bytes that were sent for the connection of a place.
+    pub fn sent(&self, alloc: Global, place: usize) -> Result<Vec<u8>, NoMemory>
+        ensures { IfOk result (λ all. all.items ≡ sent_of place self.now.entries) }
+    {
+        sent_in(alloc, self.bytes.as_slice(), self.marks.as_slice(), place)
     }
 }

@@ -2,7 +2,7 @@
 ghost use Rattle.std.specs.Prelude.{◌≡◌, ◌+◌, ◌*◌, ◌<◌, ◌≤◌, ◌∷◌, [], true, false, Some, length, take, min, slice_get, is_some, IfOk, IfSome, IfNone};
 ghost use Rattle.std.specs.List.{sum_by};
 ghost use Rattle.stream_io.specs.State.{held, asked, closed};
-ghost use Rattle.stream_io.specs.Log.{after_meeting_one};
+ghost use Rattle.stream_io.specs.Log.{after_meeting_one, sent_of};
 ghost use Rattle.stream_io.specs.Calls.{IsNext, entry_of, FitsRoom, IsGiven, IsTaken, gave, took};
 ghost use Rattle.stream_io.specs.MemoryConnection.{cost_of};
 ghost use Rattle.stream_io.specs.Stage.{played_state, played_connections};
@@ -231,5 +231,12 @@ impl<'a> Stage<'a> {
     {
         close_at(&mut self.all, place);
         self.log.note(Note::Closed(place));
+    }
+
+    /// All bytes that were sent for the connection at a place.
+    pub fn sent(&self, alloc: Global, place: usize) -> Result<Vec<u8>, NoMemory>
+        ensures { IfOk result (λ all. all.items ≡ sent_of place self.now.entries) }
+    {
+        self.log.sent(alloc, place)
     }
 }
