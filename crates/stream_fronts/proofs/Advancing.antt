@@ -25,7 +25,7 @@ use Rattle.memcached_fronts.specs.Going.{Replies, StandsAt}
 use Rattle.memcached_fronts.proofs.AskLaws.{quiet_none}
 use Rattle.memcached_fronts.proofs.ExchangeLaws.{asks_are_due, at_first, is_below, no_asks}
 use Rattle.stream_io.specs.declared.connections.Input.{Input}
-use Rattle.stream_io.specs.declared.connections.Input.TheVariants.{Bytes, Later, Ended}
+use Rattle.stream_io.specs.declared.connections.Input.TheVariants.{Bytes, All, Later, Ended}
 use Rattle.stream_fronts.specs.declared.answer.HowFar.{HowFar}
 use Rattle.stream_fronts.specs.declared.answer.Said.TheVariants.{Part, Whole}
 use Rattle.stream_fronts.specs.declared.answer.Halt.{Halt}
@@ -244,6 +244,7 @@ paid_for client now bytes count halt None len pays a may same = elim (a.less may
   | inr less ↦ let most = pays.0 in inr (omega (arith, less, most, len, same))
 ]
 paid_for client now bytes count halt (Some (Bytes some)) len pays a may same = let no_more = a.no_more in let paid = pays.0 in inr (omega (arith, no_more, paid, len, same))
+paid_for client now bytes count halt (Some (All some)) len pays a may same = let no_more = a.no_more in let paid = pays.0 in inr (omega (arith, no_more, paid, len, same))
 paid_for client now bytes count halt (Some Later) len pays a may same = elim (a.less may) as (λ _. IsAtRest halt (Some Later) ⊎ IsPaid 1 now) [
   | inl waits ↦ inl (inr (waits.0, refl))
   | inr less ↦ inr (omega (arith, less, pays, len, same))
@@ -273,5 +274,6 @@ earns_reading Enough input client now bytes count answers replies pays len waits
 earns_reading Needs None client now bytes count answers replies pays len waits speaks whole =
     let fits = waits_within client.kept (whole (waits refl)) in let full = pays.1 in absurd (omega (arith, fits, full))
 earns_reading Needs (Some (Bytes some)) client now bytes count answers replies pays len waits speaks whole = let more = pays.1 in inr (omega (arith, more, len))
+earns_reading Needs (Some (All some)) client now bytes count answers replies pays len waits speaks whole = inl (inr (refl, refl))
 earns_reading Needs (Some Later) client now bytes count answers replies pays len waits speaks whole = inl (inr (refl, refl))
 earns_reading Needs (Some Ended) client now bytes count answers replies pays len waits speaks whole = inl (inl refl)

@@ -4,20 +4,20 @@ use Rattle.std.specs.Prelude.{slice_get, Option, Some, None, IfSome, min, is_som
 use Rattle.std.specs.List.{AllByRecursion}
 use Rattle.std.proofs.Math.Seq.{drop-nil}
 use Rattle.std.proofs.lemmas.Option.{none-some, same_Some}
-use Rattle.std.proofs.lemmas.List.{length-take-le}
+use Rattle.std.proofs.lemmas.List.{length-take-le, drop_all}
 use Rattle.stream_io.specs.declared.schedule.Change.{Change}
 use Rattle.stream_io.specs.declared.schedule.Step.{Step}
 use Rattle.stream_io.specs.declared.schedule.Step.TheVariants.{Opens, Reports, Happens}
 use Rattle.stream_io.specs.declared.connections.Broken.{Broken}
 use Rattle.stream_io.specs.declared.connections.Input.{Input}
-use Rattle.stream_io.specs.declared.connections.Input.TheVariants.{Bytes, Later, Ended}
+use Rattle.stream_io.specs.declared.connections.Input.TheVariants.{Bytes, All, Later, Ended}
 use Rattle.stream_io.specs.Connection.{Connection, new_connection, readable, after_change, after_read, after_write, after_ask, after_close}
 use Rattle.stream_io.specs.State.{State, Entry, opened, reported, met, received, sent, asked, closed, changed, state_after, after_step, after_report, after_meeting, held}
-use Rattle.stream_io.specs.Log.{Log, connections_of, state_of, with_entries, after_met}
-use Rattle.stream_io.specs.Calls.{IsGiven, ReadGives, gave}
-use Rattle.stream_fronts.specs.Traffic.{IsSend, Sends, IsIn, IsBroken, HasEnded, IsDrained, after_receiving, ReadsTo, why, bytes_read, OnHeld}
+use Rattle.stream_io.specs.Log.{Log, connections_of, state_of, with_entries, logged, after_met}
+use Rattle.stream_io.specs.Calls.{GivesSome, IsAll, IsGiven, ReadGives, gave}
+use Rattle.stream_fronts.specs.Traffic.{IsSend, Sends, Reads, IsIn, IsBroken, HasEnded, IsDrained, after_receiving, ReadsTo, why, bytes_read, OnHeld}
 use Rattle.stream_fronts.specs.Open.{IsOpen, OnLogs}
-use Rattle.stream_fronts.proofs.Places.{there, if_changed}
+use Rattle.stream_fronts.proofs.Places.{there, if_changed, changed_here}
 use Rattle.stream_fronts.proofs.Opening.{met_at, found}
 use Rattle.stream_fronts.proofs.Traffic.{met_entries}
 
@@ -134,24 +134,36 @@ receives_some : (c : ℕ) (bytes : List ℕ) (entries : List Entry) → 0 < leng
 receives_some c [] entries some = absurd (omega (arith, some))
 receives_some c (byte ∷ bytes) entries some = refl
 
-gave_reads : (c most : ℕ) (out : List ℕ) (answer : Result Input Broken) (old : Log) (x : Connection) → slice_get (connections_of (after_met old)) c ≡ Some x → IsGiven x most out answer
-    → ReadsTo why (bytes_read out answer) answer c old (with_entries (gave c x answer) (after_met old))
-gave_reads c most out (Ok (Bytes count)) old x is given =
+some_reads : (c most : ℕ) (out : List ℕ) (count : ℕ) (old : Log) (x : Connection) → GivesSome x most out count
+    → Reads c (take count out) old (logged (received c (take count x.waiting)) (after_met old))
+some_reads c most out count old x given =
     let m = met_entries (state_of old).later old.entries in
     let fits : count ≤ length x.waiting = let n = given.1 in omega (arith, n) in
     let len : length (take count out) ≡ count = ap length given.2 ∙ length-take-le count x.waiting fits in
-    let some : 0 < length (take count out) = let n = given.0 in omega (arith, n, len) in (
-      record {
-        schedule = refl;
-        piece = refl;
-        mets = m.0;
-        each = m.1;
-        entries =
-            ap (λ b. received c b ∷ (after_met old).entries) (sym given.2) ∙ ap (λ e. received c (take count out) ∷ e) m.2
-            ∙ sym (receives_some c (take count out) (m.0 ++ old.entries) some);
-      },
-      tt,
-    )
+    let some : 0 < length (take count out) = let n = given.0 in omega (arith, n, len) in
+    record {
+      schedule = refl;
+      piece = refl;
+      mets = m.0;
+      each = m.1;
+      entries =
+          ap (λ b. received c b ∷ (after_met old).entries) (sym given.2) ∙ ap (λ e. received c (take count out) ∷ e) m.2
+          ∙ sym (receives_some c (take count out) (m.0 ++ old.entries) some);
+    }
+
+-- nothing is left where all was given
+all_drained : (c count : ℕ) (log : Log) (x : Connection) → slice_get (connections_of log) c ≡ Some x → IsAll x count → IsIn IsDrained c (logged (received c (take count x.waiting)) log)
+all_drained c count log x is all =
+    let k = length (take count x.waiting) in
+    let whole = all.0 in
+    let len : k ≡ count = length-take-le count x.waiting (omega (arith, whole)) in
+    let drained : IsDrained (after_read k x) = record { read = drop_all k x.waiting (omega (arith, whole, len)); whole = all.1; goes_on = all.2 } in
+    subst (λ o. IfSome o IsDrained) (sym (changed_here c (after_read k) (connections_of log) x is)) drained
+
+gave_reads : (c most : ℕ) (out : List ℕ) (answer : Result Input Broken) (old : Log) (x : Connection) → slice_get (connections_of (after_met old)) c ≡ Some x → IsGiven x most out answer
+    → ReadsTo why (bytes_read out answer) answer c old (with_entries (gave c x answer) (after_met old))
+gave_reads c most out (Ok (Bytes count)) old x is given = (some_reads c most out count old x given, tt)
+gave_reads c most out (Ok (All count)) old x is given = (some_reads c most out count old x given.0, inr (all_drained c count (after_met old) x is given.1))
 gave_reads c most out (Ok Later) old x is given =
     let m = met_entries (state_of old).later old.entries in
     let drained : IsDrained x = record { read = given.0; whole = given.1; goes_on = given.2 } in

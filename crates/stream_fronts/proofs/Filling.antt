@@ -1,7 +1,20 @@
 -- What lies in the room after a read behind what was kept.
-use Rattle.std.proofs.Common.{◌≡◌, ℕ, ◌+◌, ◌≤◌, List, ◌++◌, length, take, drop, sym, ap, ◌∙◌}
+use Rattle.std.proofs.Common.{◌≡◌, ◌⊎◌, inl, inr, ℕ, ◌+◌, ◌≤◌, List, ◌++◌, length, take, drop, sym, ap, ◌∙◌, subst}
+use Rattle.std.specs.Prelude.{Ok}
 use Rattle.std.proofs.Math.Seq.{take-add}
 use Rattle.std.proofs.lemmas.List.{take_at, drop_at, drop-take, take-append-le}
+use Rattle.stream_io.specs.declared.connections.Input.{Input}
+use Rattle.stream_io.specs.declared.connections.Input.TheVariants.{Bytes, All}
+use Rattle.stream_io.specs.Calls.{FitsRoom}
+use Rattle.stream_fronts.specs.Traffic.{bytes_read}
+
+-- a read gave so many bytes, all that came or not
+pub some_read : (out : List ℕ) (room : ℕ) (input : Input) (count : ℕ) → (input ≡ Bytes count) ⊎ (input ≡ All count) → FitsRoom room input
+    → (count ≤ room) × (bytes_read out (Ok input) ≡ take count out)
+some_read out room input count is fits = elim is as (λ _. (count ≤ room) × (bytes_read out (Ok input) ≡ take count out)) [
+  | inl some ↦ ((subst (FitsRoom room) some fits).1, ap (λ (i : Input). bytes_read out (Ok i)) some)
+  | inr all ↦ ((subst (FitsRoom room) all fits).1, ap (λ (i : Input). bytes_read out (Ok i)) all)
+]
 
 -- the room, which begins with a copy of what was kept
 room_is : (kept copied after out behind : List ℕ) (had : ℕ) → copied ≡ kept → had ≡ length kept → take had (copied ++ after) ++ (out ++ behind) ≡ kept ++ (out ++ behind)

@@ -10,12 +10,12 @@ use Rattle.stream_io.specs.declared.schedule.Step.TheVariants.{Opens, Reports, H
 use Rattle.stream_io.specs.declared.connections.Event.{Event}
 use Rattle.stream_io.specs.declared.connections.Event.TheVariants.{Opened, Ready}
 use Rattle.stream_io.specs.declared.connections.Input.{Input}
-use Rattle.stream_io.specs.declared.connections.Input.TheVariants.{Bytes, Later, Ended}
+use Rattle.stream_io.specs.declared.connections.Input.TheVariants.{Bytes, All, Later, Ended}
 use Rattle.stream_io.specs.declared.connections.Broken.{Broken}
 use Rattle.stream_io.specs.Connection.{Connection, after_change, after_read, after_write}
 use Rattle.stream_io.specs.State.{State, Entry, held, state_after, after_report, after_meeting}
 use Rattle.stream_io.specs.Log.{Log, IsHeld, connections_of, state_of, with_entries, after_met, after_meeting_one}
-use Rattle.stream_io.specs.Calls.{IsGiven, ReadGives, WriteTakes, MayAsk, Asks, Closes, ReportsNext, IsNext, gave, took, after_sending}
+use Rattle.stream_io.specs.Calls.{GivesSome, IsGiven, ReadGives, WriteTakes, MayAsk, Asks, Closes, ReportsNext, IsNext, gave, took, after_sending}
 use Rattle.stream_fronts.specs.Open.{asks_in, IsAt, IsOpen, IsOpenIn, Keeps, KeepsOthers, AsksOnce, OnLogs, IsOpened, gained}
 use Rattle.stream_fronts.proofs.Places.{KeepsOpen, changed_keeps, changed_here, there, asked_here, asked_others, closed_others, pushed, pushed_here}
 
@@ -40,12 +40,15 @@ met_one schedule entries (Happens c change ∷ later) is n d a at =
 pub met_at : (log : Log) (n d a : ℕ) → IsAt n d a (connections_of log) → IsAt n d a (connections_of (after_met log))
 met_at log n d a at = met_one log.schedule log.entries (state_of log).later refl n d a at
 
--- the answer of a read is taken note of
-read_at : (number c asks most : ℕ) (x : Connection) (out : List ℕ) (answer : Result Input Broken) (met : Log) → slice_get (connections_of met) c ≡ Some x
-    → IsAt number c asks (connections_of met) → IsGiven x most out answer
-    → ((n d a : ℕ) → IsAt n d a (connections_of met) → IsAt n d a (connections_of (with_entries (gave c x answer) met)))
+-- all stay open as a read answers, and this one may be asked for so often
+abbrev ReadAt : ℕ → ℕ → ℕ → Connection → Result Input Broken → Log → Type 0
+ReadAt number c asks x answer met =
+    ((n d a : ℕ) → IsAt n d a (connections_of met) → IsAt n d a (connections_of (with_entries (gave c x answer) met)))
     × IsAt number c (asks + gained answer) (connections_of (with_entries (gave c x answer) met))
-read_at number c asks most x out (Ok (Bytes count)) met is at given =
+
+some_at : (number c asks most : ℕ) (x : Connection) (out : List ℕ) (count : ℕ) (met : Log) → slice_get (connections_of met) c ≡ Some x
+    → IsAt number c asks (connections_of met) → GivesSome x most out count → ReadAt number c asks x (Ok (Bytes count)) met
+some_at number c asks most x out count met is at given =
     let k = length (take count x.waiting) in
     let fits : count ≤ length x.waiting = let m = given.1 in omega (arith, m) in
     let same : k ≡ count = length-take-le count x.waiting fits in
@@ -54,6 +57,12 @@ read_at number c asks most x out (Ok (Bytes count)) met is at given =
     ap asks_in (changed_here c (after_read k) (connections_of met) x is) in
     let moved = changed_keeps (after_read k) (read_keeps k) c (connections_of met) in
     (moved, ((moved number c asks at).0, omega (arith, at.1, here, after, same)))
+
+-- the answer of a read is taken note of
+read_at : (number c asks most : ℕ) (x : Connection) (out : List ℕ) (answer : Result Input Broken) (met : Log) → slice_get (connections_of met) c ≡ Some x
+    → IsAt number c asks (connections_of met) → IsGiven x most out answer → ReadAt number c asks x answer met
+read_at number c asks most x out (Ok (Bytes count)) met is at given = some_at number c asks most x out count met is at given
+read_at number c asks most x out (Ok (All count)) met is at given = some_at number c asks most x out count met is at given.0
 read_at number c asks most x out (Ok Later) met is at given = (λ n d a at. at, (at.0, omega (arith, at.1)))
 read_at number c asks most x out (Ok Ended) met is at given = (λ n d a at. at, (at.0, omega (arith, at.1)))
 read_at number c asks most x out (Err broken) met is at given = (λ n d a at. at, (at.0, omega (arith, at.1)))

@@ -8,7 +8,7 @@ use Rattle.memcached_text.specs.Next.{next_of}
 use Rattle.stream_io.specs.declared.schedule.Step.{Step}
 use Rattle.stream_io.specs.declared.connections.Broken.{Broken}
 use Rattle.stream_io.specs.declared.connections.Input.{Input}
-use Rattle.stream_io.specs.declared.connections.Input.TheVariants.{Bytes, Later, Ended}
+use Rattle.stream_io.specs.declared.connections.Input.TheVariants.{Bytes, All, Later, Ended}
 use Rattle.stream_io.specs.Log.{Log, state_of, connections_of, received_of, sent_of}
 use Rattle.mica_fronts.specs.Answered.{Answered}
 use Rattle.stream_fronts.specs.declared.answer.Halt.{Halt}
@@ -23,7 +23,7 @@ use Rattle.stream_fronts.specs.Closing.{MayClose}
 use Rattle.stream_fronts.specs.Moments.{TalksThrough}
 use Rattle.stream_fronts.specs.Turns.{moved, most_answers}
 use Rattle.stream_fronts.specs.Clients.{IsClient}
-use Rattle.stream_fronts.specs.Traffic.{Sends, SendsFrom, Reads, IsIn, HasEnded, EndsBy}
+use Rattle.stream_fronts.specs.Traffic.{Sends, SendsFrom, Reads, IsIn, HasEnded, EndsBy, is_drained}
 use Rattle.stream_fronts.specs.Resting.{idle, Rests}
 use Rattle.stream_fronts.specs.Held.{IsAtRest, KeepsWhole, Passes, Holds, goes_on, left, ended, all_to, Becomes, Visits, leaves_by, Looks, Lacks, VisitLacks}
 use Rattle.stream_fronts.proofs.Talking.{may_leave, may_end}
@@ -31,7 +31,7 @@ use Rattle.stream_fronts.proofs.Staying.{passes_then, passes_sends, passes_reads
 use Rattle.stream_fronts.proofs.Earning.{looked_earns}
 use Rattle.stream_fronts.proofs.Drying.{sends_ended}
 use Rattle.stream_fronts.proofs.Moments.{given_more}
-use Rattle.stream_fronts.proofs.Visiting.{if_some, for_any, ends_on, rests_shut, Stage, stage_held, stage_sent, due_same, received_same, stage_breaks, stage_read, received_now, sent_now, stage_answered, stage_lacking}
+use Rattle.stream_fronts.proofs.Visiting.{if_some, for_any, ends_on, ends_drained, rests_shut, Stage, stage_held, stage_sent, due_same, received_same, stage_breaks, stage_read, received_now, sent_now, stage_answered, stage_lacking}
 
 waits_not_over : Waits ≢ Over
 waits_not_over is = cc
@@ -95,6 +95,7 @@ module _ (options : Options) (base : ℕ) where
     holds_now Enough input client log given leaving over few at = goes_on leaving few at
     holds_now Needs None client log given leaving over few at = goes_on leaving few at.0
     holds_now Needs (Some (Bytes count)) client log given leaving over few at = goes_on leaving few at.0
+    holds_now Needs (Some (All count)) client log given leaving over few at = goes_on leaving few at.0
     holds_now Needs (Some Later) client log given leaving over few at = goes_on leaving few at.0
     holds_now Needs (Some Ended) client log given leaving over few at = ended leaving few at.0 at.1 over
 
@@ -334,10 +335,10 @@ module _ (options : Options) (base : ℕ) where
                 WaitsFor becomes = becomes ≡ Waits → (lacking : List ℕ) (all : List Given) → Looked MOST_UNSENT c old.schedule lacking log all answers replies then r
                     → Rests last c new.script.piece (state_of new)
 
-                waits_idle : (becomes : After) → last.leaving ≡ false → last.unsent ≡ [] → (becomes ≡ Waits → (r.0 ≡ Needs) × (r.1 ≡ Some Later)) → WaitsFor becomes
+                waits_idle : (becomes : After) → last.leaving ≡ false → last.unsent ≡ [] → (becomes ≡ Waits → (r.0 ≡ Needs) × (is_drained r.1 ≡ true)) → WaitsFor becomes
                 waits_idle becomes reading none_left waits = λ is lacking all looked.
                     let w = waits is in
-                    let over = subst (λ i. EndsBy i c new) w.1 (ends_on r.1 then_sends.1 looked.ends) in
+                    let over = ends_drained r.1 c new w.1 (ends_on r.1 then_sends.1 looked.ends) in
                     let more = (subst (λ s. HaltsAs options base MAX_WAITING_LEN s (position_of then) (received_of c log.entries) (given_to c all ++ answers) (sent_of c log.entries ++ replies)) w.0 looked.stands).1 in
                     elim over as (λ _. Rests last c new.script.piece (state_of new)) [
                       | inl come ↦ inl come
@@ -388,7 +389,7 @@ module _ (options : Options) (base : ℕ) where
                       (stage.through, held_over most c last is_last new (given_to c all ++ answers) over none_left (held_end most lacking all looks_few holds through));
                 }
 
-                pub visit_after : (becomes : After) → (last.leaving ≡ true → becomes ≡ Over) → (last.leaving ≡ false → becomes ≢ Over) → (becomes ≡ Waits → (r.0 ≡ Needs) × (r.1 ≡ Some Later))
+                pub visit_after : (becomes : After) → (last.leaving ≡ true → becomes ≡ Over) → (last.leaving ≡ false → becomes ≢ Over) → (becomes ≡ Waits → (r.0 ≡ Needs) × (is_drained r.1 ≡ true))
                     → (IsAtRest r.0 r.1 → becomes ≢ Again) → IsClient last → last.unsent ≡ [] → Visits options base 1 client answers last becomes c old new
                 visit_after becomes over stays waits busy is_last none_left = by last.leaving refl
                   where

@@ -1,5 +1,5 @@
 -- One visit of a connection, from moment to moment.
-use Rattle.std.proofs.Common.{◌≡◌, ◌≢◌, ℕ, ◌+◌, ◌-◌, ◌≤◌, inl, inr, cond, List, [], ◌∷◌, ◌++◌, length, drop, refl, sym, ap, ◌∙◌, subst, arith, append_assoc, length-append, length-drop}
+use Rattle.std.proofs.Common.{◌≡◌, ◌≢◌, ℕ, ◌+◌, ◌-◌, ◌≤◌, inl, inr, true, true≢false, cond, List, [], ◌∷◌, ◌++◌, length, drop, refl, sym, ap, ◌∙◌, subst, arith, append_assoc, length-append, length-drop}
 use Rattle.std.specs.Prelude.{slice_get, Option, Some, None, IfSome}
 use Rattle.std.proofs.lemmas.List.{append-nil}
 use Rattle.std.proofs.lemmas.Bool.{eq-eqb}
@@ -7,7 +7,7 @@ use Rattle.partition_model.specs.declared.options.Options.{Options}
 use Rattle.memcached_text.specs.declared.limits.TheConstants.{MAX_WAITING_LEN}
 use Rattle.stream_io.specs.declared.schedule.Step.{Step}
 use Rattle.stream_io.specs.declared.connections.Input.{Input}
-use Rattle.stream_io.specs.declared.connections.Input.TheVariants.{Bytes, Later, Ended}
+use Rattle.stream_io.specs.declared.connections.Input.TheVariants.{Bytes, All, Later, Ended}
 use Rattle.stream_io.specs.State.{Entry}
 use Rattle.stream_io.specs.State as entry
 use Rattle.stream_io.specs.Log.{Log, state_of, connections_of, received_of, sent_of}
@@ -21,7 +21,7 @@ use Rattle.stream_fronts.specs.Reached.{Reaches, HaltsAs, Spoke, position_of}
 use Rattle.stream_fronts.specs.Closing.{MayClose}
 use Rattle.stream_fronts.specs.Moments.{IsAmong, TalksThrough}
 use Rattle.stream_fronts.specs.Clients.{IsClient}
-use Rattle.stream_fronts.specs.Traffic.{Sends, Reads, IsIn, IsBroken, IsShutIn, EndsBy, after_receiving}
+use Rattle.stream_fronts.specs.Traffic.{Sends, Reads, IsIn, IsBroken, IsShutIn, IsDrainedIn, EndsBy, is_drained, after_receiving}
 use Rattle.stream_fronts.specs.Resting.{shut, Rests}
 use Rattle.stream_fronts.specs.Held.{Holds, goes_on, left, ended, all_to}
 use Rattle.stream_fronts.proofs.Reaching.{read_more}
@@ -40,17 +40,30 @@ pub for_any : {X : Type 0} {Q : X → Type 0} (o : Option X) → ((x : X) → Q 
 for_any None then = tt
 for_any (Some x) then = then x
 
+-- where nothing waited, nothing does
+drained_on : {c : ℕ} {text : List ℕ} {old new : Log} → Sends c text old new → IsDrainedIn c old → IsDrainedIn c new
+drained_on {c} {text} {old} {new} sends is =
+    let moves = moves_sends sends in
+    elim is as (λ _. IsDrainedIn c new) [
+      | inl come ↦ inl (moves.to_come c come)
+      | inr drained ↦ elim moves.own as (λ _. IsDrainedIn c new) [ inl come ↦ inl come | inr on ↦ inr (on drained) ]
+    ]
+
 -- an end that a read told stays
 pub ends_on : (input : Option Input) {c : ℕ} {text : List ℕ} {old new : Log} → Sends c text old new → EndsBy input c old → EndsBy input c new
 ends_on None sends is = tt
 ends_on (Some (Bytes count)) sends is = tt
-ends_on (Some Later) {c} {text} {old} {new} sends is =
-    let moves = moves_sends sends in
-    elim is as (λ _. EndsBy (Some Later) c new) [
-      | inl come ↦ inl (moves.to_come c come)
-      | inr drained ↦ elim moves.own as (λ _. EndsBy (Some Later) c new) [ inl come ↦ inl come | inr on ↦ inr (on drained) ]
-    ]
+ends_on (Some (All count)) sends is = drained_on sends is
+ends_on (Some Later) sends is = drained_on sends is
 ends_on (Some Ended) {c} sends is = sends_ended sends c is
+
+-- a read said that nothing more has come
+pub ends_drained : (input : Option Input) (c : ℕ) (log : Log) → is_drained input ≡ true → EndsBy input c log → IsDrainedIn c log
+ends_drained None c log drained is = absurd (true≢false (sym drained))
+ends_drained (Some (Bytes count)) c log drained is = absurd (true≢false (sym drained))
+ends_drained (Some (All count)) c log drained is = is
+ends_drained (Some Later) c log drained is = is
+ends_drained (Some Ended) c log drained is = absurd (true≢false (sym drained))
 
 -- replies wait, and the peer takes none
 pub rests_shut : (client : Client) (c : ℕ) (log : Log) → client.unsent ≢ [] → IsShutIn c log → Rests client c log.script.piece (state_of log)

@@ -6,7 +6,7 @@ use Rattle.memcached_text.specs.declared.limits.TheConstants.{MAX_WAITING_LEN}
 use Rattle.memcached_text.specs.Next.{next_of}
 use Rattle.stream_io.specs.declared.connections.Broken.{Broken}
 use Rattle.stream_io.specs.declared.connections.Input.{Input}
-use Rattle.stream_io.specs.declared.connections.Input.TheVariants.{Later, Ended}
+use Rattle.stream_io.specs.declared.connections.Input.TheVariants.{Ended}
 use Rattle.stream_io.specs.Log.{Log, state_of, connections_of, received_of, sent_of}
 use Rattle.mica_fronts.specs.Answered.{Answered}
 use Rattle.stream_fronts.specs.declared.answer.Halt.{Halt}
@@ -20,7 +20,7 @@ use Rattle.stream_fronts.specs.Reached.{Reaches, Ends, GoesOnTo, SpokeFrom, Spok
 use Rattle.stream_fronts.specs.Closing.{MayClose}
 use Rattle.stream_fronts.specs.Moments.{IsAmong, TalksThrough}
 use Rattle.stream_fronts.specs.Turns.{GrowsBy, asks_of, moved, most_answers}
-use Rattle.stream_fronts.specs.Traffic.{Reads, IsIn, IsBroken, HasEnded, EndsBy}
+use Rattle.stream_fronts.specs.Traffic.{Reads, IsIn, IsBroken, HasEnded, EndsBy, is_drained}
 use Rattle.stream_fronts.specs.Resting.{Moves, Rests}
 
 -- What is held of the client of the c-th connection goes with their talk, where these answers were given. What is unsent is the end of what is due, so many
@@ -87,7 +87,7 @@ leaves_by _ _ = false
 
 -- nothing is to be done at once: no more is read, or it waits for its peer
 abbrev pub IsAtRest : Halt → Option Input → Type 0
-IsAtRest halt input = (leaves_by halt input ≡ true) ⊎ (halt ≡ Needs) × (input ≡ Some Later)
+IsAtRest halt input = (leaves_by halt input ≡ true) ⊎ (halt ≡ Needs) × (is_drained input ≡ true)
 
 -- A command that was answered in part was answered further.
 pub record GoesFurther (options : Options) (base : ℕ) (client : Client) (answers : List Answered) (replies : List ℕ) (now : Client) (r : Halt × Option Input) (c : ℕ) (old new : Log)

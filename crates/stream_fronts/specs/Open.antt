@@ -3,7 +3,7 @@ use Rattle.std.specs.Prelude.{◌≡◌, ◌≢◌, ⊤, ℕ, ◌≤◌, ◌-◌
 use Rattle.stream_io.specs.declared.connections.Event.{Event}
 use Rattle.stream_io.specs.declared.connections.Event.TheVariants.{Opened, Ready}
 use Rattle.stream_io.specs.declared.connections.Input.{Input}
-use Rattle.stream_io.specs.declared.connections.Input.TheVariants.{Bytes}
+use Rattle.stream_io.specs.declared.connections.Input.TheVariants.{Bytes, All}
 use Rattle.stream_io.specs.declared.connections.Broken.{Broken}
 use Rattle.stream_io.specs.Connection.{Connection}
 use Rattle.stream_io.specs.State.{held}
@@ -27,6 +27,7 @@ IsOpen number asks log = IsOpenIn number asks (connections_of log)
 -- how often more it may be asked for after a read gave this
 abbrev pub gained : Result Input Broken → ℕ
 gained (Ok (Bytes count)) = 2 * count
+gained (Ok (All count)) = 2 * count
 gained _ = 0
 
 -- all that are open stay so

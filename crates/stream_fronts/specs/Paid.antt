@@ -8,7 +8,7 @@ use Rattle.memcached_text.specs.declared.limits.TheConstants.{MAX_WAITING_LEN}
 use Rattle.memcached_text.specs.Next.{next_of}
 use Rattle.memcached_fronts.specs.Exchange.{IsOpenAt}
 use Rattle.stream_io.specs.declared.connections.Input.{Input}
-use Rattle.stream_io.specs.declared.connections.Input.TheVariants.{Bytes}
+use Rattle.stream_io.specs.declared.connections.Input.TheVariants.{Bytes, All}
 use Rattle.mica_fronts.specs.Answered.{Answered}
 use Rattle.stream_fronts.specs.declared.answer.TheConstants.{LIMITS}
 use Rattle.stream_fronts.specs.declared.answer.Halt.{Halt}
@@ -65,4 +65,5 @@ IsPaid more client = unanswered (position_of client) + more ≤ client.asks
 abbrev pub PaysFor : Client → ℕ → Option Input → Type 0
 PaysFor client count None = (count ≤ client.asks) × (length client.kept ≡ MAX_WAITING_LEN)
 PaysFor client count (Some (Bytes some)) = (count < client.asks) × (length client.kept < count)
+PaysFor client count (Some (All some)) = (count < client.asks) × (length client.kept < count)
 PaysFor client count (Some _) = count ≤ client.asks

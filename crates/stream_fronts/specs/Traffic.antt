@@ -1,11 +1,11 @@
 -- What calls for one connection make of a log.
-use Rattle.std.specs.Prelude.{◌≡◌, ◌≢◌, ◌⊎◌, ◌<◌, ⊤, ℕ, true, false, List, [], ◌∷◌, ◌++◌, length, take, slice_get, Option, Some, IfSome, Result, Ok, Err}
+use Rattle.std.specs.Prelude.{◌≡◌, ◌≢◌, ◌⊎◌, ◌<◌, ⊤, ℕ, Bool, true, false, List, [], ◌∷◌, ◌++◌, length, take, slice_get, Option, Some, IfSome, Result, Ok, Err}
 use Rattle.std.specs.List.{AllByRecursion}
 use Rattle.stream_io.specs.declared.schedule.Step.{Step}
 use Rattle.stream_io.specs.declared.schedule.Step.TheVariants.{Opens, Reports, Happens}
 use Rattle.stream_io.specs.declared.connections.Broken.{Broken}
 use Rattle.stream_io.specs.declared.connections.Input.{Input}
-use Rattle.stream_io.specs.declared.connections.Input.TheVariants.{Bytes, Later, Ended}
+use Rattle.stream_io.specs.declared.connections.Input.TheVariants.{Bytes, All, Later, Ended}
 use Rattle.stream_io.specs.Connection.{Connection}
 use Rattle.stream_io.specs.State.{Entry, met, received, sent}
 use Rattle.stream_io.specs.Log.{Log, state_of, connections_of, sent_of}
@@ -92,22 +92,34 @@ abbrev pub SendsFrom : {X : Type 0} → List ℕ → List ℕ → Result X Broke
 SendsFrom before after (Ok all) c old new = (text : List ℕ) × Sends c text old new × (before ≡ text ++ after) × (after ≢ [] → IsShutIn c new)
 SendsFrom before after (Err broken) c old new = SendsSome before c old new × IsIn IsBroken c new
 
--- Where a read gave none: the end came, or nothing waits until there is a report.
+-- nothing more has come, as a read says
+abbrev pub is_drained : Option Input → Bool
+is_drained (Some Later) = true
+is_drained (Some (All count)) = true
+is_drained _ = false
+
+-- nothing of the c-th connection waits until there is a report
+abbrev pub IsDrainedIn : ℕ → Log → Type 0
+IsDrainedIn c log = IsToCome c (state_of log).later ⊎ IsIn IsDrained c log
+
+-- What a read says beside the bytes that it gave: the end came, or nothing waits.
 abbrev pub EndsBy : Option Input → ℕ → Log → Type 0
 EndsBy (Some Ended) c log = IsIn HasEnded c log
-EndsBy (Some Later) c log = IsToCome c (state_of log).later ⊎ IsIn IsDrained c log
+EndsBy (Some Later) c log = IsDrainedIn c log
+EndsBy (Some (All count)) c log = IsDrainedIn c log
 EndsBy _ c log = ⊤
 
--- what a read made of a log; where it gave none, it may have said why
+-- what a read made of a log, and what it said beside the bytes
 abbrev pub ReadsTo : {X : Type 0} → (X → Option Input) → List ℕ → Result X Broken → ℕ → Log → Log → Type 0
 ReadsTo input bytes (Ok x) c old new = Reads c bytes old new × EndsBy (input x) c new
 ReadsTo input bytes (Err broken) c old new = Reads c [] old new × IsIn IsBroken c new
 
--- a read says why it gave none
+-- a read says so
 abbrev pub why : Input → Option Input
 why input = Some input
 
 -- the bytes that it gave
 abbrev pub bytes_read : List ℕ → Result Input Broken → List ℕ
 bytes_read out (Ok (Bytes count)) = take count out
+bytes_read out (Ok (All count)) = take count out
 bytes_read out _ = []

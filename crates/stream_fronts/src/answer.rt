@@ -173,6 +173,9 @@ pub fn answer_bytes<R: Threads + Wait + Sync, F: Counts, K: Clock>(
             break;
         }
         let rest = &bytes[taken..];
+        if rest.is_empty() {
+            return Ok(HowFar::at(taken, done, Halt::Needs));
+        }
         let said = answer_one(rt, front, clock, numbering, buffers, rest, done, out)?;
         match said {
             Said::Nothing => return Ok(HowFar::at(taken, done, Halt::Needs)),

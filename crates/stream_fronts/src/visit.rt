@@ -10,7 +10,7 @@ ghost use Rattle.memcached_text.specs.Next.{next_of};
 ghost use Rattle.stream_fronts.specs.Paid.{Advances, IsPaid, MayAnswer, PaysFor, SpeaksWhere};
 ghost use Rattle.stream_fronts.specs.Turns.{most_answers};
 ghost use Rattle.stream_fronts.specs.Reached.{GoesOnTo, SpokeBehind, HaltsAs, leaves, position_at, position_of};
-ghost use Rattle.stream_fronts.specs.Traffic.{OnHeld, ReadsTo, SendsFrom, SendsSome};
+ghost use Rattle.stream_fronts.specs.Traffic.{OnHeld, ReadsTo, SendsFrom, SendsSome, is_drained};
 ghost use Rattle.stream_fronts.specs.Held.{IsAtRest, Lacks, Looks, VisitLacks, Visits, filled_bytes, leaves_by};
 ghost use Rattle.stream_fronts.specs.Open.{IsOpen, Keeps, OnLogs};
 
@@ -106,7 +106,7 @@ fn send_new<C: Connections>(
 
 /// Counts the bytes that a read gave.
 fn count_input(input: Option<Input>, tally: &mut Tally) {
-    if let Some(Input::Bytes(count)) = input {
+    if let Some(Input::Bytes(count) | Input::All(count)) = input {
         tally.raise(Counter::Received, count as u64);
     }
 }
@@ -144,7 +144,7 @@ fn fill<C: Connections>(
         return Ok((had, None));
     }
     let input = receive(connections, number, client.asks, &mut room[had..])?;
-    if let Input::Bytes(count) = input {
+    if let Input::Bytes(count) | Input::All(count) = input {
         client.asks = client.asks.saturating_add(2 * count as u64);
         return Ok((had + count, Some(input)));
     }
@@ -275,14 +275,14 @@ fn leaves_by(halt: Halt, input: Option<Input>) -> bool
 fn after_all(leaving: bool, halt: Halt, input: Option<Input>) -> After
     ensures over { leaving ≡ true → result ≡ After.Over }
     ensures open { leaving ≡ false → result ≢ After.Over }
-    ensures waits { result ≡ After.Waits → (halt ≡ Halt.Needs) × (input ≡ Some Input.Later) }
+    ensures waits { result ≡ After.Waits → (halt ≡ Halt.Needs) × (is_drained input ≡ true) }
     ensures again { leaving ≡ leaves_by halt input → IsAtRest halt input → result ≢ After.Again }
 {
     if leaving {
         return After::Over;
     }
     match (halt, input) {
-        (Halt::Needs, Some(Input::Later)) => After::Waits,
+        (Halt::Needs, Some(Input::Later | Input::All(_))) => After::Waits,
         _ => After::Again,
     }
 }

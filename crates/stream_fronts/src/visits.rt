@@ -22,9 +22,9 @@ use std::sync::Wait;
 use std::thread::Threads;
 use stream_io::Connections;
 
-/// Visits a connection once, and once more where there may be more to do at once. Mostly the second visit finds that nothing more came: then it need not be
-/// reported again. Where there is more to do still, it is to be asked for again, and it may be: whoever is left so has sent bytes that pay for it. Where the
-/// front may be given too few writes for one command, it is visited once.
+/// Visits a connection once, and once more where there may be more to do at once. Mostly the first visit reads all that came and answers it: then it waits for
+/// its peer. Where there is more to do still, it is to be asked for again, and it may be: whoever is left so has sent bytes that pay for it. Where the front
+/// may be given too few writes for one command, it is visited once.
 pub(crate) fn visit_on<R: Threads + Wait + Sync, F: Counts, K: Clock, C: Connections>(
     rt: &R,
     alloc: Global,

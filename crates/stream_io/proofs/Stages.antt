@@ -9,9 +9,10 @@ use Rattle.stream_io.specs.declared.schedule.Step.{Step}
 use Rattle.stream_io.specs.declared.schedule.Step.TheVariants.{Opens, Reports, Happens}
 use Rattle.stream_io.specs.Connection.{Connection, nothing, new_connection, after_change, after_read, after_write, after_ask, after_close}
 use Rattle.stream_io.specs.State.{State, Entry, after, changed, opened, reported, met, received, sent, asked, closed}
-use Rattle.stream_io.specs.declared.connections.Input.TheVariants.{Bytes}
+use Rattle.stream_io.specs.declared.connections.Input.{Input}
+use Rattle.stream_io.specs.declared.connections.Input.TheVariants.{Bytes, All}
 use Rattle.stream_io.specs.Log.{after_meeting_one}
-use Rattle.stream_io.specs.Calls.{IsGiven, IsTaken}
+use Rattle.stream_io.specs.Calls.{GivesSome, IsGiven, IsTaken}
 use Rattle.stream_io.specs.MemoryConnection.{owed, pending, need, cost_of, are_below}
 use Rattle.stream_io.specs.Stage.{Goes, IsStage, Played, played_state, played_connections}
 use Rattle.stream_io.proofs.Places.{KeepsNumber, length_changed, below_changed, below_push}
@@ -239,15 +240,30 @@ module _ (schedule : List Step) (at : ℕ) (reports : List ℕ) (paid : ℕ) (al
           let n = of_some is (λ y. length bytes ≡ min (length y.waiting) most) count in
           stage_received c bytes x is (omega (arith, n, some, waits)) (omega (arith, n))
 
-      pub gives_there : (most : ℕ) (bytes out : List ℕ) → 0 < most → 0 < length x.waiting → IfSome (slice_get all c) (λ y. length bytes ≡ min (length y.waiting) most)
-          → IfSome (slice_get all c) (λ y. bytes ≡ take (min (length y.waiting) most) y.waiting) → take (length bytes) out ≡ bytes
-          → IfSome (slice_get (played_connections p) c) (λ y. IsGiven y most out (Ok (Bytes (length bytes))))
-      gives_there most bytes out some waits count given front =
-          let n = of_some is (λ y. length bytes ≡ min (length y.waiting) most) count in
-          let g = of_some is (λ y. bytes ≡ take (min (length y.waiting) most) y.waiting) given in
-          subst (λ l. IfSome (slice_get l c) (λ y. IsGiven y most out (Ok (Bytes (length bytes))))) (sym all_are)
-          (subst (λ o. IfSome o (λ y. IsGiven y most out (Ok (Bytes (length bytes))))) (sym is)
-          (omega (arith, n, some, waits), n, front ∙ g ∙ ap (λ k. take k x.waiting) (sym n)))
+      module _ (most : ℕ) (bytes : List ℕ) (some : 0 < most) (waits : 0 < length x.waiting) (count : IfSome (slice_get all c) (λ y. length bytes ≡ min (length y.waiting) most)) where
+        n : length bytes ≡ min (length x.waiting) most
+        n = of_some is (λ y. length bytes ≡ min (length y.waiting) most) count
+
+        pub fits_there : (room : ℕ) → most ≤ room → (0 < length bytes) × (length bytes ≤ room)
+        fits_there room fits = (omega (arith, n, some, waits), omega (arith, n, fits))
+
+        module _ (out : List ℕ) (given : IfSome (slice_get all c) (λ y. bytes ≡ take (min (length y.waiting) most) y.waiting)) (front : take (length bytes) out ≡ bytes) where
+          gives : GivesSome x most out (length bytes)
+          gives =
+              let g = of_some is (λ y. bytes ≡ take (min (length y.waiting) most) y.waiting) given in
+              (omega (arith, n, some, waits), n, front ∙ g ∙ ap (λ k. take k x.waiting) (sym n))
+
+          gives_as : (input : Input) → IsGiven x most out (Ok input) → IfSome (slice_get (played_connections p) c) (λ y. IsGiven y most out (Ok input))
+          gives_as input is_given =
+              subst (λ l. IfSome (slice_get l c) (λ y. IsGiven y most out (Ok input))) (sym all_are) (subst (λ o. IfSome o (λ y. IsGiven y most out (Ok input))) (sym is) is_given)
+
+          pub gives_there : IfSome (slice_get (played_connections p) c) (λ y. IsGiven y most out (Ok (Bytes (length bytes))))
+          gives_there = gives_as (Bytes (length bytes)) gives
+
+          -- and leaves none
+          pub gives_all_there : (length x.waiting ≤ most) × (x.is_broken ≡ false) × (x.has_ended ≡ false)
+              → IfSome (slice_get (played_connections p) c) (λ y. IsGiven y most out (Ok (All (length bytes))))
+          gives_all_there few = gives_as (All (length bytes)) (gives, (let within = few.0 in omega (arith, n, within), few.1, few.2))
 
       pub sends_there : (count : ℕ) (bytes : List ℕ) → count ≤ x.window → count ≤ length bytes
           → Enters schedule at reports paid (changed c (after_write count) all) (sent c (take count bytes) ∷ entries) room (length (take count bytes))

@@ -8,7 +8,7 @@ use Rattle.stream_io.specs.Log.{Log, state_of, connections_of, with_entries, log
 use Rattle.stream_io.specs.declared.connections.Event.{Event}
 use Rattle.stream_io.specs.declared.connections.Event.TheVariants.{Opened, Ready}
 use Rattle.stream_io.specs.declared.connections.Input.{Input}
-use Rattle.stream_io.specs.declared.connections.Input.TheVariants.{Bytes, Later, Ended}
+use Rattle.stream_io.specs.declared.connections.Input.TheVariants.{Bytes, All, Later, Ended}
 use Rattle.stream_io.specs.declared.connections.Broken.{Broken}
 
 -- Whether the next step is told by this event. A new connection gets any number that is free.
@@ -36,10 +36,19 @@ pub record IsOver (old : Log) (new : Option Log) : Type 0 where
 abbrev pub OfHeld : ℕ → Log → (ℕ → Type 0) → Type 0
 OfHeld number log P = IfSome (held number (connections_of log)) P
 
+-- a read of a connection gives so many bytes of what waits, as many as it may
+abbrev pub GivesSome : Connection → ℕ → List ℕ → ℕ → Type 0
+GivesSome connection most out count =
+    (0 < count) × (count ≡ min (length connection.waiting) most) × (take count out ≡ take count connection.waiting)
+
+-- so many bytes are all that waits, and more may come
+abbrev pub IsAll : Connection → ℕ → Type 0
+IsAll connection count = (count ≡ length connection.waiting) × (connection.is_broken ≡ false) × (connection.has_ended ≡ false)
+
 -- Whether a read of a connection gives this, up to so many bytes: all that waits; and where nothing waits, why.
 abbrev pub IsGiven : Connection → ℕ → List ℕ → Result Input Broken → Type 0
-IsGiven connection most out (Ok (Bytes count)) =
-    (0 < count) × (count ≡ min (length connection.waiting) most) × (take count out ≡ take count connection.waiting)
+IsGiven connection most out (Ok (Bytes count)) = GivesSome connection most out count
+IsGiven connection most out (Ok (All count)) = GivesSome connection most out count × IsAll connection count
 IsGiven connection most out (Ok Later) = (connection.waiting ≡ []) × (connection.is_broken ≡ false) × (connection.has_ended ≡ false)
 IsGiven connection most out (Ok Ended) = (connection.waiting ≡ []) × (connection.is_broken ≡ false) × (connection.has_ended ≡ true)
 IsGiven connection most out (Err broken) = (connection.waiting ≡ []) × (connection.is_broken ≡ true)
@@ -47,11 +56,13 @@ IsGiven connection most out (Err broken) = (connection.waiting ≡ []) × (conne
 -- at least one byte is given, and no more than there is room for
 abbrev pub FitsRoom : ℕ → Input → Type 0
 FitsRoom room (Bytes count) = (0 < count) × (count ≤ room)
+FitsRoom room (All count) = (0 < count) × (count ≤ room)
 FitsRoom room _ = ⊤
 
 -- after such a read of the c-th connection
 abbrev pub gave : ℕ → Connection → Result Input Broken → List Entry → List Entry
 gave c connection (Ok (Bytes count)) entries = received c (take count connection.waiting) ∷ entries
+gave c connection (Ok (All count)) entries = received c (take count connection.waiting) ∷ entries
 gave c connection _ entries = entries
 
 -- Whether a write to a connection takes so much of a piece: all of it, up to the window and the most that one call moves.

@@ -4,13 +4,14 @@ use Rattle.std.specs.List.{sum_by, list_all}
 use Rattle.stream_io.specs.declared.schedule.Step.{Step}
 use Rattle.stream_io.specs.declared.schedule.Step.TheVariants.{Opens, Reports, Happens}
 use Rattle.stream_io.specs.declared.connections.Input.{Input}
-use Rattle.stream_io.specs.declared.connections.Input.TheVariants.{Bytes, Later, Ended}
+use Rattle.stream_io.specs.declared.connections.Input.TheVariants.{Bytes, All, Later, Ended}
 use Rattle.stream_io.specs.declared.connections.Broken.{Broken}
 use Rattle.stream_io.specs.Connection.{Connection, nothing}
 use Rattle.stream_io.specs.State.{State}
 
 abbrev pub IsSilent : Connection → Result Input Broken → Type 0
 IsSilent c (Ok (Bytes count)) = ⊥
+IsSilent c (Ok (All count)) = ⊥
 IsSilent c (Ok Later) = (c.is_broken ≡ false) × (c.has_ended ≡ false)
 IsSilent c (Ok Ended) = (c.is_broken ≡ false) × (c.has_ended ≡ true)
 IsSilent c (Err broken) = c.is_broken ≡ true

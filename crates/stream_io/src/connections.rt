@@ -23,6 +23,8 @@ pub enum Event {
 pub enum Input {
     /// So many bytes, at least one.
     Bytes(usize),
+    /// So many bytes, at least one, and nothing more now. The connection is reported once there is more.
+    All(usize),
     /// Nothing now. The connection is reported once there is more.
     Later,
     /// The peer sends no more.
@@ -57,7 +59,7 @@ pub trait Connections: Drop {
 
     /// Waits until there is something to report. `None` is the end: nothing will be reported any more.
     ///
-    /// A connection is reported once for all that happened to it since, so who looks at it goes on until `Later`, or asks for it again.
+    /// A connection is reported once for all that happened to it since, so who looks at it goes on until `All` or `Later`, or asks for it again.
     fn next(&mut self) -> Result<Option<Event>, Failed>
         requires open { has_ended self.old ≡ false }
 

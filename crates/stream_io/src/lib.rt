@@ -1,8 +1,8 @@
 //! The outside as connections: where streams of bytes come from and go to, over epoll and in memory.
 //!
 //! The layer above may rely on this: connections in memory tell their schedule beforehand and each call that was made, so what stands is
-//! known; a read that says `Later` left nothing, and a write takes all that the peer has room for. A connection that breaks is its peer's
-//! doing and no fault: `next` alone answers `Failed`, where the count of faults rose in that call.
+//! known; a read that says `All` or `Later` left nothing, and a write takes all that the peer has room for. A connection that breaks is its
+//! peer's doing and no fault: `next` alone answers `Failed`, where the count of faults rose in that call.
 #![tactic(auto)]
 
 mod boxed_connections;

@@ -1,5 +1,5 @@
 //! A connection in memory.
-ghost use Rattle.std.specs.Prelude.{◌≡◌, ◌+◌, ◌*◌, ◌^◌, ◌<◌, ◌≤◌, ◌++◌, ◌||◌, [], length, take, drop, min, is_some, if◌then◌else◌};
+ghost use Rattle.std.specs.Prelude.{◌≡◌, ◌⊎◌, ◌+◌, ◌*◌, ◌^◌, ◌<◌, ◌≤◌, ◌++◌, ◌||◌, true, false, [], length, take, drop, min, is_some, if◌then◌else◌};
 ghost use Rattle.stream_io.specs.Connection.{new_connection, readable, after_change, after_read, after_write, after_ask, after_close};
 ghost use Rattle.stream_io.specs.State.{is_under};
 ghost use Rattle.stream_io.specs.MemoryConnection.{IsSilent};
@@ -111,6 +111,14 @@ impl<'a> MemConnection<'a> {
         ensures { result ≡ self.now.is_broken }
     {
         self.broken
+    }
+
+    /// Whether a read of so many bytes at most leaves nothing, and more may come.
+    pub fn is_emptied(&self, most: usize) -> bool
+        ensures all { result ≡ true → (length self.now.waiting ≤ most) × (self.now.is_broken ≡ false) × (self.now.has_ended ≡ false) }
+        ensures not_all { result ≡ false → (most < length self.now.waiting) ⊎ (self.now.is_broken ≡ true) ⊎ (self.now.has_ended ≡ true) }
+    {
+        self.came <= most && !self.broken && !self.ended
     }
 
     /// What a read answers where nothing waits.

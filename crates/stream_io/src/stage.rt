@@ -183,9 +183,13 @@ impl<'a> Stage<'a> {
         if connection.waiting() == 0 {
             return connection.silence();
         }
+        let is_emptied = connection.is_emptied(most);
         let given = take_at(&mut self.all, place, most);
         put(out, given);
         self.log.note(Note::Received(place, given));
+        if is_emptied {
+            return Ok(Input::All(given.len()));
+        }
         Ok(Input::Bytes(given.len()))
     }
 

@@ -114,9 +114,10 @@ fn read_from(slot: &mut Slot, out: &mut [u8]) -> Result<Input, Broken>
     for _ in 0..u64::MAX {
         match (&slot.stream).read(out) {
             Ok(0) => return Ok(Input::Ended),
+            Ok(count) if slot.half_closed || count == out.len() => return Ok(Input::Bytes(count)),
             Ok(count) => {
-                slot.may_read = slot.half_closed || count == out.len();
-                return Ok(Input::Bytes(count));
+                slot.may_read = false;
+                return Ok(Input::All(count));
             }
             Err(error) => match error.kind() {
                 ErrorKind::WouldBlock => {

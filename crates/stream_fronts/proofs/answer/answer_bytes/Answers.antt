@@ -1,10 +1,12 @@
 use mir.Val.{bool_byte}
-use Rattle.std.proofs.Common.{rules, ◌≡◌, ◌<◌, ◌≤◌, ◌+◌, ◌-◌, ◌*◌, length, take, drop, [], refl, inl, inr, sym, ap, subst, ◌∙◌, arith}
-use Rattle.std.proofs.lemmas.List.{take_rest, length-drop, drop_all}
+use Rattle.std.proofs.Common.{rules, ◌≡◌, ◌<◌, ◌≤◌, ◌+◌, ◌-◌, ◌*◌, ◌==◌, ℕ, true, List, length, take, drop, [], refl, inl, inr, sym, ap, subst, ◌∙◌, arith}
+use Rattle.std.proofs.lemmas.List.{take_rest, length-drop, drop_all, nil_from_length}
+use Rattle.std.proofs.lemmas.Bool.{eqb-true}
 use Rattle.std.proofs.lemmas.Result.{err_from_is_err_and}
 use Rattle.stream_fronts.specs.declared.answer.TheConstants.{LIMITS}
 use Rattle.stream_fronts.specs.declared.answer.Said.TheVariants.{Nothing, Part, Whole, Last}
 use Rattle.stream_fronts.specs.declared.answer.Halt.TheVariants.{Needs, Enough, Leaves}
+use Rattle.memcached_text.specs.declared.next.Next.TheVariants.{More}
 use Rattle.memcached_text.specs.Next.{next_of}
 use Rattle.stream_fronts.specs.Reached.{Reaches, ReachesAfter, HaltsAs, position_at, position_in}
 use Rattle.stream_fronts.specs.Paid.{AnswersOn, MayAnswer, SpeaksWhere}
@@ -46,16 +48,35 @@ returns-in_err-said-clause-talk g c =
     let is = err_from_is_err_and c.from_residual.result c.from_residual.ensures.1 in
     (spoke.0, spoke.1, (spoke.2.0, match_err _ _ c.from_residual.result is.0 is.1 spoke.2.1))
 
+-- where nothing is left, no command is
+none_left : (bytes rest : List ℕ) (taken : ℕ) → rest ≡ drop taken bytes → (length rest == 0) ≡ true → next_of (drop taken bytes) ≡ More
+none_left bytes rest taken rest_is none = ap next_of (sym rest_is ∙ nil_from_length rest (eqb-true (length rest) 0 none)) ∙ nothing_next
+
+pub returns-then-is_empty-clause-talk : goal.returns-then-is_empty-clause-talk
+returns-then-is_empty-clause-talk g c =
+    let inv = c.loop-spoken.invariant in
+    let options = g.F.Front.options c.args.front.now in
+    let base = c.args.numbering.base in
+    let bytes = c.args.bytes.now in
+    let at = c.at.ensures in
+    let all = none_left bytes _ c.loop-spoken.taken (take_rest bytes c.loop-spoken.taken) (sym c.is_empty.ensures ∙ c.if-is_empty.true) in
+    halts_by options g.F.Front.is_alone base (MayAnswer c.args.numbering.partitions (g.F.Front.left c.args.front.now) × (length c.args.out.now.items < LIMITS.bytes)) c.at.result.halt Needs at.3 needs_on (position_at bytes c.args.done) c.args.out.now.items c.loop-spoken.out.items
+    (Reaches options base (position_at (drop c.loop-spoken.taken bytes) c.loop-spoken.done)) (HaltsAs options base (length bytes) c.at.result.halt (position_in bytes c.at.result))
+    (λ received given due reached. halts_in options g.F.Front.is_alone base (length bytes) bytes c.at.result Needs c.loop-spoken.taken c.loop-spoken.done 0 at.0 at.1 at.2 at.3 received given due
+    (reached, all))
+    (λ answers. HasSpoken options g.F.Front.is_alone base c.loop-spoken.spoken answers c.args.out.now.items c.loop-spoken.out.items)
+    (λ answers. few_spoken options g.F.Front.is_alone base c.loop-spoken.spoken inv.8) inv.2
+
 pub returns-in-Nothing-clause-talk : goal.returns-in-Nothing-clause-talk
 returns-in-Nothing-clause-talk g c =
     let inv = c.loop-spoken.invariant in
     let options = g.F.Front.options c.args.front.now in
     let base = c.args.numbering.base in
     let bytes = c.args.bytes.now in
-    let at = c.at.ensures in
-    halts_by options g.F.Front.is_alone base (MayAnswer c.args.numbering.partitions (g.F.Front.left c.args.front.now) × (length c.args.out.now.items < LIMITS.bytes)) c.at.result.halt Needs at.3 needs_on (position_at bytes c.args.done) c.args.out.now.items c.answer_one.new.out.items
-    (ReachesAfter options base (drop c.loop-spoken.taken bytes) c.loop-spoken.done Nothing) (HaltsAs options base (length bytes) c.at.result.halt (position_in bytes c.at.result))
-    (halts_in options g.F.Front.is_alone base (length bytes) bytes c.at.result Needs c.loop-spoken.taken c.loop-spoken.done 0 at.0 at.1 at.2 at.3)
+    let at = c.at-in-Nothing.ensures in
+    halts_by options g.F.Front.is_alone base (MayAnswer c.args.numbering.partitions (g.F.Front.left c.args.front.now) × (length c.args.out.now.items < LIMITS.bytes)) c.at-in-Nothing.result.halt Needs at.3 needs_on (position_at bytes c.args.done) c.args.out.now.items c.answer_one.new.out.items
+    (ReachesAfter options base (drop c.loop-spoken.taken bytes) c.loop-spoken.done Nothing) (HaltsAs options base (length bytes) c.at-in-Nothing.result.halt (position_in bytes c.at-in-Nothing.result))
+    (halts_in options g.F.Front.is_alone base (length bytes) bytes c.at-in-Nothing.result Needs c.loop-spoken.taken c.loop-spoken.done 0 at.0 at.1 at.2 at.3)
     (λ answers. length answers ≤ (c.loop-spoken.spoken + 1) * most_to_one options) (few_said options g.F.Front.is_alone base c.loop-spoken.spoken (omega (arith, c.loop-spoken-test.true)))
     (on_said options g.F.Front.is_alone base c.loop-spoken.spoken (position_at bytes c.args.done) (drop c.loop-spoken.taken bytes) (take (length bytes - c.loop-spoken.taken) (drop c.loop-spoken.taken bytes)) c.loop-spoken.done c.args.out.now.items
     c.loop-spoken.out.items c.answer_one.new.out.items (g.F.Front.options c.loop-spoken.front) c.in_ok-said.said Nothing (take_rest bytes c.loop-spoken.taken) inv.3 c.in-Nothing.is inv.2 c.in_ok-said.ensures.talk)
@@ -160,22 +181,33 @@ returns-clause-talk g c =
       ]),
     )) inv.2
 
+pub returns-then-is_empty-clause-waits : goal.returns-then-is_empty-clause-waits
+returns-then-is_empty-clause-waits g c = λ is. let bytes = c.args.bytes.now in ap next_of (ap (λ n. drop n bytes) c.at.ensures.0) ∙ none_left bytes _ c.loop-spoken.taken (take_rest bytes c.loop-spoken.taken) (sym c.is_empty.ensures ∙ c.if-is_empty.true)
+
 pub returns-in-Nothing-clause-waits : goal.returns-in-Nothing-clause-waits
 returns-in-Nothing-clause-waits g c = λ is.
     let bytes = c.args.bytes.now in
     let on = subst (AnswersOn (take (length bytes - c.loop-spoken.taken) (drop c.loop-spoken.taken bytes)) c.loop-spoken.done) c.in-Nothing.is c.in_ok-said.ensures.on in
-    ap next_of (ap (λ n. drop n bytes) c.at.ensures.0 ∙ sym (take_rest bytes c.loop-spoken.taken)) ∙ on
+    ap next_of (ap (λ n. drop n bytes) c.at-in-Nothing.ensures.0 ∙ sym (take_rest bytes c.loop-spoken.taken)) ∙ on
 
 pub returns-in-Whole-clause-waits : goal.returns-in-Whole-clause-waits
 returns-in-Whole-clause-waits g c = λ is. let bytes = c.args.bytes.now in ap next_of (drop_all (length bytes) bytes (omega arith)) ∙ nothing_next
+
+pub returns-then-is_empty-clause-advances : goal.returns-then-is_empty-clause-advances
+returns-then-is_empty-clause-advances g c =
+    let bytes = c.args.bytes.now in
+    let at = c.at.ensures in
+    let all = none_left bytes _ c.loop-spoken.taken (take_rest bytes c.loop-spoken.taken) (sym c.is_empty.ensures ∙ c.if-is_empty.true) in
+    stays bytes c.args.done c.loop-spoken.taken c.loop-spoken.done c.loop-spoken.invariant.6 c.at.result at.0 at.1 at.2
+    (λ fresh none may. (at.3, sym (ap next_of (ap (λ n. drop n bytes) none)) ∙ all))
 
 pub returns-in-Nothing-clause-advances : goal.returns-in-Nothing-clause-advances
 returns-in-Nothing-clause-advances g c =
     let bytes = c.args.bytes.now in
     let rest = take (length bytes - c.loop-spoken.taken) (drop c.loop-spoken.taken bytes) in
-    let at = c.at.ensures in
+    let at = c.at-in-Nothing.ensures in
     let on = subst (AnswersOn rest c.loop-spoken.done) c.in-Nothing.is c.in_ok-said.ensures.on in
-    stays bytes c.args.done c.loop-spoken.taken c.loop-spoken.done c.loop-spoken.invariant.6 c.at.result at.0 at.1 at.2
+    stays bytes c.args.done c.loop-spoken.taken c.loop-spoken.done c.loop-spoken.invariant.6 c.at-in-Nothing.result at.0 at.1 at.2
     (λ fresh none may. (at.3, sym (ap next_of (take_rest bytes c.loop-spoken.taken ∙ ap (λ n. drop n bytes) none)) ∙ on))
 
 pub returns-in-Part-clause-advances : goal.returns-in-Part-clause-advances
