@@ -98,6 +98,12 @@ def processor_seconds(process):
     return sum(int((thread / "schedstat").read_text().split()[0]) for thread in pathlib.Path(f"/proc/{process.pid}/task").iterdir()) / 1e9
 
 
+def pin(process, processors):
+    """Has its threads run on these alone."""
+    for thread in pathlib.Path(f"/proc/{process.pid}/task").iterdir():
+        os.sched_setaffinity(int(thread.name), processors)
+
+
 class Line:
     """A connection that is written to and read from by whole lines and blocks."""
 

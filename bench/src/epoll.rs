@@ -72,13 +72,14 @@ impl Poll {
         self.numbers(count)
     }
 
-    /// The numbers of what changed, for which it looks a few times over before it sleeps, where that has paid.
+    /// The numbers of what changed, in their order, for which it looks a few times over before it sleeps, where that has paid.
     pub fn wait_awake(&mut self) -> impl Iterator<Item = u64> + use<> {
         let found = (0..self.looks).map(|_| self.ask(0)).find(|count| *count > 0);
         let count = found.unwrap_or_else(|| self.sleep());
         if found.is_some() {
             self.looks = LOOKS;
         }
+        self.events[..count].sort_unstable_by_key(|event| event.data);
         self.numbers(count)
     }
 

@@ -186,23 +186,27 @@ impl Front<'_> {
         Some((len, client.send()?))
     }
 
-    /// Reads and answers until nothing more comes, or the peer takes no more. None where the connection is over.
+    /// Reads and answers until a read leaves nothing, or the peer takes no more. None where the connection is over.
     fn visit(&mut self, client: &mut Client, room: &mut [u8]) -> Option<()> {
         let mut len = client.kept.len();
         room[..len].copy_from_slice(&client.kept);
         client.kept.clear();
+        let mut is_drained = false;
         loop {
             let (at, is_sent) = self.answer_all(client, &room[..len])?;
             room.copy_within(at..len, 0);
             len -= at;
-            let came = if is_sent { client.stream.read(&mut room[len..]) } else { Err(ErrorKind::WouldBlock.into()) };
-            match came {
+            if is_drained || !is_sent {
+                client.kept.extend_from_slice(&room[..len]);
+                return Some(());
+            }
+            match client.stream.read(&mut room[len..]) {
                 Ok(0) => return None,
-                Ok(count) => len += count,
-                Err(error) if error.kind() == ErrorKind::WouldBlock => {
-                    client.kept.extend_from_slice(&room[..len]);
-                    return Some(());
+                Ok(count) => {
+                    len += count;
+                    is_drained = len < room.len();
                 }
+                Err(error) if error.kind() == ErrorKind::WouldBlock => is_drained = true,
                 Err(_) => return None,
             }
         }

@@ -10,8 +10,8 @@ use mio::net::{TcpListener, TcpStream};
 use mio::{Interest, Poll, Token};
 use slab::Slab;
 use std::alloc::Global;
-use std::collections::VecDeque;
 use std::io::{self, ErrorKind, Read, Write};
+use std::mem;
 use std::net::{Ipv4Addr, Net as Sockets, Shutdown, SocketAddr};
 use std::sync::atomic::{AtomicBool, Ordering};
 use std::time::Duration;
@@ -66,10 +66,10 @@ pub struct TcpConnections<'a> {
     listener: TcpListener,
     accepting: Accepting,
     slots: Slab<Slot>,
-    /// The connections to be reported, each once. There is room for all.
-    queue: VecDeque<u32>,
-    /// How many of these are reported before the system is asked again.
-    turns: usize,
+    /// The connections to be reported in the next round, each once. There is room for all.
+    queue: Vec<u32>,
+    /// Those of this round that were not reported yet, by number.
+    round: Vec<u32>,
     /// Whether this round may still end with a connection that waits to be accepted.
     may_open: bool,
     patience: Patience,
@@ -77,18 +77,18 @@ pub struct TcpConnections<'a> {
 }
 
 /// Puts a connection among those to be reported, once. There is room for it.
-fn put(slots: &mut Slab<Slot>, queue: &mut VecDeque<u32>, number: usize) {
+fn put(slots: &mut Slab<Slot>, queue: &mut Vec<u32>, number: usize) {
     if let Some(slot) = slots.get_mut(number) {
         if !slot.queued {
             if let Ok(short) = u32::try_from(number) {
-                slot.queued = queue.push_back(short).is_ok();
+                slot.queued = queue.push(short).is_ok();
             }
         }
     }
 }
 
 /// Puts each connection of the events among those to be reported, and says whether the listener was among them.
-fn put_events(events: &Events, slots: &mut Slab<Slot>, queue: &mut VecDeque<u32>) -> bool {
+fn put_events(events: &Events, slots: &mut Slab<Slot>, queue: &mut Vec<u32>) -> bool {
     let mut listens = false;
     for event in events {
         let token = event.token();
@@ -186,8 +186,8 @@ impl<'a> TcpConnections<'a> {
             listener,
             accepting: Accepting::Ready,
             slots: Slab::new(alloc),
-            queue: VecDeque::new(alloc),
-            turns: 0,
+            queue: Vec::new(alloc),
+            round: Vec::new(alloc),
             may_open: false,
             patience: Patience::new(),
             faults: 0,
@@ -203,6 +203,9 @@ impl<'a> TcpConnections<'a> {
         let room = self.slots.len().saturating_add(1).saturating_mul(2);
         self.queue
             .reserve(room.saturating_sub(self.queue.len()))
+            .ok()?;
+        self.round
+            .reserve(room.saturating_sub(self.round.len()))
             .ok()?;
         let slot = Slot {
             stream,
@@ -294,7 +297,8 @@ impl<'a> TcpConnections<'a> {
         self.poll.poll(&mut self.events, timeout)
     }
 
-    /// Asks the system what is ready. All of it is one round of reports.
+    /// Asks the system what is ready. All of it is one round of reports, by number: connections that were opened together stand together there, and a thread of a client that has several of them wakes
+    /// once for all.
     fn ask(&mut self) -> io::Result<()>
         ensures { (self.new.port ≡ self.old.port) × (self.new.faults ≡ self.old.faults) }
     {
@@ -306,7 +310,8 @@ impl<'a> TcpConnections<'a> {
         if listens || self.accepting == Accepting::Refused {
             self.accepting = Accepting::Ready;
         }
-        self.turns = self.queue.len();
+        mem::swap(&mut self.queue, &mut self.round);
+        self.round.sort_unstable();
         Ok(())
     }
 
@@ -314,7 +319,7 @@ impl<'a> TcpConnections<'a> {
     fn take_ready(&mut self) -> Option<u32>
         ensures { (self.new.port ≡ self.old.port) × (self.new.faults ≡ self.old.faults) }
     {
-        let number = self.queue.pop_front()?;
+        let number = self.round.pop()?;
         let slot = self.slots.get_mut(number as usize)?;
         slot.queued = false;
         Some(number)
@@ -325,8 +330,7 @@ impl<'a> TcpConnections<'a> {
         ensures { (self.new.port ≡ self.old.port) × (self.new.faults ≡ self.old.faults) }
     {
         for _ in 0..u64::MAX {
-            if self.turns > 0 {
-                self.turns -= 1;
+            if !self.round.is_empty() {
                 if let Some(number) = self.take_ready() {
                     return Ok(Event::Ready(number));
                 }
