@@ -104,6 +104,19 @@ def pin(process, processors):
         os.sched_setaffinity(int(thread.name), processors)
 
 
+def places(number, threads):
+    """The processors of a server in a turn, and those of its client."""
+    processors = sorted(os.sched_getaffinity(0))
+    behind = len(processors) // 2
+    return tuple({processors[(number + first + place) % len(processors)] for place in range(threads)} for first in (0, behind))
+
+
+def run_on(processors, *words):
+    """What a program prints that runs on these processors."""
+    on = lambda: os.sched_setaffinity(0, processors)
+    return subprocess.run([str(word) for word in words], capture_output=True, text=True, timeout=600, check=True, preexec_fn=on).stdout
+
+
 class Line:
     """A connection that is written to and read from by whole lines and blocks."""
 
