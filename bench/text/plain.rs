@@ -272,7 +272,7 @@ fn named<'a>(name: &[u8], mut words: Words<'a>) -> Option<Line<'a>> {
     }
 }
 
-fn line_of(text: &[u8]) -> Line {
+fn line_of(text: &[u8]) -> Line<'_> {
     let mut words = Words(text);
     let all = words.clone();
     let Some(name) = words.next() else {
@@ -287,7 +287,7 @@ fn line_of(text: &[u8]) -> Line {
     })
 }
 
-pub fn next_command(from: &[u8]) -> Next {
+pub fn next_command(from: &[u8]) -> Next<'_> {
     if let [128, ..] = from {
         return Next::Command { command: Command::Quit, len: 1 };
     }
