@@ -2,7 +2,8 @@
 use Rattle.std.proofs.lemmas.Grind.{common_steps}
 use Rattle.epoch_core.proofs.Vocabulary.{List, ap, arith, get_or, get_or_default, get_or_past, length, min, suc, sym, zero, ℕ, ◌+◌, ◌-◌, ◌<◌, ◌∙◌}
 use Rattle.epoch_core.proofs.Vocabulary.{◌≡◌, ◌≤◌}
-use Rattle.epoch_core.specs.Script.{NoneAbove, Rises, cut_at}
+use Rattle.epoch_core.specs.Plan.{cut_at}
+use Rattle.epoch_core.specs.Script.{NoneAbove, Rises}
 
 abbrev last : List ℕ → ℕ
 last cuts = get_or cuts (length cuts - 1) 0

@@ -1,5 +1,5 @@
 -- Each step of a script keeps the rule of the one-word table whose seat has a book.
-use Rattle.epoch_core.proofs.Vocabulary.{Begins, Book, CanPlay, Ends, Event, IsAllowed, IsPossibleShape, Kept, List, OwnerState, Plan, ReaderKept}
+use Rattle.epoch_core.proofs.Vocabulary.{Begins, CanPlay, Ends, Event, IsAllowed, IsPossibleShape, Kept, List, OwnerState, Plan, ReaderKept}
 use Rattle.epoch_core.proofs.Vocabulary.{ReaderState, Shape, [], after, ap, append-nil, append_assoc, arith, as_made, drop, drop-cons, get_or, length}
 use Rattle.epoch_core.proofs.Vocabulary.{map, newcomer, owner_event, plays, refl, suc, sym, ℕ, ◌++◌, ◌+◌, ◌<◌, ◌^◌, ◌∙◌, ◌∷◌, ◌≡◌}
 use Rattle.std.proofs.lemmas.Grind.{common_steps}
@@ -7,6 +7,7 @@ use mathlib.Core.Option.{none}
 use Rattle.atomic_table.specs.Table.{Allows, keeps, opening, step}
 use Rattle.epoch_core.specs.declared.event.OwnerEvent.{OwnerEvent}
 use Rattle.epoch_core.specs.declared.plain.Script.{Script}
+use Rattle.epoch_core.specs.declared.scripted.Book.{Book}
 use Rattle.epoch_core.specs.declared.scripted.Look.{Look}
 use Rattle.epoch_core.specs.declared.scripted.Look.TheVariants.{FirstEpoch, LastEpoch, Stamp, Word}
 use Rattle.epoch_core.proofs.Made.{kept_as_made}
@@ -18,7 +19,8 @@ use Rattle.epoch_core.proofs.LoadKeeps.{loads, opens, shuts, stamps}
 use Rattle.epoch_core.proofs.JoinKeeps.{lends}
 use Rattle.epoch_core.proofs.DiaryKeeps.{one_fits, plays_more, set_fit}
 use Rattle.epoch_core.specs.Script.{AllFit, BookFits, IsTime, MayLook, Reading, first_event, look_at, look_next, looked, next_owner, opening_book}
-use Rattle.epoch_core.specs.Script.{owner_at, owner_place, owner_sum, plan_of, play_next, played, reads_on, later_events}
+use Rattle.epoch_core.specs.Plan.{owner_at}
+use Rattle.epoch_core.specs.Script.{owner_place, owner_sum, plan_of, play_next, played, reads_on, later_events}
 
 next_fits : (b : Book) → BookFits b → BookFits (play_next b)
 next_fits b f = by_rest b.rest f.script f.rest

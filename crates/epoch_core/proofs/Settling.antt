@@ -3,9 +3,9 @@ use Rattle.std.proofs.lemmas.Grind.{common_steps}
 use Rattle.epoch_core.proofs.Vocabulary.{Bool, Idle, IsTrue, Phase, Plan, ap, arith, false, get_or, length, not}
 use Rattle.epoch_core.proofs.Vocabulary.{refl, sym, true, ℕ, ◌-◌, ◌<◌, ◌∙◌, ◌≡◌}
 use Rattle.epoch_core.specs.declared.scripted.Scripted.{Scripted}
-use Rattle.epoch_core.specs.Seats.{book_of}
 use Rattle.epoch_core.proofs.Cuts.{last_of_still, still_at_last}
-use Rattle.epoch_core.specs.Script.{HasPlayedOut, Rests, is_writing, owner_at}
+use Rattle.epoch_core.specs.Plan.{Rests, owner_at}
+use Rattle.epoch_core.specs.Script.{HasPlayedOut, book_of, is_writing}
 
 idle_is : (phase : Phase) → is_writing phase ≡ false → phase ≡ Idle
 idle_is Idle e = refl

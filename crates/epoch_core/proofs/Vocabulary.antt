@@ -47,8 +47,7 @@ pub use Rattle.epoch_core.specs.Diary.{DiaryFits, blank_diary, diary_after, even
 pub use Rattle.epoch_core.specs.ItemAt.{HasKey, HasKeyWords}
 pub use Rattle.epoch_core.specs.Joins.{ended_in, known, lent, longer, met_by, note_of, told}
 pub use Rattle.epoch_core.specs.declared.reader.Try.{Try}
-pub use Rattle.epoch_core.specs.declared.scripted.Book.{Book}
-pub use Rattle.epoch_core.specs.declared.scripted.Plan.{Plan}
+pub use Rattle.epoch_core.specs.declared.reading.Plan.{Plan}
 pub use Rattle.partition_model.specs.Options.{InRange, IsPossible, IsValid}
 pub use Rattle.partition_model.specs.Write.{IsWrite, is_accepted, write_of}
 pub use Rattle.partition_model.specs.declared.options.Options.{Options}

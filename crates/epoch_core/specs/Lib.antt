@@ -16,5 +16,6 @@ pub mod Grows
 pub mod Joins
 pub mod OwnerStep
 pub mod Diary
-pub mod Script
+pub mod Plan
 pub mod Seats
+pub mod Script

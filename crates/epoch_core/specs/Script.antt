@@ -1,12 +1,11 @@
 -- A reader of one thread, between whose loads the events of an owner are played as a plan says.
-use Rattle.std.specs.Prelude.{◌≡◌, ℕ, zero, suc, ◌+◌, ◌-◌, ◌<◌, ◌≤◌, Bool, true, false, List, [], ◌∷◌, ◌++◌, length, take, slice_index, get_or, Some, IfSome}
+use Rattle.std.specs.Prelude.{◌≡◌, ℕ, ◌+◌, ◌<◌, ◌≤◌, Bool, true, false, List, [], ◌∷◌, ◌++◌, length, slice_index, Some}
 use mathlib.Core.Option.{some}
 use lib.ListN.{get_elem?}
 use Rattle.atomic_table.specs.Table.{State, Me, Step}
 use Rattle.partition_model.specs.declared.write.Op.TheVariants.{Del}
 use Rattle.partition_model.specs.declared.write.Write.{Write}
 use Rattle.partition_model.specs.Write.{write_of}
-use Rattle.partition_model.specs.History.{History}
 use Rattle.epoch_core.specs.declared.shape.Shape.{Shape}
 use Rattle.epoch_core.specs.declared.event.Event.{Event}
 use Rattle.epoch_core.specs.declared.event.OwnerEvent.{OwnerEvent}
@@ -16,19 +15,23 @@ use Rattle.epoch_core.specs.declared.state.Phase.{Phase}
 use Rattle.epoch_core.specs.declared.state.Phase.TheVariants.{Idle}
 use Rattle.epoch_core.specs.declared.reader.Try.{Try}
 use Rattle.epoch_core.specs.declared.reader.ReaderState.{ReaderState}
+use Rattle.epoch_core.specs.declared.reading.Plan.{Plan}
+use Rattle.epoch_core.specs.declared.plain.PlainWords.{PlainWords}
 use Rattle.epoch_core.specs.declared.plain.Script.{Script}
-use Rattle.epoch_core.specs.declared.scripted.Plan.{Plan}
 use Rattle.epoch_core.specs.declared.scripted.Look.{Look}
 use Rattle.epoch_core.specs.declared.scripted.Look.TheVariants.{FirstEpoch, Word, Stamp, LastEpoch}
 use Rattle.epoch_core.specs.declared.scripted.Book.{Book}
+use Rattle.epoch_core.specs.declared.scripted.Scripted.{Scripted}
 use Rattle.epoch_core.specs.Shape.{IsMain}
 use Rattle.epoch_core.specs.Layout.{epoch_at}
-use Rattle.epoch_core.specs.OwnerState.{as_made, epoch_in}
+use Rattle.epoch_core.specs.OwnerState.{as_made}
 use Rattle.epoch_core.specs.Events.{place_of, word_after, after, CanPlay, plays}
 use Rattle.epoch_core.specs.Diary.{event_of}
 use Rattle.epoch_core.specs.Kept.{Kept}
 use Rattle.epoch_core.specs.ReaderState.{newcomer, opened, loaded, stamped, shut}
 use Rattle.epoch_core.specs.ReaderKept.{ReaderKept}
+use Rattle.epoch_core.specs.Plan.{cut_at, owner_at}
+use Rattle.epoch_core.specs.Seats.{diary_of}
 
 -- The plan
 
@@ -39,18 +42,16 @@ Rises cuts = (i j : ℕ) → i ≤ j → j < length cuts → slice_index cuts i 
 abbrev pub NoneAbove : ℕ → List ℕ → Type 0
 NoneAbove n cuts = (i : ℕ) → i < length cuts → slice_index cuts i ≤ n
 
--- How many events have been played when the load of this number happens, from 1: past the end of the cuts the
--- last one counts.
-abbrev pub cut_at : List ℕ → ℕ → ℕ
-cut_at cuts zero = 0
-cut_at cuts (suc i) = get_or cuts i (slice_index cuts (length cuts - 1))
-
--- the owner's state when the load of this number happens
-abbrev pub owner_at : Plan → ℕ → OwnerState
-owner_at plan n = plays (take (cut_at plan.cuts n) plan.events) (as_made plan.shape)
-
 abbrev pub plan_of : Script → Plan
 plan_of script = record { shape = script.shape; events = script.token.me.0.kept; cuts = script.cuts.items }
+
+-- what a scripted reader keeps of its owner and itself
+abbrev pub book_of : Scripted → Book
+book_of seat = seat.stage.seat.me.0
+
+-- the plan of the kept events, by these cuts
+abbrev pub plan_for : PlainWords → List ℕ → Plan
+plan_for words cuts = record { shape = (diary_of words).owner.shape; events = (diary_of words).kept; cuts = cuts }
 
 -- The loads
 
@@ -79,26 +80,6 @@ reads_on plan n (look ∷ looks) r = reads_on plan (n + 1) looks (look_at look (
 -- the reader after these loads, each at the owner's state of its number
 abbrev pub reader_after : Plan → List Look → ReaderState
 reader_after plan looks = reads_on plan 0 looks (newcomer plan.shape [] [])
-
--- What the next load finds, by a plan
-
--- the owner's state then
-abbrev pub owner_found : Plan → ReaderState → OwnerState
-owner_found plan r = owner_at plan (r.loads + 1)
-
--- the bucket's epoch
-pub record FindsEpoch (r : ReaderState) (b n : ℕ) (plan : Plan) : Type 0 where
-  pub kept : Kept (owner_found plan r)
-  pub shape : (owner_found plan r).shape ≡ r.shape
-  pub epoch : n ≡ epoch_in (owner_found plan r) b
-
--- the epoch of the open try's bucket
-abbrev pub FindsLastEpoch : ReaderState → ℕ → Plan → Type 0
-FindsLastEpoch r n plan = IfSome r.current (λ t. n ≡ epoch_in (owner_found plan r) t.bucket)
-
--- the history that the reader finds at its next load
-abbrev pub FindsHistory : ReaderState → History → Plan → Type 0
-FindsHistory r history plan = history ≡ (owner_found plan r).history
 
 -- The book
 
@@ -170,11 +151,6 @@ looked look step me n now = (now ≡ (look_next look me.0, me.1)) × BookFits me
 pub record HasPlayedOut (b : Book) : Type 0 where
   pub still : (n : ℕ) → b.reader.loads < n → cut_at b.plan.cuts n ≡ length b.played
   pub idle : b.owner.phase ≡ Idle
-
--- after so many loads the owner's state is this one at each load to come, and no write is begun in it
-pub record Rests (plan : Plan) (loads : ℕ) (o : OwnerState) : Type 0 where
-  pub still : (n : ℕ) → loads < n → owner_at plan n ≡ o
-  pub idle : o.phase ≡ Idle
 
 -- Events in memory: where each stores, and what, which no write of a mark decides.
 

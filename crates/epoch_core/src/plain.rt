@@ -162,7 +162,7 @@ impl PlainWords {
 /// The kept events, a token that knows the writes of their marks, and how many of them have been played when each
 /// load of a reader happens.
 #[derive(Drop)]
-pub(crate) struct Script {
+pub struct Script {
     pub events: Vec<OwnerEvent>,
     pub shape: Shape,
     pub token: Seat<(), Diary>,
@@ -170,8 +170,8 @@ pub(crate) struct Script {
 }
 
 impl PlainWords {
-    // Leaves the words behind.
-    pub(crate) fn into_script(self, cuts: Vec<u32>) -> Script
+    /// Leaves the words behind.
+    pub fn into_script(self, cuts: Vec<u32>) -> Script
         ensures events { result.events.items ≡ map owner_event result.token.me.0.kept }
         ensures can { CanPlay result.token.me.0.kept (as_made result.shape) }
         ensures valid { is_in_range result.shape ≡ true }

@@ -4,14 +4,23 @@ ghost use Rattle.atomic_table.specs.Seated.{TableId};
 ghost use Rattle.mica_words.specs.declared.entry.TheConstants.{SLOTS};
 ghost use Rattle.partition_model.specs.History.{IsPrefix, stamp_of, writes_to_bucket};
 ghost use Rattle.epoch_core.specs.declared.reader.ReaderState.{ReaderState};
-ghost use Rattle.epoch_core.specs.declared.scripted.Plan.{Plan};
 ghost use Rattle.epoch_core.specs.Shape.{options_of, IsPossibleShape, IsMain, IsSpare, IsBucket};
 ghost use Rattle.epoch_core.specs.Layout.{entry_at, link_at, item_at};
 ghost use Rattle.epoch_core.specs.ReaderState.{opened, loaded, loaded_items, stamped, shut};
 ghost use Rattle.epoch_core.specs.ReaderKept.{Tells};
-ghost use Rattle.epoch_core.specs.Script.{FindsEpoch, FindsLastEpoch, FindsHistory};
+ghost use Rattle.epoch_core.specs.Plan.{FindsEpoch, FindsLastEpoch, FindsHistory};
 
+use crate::event::Event;
 use crate::shape::Shape;
+use std::collections::LinkedList;
+
+/// What is laid down: an owner's events from words as made on, and how many of them have been played when each
+/// load happens. No value of it is made.
+pub struct Plan {
+    pub shape: Shape,
+    pub events: LinkedList<Event>,
+    pub cuts: LinkedList<u64>,
+}
 
 /// The words of a partition, in the hands of one of its readers. Each method but `item_block` is one load. None takes memory
 /// or refuses anything, whatever the owner does meanwhile.

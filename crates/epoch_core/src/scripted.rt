@@ -6,12 +6,13 @@ ghost use Rattle.epoch_core.specs.Layout.{word_count};
 ghost use Rattle.epoch_core.specs.Kept.{Kept};
 ghost use Rattle.epoch_core.specs.ReaderKept.{ReaderKept};
 ghost use Rattle.epoch_core.specs.Diary.{owner_event};
-ghost use Rattle.epoch_core.specs.Script.{Rises, NoneAbove, cut_at, owner_at, owner_found, look_at, reader_after, BookFits, MayLook, StaysIn, look_next, IsTime, HasPlayedOut, owner_place, owner_word, owner_sum, is_writing, writing_after};
+ghost use Rattle.epoch_core.specs.Plan.{cut_at, owner_at, owner_found};
+ghost use Rattle.epoch_core.specs.Script.{Rises, NoneAbove, look_at, reader_after, BookFits, MayLook, StaysIn, look_next, IsTime, HasPlayedOut, owner_place, owner_word, owner_sum, is_writing, writing_after};
 
 use crate::event::{Event, OwnerEvent};
 use crate::plain::{PlainWords, Script};
 use crate::reader::ReaderState;
-use crate::reading::ReaderWords;
+use crate::reading::{Plan, ReaderWords};
 use crate::shape::{Shape, WordAt};
 use crate::state::OwnerState;
 use atomic_table::{Play, Seat, Shared, Table, TableRule};
@@ -19,14 +20,6 @@ use mica_io::NoMemory;
 use std::alloc::Global;
 use std::collections::LinkedList;
 use std::marker::{Brand, PhantomData};
-
-/// What is laid down: an owner's events from words as made on, and how many of them have been played when each
-/// load happens. No value of it is made.
-pub struct Plan {
-    pub shape: Shape,
-    pub events: LinkedList<Event>,
-    pub cuts: LinkedList<u64>,
-}
 
 /// A load. No value of it is made.
 pub enum Look {
@@ -252,8 +245,8 @@ fn are_cuts(cuts: &[u32], most: usize) -> bool
 
 impl Scripted {
     ghost use Rattle.std.specs.Prelude.{IfOk};
-    ghost use Rattle.epoch_core.specs.Script.{opening_book};
-    ghost use Rattle.epoch_core.specs.Seats.{diary_of, book_of, plan_for};
+    ghost use Rattle.epoch_core.specs.Seats.{diary_of};
+    ghost use Rattle.epoch_core.specs.Script.{opening_book, book_of, plan_for};
 
     /// Whether `new` takes the cuts: they never fall, and none is above the number of events that the words kept.
     pub fn takes(plain: &PlainWords, cuts: &[u32]) -> bool

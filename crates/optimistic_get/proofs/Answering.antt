@@ -12,12 +12,12 @@ use Rattle.epoch_core.specs.declared.shape.Shape.{Shape}
 use Rattle.epoch_core.specs.declared.state.Phase.{Phase}
 use Rattle.epoch_core.specs.declared.state.Phase.TheVariants.{Idle}
 use Rattle.epoch_core.specs.declared.state.OwnerState.{OwnerState}
-use Rattle.epoch_core.specs.declared.scripted.Plan.{Plan}
+use Rattle.epoch_core.specs.declared.reading.Plan.{Plan}
 use Rattle.epoch_core.specs.declared.reader.Try.{Try}
 use Rattle.epoch_core.specs.declared.reader.ReaderState.{ReaderState}
 use Rattle.epoch_core.specs.Shape.{options_of, IsMain}
 use Rattle.epoch_core.specs.OwnerState.{epoch_in, begun_in, marked_in}
-use Rattle.epoch_core.specs.Script.{Rests, owner_found, FindsEpoch, FindsLastEpoch, FindsHistory}
+use Rattle.epoch_core.specs.Plan.{Rests, owner_found, FindsEpoch, FindsLastEpoch, FindsHistory}
 use Rattle.epoch_core.specs.LiveEntry.{IsLiveItem}
 use Rattle.epoch_core.specs.Failures.{failure}
 use Rattle.epoch_core.specs.ReaderState.{new_try, opened, with_cut, stamped, fails_after, closes, shut}

@@ -6,8 +6,7 @@ use Rattle.partition_model.specs.Answer.{IsAnswer}
 use Rattle.epoch_core.specs.declared.reader.ReaderState.{ReaderState}
 use Rattle.epoch_core.specs.declared.scripted.Scripted.{Scripted}
 use Rattle.epoch_core.specs.Shape.{options_of}
-use Rattle.epoch_core.specs.Script.{HasPlayedOut}
-use Rattle.epoch_core.specs.Seats.{book_of}
+use Rattle.epoch_core.specs.Script.{HasPlayedOut, book_of}
 use Rattle.epoch_core.proofs.Settling.{at_rest, same_owner, settled_still}
 use Rattle.optimistic_get.specs.declared.getting.Got.{Got}
 use Rattle.optimistic_get.specs.Gets.{is_again, TryAnswers}

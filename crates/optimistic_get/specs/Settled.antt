@@ -5,10 +5,11 @@ use Rattle.partition_model.specs.History.{answer_of}
 use Rattle.partition_model.specs.Answer.{IsAnswer}
 use Rattle.epoch_core.specs.declared.state.OwnerState.{OwnerState}
 use Rattle.epoch_core.specs.declared.reader.ReaderState.{ReaderState}
-use Rattle.epoch_core.specs.declared.scripted.Plan.{Plan}
+use Rattle.epoch_core.specs.declared.reading.Plan.{Plan}
 use Rattle.epoch_core.specs.declared.scripted.Book.{Book}
 use Rattle.epoch_core.specs.OwnerState.{options_in}
-use Rattle.epoch_core.specs.Script.{Rests, HasPlayedOut}
+use Rattle.epoch_core.specs.Plan.{Rests}
+use Rattle.epoch_core.specs.Script.{HasPlayedOut}
 use Rattle.optimistic_get.specs.declared.getting.Got.{Got}
 use Rattle.optimistic_get.specs.Gets.{is_again, TriesMade}
 

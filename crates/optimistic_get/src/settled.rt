@@ -1,8 +1,7 @@
 //! The get of a script that has no event left.
 ghost use Rattle.std.specs.Prelude.{◌≡◌};
 ghost use Rattle.mica_words.specs.Item.{KeyFits};
-ghost use Rattle.epoch_core.specs.Script.{HasPlayedOut};
-ghost use Rattle.epoch_core.specs.Seats.{book_of};
+ghost use Rattle.epoch_core.specs.Script.{HasPlayedOut, book_of};
 ghost use Rattle.optimistic_get.specs.Settled.{AnswersPlayed};
 
 use crate::getting::Got;

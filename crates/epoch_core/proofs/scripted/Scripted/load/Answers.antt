@@ -1,10 +1,12 @@
-use Rattle.epoch_core.proofs.Vocabulary.{Book, IsMain, Plan, ReaderState, Shape, ap, arith, length, subst, sym, ℕ, ◌+◌, ◌∙◌, ◌≡◌}
+use Rattle.epoch_core.proofs.Vocabulary.{IsMain, Plan, ReaderState, Shape, ap, arith, length, subst, sym, ℕ, ◌+◌, ◌∙◌, ◌≡◌}
 use Rattle.epoch_core.proofs.ScriptKeeps.{more_loads}
 use Rattle.epoch_core.proofs.Cuts.{cut_few, cut_min, cut_rises}
 use Rattle.epoch_core.proofs.scripted.Scripted.load.Given.{Over}
 use Rattle.epoch_core.proofs.scripted.Scripted.load.Goals.{After-next_cut-until, After-take_look}
 use Rattle.epoch_core.proofs.scripted.Scripted.load.Goals as goal
-use Rattle.epoch_core.specs.Script.{NoneAbove, cut_at, look_at, owner_at}
+use Rattle.epoch_core.specs.declared.scripted.Book.{Book}
+use Rattle.epoch_core.specs.Plan.{cut_at, owner_at}
+use Rattle.epoch_core.specs.Script.{NoneAbove, look_at}
 
 -- how many events are to have been played
 until : (g : Over) (c : After-next_cut-until g)
