@@ -596,13 +596,14 @@ def in_comments(tree, text, mark, where):
 def in_prose(tree, text, where, ticked):
     """A text that names crates. Of a crate that was parted a name with its module is replaced; else it is told."""
     table = tree.table
-    for old, new in table.whole.items():
+    for old, new in [*table.whole.items(), *alone(tree)]:
         if ticked:
             text = re.sub(rf"`{old}(?=[`:/])", f"`{new}", text)
         else:
             text = re.sub(rf"(?<![\w-]){old}(?![\w-])", new, text)
     for old in tree.symbols:
-        text = re.sub(rf"(?<![\w-]){old}/((?:src|specs|proofs)/[\w/.]*)", lambda f: new_path_in_prose(tree, old, f, where), text)
+        text = re.sub(rf"(?<![\w-]){old}/((?:src|specs|proofs)/[\w/.]*)", lambda f: new_path_in_prose(tree, old, f), text)
+        text = re.sub(rf"(?<![\w-]){old}/([A-Z]\w*)", lambda f: new_spec_in_prose(tree, old, f), text)
         text = re.sub(rf"(?<![\w-]){old}::(\w+)", lambda f: new_symbol_in_prose(tree, old, f), text)
         left = rf"`{old}`" if ticked else rf"(?<![\w-]){old}(?![\w-])"
         if old not in table.facades or not ticked:
@@ -612,7 +613,20 @@ def in_prose(tree, text, where, ticked):
     return text
 
 
-def new_path_in_prose(tree, old, found, where):
+def alone(tree):
+    """Crates that go to one other crate as a whole, though with others."""
+    for old in tree.symbols:
+        homes = {home for kind in tree.table.parts[old].values() for home in kind.values()}
+        if len(homes) == 1 and old not in tree.table.facades:
+            yield old, homes.pop()
+
+
+def new_spec_in_prose(tree, old, found):
+    home = tree.table.parts[old]["specs"].get(found[1]) or tree.table.parts[old]["proofs"].get(found[1])
+    return f"{home}/{found[1]}" if home else found[0]
+
+
+def new_path_in_prose(tree, old, found):
     path = Path(found[1])
     to = new_file(tree, old, path) if path.suffix else None
     if to is None and len(path.parts) > 1:
@@ -628,7 +642,30 @@ def new_symbol_in_prose(tree, old, found):
     return found[0]
 
 
-def outside_crates(tree):
+def in_script(tree, text, path, deps):
+    """Rust that stands in a script, and lists of crates."""
+    rust = RustFile(tree, "", "", path.stem, str(path))
+    uses = "|".join(tree.names)
+    text = re.sub(rf"^[ \t]*use (?:{uses})::[^;]*;\n", lambda f: rust.rewrite_uses(f[0]), text, flags=re.M)
+    text = rewrite_ghost(tree, text, str(path))
+    named = set(re.findall(r"^use ([a-z_0-9]+)::", text, re.M)) & set(deps)
+
+    def new_list(found):
+        words = found[0].split(" ")
+        if not any(word in tree.symbols or word in tree.table.whole for word in words):
+            return found[0]
+        whole = [tree.table.whole.get(word, word) for word in words]
+        wanted = named or {dep for word in whole if word not in tree.symbols for dep in deps.get(word, ())}
+        out = []
+        for word in whole:
+            homes = dict.fromkeys(h for kind in tree.table.parts.get(word, {}).values() for h in kind.values())
+            out += [h for h in homes if h in wanted] or list(homes)[:1] if word in tree.symbols else [word]
+        return " ".join(dict.fromkeys(out))
+    names = "|".join(sorted(tree.names, key=len, reverse=True))
+    return re.sub(rf"(?<![\w./-])(?:{names})(?: (?:{names})(?![\w/:.-]))+", new_list, text)
+
+
+def outside_crates(tree, deps):
     """Documents, and what bench has: (path, its new text)."""
     out = {}
     for pattern in DOCUMENTS:
@@ -645,8 +682,9 @@ def outside_crates(tree):
             text = file.read_text()
         except UnicodeDecodeError:
             continue
+        text, before = in_script(tree, text, path, deps), text
         new = replace_texts(tree, in_prose(tree, text, str(path), False))
-        if new != text:
+        if new != before:
             out[file] = new
     return out
 
@@ -708,8 +746,8 @@ def local_names(tree, crate, texts):
     return {m for m in modules if m in tree.old_lines and m not in tree.old_lines.get(crate, ([], []))[1]}
 
 
-def write_list(tree, new):
-    """crates.txt: dependencies as they are used, groups and comments as crates_order.txt has them."""
+def new_list(tree, new):
+    """crates.txt, and what each crate stands on: dependencies as they are used, groups and comments as crates_order.txt has them."""
     texts = {}
     for (home, path), text in new.items():
         texts.setdefault(home, [])
@@ -739,9 +777,8 @@ def write_list(tree, new):
             written.append(line)
         else:
             loud(f"crates_order.txt names {line.strip()}, which is not there")
-    (tree.top / "crates.txt").write_text("\n".join(written) + "\n")
     check_order(order, deps, texts)
-    return deps
+    return "\n".join(written) + "\n", deps
 
 
 def neighbour(tree, crate, order):
@@ -853,17 +890,18 @@ def main():
     wrong_before = edits_left(tree)
     new, sources = collect(tree)
     write_crates(tree, new, sources)
-    prose = outside_crates(tree)
     for (home, path), text in new.items():
         if isinstance(text, str):
             for a, b in table.words:
                 text = re.sub(rf"(?<![\w]){re.escape(a)}(?![\w])", b, text)
             new[home, path] = text
+    lines, deps = new_list(tree, new)
+    prose = outside_crates(tree, deps)
     move_wrong_bodies(tree)
     changed = put_in_place(tree, new, sources)
     for file, text in prose.items():
         file.write_text(text)
-    write_list(tree, new)
+    (top / "crates.txt").write_text(lines)
     if "--no-fmt" not in sys.argv:
         for crate in sorted(changed):
             run = subprocess.run(["rt", "fmt"], cwd=tree.crates / crate, capture_output=True, text=True)
