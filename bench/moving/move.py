@@ -65,8 +65,8 @@ class Table:
                     self.modules[crate, a] = b
                 case ["text", a, b]:
                     self.texts.append((a, b))
-                case ["word", a, b]:
-                    self.words.append((a, b))
+                case ["word", crates, a, b]:
+                    self.words.append((crates.split(","), a, b))
                 case _:
                     sys.exit(f"{path.name}:{number}: not a line of the table: {line}")
 
@@ -397,8 +397,8 @@ def collect(tree):
         folder = tree.crates / old
         for file in files_of(folder):
             path = file.relative_to(folder)
-            if path.suffix == ".edit" and path.parts[0] == "must-fail":
-                put(new, sources, *moved_edit(tree, old, file, path, ""), (old, path))
+            if path.suffix == ".edit":
+                put(new, sources, *moved_edit(tree, old, file, path), (old, path))
                 continue
             to = new_file(tree, old, path)
             if to is None:
@@ -438,7 +438,7 @@ def moved_rust(tree, old, home, path, there, text):
     return in_comments(tree, text, "//", f"{old}/{path}")
 
 
-def moved_edit(tree, old, file, path, prefix):
+def moved_edit(tree, old, file, path):
     """An edit goes with the file that it changes, and its texts are rewritten as that file is."""
     text = file.read_text()
     target = file_of_edit(text)
@@ -524,7 +524,9 @@ def at_root(tree, old, home, mods, passed):
             continue
         to, named = tree.place(old, "src", modules[0])
         if to == home:
-            passed.setdefault((named, *modules[1:]), set()).add(name if name == alias else f"{name} as {alias}")
+            names = name if name == alias else f"{name} as {alias}"
+            names = with_words(tree, names, Path("lib.rt"), (old, Path("src", f"{modules[0]}.rt")))
+            passed.setdefault((named, *modules[1:]), set()).add(names)
 
 
 def declared(tree, old, home, kind):
@@ -584,6 +586,32 @@ def read_heads():
 
 
 # ---------------------------------------------------------------------------------------------------------------------
+# Identifiers
+
+def with_words(tree, text, path, source):
+    """Identifiers that are renamed in the crate that the file lay in: in code, and between backticks in comments."""
+    old, before = source
+    mark = {".rt": "//", ".antt": "--"}.get(path.suffix)
+    for places, a, b in tree.table.words:
+        if not any(covers(place, old, before) for place in places):
+            continue
+        word = re.compile(rf"(?<!\w){re.escape(a)}(?!\w)")
+        lines = []
+        for line in text.split("\n"):
+            at = line.find(mark) if mark else -1
+            code, comment = (line, "") if at < 0 else (line[:at], line[at:])
+            lines.append(word.sub(b, code) + re.sub(rf"`[^`]*`", lambda f: word.sub(b, f[0]), comment))
+        text = "\n".join(lines)
+    return text
+
+
+def covers(place, old, path):
+    """A place of the table: CRATE, or CRATE:FOLDER for what lies there alone."""
+    crate, _, folder = place.partition(":")
+    return crate == old and str(path).startswith(folder)
+
+
+# ---------------------------------------------------------------------------------------------------------------------
 # Names in comments, documents and scripts
 
 def in_comments(tree, text, mark, where):
@@ -605,12 +633,22 @@ def in_prose(tree, text, where, ticked):
         text = re.sub(rf"(?<![\w-]){old}/((?:src|specs|proofs)/[\w/.]*)", lambda f: new_path_in_prose(tree, old, f), text)
         text = re.sub(rf"(?<![\w-]){old}/([A-Z]\w*)", lambda f: new_spec_in_prose(tree, old, f), text)
         text = re.sub(rf"(?<![\w-]){old}::(\w+)", lambda f: new_symbol_in_prose(tree, old, f), text)
+        text = re.sub(rf"\| `{old}` \| `(\w+)` \|", lambda f: new_edit_in_prose(tree, old, f), text)
         left = rf"`{old}`" if ticked else rf"(?<![\w-]){old}(?![\w-])"
         if old not in table.facades or not ticked:
             for found in re.finditer(left, text):
                 number = text.count("\n", 0, found.start()) + 1
                 loud(f"{where}{'' if ticked else f':{number}'}: names {old}, which was parted")
     return text
+
+
+def new_edit_in_prose(tree, old, found):
+    """A row of a table that names a crate and a wrong body of it."""
+    for file in (tree.crates / old).glob(f"*/{found[1]}.edit"):
+        to = new_file(tree, old, file_of_edit(file.read_text()))
+        if to:
+            return f"| `{to[0]}` | `{found[1]}` |"
+    return found[0]
 
 
 def alone(tree):
@@ -692,6 +730,9 @@ def outside_crates(tree, deps):
 def replace_texts(tree, text):
     for a, b in tree.table.texts:
         text = text.replace(a, b)
+    for places, a, b in tree.table.words:
+        if "docs" in places:
+            text = re.sub(rf"(?<!\w){re.escape(a)}(?!\w)", b, text)
     return text
 
 
@@ -699,6 +740,8 @@ def move_wrong_bodies(tree):
     """The wrong bodies of each crate go where the files that they change go."""
     folder = tree.top / "bench/wrong_bodies"
     moved = {}
+    if not folder.is_dir():
+        return
     for old in [p.name for p in sorted(folder.iterdir()) if p.is_dir()]:
         for file in sorted((folder / old).rglob("*")):
             if not file.is_file():
@@ -708,7 +751,8 @@ def move_wrong_bodies(tree):
                 loud(f"bench/wrong_bodies/{old}: no crate of this name")
                 continue
             if path.suffix == ".edit":
-                home, _, text = moved_edit(tree, old, file, Path("must-fail") / path, "")
+                home, _, text = moved_edit(tree, old, file, Path("wrong-bodies") / path)
+                text = with_words(tree, text, path, (old, path))
             else:
                 home, text = tree.table.whole.get(old, old), file.read_text()
             if (home, path) in moved:
@@ -775,8 +819,6 @@ def new_list(tree, new):
             written.append(" ".join([crate, *options]) + ":" + "".join(" " + n for n in names))
         elif line.startswith("#") or not line.strip():
             written.append(line)
-        else:
-            loud(f"crates_order.txt names {line.strip()}, which is not there")
     check_order(order, deps, texts)
     return "\n".join(written) + "\n", deps
 
@@ -866,8 +908,8 @@ def put_in_place(tree, new, sources):
 def edits_left(tree):
     """Each edit whose first text does not stand once in its file: {(name, text)}."""
     out = set()
-    for edit in sorted([*tree.crates.glob("*/must-fail/*.edit"), *(tree.top / "bench/wrong_bodies").glob("*/*.edit")]):
-        crate, texts, file = edit.parent.parent if edit.parent.name == "must-fail" else tree.crates / edit.parent.name, {}, None
+    for edit in sorted([*tree.crates.glob("*/*/*.edit"), *(tree.top / "bench/wrong_bodies").glob("*/*.edit")]):
+        crate, texts, file = edit.parent.parent if tree.crates in edit.parents else tree.crates / edit.parent.name, {}, None
         for line in edit.read_text().splitlines():
             kind, _, body = line.partition(": ")
             if kind == "file":
@@ -892,9 +934,7 @@ def main():
     write_crates(tree, new, sources)
     for (home, path), text in new.items():
         if isinstance(text, str):
-            for a, b in table.words:
-                text = re.sub(rf"(?<![\w]){re.escape(a)}(?![\w])", b, text)
-            new[home, path] = text
+            new[home, path] = with_words(tree, text, path, sources[home, path])
     lines, deps = new_list(tree, new)
     prose = outside_crates(tree, deps)
     move_wrong_bodies(tree)
