@@ -633,7 +633,7 @@ def in_prose(tree, text, where, ticked):
         text = re.sub(rf"(?<![\w-]){old}/((?:src|specs|proofs)/[\w/.]*)", lambda f: new_path_in_prose(tree, old, f), text)
         text = re.sub(rf"(?<![\w-]){old}/([A-Z]\w*)", lambda f: new_spec_in_prose(tree, old, f), text)
         text = re.sub(rf"(?<![\w-]){old}::(\w+)", lambda f: new_symbol_in_prose(tree, old, f), text)
-        text = re.sub(rf"\| `{old}` \| `(\w+)` \|", lambda f: new_edit_in_prose(tree, old, f), text)
+        text = re.sub(rf"(?<![\w-]){old}(/|` \| `)(\w+)", lambda f: new_edit_in_prose(tree, old, f), text)
         left = rf"`{old}`" if ticked else rf"(?<![\w-]){old}(?![\w-])"
         if old not in table.facades or not ticked:
             for found in re.finditer(left, text):
@@ -643,11 +643,11 @@ def in_prose(tree, text, where, ticked):
 
 
 def new_edit_in_prose(tree, old, found):
-    """A row of a table that names a crate and a wrong body of it."""
-    for file in (tree.crates / old).glob(f"*/{found[1]}.edit"):
+    """A name of a crate and of a wrong body of it."""
+    for file in [*(tree.crates / old).glob(f"*/{found[2]}.edit"), *(tree.top / "bench").rglob(f"{old}/{found[2]}.edit")]:
         to = new_file(tree, old, file_of_edit(file.read_text()))
         if to:
-            return f"| `{to[0]}` | `{found[1]}` |"
+            return f"{to[0]}{found[1]}{found[2]}"
     return found[0]
 
 
@@ -714,7 +714,7 @@ def outside_crates(tree, deps):
                 out[file] = new
     for file in sorted((tree.top / "bench").rglob("*")):
         path = file.relative_to(tree.top)
-        if not file.is_file() or "target" in path.parts or path.parts[1] in ("moving", "wrong_bodies"):
+        if not file.is_file() or "target" in path.parts or path.parts[1] == "moving" or path.suffix == ".edit":
             continue
         try:
             text = file.read_text()
@@ -737,37 +737,25 @@ def replace_texts(tree, text):
 
 
 def move_wrong_bodies(tree):
-    """The wrong bodies of each crate go where the files that they change go."""
-    folder = tree.top / "bench/wrong_bodies"
+    """Edits that lie in folders of bench with a crate's name go where the files that they change go."""
     moved = {}
-    if not folder.is_dir():
-        return
-    for old in [p.name for p in sorted(folder.iterdir()) if p.is_dir()]:
-        for file in sorted((folder / old).rglob("*")):
-            if not file.is_file():
-                continue
-            path = file.relative_to(folder / old)
-            if old not in tree.names:
-                loud(f"bench/wrong_bodies/{old}: no crate of this name")
-                continue
-            if path.suffix == ".edit":
-                home, _, text = moved_edit(tree, old, file, Path("wrong-bodies") / path)
-                text = with_words(tree, text, path, (old, path))
-            else:
-                home, text = tree.table.whole.get(old, old), file.read_text()
-            if (home, path) in moved:
-                loud(f"bench/wrong_bodies/{old}/{path}: there is one of this name in {home} already")
-                path = Path(f"{path.stem}_of_{old}{path.suffix}")
-            moved[home, path] = text
-            if home != old or text != file.read_text():
-                file.unlink()
-            else:
-                del moved[home, path]
-    for (home, path), text in moved.items():
-        write(folder / home / path, text)
-    for old in sorted(folder.iterdir()):
-        if old.is_dir() and not any(old.iterdir()):
-            old.rmdir()
+    for file in sorted((tree.top / "bench").rglob("*.edit")):
+        old, folder = file.parent.name, file.parent.parent
+        if old not in tree.names:
+            loud(f"{file.relative_to(tree.top)}: there is no crate {old}")
+            continue
+        path = Path("wrong-bodies", file.name)
+        home, _, text = moved_edit(tree, old, file, path)
+        moved[file] = (folder / home / file.name, with_words(tree, text, path, (old, path)))
+    for file in moved:
+        file.unlink()
+        if not any(file.parent.iterdir()):
+            file.parent.rmdir()
+    for file, (to, text) in moved.items():
+        if to.exists():
+            loud(f"{file.relative_to(tree.top)}: there is one of this name in {to.parent.name} already")
+            to = to.with_stem(f"{to.stem}_of_{file.parent.name}")
+        write(to, text)
 
 
 # ---------------------------------------------------------------------------------------------------------------------
@@ -908,7 +896,7 @@ def put_in_place(tree, new, sources):
 def edits_left(tree):
     """Each edit whose first text does not stand once in its file: {(name, text)}."""
     out = set()
-    for edit in sorted([*tree.crates.glob("*/*/*.edit"), *(tree.top / "bench/wrong_bodies").glob("*/*.edit")]):
+    for edit in sorted([*tree.crates.glob("*/*/*.edit"), *(tree.top / "bench").rglob("*.edit")]):
         crate, texts, file = edit.parent.parent if tree.crates in edit.parents else tree.crates / edit.parent.name, {}, None
         for line in edit.read_text().splitlines():
             kind, _, body = line.partition(": ")
