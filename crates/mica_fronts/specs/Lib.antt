@@ -11,6 +11,7 @@ pub mod Changing
 pub mod Answering
 pub mod Placed
 pub mod Totals
+pub mod DealingTotals
 pub mod OneEnd
 pub mod QueueFront
 pub mod OwnerWork
