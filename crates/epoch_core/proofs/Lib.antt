@@ -20,6 +20,7 @@ pub mod DiaryKeeps
 pub mod Puts
 pub mod ItemEvents
 pub mod SameMachine
+pub mod StepGains
 pub mod Keys
 pub mod EventWords
 pub mod CacheBuckets

@@ -1,5 +1,5 @@
 pub mod Turning
 pub mod Telling
-pub mod Looking
+pub mod Getting
 pub mod Finding
 pub mod Ending

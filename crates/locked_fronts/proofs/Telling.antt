@@ -39,7 +39,7 @@ use Rattle.locked_fronts.specs.Plan.{Plan}
 use Rattle.locked_fronts.specs.Owned.{step_by, run_step, HasSeen, TookTurn, LeftAll, TookOrLeft, TookLook}
 use Rattle.locked_fronts.specs.Parts.{IsPartOf, HasLearned, PartWrites, PartChanges, PartReads, session_of}
 use Rattle.mica_fronts.proofs.OneStep.{stamp_as, replied_at, raised}
-use Rattle.mica_fronts.proofs.Telling.{was_read}
+use Rattle.mica_fronts.proofs.SeatReads.{was_read}
 
 -- Histories
 

@@ -19,8 +19,8 @@ use Rattle.epoch_core.specs.OwnerState.{options_in}
 use Rattle.epoch_core.specs.OwnerStep.{IsOwnerStep}
 use Rattle.epoch_core.specs.Joins.{lent, ended_in}
 use Rattle.epoch_core.proofs.SameMachine.{same_may_give}
+use Rattle.epoch_core.proofs.StepGains.{step_gains}
 use Rattle.partition_table.specs.Seats.{note_state, note_home}
-use Rattle.owner_queue.proofs.Gains.{step_gains}
 use Rattle.mica_fronts.specs.declared.changing.Changed.{Changed}
 use Rattle.mica_fronts.specs.declared.changing.When.{When}
 use Rattle.mica_fronts.specs.Looks.{when_after}

@@ -102,7 +102,7 @@ answer_in (gots.Again first last) = None
 
 -- A get was answered behind a history that begins with all that the seat had seen, and its tries are told nowhere. Of the writes that were seen no more are
 -- in the bucket of flushes than were counted.
-pub record PartLooks (old : LockedPart) (key : List ℕ) (answer : Answer) (stamp : ℕ) (buffer : List ℕ) (new : LockedPart) : Type 0 where
+pub record PartGets (old : LockedPart) (key : List ℕ) (answer : Answer) (stamp : ℕ) (buffer : List ℕ) (new : LockedPart) : Type 0 where
   pub home : reader_home new.seat ≡ reader_home old.seat
   pub taker : new.taker ≡ old.taker
   pub last : new.last ≡ stamp

@@ -12,7 +12,7 @@ ghost use Rattle.locked_fronts.specs.Parts.{IsPartOf, IsLockedFront, locked_view
 use crate::owned::{OwnedPartition, ServerPlan};
 use crate::part::LockedPart;
 use epoch_core::LendPartition;
-use mica_fronts::{Changed, Changes, Counts, Decide, Front, Glances, Glimpse, seat_loads};
+use mica_fronts::{Changed, Changes, CountsWrites, Decide, Front, Glances, Glimpse, seat_loads};
 use mica_io::NoMemory;
 use mica_words::{key_hash, partition_of};
 use partition_model::{Answer, ItemBuf, Mode, Op, Options, Outcome};
@@ -230,7 +230,7 @@ impl<'a, J: ServerPlan, P: LendPartition<Reader = ReaderSeat, Note = Note> + Dro
     }
 }
 
-impl<'a, J: ServerPlan, P: LendPartition<Reader = ReaderSeat, Note = Note> + Drop> Counts
+impl<'a, J: ServerPlan, P: LendPartition<Reader = ReaderSeat, Note = Note> + Drop> CountsWrites
     for LockedFront<'a, J, P> {
     fn writes_left(&self) -> u64 {
         self.left

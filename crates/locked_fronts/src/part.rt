@@ -6,7 +6,7 @@ ghost use Rattle.partition_model.specs.History.{History};
 ghost use Rattle.partition_model.specs.Write.{HasValueOf, write_of};
 ghost use Rattle.partition_table.specs.Seats.{reader_home, note_home};
 ghost use Rattle.locked_fronts.specs.Owned.{TookTurn, TookLook};
-ghost use Rattle.locked_fronts.specs.Parts.{IsPartOf, HasLearned, PartWrites, PartReads, PartChanges, PartRests, PartLooks, answer_in as in_got};
+ghost use Rattle.locked_fronts.specs.Parts.{IsPartOf, HasLearned, PartWrites, PartReads, PartChanges, PartRests, PartGets, answer_in as in_got};
 
 use crate::counts::{HistoryCounts, Learned};
 use crate::owned::{OwnedPartition, ServerPlan, Step, Written};
@@ -20,8 +20,8 @@ use std::sync::{Mutex, Wait};
 use std::thread;
 use turn_book::Taker;
 
-/// How often a look is tried before the lock is taken for it.
-const LOOK_TRIES: u32 = 8;
+/// How often a get is tried before the lock is taken for it.
+const GET_TRIES: u32 = 8;
 
 /// What a front has of one partition.
 #[derive(Drop)]
@@ -134,10 +134,10 @@ impl LockedPart {
 
     // The answer to a few tries that are told nowhere, with its stamp, where no flush stands behind what was counted last. The epoch of their bucket is
     // looked at first, too: where it has moved the tries would be for nothing.
-    fn peek(&mut self, key: &[u8], hash: u64, found: &mut ItemBuf) -> Option<(Answer, u64)>
+    fn try_get(&mut self, key: &[u8], hash: u64, found: &mut ItemBuf) -> Option<(Answer, u64)>
         requires key { KeyFits key.now }
         requires hashed { hash ≡ fnv1a key.now }
-        ensures looked { IfSome result (λ r. PartLooks self.old key.entry.now r.0 r.1 found.new self.new) }
+        ensures looked { IfSome result (λ r. PartGets self.old key.entry.now r.0 r.1 found.new self.new) }
         ensures none { IfNone result (PartRests self.old self.new) }
     {
         let epoch = self.seat.epoch_of_first();
@@ -145,7 +145,7 @@ impl LockedPart {
             return None;
         }
         let aside = self.seat.set_aside();
-        let got = get_hashed(&mut self.seat, key, hash, LOOK_TRIES, found);
+        let got = get_hashed(&mut self.seat, key, hash, GET_TRIES, found);
         let epoch = self.seat.epoch_of_first();
         let unmoved = self.counts.has_all_flushes(epoch);
         match answer_in(got) {
@@ -162,8 +162,8 @@ impl LockedPart {
         }
     }
 
-    // A look without a hold, where the decision only reads.
-    fn look_on<J: ServerPlan, D: Decide>(
+    // A get without the lock, where the decision only reads.
+    fn get_without_lock<J: ServerPlan, D: Decide>(
         &mut self,
         _number: u32,
         second: u64,
@@ -182,7 +182,7 @@ impl LockedPart {
         if !decide.only_reads() {
             return None;
         }
-        let (answer, stamp) = self.peek(key, hash, found)?;
+        let (answer, stamp) = self.try_get(key, hash, found)?;
         Some(Changed {
             when: self.counts.when_at(second),
             found: Some(answer),
@@ -228,8 +228,8 @@ impl LockedPart {
         (outcome, stamp)
     }
 
-    /// Looks at the key's value and does what is decided of it. It takes no hold where that only reads, and where nothing was written in the bucket of flushes since
-    /// the last hold. Else it owns the partition of the number for that, and tells the seat its note.
+    /// Looks at the key's value and does what is decided of it. Where that only reads it is a get, which takes no lock unless something was written in the bucket of
+    /// flushes since the last time. Else it owns the partition of the number for that, and tells the seat its note.
     pub(crate) fn change<
         R: Wait,
         J: ServerPlan,
@@ -252,7 +252,7 @@ impl LockedPart {
         requires own { IsPartOf J.plan number self.old.taker.number self.old }
         ensures { PartChanges J.plan number second key.entry.now (D.needs decide.entry.now) (D.becoming decide.entry.now) self.old result found.new self.new }
     {
-        match self.look_on::<J, D>(number, second, key, hash, decide, found) {
+        match self.get_without_lock::<J, D>(number, second, key, hash, decide, found) {
             Some(changed) => changed,
             None => {
                 let (changed, learned) = change_under_lock(

@@ -30,7 +30,7 @@ use Rattle.memcached_commands.specs.Moments.{end_of, ended_by, is_there, found_i
 use Rattle.memcached_commands.specs.Counting.{number_in, counted, padded}
 use Rattle.memcached_commands.specs.Decide.{Becoming, stays, becomes, goes, kept_until, joined, count_from, with_value, is_wanted, stored, missed, leaves, decide}
 use Rattle.memcached_commands.specs.Fit.{IsFitAsk, IsFitStored}
-use Rattle.memcached_commands.specs.Laws.{IsFitItem, IsKept, BecomesKept, Fits, IsFitFound, IsGone, expired, flushed, LateIsNever, EndsAs, NeverLonger, EndsWithFlush, IsSameValue, OneNumberOneValue, CountsOn, Counts, CountsGoOn}
+use Rattle.memcached_commands.specs.Laws.{IsFitItem, IsKept, BecomesKept, Fits, IsFitFound, IsGone, expired, flushed, LateIsNever, EndsAs, NeverLonger, EndsWithFlush, IsSameValue, OneNumberOneValue, CountsOn, CountsWrap, CountsGoOn}
 use Rattle.memcached_commands.proofs.CountLaws.{number_fits, counted_fits, padded_fits, padded_len, padded_reads}
 
 fit_is_kept : (item : Item) → IsFitItem item → IsKept item
@@ -302,7 +302,7 @@ around_once sum high low =
     let same : sum % 2 ^ 64 ≡ sum - 2 ^ 64 = mod-eq-sub-mod high ∙ mod-eq_of_lt below in
     omega (arith, same)
 
-pub counts : Counts
+pub counts : CountsWrap
 counts number delta small few = record {
   up = λ low. mod-eq_of_lt low;
   around = λ high. around_once (number + delta) high (omega arith);

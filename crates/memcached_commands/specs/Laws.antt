@@ -106,8 +106,8 @@ pub record CountsOn (at : Moment) (direction : Direction) (delta number : ℕ) (
   pub reads : number_in next.value ≡ Some number
   pub len : length next.value ≡ max (length item.value) (length (decimal number))
 
-abbrev pub Counts : Type 0
-Counts = (number delta : ℕ) → number < 2 ^ 64 → delta < 2 ^ 64 → CountsAround number delta
+abbrev pub CountsWrap : Type 0
+CountsWrap = (number delta : ℕ) → number < 2 ^ 64 → delta < 2 ^ 64 → CountsAround number delta
 
 abbrev pub CountsGoOn : Type 0
 CountsGoOn = (at : Moment) (direction : Direction) (delta number : ℕ) (item : Item)

@@ -1,5 +1,5 @@
 //! What a user may rely on, whatever is asked.
-ghost use Rattle.memcached_commands.specs.Laws.{Fits, LateIsNever, NeverLonger, EndsWithFlush, OneNumberOneValue, Counts, CountsGoOn};
+ghost use Rattle.memcached_commands.specs.Laws.{Fits, LateIsNever, NeverLonger, EndsWithFlush, OneNumberOneValue, CountsWrap, CountsGoOn};
 
 /// What becomes of an item is taken by the store, and read as it was.
 pub fn fits()
@@ -23,6 +23,6 @@ pub fn one_value()
 /// A count goes around at 2 ^ 64 upwards, and stops at 0 downwards. The number that was answered is stored, and the next
 /// count goes on from it.
 pub fn counts()
-    ensures around { Counts }
+    ensures around { CountsWrap }
     ensures on { CountsGoOn }
 {}

@@ -1,14 +1,11 @@
 //! Loads ahead of commands: they miss the caches beside each other, where those of the commands miss one after another.
 
 use memcached_text::spelled_key;
-use mica_fronts::{Front, load_all};
+use mica_fronts::{Front, MOST_AHEAD, load_all};
 use mica_words::key_hash;
 
 /// Fewer bytes than these hold a few commands at most. That is not worth a look.
 const LEAST_AHEAD: usize = 96;
-
-/// So many commands are looked at.
-const MOST_AHEAD: usize = 255;
 
 // Whether another command may follow the one that the bytes begin with.
 fn has_more(bytes: &[u8]) -> bool {
@@ -18,7 +15,7 @@ fn has_more(bytes: &[u8]) -> bool {
     }
 }
 
-/// Loads what the commands that the bytes begin with will look at, where the front's tables are larger than the caches. One alone has none to miss beside.
+/// Loads what the commands that the bytes begin with will look at, at most `MOST_AHEAD` of them, where the front's tables are larger than the caches. One alone has none to miss beside.
 pub fn load_ahead<F: Front>(front: &F, bytes: &[u8]) {
     if bytes.len() < LEAST_AHEAD || !front.loads_ahead() || !has_more(bytes) {
         return;

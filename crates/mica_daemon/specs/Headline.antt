@@ -12,7 +12,7 @@ use Rattle.mica_fronts.specs.declared.totals.Totals.{Totals}
 use Rattle.mica_fronts.specs.Answered.{Answered, count_of_writes}
 use Rattle.mica_fronts.specs.Dealing.{Dealing, answered_in}
 use Rattle.mica_fronts.specs.Placed.{Placed}
-use Rattle.mica_fronts.specs.Totals.{Counts}
+use Rattle.mica_fronts.specs.DealingTotals.{AreTotalsOf}
 use Rattle.stream_fronts.specs.declared.desk.TheConstants.{MOST_UNSENT}
 use Rattle.stream_fronts.specs.declared.ports.StreamPorts.{StreamPorts}
 use Rattle.stream_fronts.specs.Given.{Given}
@@ -98,7 +98,7 @@ pub record ServesLawfully (service : Service) (base : ℕ) (files : FilesFacts) 
   -- At each port of datagrams all that waited was received, in order, and what was sent is what is due to each.
   pub datagrams : ServePorts service.ports dealings ports ports'
   -- The sink took the line that names the ports, then that of the totals, and nothing else.
-  pub printed : (totals : Totals) × Counts dealings totals × Appends old.sink.taken new.sink.taken (ready_text service.ports service.streams.ports ++ totals_text totals)
+  pub printed : (totals : Totals) × AreTotalsOf dealings totals × Appends old.sink.taken new.sink.taken (ready_text service.ports service.streams.ports ++ totals_text totals)
 
 -- Where a fault of the net stopped it
 

@@ -1,4 +1,5 @@
-//! The program that stays up: a server whose fronts take as many datagrams as can be counted.
+//! The server for memcached's clients: it answers the commands of memcached's text protocol (`get`, `set`, `cas`, `incr` and others) over TCP. Beside that it
+//! answers batches of requests over UDP. It stays up: its fronts take as many datagrams and writes as can be counted.
 //!
 //! A caller may rely on this: `daemon` ends at once where its partitions take more memory than the system says is free. Else it
 //! fills them by the pairs of an image, where the words name one, before it binds a port. It serves datagrams and connections as

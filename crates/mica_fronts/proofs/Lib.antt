@@ -1,6 +1,7 @@
 pub mod FlushLaws
 pub mod WhenLaws
 pub mod InOrder
+pub mod RequestsInOrder
 pub mod Statuses
 pub mod Replying
 pub mod SentReplies
@@ -9,6 +10,7 @@ pub mod OneEnd
 pub mod Serving
 pub mod OneStep
 pub mod SoloSteps
+pub mod SeatReads
 pub mod QueueSteps
 pub mod Telling
 pub mod OwnerSteps

@@ -6,11 +6,11 @@ use Rattle.partition_model.specs.declared.options.Options.{Options}
 use Rattle.partition_model.specs.declared.write.Outcome.{Outcome}
 use Rattle.partition_model.specs.declared.write.Write.{Write}
 use Rattle.partition_model.specs.History.{History, MayGive, stamp_of, stamp_in, value_in, answer_of}
+use Rattle.partition_model.specs.ReplyAt.{IsReplyAt}
 use Rattle.partition_model.proofs.Rises.{stamp_rises}
 use Rattle.epoch_core.specs.declared.shape.Shape.{Shape}
 use Rattle.epoch_core.specs.Shape.{shape_of, options_of}
 use Rattle.epoch_core.proofs.SameMachine.{same_state}
-use Rattle.owner_queue.specs.Acked.{IsReplyAt}
 
 -- a stamp by the shape is that by the options
 pub stamp_as : (options : Options) (shape : Shape) (history : History) → shape ≡ shape_of options → stamp_of (options_of shape) history ≡ stamp_of options history

@@ -13,6 +13,7 @@ use Rattle.partition_model.specs.declared.write.Write.{Write}
 use Rattle.partition_model.specs.Write.{IsWrite, is_accepted}
 use Rattle.partition_model.specs.History.{History, IsPrefix, MayGive, stamp_of}
 use Rattle.partition_model.specs.Run.{RunStep, history_of}
+use Rattle.partition_model.specs.ReplyAt.{IsReplyAt}
 use Rattle.epoch_core.specs.declared.shape.Shape.{Shape}
 use Rattle.epoch_core.specs.declared.state.OwnerState.{OwnerState}
 use Rattle.epoch_core.specs.declared.state.Phase.{Phase}
@@ -25,16 +26,16 @@ use Rattle.partition_table.specs.Seats.{note_state, note_home}
 use Rattle.partition_model.proofs.Rises.{prefix_rises}
 use Rattle.epoch_core.specs.OwnerState.{options_in}
 use Rattle.epoch_core.specs.OwnerStep.{IsOwnerStep}
+use Rattle.epoch_core.proofs.StepGains.{step_gains}
 use Rattle.owner_queue.specs.declared.ack.Ack.{Ack}
 use Rattle.owner_queue.specs.declared.message.Job.{Job}
 use Rattle.owner_queue.specs.declared.message.Message.{Message}
 use Rattle.owner_queue.specs.declared.message.Message.TheVariants as kind
 use Rattle.owner_queue.specs.Messages.{sender_of, ticket_of, sent_by, MayFollow}
-use Rattle.owner_queue.specs.Acked.{IsReplyAt, IsAcked}
+use Rattle.owner_queue.specs.Acked.{IsAcked}
 use Rattle.owner_queue.specs.AckOrder.{AckMayFollow}
 use Rattle.owner_queue.specs.AckEnds.{AckBox, ack_box}
 use Rattle.owner_queue.specs.JobEnds.{Inbox, inbox}
-use Rattle.owner_queue.proofs.Gains.{step_gains}
 use Rattle.mica_fronts.specs.QueueFront.{acknowledged_by}
 use Rattle.owner_queue.specs.Worked.{DoneJob, done_by, jobs_in, HasWorked}
 use Rattle.mica_fronts.specs.OwnerWork.{answers_to, IsAckBoxOf, IsNewAckBox, IsSent, HasDone, HasAnsweredJobs}

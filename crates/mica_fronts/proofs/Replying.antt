@@ -24,7 +24,7 @@ use Rattle.mica_fronts.specs.Turn.{write_in, get_reply}
 use Rattle.mica_fronts.specs.Session.{Sessions, Writes, Reads, ChangesOnly}
 use Rattle.mica_fronts.specs.Dealing.{IsNoBatch, bad_batch_text}
 use Rattle.mica_fronts.specs.Answering.{RepliesTo, DealsWith, DealsInPart}
-use Rattle.mica_fronts.proofs.InOrder.{first_none}
+use Rattle.mica_fronts.proofs.RequestsInOrder.{first_none}
 use Rattle.mica_fronts.proofs.Statuses.{replied_status}
 
 pub err_anyway : {T E : Type 0} {X : Type 0} (r : Result T E) → X → OnErr r X

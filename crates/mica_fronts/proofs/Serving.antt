@@ -13,7 +13,7 @@ use Rattle.mica_fronts.specs.Answered.{Answered, count_of_writes}
 use Rattle.mica_fronts.specs.Turn.{Turn, answers_in}
 use Rattle.mica_fronts.specs.Dealing.{Dealing, IsDealing, turns_in, answered_in, due_after, due_to}
 use Rattle.mica_fronts.specs.Session.{Sessions, AnswersInOrder}
-use Rattle.mica_fronts.specs.Totals.{Counts, has_no_turns}
+use Rattle.mica_fronts.specs.DealingTotals.{AreTotalsOf, has_no_turns}
 use Rattle.mica_fronts.specs.OneEnd.{OnTraffic, ServesOne, StopsOne, LeavesUnread, ServesSome, LeavesEnd, WantsAtEnd}
 use Rattle.mica_fronts.specs.Totals.{counted}
 use Rattle.mica_fronts.proofs.InOrder.{answers_append, count_append}
@@ -58,8 +58,8 @@ answered_more dealings d = ap answers_in (turns_more dealings d) ∙ map-append 
 one_front : (f : List Dealing → ℕ) (dealings : List Dealing) → sum_by f (dealings ∷ []) ≡ f dealings
 one_front f dealings = omega (arith, sum_by-cons f dealings [])
 
-counts_more : (dealings : List Dealing) (d : Dealing) (requests : ℕ) (totals : Totals) → requests ≡ length d.turns → Counts (dealings ∷ []) totals
-    → Counts ((dealings ++ d ∷ []) ∷ []) (counted requests totals)
+counts_more : (dealings : List Dealing) (d : Dealing) (requests : ℕ) (totals : Totals) → requests ≡ length d.turns → AreTotalsOf (dealings ∷ []) totals
+    → AreTotalsOf ((dealings ++ d ∷ []) ∷ []) (counted requests totals)
 counts_more dealings d requests totals is c =
     record {
       batches = omega (arith, one_front length (dealings ++ d ∷ []), one_front length dealings, c.batches, length-append dealings (d ∷ []));
@@ -109,7 +109,7 @@ module _ (options : Options) (is_alone : Bool) (old : Sessions) (left : ℕ) whe
             ∙ ap (λ (m : ℕ). due_to some.dealings ++ due_one d m d.replies) got ∙ sym (due_more some.dealings d);
         answers = subst (λ (l : List Answered). AnswersInOrder options is_alone old l new) (sym (answered_more some.dealings d))
             (answers_append options is_alone (answered_in some.dealings) (answers_in d.turns) old between new some.answers one.answers);
-        few = omega (arith, some.few, one.few, ap count_of_writes (answered_more some.dealings d), count_append options is_alone (answered_in some.dealings) (answers_in d.turns));
+        few = omega (arith, some.few, one.few, ap count_of_writes (answered_more some.dealings d), count_append (answered_in some.dealings) (answers_in d.turns));
         counts = counts_more some.dealings d requests totals one.count some.counts;
       }
 
@@ -175,7 +175,7 @@ module _ (options : Options) (is_alone : Bool) (old : Sessions) (left : ℕ) whe
         ));
         answers = subst (λ (l : List Answered). AnswersInOrder options is_alone old l new) (sym (answered_more some.dealings d))
             (answers_append options is_alone (answered_in some.dealings) (answers_in d.turns) old between new some.answers h.answers);
-        few = omega (arith, some.few, h.few, ap count_of_writes (answered_more some.dealings d), count_append options is_alone (answered_in some.dealings) (answers_in d.turns));
+        few = omega (arith, some.few, h.few, ap count_of_writes (answered_more some.dealings d), count_append (answered_in some.dealings) (answers_in d.turns));
       }
 
   -- a datagram was received, and there was no memory to deal with it

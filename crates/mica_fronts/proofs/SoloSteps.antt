@@ -18,7 +18,7 @@ use Rattle.epoch_core.specs.Shape.{shape_of, options_of}
 use Rattle.epoch_core.specs.OwnerState.{options_in, as_made}
 use Rattle.epoch_core.specs.OwnerStep.{IsOwnerStep}
 use Rattle.epoch_core.proofs.SameMachine.{same_may_give}
-use Rattle.owner_queue.proofs.Gains.{step_gains}
+use Rattle.epoch_core.proofs.StepGains.{step_gains}
 use Rattle.mica_fronts.specs.Session.{Session, Writes, ChangesOnly}
 use Rattle.mica_fronts.specs.Solo.{Solo, StepsPartition, history_at, alone_with, sessions_in}
 use Rattle.partition_model.proofs.Rises.{prefix_rises}

@@ -17,7 +17,7 @@ use Rattle.batch_packets.specs.declared.batch.Want.{Want}
 use Rattle.batch_packets.specs.declared.batch.Want.TheVariants.{Get, Put, Del, Add, Touch}
 use Rattle.batch_packets.specs.BatchGrammar.{operation_of, is_operation}
 use Rattle.batch_packets.specs.ReplyGrammar.{is_status, status_byte}
-use Rattle.owner_queue.specs.Acked.{IsReplyAt}
+use Rattle.partition_model.specs.ReplyAt.{IsReplyAt}
 use Rattle.mica_fronts.specs.Turn.{write_by, status_of}
 
 -- an operation of both versions

@@ -1,5 +1,5 @@
 -- What a front knows once it has told its seat the note of an acknowledgement, and once its seat has answered a get.
-use Rattle.std.proofs.Common.{◌≡◌, ℕ, ◌<◌, ◌≤◌, Bool, true, false, List, [], ◌∷◌, ◌++◌, length, map, Option, Some, None, refl, sym, ap, ◌∙◌, subst, append-nil, append_assoc, length-append}
+use Rattle.std.proofs.Common.{◌≡◌, ℕ, ◌<◌, ◌≤◌, Bool, true, false, List, [], ◌∷◌, ◌++◌, map, Option, Some, None, refl, sym, ap, ◌∙◌, subst, append-nil, append_assoc}
 use Rattle.std.proofs.lemmas.Bool.{true≢false}
 use Rattle.std.proofs.lemmas.List.{map-append}
 use Rattle.partition_model.specs.declared.options.Options.{Options}
@@ -10,7 +10,7 @@ use Rattle.partition_model.specs.declared.write.Write.{Write}
 use Rattle.partition_model.specs.Answer.{IsAnswer}
 use Rattle.partition_model.specs.Write.{is_accepted}
 use Rattle.partition_model.specs.History.{History, IsPrefix, stamp_in, stamp_of}
-use Rattle.partition_model.specs.Run.{RunStep}
+use Rattle.partition_model.specs.ReplyAt.{IsReplyAt}
 use Rattle.epoch_core.specs.declared.shape.Shape.{Shape}
 use Rattle.epoch_core.specs.declared.reader.ReaderState.{ReaderState}
 use Rattle.epoch_core.specs.Shape.{shape_of, options_of}
@@ -22,18 +22,17 @@ use Rattle.partition_table.specs.Seats.{reader_state, reader_home, note_state}
 use Rattle.optimistic_get.specs.declared.getting.Got.{Got}
 use Rattle.optimistic_get.specs.declared.getting.Got.TheVariants.{Hit as GotHit, Miss as GotMiss}
 use Rattle.optimistic_get.specs.Asked.{IsReadAt, IsRead}
-use Rattle.optimistic_get.proofs.Repeated.{same_answer}
 use Rattle.owner_queue.specs.declared.ack.Ack.{Ack}
 use Rattle.owner_queue.specs.declared.message.Job.{Job}
 use Rattle.owner_queue.specs.declared.message.Message.TheVariants as message
-use Rattle.owner_queue.specs.Acked.{IsReplyAt, IsAcked}
+use Rattle.owner_queue.specs.Acked.{IsAcked}
 use Rattle.owner_queue.specs.AckOrder.{AckMayFollow}
 use Rattle.owner_queue.specs.AckEnds.{AckBox, ack_box}
 use Rattle.owner_queue.specs.JobEnds.{outbox}
 use Rattle.mica_fronts.specs.declared.queue_front.FrontPart.{FrontPart}
-use Rattle.mica_fronts.specs.Session.{Writes, Reads, TellsStep}
-use Rattle.mica_fronts.specs.SeatSession.{session_at}
+use Rattle.mica_fronts.specs.Session.{Writes, TellsStep}
 use Rattle.mica_fronts.specs.QueueFront.{IsOfOneTable, HasTakenMore, HasAwaited, PartWrites, PartReads, step_by, told_by, session_of}
+use Rattle.mica_fronts.proofs.SeatReads.{was_read}
 
 -- Acknowledgements taken
 
@@ -124,23 +123,6 @@ module _ (old new : FrontPart) (job : Job) (ack : Ack) (whole : IsOfOneTable old
   }
 
 -- A get
-
--- what a seat's answer makes of a front's session
-pub was_read : {options : Options} {old new : ReaderState} {key : List ℕ} {stamp : ℕ} {value : Option (List ℕ)} {steps steps_now : List RunStep} {last last_now : ℕ} → old.shape ≡ shape_of options
-    → steps_now ≡ steps → last_now ≡ stamp → IsReadAt old key stamp value new → Reads options false (session_at old steps last) key stamp value (session_at new steps_now last_now)
-was_read {options = options} {old = old} {new = new} {key = key} {stamp = stamp} {value = value} shape steps last read =
-    let seat = read.seat in
-    record {
-      grows = seat.seen;
-      answer = same_answer options old.shape new.seen key stamp value shape read.answer;
-      done = seat.done;
-      last = last;
-      alone = λ off. absurd (true≢false (sym off));
-      told = (
-        length seat.more,
-        ap Some (λ i. record { steps = steps i; tried = seat.tried i; failed = (ap length seat.fails ∙ length-append old.fails seat.more) i; closed = seat.closed i }),
-      );
-    }
 
 module _ (old new : FrontPart) (key : List ℕ) (stamp : ℕ) (buffer : List ℕ) (jobs : new.jobs ≡ old.jobs) (acks : new.acks ≡ old.acks) (last : new.last ≡ stamp) (home : reader_home new.seat ≡ reader_home old.seat) where
   part_reads : (answer : Answer) (value : Option (List ℕ)) → IsAnswer answer buffer value → IsReadAt (reader_state old.seat) key stamp value (reader_state new.seat) → PartReads old key answer stamp buffer new

@@ -4,14 +4,15 @@ pub mod Looks
 pub mod Answered
 pub mod Turn
 pub mod Dealing
-pub mod Stand
 pub mod Session
 pub mod SeatSession
 pub mod Changing
 pub mod Answering
 pub mod Placed
 pub mod Totals
+pub mod DealingTotals
 pub mod OneEnd
+pub mod QueueStand
 pub mod QueueFront
 pub mod OwnerWork
 pub mod Solo

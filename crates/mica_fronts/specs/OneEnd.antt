@@ -7,7 +7,7 @@ use Rattle.mica_fronts.specs.Answered.{count_of_writes}
 use Rattle.mica_fronts.specs.Turn.{answers_in}
 use Rattle.mica_fronts.specs.Dealing.{Dealing, IsDealing, answered_in, due_to}
 use Rattle.mica_fronts.specs.Session.{Sessions, AnswersInOrder}
-use Rattle.mica_fronts.specs.Totals.{Counts}
+use Rattle.mica_fronts.specs.DealingTotals.{AreTotalsOf}
 
 -- a fact of the traffic before and after, where the end tells it; it goes on telling it
 abbrev pub OnTraffic : (Traffic → Traffic → Type 0) → Option Traffic → Option Traffic → Type 0
@@ -79,7 +79,7 @@ pub record ServesSome (options : Options) (is_alone : Bool) (old : Sessions) (le
   pub sent : after.sent ≡ due_to dealings
   pub answers : AnswersInOrder options is_alone old (answered_in dealings) new
   pub few : left ≤ left_after + count_of_writes (answered_in dealings)
-  pub counts : Counts (dealings ∷ []) totals
+  pub counts : AreTotalsOf (dealings ∷ []) totals
 
 -- What a front made of an end that had these datagrams left: it received so many of them, or all where there are fewer, sent what is due to
 -- each, and answered the requests.
@@ -92,7 +92,7 @@ pub record ServesEnd (options : Options) (is_alone : Bool) (old : Sessions) (lef
   pub at_end : ended ≡ nat_lt (length before.left) batches
   pub answers : AnswersInOrder options is_alone old (answered_in dealings) new
   pub few : left ≤ left_after + count_of_writes (answered_in dealings)
-  pub counts : Counts (dealings ∷ []) totals
+  pub counts : AreTotalsOf (dealings ∷ []) totals
 
 -- a list of datagrams begins as the other
 abbrev pub BeginsAs : List Sent → List Sent → Type 0

@@ -21,7 +21,7 @@ use Rattle.owner_queue.specs.AckOrder.{AckMayFollow}
 use Rattle.owner_queue.specs.AckEnds.{AckBox, ack_box}
 use Rattle.owner_queue.specs.Worked.{Acknowledged}
 use Rattle.mica_fronts.specs.declared.queue_front.FrontPart.{FrontPart}
-use Rattle.mica_fronts.specs.Stand.{Stand}
+use Rattle.mica_fronts.specs.QueueStand.{QueueStand}
 use Rattle.mica_fronts.specs.Session.{Told, Session, Sessions, Writes, Reads}
 
 -- the options, the front's number in each queue of jobs, the ticket of its next job, how many writes it may still be given, and what it
@@ -85,7 +85,7 @@ abbrev pub acknowledged_by : Ack → Acknowledged
 acknowledged_by ack = record { ticket = ack.ticket; step = step_by ack }
 
 -- where the front stands before the owner
-abbrev pub stand_of : FrontPart → Stand
+abbrev pub stand_of : FrontPart → QueueStand
 stand_of part =
     record { jobs = part.jobs.queue; number = part.jobs.number; most = part.jobs.jobs; acks = part.acks.queue; table = part.acks.table }
 

@@ -4,7 +4,7 @@ use Rattle.partition_model.specs.declared.options.Options.{Options}
 use Rattle.partition_model.specs.Write.{is_accepted}
 use Rattle.partition_model.specs.History.{History, IsPrefix, IsCut}
 use Rattle.partition_model.specs.Run.{RunStep, history_of, IsRunFrom, IsAnswerAt}
-use Rattle.owner_queue.specs.Acked.{IsReplyAt}
+use Rattle.partition_model.specs.ReplyAt.{IsReplyAt}
 use Rattle.mica_fronts.specs.Answered.{Answered, wrote, got, changed, kept, partition_in}
 use Rattle.mica_fronts.specs.Looks.{Look, IsLookAt}
 

@@ -1,7 +1,6 @@
 -- What a run of fronts comes to, in numbers.
-use Rattle.std.specs.Prelude.{◌≡◌, ◌*◌, ◌+◌, ◌≤◌, ◌==◌, ℕ, Bool, List, length, filter, sum_by, if◌then◌else◌}
+use Rattle.std.specs.Prelude.{◌*◌, ◌+◌, ◌≤◌, ◌==◌, ℕ, if◌then◌else◌}
 use Rattle.mica_fronts.specs.declared.totals.Totals.{Totals}
-use Rattle.mica_fronts.specs.Dealing.{Dealing, turns_in}
 
 -- totals after one more datagram of so many requests
 abbrev pub counted : ℕ → Totals → Totals
@@ -24,13 +23,3 @@ pub record IsUpTo (batches : ℕ) (totals : Totals) : Type 0 where
   pub datagrams : totals.batches ≤ batches
   pub requests : totals.requests ≤ 255 * batches
   pub refused : totals.bad ≤ batches
-
--- whether a datagram was answered with no turn
-abbrev pub has_no_turns : Dealing → Bool
-has_no_turns dealing = length dealing.turns == 0
-
--- the datagrams received, the requests in those that were batches, and the others
-pub record Counts (fronts : List (List Dealing)) (totals : Totals) : Type 0 where
-  pub batches : totals.batches ≡ sum_by length fronts
-  pub requests : totals.requests ≡ sum_by (λ dealings. length (turns_in dealings)) fronts
-  pub bad : totals.bad ≡ sum_by (λ dealings. length (filter has_no_turns dealings)) fronts

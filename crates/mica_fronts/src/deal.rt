@@ -12,7 +12,7 @@ ghost use Rattle.mica_fronts.specs.Turn.{Turn, status_of, write_in, writes_of_on
 ghost use Rattle.mica_fronts.specs.Dealing.{bad_batch_text};
 ghost use Rattle.mica_fronts.specs.Answering.{RepliesTo, AddsReply, AnswersAll, AddsAll, AnswersFirst, AreLeft, DealsWith, DealsInPart};
 
-use crate::ahead::load_ahead;
+use crate::batch_ahead::load_ahead;
 use crate::front::Front;
 use batch_packets::{
     Datagram, Header, MAX_VALUE_LEN_V1, Reply, ReplyText, RequestRef, Requests, Status, Want,

@@ -5,7 +5,6 @@ ghost use Rattle.mica_words.specs.Hash.{partition_of};
 ghost use Rattle.partition_model.specs.declared.options.Options.{Options};
 ghost use Rattle.partition_model.specs.Answer.{IsAnswer};
 ghost use Rattle.partition_model.specs.Write.{HasValueOf, write_of};
-ghost use Rattle.mica_fronts.specs.Stand.{Stand};
 ghost use Rattle.mica_fronts.specs.Session.{Sessions, ChangesOnly, Writes, Reads};
 
 use mica_io::NoMemory;
@@ -21,6 +20,9 @@ pub trait Front {
 
     /// Which of the fronts beside each other it is. No call changes it.
     ghost number: { Self → ℕ };
+
+    /// What says where it stands before an owner in another thread.
+    ghost Stand: { Type 0 } = { Unit {0} };
 
     /// Where it stands before each owner in another thread, by their partitions. No call changes it.
     ghost stands: { Self → List Stand };

@@ -3,7 +3,7 @@ ghost use Rattle.std.specs.Prelude.{◌≡◌, ◌<◌, true};
 ghost use Rattle.mica_words.specs.Item.{KeyFits};
 ghost use Rattle.partition_model.specs.declared.options.Mode.TheVariants.{Cache};
 
-use crate::counting::Counts;
+use crate::counting::CountsWrites;
 use partition_model::ItemBuf;
 
 /// What stands at a place of an index.
@@ -16,7 +16,7 @@ pub enum Glimpse {
 }
 
 /// A front that tells what stands in an index, without a hold.
-pub trait Glances: Counts {
+pub trait Glances: CountsWrites {
     /// Loads what stands at a place of a partition's index: the key of an item, and the first bytes of its value. Nothing rests on what it finds, which may change
     /// meanwhile. In cache mode, where items make room by themselves, it finds no places.
     fn glance(&self, partition: u32, place: u64, key: &mut ItemBuf, head: &mut ItemBuf) -> Glimpse

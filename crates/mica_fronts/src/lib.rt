@@ -6,6 +6,7 @@
 
 mod ahead;
 mod batch;
+mod batch_ahead;
 mod changing;
 mod counting;
 mod deal;
@@ -21,10 +22,10 @@ pub mod seat_loads;
 mod solo;
 mod totals;
 
-pub use ahead::load_all;
+pub use ahead::{MOST_AHEAD, load_all};
 pub use batch::serve_batch;
 pub use changing::{Changed, Changes, Decide, When};
-pub use counting::Counts;
+pub use counting::CountsWrites;
 pub use end::serve_end;
 pub use flushes::{FLUSH_LEN, Flush, Flushes, KeptFlushes, flush_in};
 pub use front::Front;

@@ -193,11 +193,14 @@ impl QueueFront {
 
 impl Front for QueueFront {
     ghost use Rattle.std.specs.Prelude.{false, map};
+    ghost use Rattle.mica_fronts.specs.QueueStand.{QueueStand};
     ghost use Rattle.mica_fronts.specs.QueueFront.{sessions_of, stand_of};
 
     ghost options = { λ f. f.options };
 
     ghost number = { λ f. f.number };
+
+    ghost Stand = { QueueStand };
 
     ghost stands = { λ f. map stand_of f.parts };
 

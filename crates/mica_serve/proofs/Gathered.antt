@@ -20,7 +20,7 @@ use Rattle.mica_fronts.specs.Answered.{Answered, gets_of, count_of_writes}
 use Rattle.mica_fronts.specs.Dealing.{Dealing, turns_in, answered_in}
 use Rattle.mica_fronts.specs.Session.{Sessions, AnswersInOrder}
 use Rattle.mica_serve.specs.Served.{IsThrough}
-use Rattle.mica_fronts.specs.Totals.{Counts, has_no_turns}
+use Rattle.mica_fronts.specs.DealingTotals.{AreTotalsOf, has_no_turns}
 use Rattle.mica_serve.specs.Others.{Others, all_answers}
 use Rattle.mica_serve.specs.Beside.{AnsweredBeside, RunsPartitions, gets_answered}
 use Rattle.mica_fronts.specs.OneEnd.{OnTraffic, ServesEnd, BeginsEnd}
@@ -43,8 +43,8 @@ told_of P (Some had) (Some has) tells h = (had, has, refl, refl, h)
 abbrev as_ok : Totals → Result Totals ServeFault
 as_ok totals = Ok totals
 
-counts_cons : (dealings : List Dealing) (fronts : List (List Dealing)) (one totals : Totals) → Counts (dealings ∷ []) one → Counts fronts totals
-    → Counts (dealings ∷ fronts) (record { batches = one.batches + totals.batches; requests = one.requests + totals.requests; bad = one.bad + totals.bad })
+counts_cons : (dealings : List Dealing) (fronts : List (List Dealing)) (one totals : Totals) → AreTotalsOf (dealings ∷ []) one → AreTotalsOf fronts totals
+    → AreTotalsOf (dealings ∷ fronts) (record { batches = one.batches + totals.batches; requests = one.requests + totals.requests; bad = one.bad + totals.bad })
 counts_cons dealings fronts one totals c d = record {
   batches = omega (arith, c.batches, d.batches, sum_by-cons length dealings [], sum_by-cons length dealings fronts);
   requests = omega (arith, c.requests, d.requests, sum_by-cons (λ x. length (turns_in x)) dealings [], sum_by-cons (λ x. length (turns_in x)) dealings fronts);
@@ -105,7 +105,7 @@ module _ (others : Others) (options : Options) (origin : ℕ → History) (batch
     pub each : (f : ℕ) (d : List Dealing) (b a : EndFacts) → slice_get fronts f ≡ Some d → slice_get bs f ≡ Some b → slice_get es f ≡ Some a → DealsWithEnd batches d b a
     pub answers : (f : ℕ) (r : FrontRun) (d : List Dealing) → slice_get rs f ≡ Some r → slice_get fronts f ≡ Some d
         → AnswersInOrder options false r.old (answered_in d) r.new × (r.left ≤ r.left_after + count_of_writes (answered_in d))
-    pub counted : Counts fronts totals
+    pub counted : AreTotalsOf fronts totals
 
   abbrev Each : List FrontRun → List EndFacts → List EndFacts → Type 0
   Each rs bs es = (f : ℕ) (r : FrontRun) (b a : EndFacts) → slice_get rs f ≡ Some r → slice_get bs f ≡ Some b → slice_get es f ≡ Some a → RunsFront options batches r b a
@@ -141,7 +141,7 @@ module _ (others : Others) (options : Options) (origin : ℕ → History) (batch
             many = ap suc rest.many;
             each = each_of rest told;
             answers = answers_of rest told;
-            counted = subst (Counts (s.dealings ∷ rest.fronts)) (sum_of_cons t all) (counts_cons s.dealings rest.fronts t (sum_of_totals all) s.counts rest.counted);
+            counted = subst (AreTotalsOf (s.dealings ∷ rest.fronts)) (sum_of_cons t all) (counts_cons s.dealings rest.fronts t (sum_of_totals all) s.counts rest.counted);
           }
         where
           each_of : (rest : Built rs (sum_of_totals all) bs es)

@@ -29,7 +29,7 @@ use Rattle.owner_queue.specs.JobEnds.{Outbox, Inbox}
 use Rattle.owner_queue.specs.AckEnds.{AckBox}
 use Rattle.mica_fronts.specs.declared.queue_front.FrontPart.{FrontPart}
 use Rattle.mica_serve.specs.declared.worker.FrontTask.{FrontTask}
-use Rattle.mica_fronts.specs.Stand.{Stand}
+use Rattle.mica_fronts.specs.QueueStand.{QueueStand}
 use Rattle.mica_fronts.specs.Session.{Told, Session}
 use Rattle.mica_fronts.specs.Placed.{Placed, steps_in, steps_by, history_in}
 use Rattle.mica_serve.specs.Others.{alone}
@@ -201,13 +201,13 @@ module _ {D : Type 0} {batches : ℕ} {facts : D → EndFacts} {options : Option
 
   may_meet_part : {f p : ℕ} {n : FrontTask D} {owner : OwnerEnd} (a : FrontAt f n) (o : OwnerAt p owner) (part : FrontPart) → PartAt a o part → MayMeet f owner part
   may_meet_part {f} a o part x = record {
-    number = ap (λ (y : FrontPart). y.jobs.number) x.part_is ∙ ap (λ (s : Stand). s.number) x.stands ∙ ap (λ (b : Outbox). b.number) x.lent.jobs;
-    jobs = ap (λ (y : FrontPart). y.jobs.queue) x.part_is ∙ ap (λ (s : Stand). s.jobs) x.stands ∙ ap (λ (b : Outbox). b.queue) x.lent.jobs ∙ sym (ap (λ (b : Inbox). b.queue) o.ran.served.worked.taken);
+    number = ap (λ (y : FrontPart). y.jobs.number) x.part_is ∙ ap (λ (s : QueueStand). s.number) x.stands ∙ ap (λ (b : Outbox). b.number) x.lent.jobs;
+    jobs = ap (λ (y : FrontPart). y.jobs.queue) x.part_is ∙ ap (λ (s : QueueStand). s.jobs) x.stands ∙ ap (λ (b : Outbox). b.queue) x.lent.jobs ∙ sym (ap (λ (b : Inbox). b.queue) o.ran.served.worked.taken);
     ended = o.ran.ended f (omega (arith, front_low a, senders_many o));
     acks = λ box box_at.
         ap (λ (b : AckBox). b.queue) (o.ran.served.sent f x.first.acks box x.lent.answers box_at).same
-        ∙ sym (ap (λ (y : FrontPart). y.acks.queue) x.part_is ∙ ap (λ (s : Stand). s.acks) x.stands);
-    table = ap (λ (y : FrontPart). reader_home y.seat) x.part_is ∙ sym x.fits.whole.home ∙ ap (λ (s : Stand). s.table) x.stands ∙ ap (λ (b : AckBox). b.table) x.lent.acks
+        ∙ sym (ap (λ (y : FrontPart). y.acks.queue) x.part_is ∙ ap (λ (s : QueueStand). s.acks) x.stands);
+    table = ap (λ (y : FrontPart). reader_home y.seat) x.part_is ∙ sym x.fits.whole.home ∙ ap (λ (s : QueueStand). s.table) x.stands ∙ ap (λ (b : AckBox). b.table) x.lent.acks
         ∙ sym o.ran.table;
   }
 
@@ -286,7 +286,7 @@ module _ {D : Type 0} {batches : ℕ} {facts : D → EndFacts} {options : Option
           (total_few (λ p. length (steps_by f (placed p))) (λ (y : FrontPart). length y.jobs.sent) a.ran.ran.new.parts few_at) in
           let left : a.ran.front.left ≡ most = ap (λ (v : QueueView). v.left) a.fresh in
           let x = (part_of a (owner_of 0 (omega (arith, all.some))).1).1 in
-          let whole : a.ran.ran.new.next + a.ran.ran.new.left ≡ most = sym x.fits.most ∙ ap (λ (s : Stand). s.most) x.stands ∙ ap (λ (b : Outbox). b.jobs) x.lent.jobs in
+          let whole : a.ran.ran.new.next + a.ran.ran.new.left ≡ most = sym x.fits.most ∙ ap (λ (s : QueueStand). s.most) x.stands ∙ ap (λ (b : Outbox). b.jobs) x.lent.jobs in
           omega (arith, total, left, whole, a.ran.ran.is.sent);
     }
       where

@@ -14,7 +14,7 @@ use Rattle.mica_fronts.specs.Session.{Told, Sessions, AnswersInOrder}
 use Rattle.mica_fronts.specs.Placed.{Placed, steps_in, steps_by, history_in}
 use Rattle.mica_serve.specs.Others.{Others, all_answers}
 use Rattle.mica_serve.specs.Served.{Served}
-use Rattle.mica_fronts.specs.Totals.{Counts}
+use Rattle.mica_fronts.specs.DealingTotals.{AreTotalsOf}
 
 -- how many tries a session closed
 abbrev pub closed_of : Option Told → ℕ
@@ -71,7 +71,7 @@ pub record ServesOnTables (others : Others) (options : Options) (origin : ℕ �
   pub fronts : List (List Dealing)
   pub runs : ℕ → List Placed
   pub served : Served others options origin ports before after fronts runs
-  pub counted : Counts fronts totals
+  pub counted : AreTotalsOf fronts totals
   pub tables : AreServedTables options origin (all_answers others fronts) runs kept
 
 -- one seat of the options' shape for each partition

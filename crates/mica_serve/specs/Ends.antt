@@ -12,7 +12,7 @@ use Rattle.mica_fronts.specs.declared.totals.ServeFault.TheVariants.{Net, NoMemo
 use Rattle.partition_table.specs.declared.tables.KeptSeat.{KeptSeat}
 use Rattle.mica_fronts.specs.Dealing.{Dealing, IsDealing, due_to}
 use Rattle.mica_fronts.specs.Placed.{Placed}
-use Rattle.mica_fronts.specs.Totals.{Counts}
+use Rattle.mica_fronts.specs.DealingTotals.{AreTotalsOf}
 use Rattle.mica_fronts.specs.OneEnd.{BeginsEnd, IsShort}
 use Rattle.mica_serve.specs.Others.{Others, all_answers}
 use Rattle.mica_serve.specs.Served.{IsThrough}
@@ -122,7 +122,7 @@ pub record ServesAll (others : Others) (options : Options) (origin : ℕ → His
       → DealsWithEnd batches dealings b a
   pub ran : RunsPartitions options origin (length (all_answers others fronts)) runs
   pub answered : AreAnsweredBeside options origin runs (all_answers others fronts)
-  pub counted : Counts fronts totals
+  pub counted : AreTotalsOf fronts totals
   pub tables : AreServedTables options origin (all_answers others fronts) runs kept
 
 -- one of the fronts stopped at a fault

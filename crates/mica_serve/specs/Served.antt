@@ -12,7 +12,7 @@ use Rattle.mica_fronts.specs.Answered.{Answered, wrote, got, changed, kept, key_
 use Rattle.mica_fronts.specs.Dealing.{Dealing, IsDealing, due_to}
 use Rattle.mica_fronts.specs.Placed.{Placed, steps_by, steps_in, history_in}
 use Rattle.mica_fronts.specs.OneEnd.{BeginsAs}
-use Rattle.mica_fronts.specs.Totals.{Counts}
+use Rattle.mica_fronts.specs.DealingTotals.{AreTotalsOf}
 use Rattle.mica_serve.specs.Others.{Others, all_answers}
 
 -- One front and its port
@@ -104,7 +104,7 @@ pub record ServesAndCounts (others : Others) (options : Options) (origin : ℕ �
   pub fronts : List (List Dealing)
   pub runs : ℕ → List Placed
   pub served : Served others options origin ports before after fronts runs
-  pub counted : Counts fronts totals
+  pub counted : AreTotalsOf fronts totals
 
 -- Where a fault came
 

@@ -1,4 +1,5 @@
-//! The program that stays up: a server over standard output and UDP sockets of this machine.
+//! The server for memcached's clients: it answers their commands over TCP, and batches of requests over UDP.
+//! All that it does stands in `mica_daemon`; here it gets the files, the sockets and the standard output of this machine.
 #![tactic(auto)]
 
 use mica_daemon::run_on_host;

@@ -4,6 +4,5 @@ pub mod OneSender
 pub mod Whole
 pub mod Counting
 pub mod OnlySender
-pub mod Gains
 pub mod Runs
 pub mod Worked

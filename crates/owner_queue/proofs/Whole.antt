@@ -15,10 +15,11 @@ use Rattle.partition_model.specs.Write.{GivesValue, Replaces, is_accepted, size_
 use Rattle.partition_model.specs.Store.{Cell, Store}
 use Rattle.partition_model.specs.StoreStep as ss
 use Rattle.partition_model.specs.History.{History, State, cache_state, store_state, IsCut, MayGive, Allows, state_of, stamp_of}
+use Rattle.partition_model.specs.ReplyAt.{IsReplyAt}
 use Rattle.partition_model.proofs.Rises.{one_cut}
 use Rattle.epoch_core.specs.Shape.{options_of}
 use Rattle.epoch_core.specs.declared.reader.ReaderState.{ReaderState}
-use Rattle.owner_queue.specs.Acked.{IsReplyAt, IsAcked}
+use Rattle.owner_queue.specs.Acked.{IsAcked}
 
 -- the first number below n at which f is 0, or none
 search_below : (f : ℕ → ℕ) (n : ℕ) → ((k : ℕ) × (k < n) × (f k ≡ 0)) ⊎ ((k : ℕ) → k < n → f k ≢ 0)

@@ -11,13 +11,13 @@ use Rattle.partition_model.proofs.Runs.{history-append, run-append}
 use Rattle.epoch_core.specs.declared.state.OwnerState.{OwnerState}
 use Rattle.epoch_core.specs.OwnerState.{options_in}
 use Rattle.epoch_core.specs.OwnerStep.{IsOwnerStep}
+use Rattle.epoch_core.proofs.StepGains.{step_gains}
 use Rattle.owner_queue.specs.declared.message.Job.{Job}
 use Rattle.owner_queue.specs.declared.message.Message.{Message}
 use Rattle.owner_queue.specs.declared.message.Message.TheVariants as kind
 use Rattle.owner_queue.specs.Messages.{sender_of}
 use Rattle.owner_queue.specs.JobEnds.{Inbox, inbox}
 use Rattle.owner_queue.specs.Worked.{DoneJob, done_by, job_of, job_in, jobs_in, steps_of, HasWorked}
-use Rattle.owner_queue.proofs.Gains.{step_gains}
 
 pub worked_none : (o : OwnerState) (from : Inbox) → HasWorked o o from from [] []
 worked_none o from = record {

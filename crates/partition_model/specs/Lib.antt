@@ -9,5 +9,6 @@ pub mod Store
 pub mod StoreStep
 pub mod History
 pub mod Run
+pub mod ReplyAt
 pub mod Limits
 pub mod Touches

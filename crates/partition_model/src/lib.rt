@@ -1,8 +1,9 @@
 //! What a partition is: writes and their outcomes, answers, options, and the laws of its histories.
 //!
 //! Every layer above is measured by the definitions in `specs/`: the state of each mode and its step, the histories
-//! and runs that the steps make, the answers to gets, and the fate of a key in cache mode. The machines that take
-//! these steps stand in `mica_model`.
+//! and runs that the steps make, the answers to gets, and the fate of a key in cache mode, whose items may be evicted:
+//! the log passes the oldest, and a full bucket displaces its oldest. The machines that take these steps stand in
+//! `mica_model`.
 #![tactic(auto)]
 
 mod change;

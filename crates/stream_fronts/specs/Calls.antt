@@ -4,7 +4,6 @@ use Rattle.mica_clock.specs.Seconds.{ClockView}
 use Rattle.partition_model.specs.declared.options.Options.{Options}
 use Rattle.stream_io.specs.Log.{Log}
 use Rattle.mica_fronts.specs.Session.{Sessions}
-use Rattle.mica_fronts.specs.Stand.{Stand}
 use Rattle.stream_fronts.specs.Going.{GoesBy}
 
 -- A port is told where it was, and has not ended; no fault was counted, and it is the same port.
@@ -15,7 +14,7 @@ pub record LeavesPort {Port : Type 0} (log : Port → Option Log) (has_ended : P
   pub same_port : port new ≡ port old
 
 -- A front's sessions and its clock went on by some answers, in order, and by no others. Its options, its number and its stands are the same.
-pub record MovesFront {Front Clock : Type 0} (options : Front → Options) (number : Front → ℕ) (stands : Front → List Stand) (is_alone : Bool) (sessions : Front → Sessions)
+pub record MovesFront {Front Stand Clock : Type 0} (options : Front → Options) (number : Front → ℕ) (stands : Front → List Stand) (is_alone : Bool) (sessions : Front → Sessions)
     (left : Front → ℕ) (view : Clock → ClockView) (old : Front) (told : Clock) (new : Front) (tells : Clock) : Type 0 where
   pub goes : GoesBy (options old) is_alone (sessions old) (left old) (view told) (sessions new) (left new) (view tells)
   pub same_options : options new ≡ options old

@@ -14,7 +14,7 @@ use crate::next::{is_last, len_of, said_next};
 use memcached_fronts::{Buffers, Limits, Numbering, answer_next};
 use memcached_text::Next;
 use mica_clock::Clock;
-use mica_fronts::Counts;
+use mica_fronts::CountsWrites;
 use mica_io::NoMemory;
 use std::sync::Wait;
 use std::thread::Threads;
@@ -93,7 +93,7 @@ fn speaks(done: usize, answers: usize, before: usize, len: usize) -> bool
 }
 
 /// Answers the command that the bytes begin with, to which so many answers were given, and appends its replies.
-fn answer_one<R: Threads + Wait + Sync, F: Counts, K: Clock>(
+fn answer_one<R: Threads + Wait + Sync, F: CountsWrites, K: Clock>(
     rt: &R,
     front: &mut F,
     clock: &mut K,
@@ -139,7 +139,7 @@ fn answer_one<R: Threads + Wait + Sync, F: Counts, K: Clock>(
 }
 
 /// Answers what the bytes spell, in order, to whose first command so many answers were given, and appends the replies.
-pub fn answer_bytes<R: Threads + Wait + Sync, F: Counts, K: Clock>(
+pub fn answer_bytes<R: Threads + Wait + Sync, F: CountsWrites, K: Clock>(
     rt: &R,
     front: &mut F,
     clock: &mut K,

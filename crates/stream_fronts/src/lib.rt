@@ -1,6 +1,9 @@
 //! A front behind a port of connections: commands that bytes spell are answered in order, what is left of them is kept of each connection, and bytes are
 //! received and sent.
 //!
+//! This is the event loop of a port: one thread takes a report of a connection, serves it, and takes the next. Pipelined commands are answered in one visit, as
+//! many as its room bears. Backpressure is by the client: while it leaves replies untaken, nothing more is read of its connection.
+//!
 //! `serve_connections` serves a port to its end, or until the front may be given fewer writes than one command may need. A connection that there is no memory for is closed,
 //! and the others go on. After each report it looks at a few places of an index and deletes what is over there: these sweeps stand between its answers to
 //! clients. The layer above may rely on this: the front's sessions and the clock go on by some answers, in order, and by no others, whatever

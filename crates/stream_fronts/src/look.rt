@@ -16,7 +16,7 @@ use crate::client::Client;
 use crate::kept::KeptBytes;
 use memcached_fronts::{Buffers, Numbering, load_ahead};
 use mica_clock::Clock;
-use mica_fronts::Counts;
+use mica_fronts::CountsWrites;
 use mica_io::NoMemory;
 use std::alloc::Global;
 use std::sync::Wait;
@@ -44,7 +44,7 @@ impl Client {
 
 /// Answers what the bytes spell, where so many answers were given to their first command, and keeps what is left of them. The replies are no more than may be
 /// kept.
-pub(crate) fn look_at<R: Threads + Wait + Sync, F: Counts, K: Clock>(
+pub(crate) fn look_at<R: Threads + Wait + Sync, F: CountsWrites, K: Clock>(
     rt: &R,
     alloc: Global,
     front: &mut F,

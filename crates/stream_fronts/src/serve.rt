@@ -23,7 +23,7 @@ use crate::visits::visit_on;
 use memcached_fronts::{Numbering, Sweeper, sweep};
 use memcached_stats::{Board, Counter, Tally};
 use mica_clock::Clock;
-use mica_fronts::{Counts, Glances, ServeFault};
+use mica_fronts::{CountsWrites, Glances, ServeFault};
 use mica_io::NoMemory;
 use std::alloc::Global;
 use std::sync::Wait;
@@ -32,7 +32,7 @@ use stream_io::{Connections, Event};
 
 /// Visits the connection under a number, where one is held. Says for how many there was no memory, one at most.
 #[tactic(auto, using(crate::proofs::Going::by_none))]
-fn visit_held<R: Threads + Wait + Sync, F: Counts, K: Clock, C: Connections>(
+fn visit_held<R: Threads + Wait + Sync, F: CountsWrites, K: Clock, C: Connections>(
     rt: &R,
     alloc: Global,
     front: &mut F,
@@ -131,7 +131,7 @@ fn take_in<C: Connections>(connections: &mut C, number: u32, clients: &mut Clien
 
 /// Serves what is reported. Says for how many connections there was no memory.
 #[tactic(auto, using(crate::proofs::Going::by_none))]
-fn serve_event<R: Threads + Wait + Sync, F: Counts, K: Clock, C: Connections>(
+fn serve_event<R: Threads + Wait + Sync, F: CountsWrites, K: Clock, C: Connections>(
     rt: &R,
     alloc: Global,
     front: &mut F,

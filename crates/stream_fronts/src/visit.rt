@@ -23,7 +23,7 @@ use crate::look::look_at;
 use memcached_fronts::{Buffers, Numbering};
 use memcached_stats::{Counter, Tally};
 use mica_clock::Clock;
-use mica_fronts::Counts;
+use mica_fronts::CountsWrites;
 use mica_io::NoMemory;
 use std::alloc::Global;
 use std::mem;
@@ -152,7 +152,7 @@ fn fill<C: Connections>(
 }
 
 /// Answers what lies in the room, but for what is to be dropped.
-fn look_at_room<R: Threads + Wait + Sync, F: Counts, K: Clock>(
+fn look_at_room<R: Threads + Wait + Sync, F: CountsWrites, K: Clock>(
     rt: &R,
     alloc: Global,
     front: &mut F,
@@ -201,7 +201,7 @@ fn look_at_room<R: Threads + Wait + Sync, F: Counts, K: Clock>(
 
 /// Goes on with a command that was answered in part, or reads once and answers. Says why no more was answered, and what the read gave.
 #[tactic(auto, using(crate::proofs::Opening::still_open, crate::proofs::Opening::same_keeps))]
-fn answer_more<R: Threads + Wait + Sync, F: Counts, K: Clock, C: Connections>(
+fn answer_more<R: Threads + Wait + Sync, F: CountsWrites, K: Clock, C: Connections>(
     rt: &R,
     alloc: Global,
     front: &mut F,
@@ -289,7 +289,7 @@ fn after_all(leaving: bool, halt: Halt, input: Option<Input>) -> After
 
 /// Sends what waits; where all of it was taken, answers more, and sends the replies.
 #[tactic(auto, using(crate::proofs::Opening::still_open, crate::proofs::Opening::keeps_on))]
-pub(crate) fn visit_once<R: Threads + Wait + Sync, F: Counts, K: Clock, C: Connections>(
+pub(crate) fn visit_once<R: Threads + Wait + Sync, F: CountsWrites, K: Clock, C: Connections>(
     rt: &R,
     alloc: Global,
     front: &mut F,

@@ -15,7 +15,7 @@ use crate::desk::Desk;
 use crate::visit::{After, visit_once};
 use memcached_fronts::Numbering;
 use mica_clock::Clock;
-use mica_fronts::Counts;
+use mica_fronts::CountsWrites;
 use mica_io::NoMemory;
 use std::alloc::Global;
 use std::sync::Wait;
@@ -25,7 +25,7 @@ use stream_io::Connections;
 /// Visits a connection once, and once more where there may be more to do at once. Mostly the first visit reads all that came and answers it: then it waits for
 /// its peer. Where there is more to do still, it is to be asked for again, and it may be: whoever is left so has sent bytes that pay for it. Where the front
 /// may be given too few writes for one command, it is visited once.
-pub(crate) fn visit_on<R: Threads + Wait + Sync, F: Counts, K: Clock, C: Connections>(
+pub(crate) fn visit_on<R: Threads + Wait + Sync, F: CountsWrites, K: Clock, C: Connections>(
     rt: &R,
     alloc: Global,
     front: &mut F,

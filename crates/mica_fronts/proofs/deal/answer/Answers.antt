@@ -1,4 +1,4 @@
-use Rattle.mica_fronts.proofs.InOrder.{first_all}
+use Rattle.mica_fronts.proofs.RequestsInOrder.{first_all}
 use Rattle.mica_fronts.proofs.Replying.{err_anyway}
 use Rattle.mica_fronts.proofs.deal.answer.Goals as goal
 

@@ -2,7 +2,7 @@ use Rattle.std.proofs.Common.{rules, ℕ, inl, inr, sym, ◌∙◌, subst, arith
 use Rattle.partition_model.specs.declared.options.Options.{Options}
 use Rattle.batch_packets.specs.BatchGrammar.{IsRequest}
 use Rattle.mica_fronts.specs.Answering.{RepliesTo, AddsReply, AnswersFirst}
-use Rattle.mica_fronts.proofs.InOrder.{here_begins, here_first, here_ends, here_next, here_replied, here_lawful, one_left, few_of_one}
+use Rattle.mica_fronts.proofs.RequestsInOrder.{here_begins, here_first, here_ends, here_next, here_replied, here_lawful, one_left, few_of_one}
 use Rattle.mica_fronts.proofs.Replying.{err_anyway}
 use Rattle.mica_fronts.proofs.deal.reply_to_all.Goals as goal
 

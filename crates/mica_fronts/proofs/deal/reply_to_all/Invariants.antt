@@ -1,7 +1,7 @@
 use Rattle.std.proofs.Common.{◌≡◌, ◌+◌, ◌≤◌, List}
 use Rattle.batch_packets.specs.declared.batch.Request.{Request}
 use Rattle.mica_fronts.specs.Answering.{AreLeft}
-use Rattle.mica_fronts.proofs.InOrder.{Here}
+use Rattle.mica_fronts.proofs.RequestsInOrder.{Here}
 use Rattle.mica_fronts.proofs.deal.reply_to_all.Given as goal
 
 abbrev pub invariant-loop-number : goal.invariant-loop-number

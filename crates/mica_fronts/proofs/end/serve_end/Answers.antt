@@ -3,7 +3,7 @@ use Rattle.std.specs.Prelude.{IfSome}
 use Rattle.partition_model.specs.declared.options.Options.{Options}
 use Rattle.mica_fronts.specs.declared.totals.Totals.{Totals}
 use Rattle.mica_fronts.specs.OneEnd.{OnTraffic, StopsOne, LeavesUnread, ServesOne, ServesSome, LeavesEnd}
-use Rattle.mica_fronts.proofs.InOrder.{one_at_most}
+use Rattle.mica_fronts.proofs.RequestsInOrder.{one_at_most}
 use Rattle.mica_fronts.proofs.Serving.{on_traffic_then, serves_more, stops_at, wants_at, wants_fresh}
 use Rattle.mica_fronts.proofs.end.serve_end.Goals as goal
 

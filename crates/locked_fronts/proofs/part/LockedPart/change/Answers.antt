@@ -1,18 +1,18 @@
 use Rattle.std.proofs.Common.{refl, sym, ◌∙◌}
 use Rattle.locked_fronts.specs.declared.part.LockedPart.{LockedPart}
-use Rattle.locked_fronts.proofs.Looking.{still_part, changes_from}
+use Rattle.locked_fronts.proofs.Getting.{still_part, changes_from}
 use Rattle.locked_fronts.proofs.Telling.{look_home, part_changes}
 use Rattle.locked_fronts.proofs.part.LockedPart.change.Goals as goal
 
 pub learn-requires : goal.learn-requires
 learn-requires g c =
     look_home c.change_under_lock-learned.ensures.1
-    ∙ sym (still_part g.J.ServerPlan.plan c.args.number c.args.self.now c.look_on.new.self c.requires.own c.in-None.ensures.none).home
+    ∙ sym (still_part g.J.ServerPlan.plan c.args.number c.args.self.now c.get_without_lock.new.self c.requires.own c.in-None.ensures.none).home
 
 pub returns-in-None : goal.returns-in-None
 returns-in-None g c =
     let plan = g.J.ServerPlan.plan in
-    let rested = c.look_on.new.self in
+    let rested = c.get_without_lock.new.self in
     let did = c.change_under_lock-learned in
     let part = still_part plan c.args.number c.args.self.now rested c.requires.own c.in-None.ensures.none in
     let held : LockedPart = record rested { taker = did.new.taker } in

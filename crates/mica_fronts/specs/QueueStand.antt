@@ -7,7 +7,7 @@ use Rattle.ruled_queue.specs.Ends.{Queue}
 
 -- where a front stands before an owner: the queue of its jobs, its number there and how many jobs it may send, the queue of its
 -- acknowledgements, and the table that their notes are of
-pub record Stand : Type 0 where
+pub record QueueStand : Type 0 where
   pub jobs : Queue Message
   pub number : ℕ
   pub most : ℕ

@@ -1,4 +1,4 @@
--- What a front knows once it has looked without a hold.
+-- What a front knows once it has got without the lock.
 use Rattle.std.proofs.Common.{◌≡◌, ℕ, ◌+◌, ◌*◌, ◌≤◌, Bool, true, false, List, [], ◌∷◌, ◌++◌, length, length-append, append-nil, map, nat_le, nat_lt, cond, Option, Some, None, inr, refl, sym, ap, ◌∙◌, subst, arith}
 use Rattle.std.proofs.lemmas.Bool.{leb-true, ltb-false}
 use Rattle.std.proofs.lemmas.Option.{same_Some}
@@ -33,7 +33,7 @@ use Rattle.locked_fronts.specs.declared.part.LockedPart.{LockedPart}
 use Rattle.locked_fronts.specs.Plan.{Plan}
 use Rattle.locked_fronts.specs.Counts.{counts_after, when_by}
 use Rattle.locked_fronts.specs.Owned.{run_step}
-use Rattle.locked_fronts.specs.Parts.{IsPartOf, PartChanges, PartRests, PartLooks, answer_in, session_of}
+use Rattle.locked_fronts.specs.Parts.{IsPartOf, PartChanges, PartRests, PartGets, answer_in, session_of}
 use Rattle.locked_fronts.proofs.Telling.{tells_look}
 
 -- Tries that are told nowhere
@@ -67,12 +67,12 @@ found_by before after bucket tries key answer stamp buffer (gots.Miss at) answer
     (record { value = None; is = (refl, answers.1); count = answers.0.failed + 1; made = answers.0.made; at = answers.0.answered })
 found_by before after bucket tries key answer stamp buffer (gots.Again first last) answers is = absurd (cc is)
 
-pub looks_by : (old new : LockedPart) (before after : ReaderState) (bucket tries : ℕ) (key : List ℕ) (answer : Answer) (stamp epoch : ℕ) (buffer : List ℕ) (got : Got)
+pub gets_by : (old new : LockedPart) (before after : ReaderState) (bucket tries : ℕ) (key : List ℕ) (answer : Answer) (stamp epoch : ℕ) (buffer : List ℕ) (got : Got)
     → before ≡ note_of (reader_state old.seat) → AnswersGet before bucket tries key got buffer after → answer_in got ≡ Some (answer, stamp)
     → 2 * writes_to_bucket (options_of after.shape) after.seen 0 ≤ epoch + 1 → nat_le epoch (2 * old.counts.in_first) ≡ true
     → reader_state new.seat ≡ told (reader_state old.seat) (note_of after) → reader_home new.seat ≡ reader_home old.seat → new.taker ≡ old.taker → new.last ≡ stamp → new.newest ≡ stamp
-    → new.counts ≡ old.counts → PartLooks old key answer stamp buffer new
-looks_by old new before after bucket tries key answer stamp epoch buffer got anew answers is most all goes home taker last newest counts =
+    → new.counts ≡ old.counts → PartGets old key answer stamp buffer new
+gets_by old new before after bucket tries key answer stamp epoch buffer got anew answers is most all goes home taker last newest counts =
     let found = found_by before after bucket tries key answer stamp buffer got answers is in
     let grows : IsPrefix (reader_state old.seat).seen after.seen = subst (λ (r : ReaderState). IsPrefix r.seen after.seen) anew found.made.seen in
     let seen : (reader_state new.seat).seen ≡ after.seen = ap (λ (r : ReaderState). r.seen) goes ∙ longer_begun _ _ grows in
@@ -128,7 +128,7 @@ module _ (plan : Plan) (number : ℕ) (old mid : LockedPart) (part : IsPartOf pl
 -- They answered.
 
 module _ (plan : Plan) (number : ℕ) (old new : LockedPart) (key : List ℕ) (answer : Answer) (stamp : ℕ) (buffer : List ℕ) (part : IsPartOf plan number old.taker.number old)
-    (looks : PartLooks old key answer stamp buffer new) where
+    (looks : PartGets old key answer stamp buffer new) where
   abbrev counted : History
   counted = part.counts.history
 
@@ -186,9 +186,9 @@ module _ (plan : Plan) (number : ℕ) (old new : LockedPart) (key : List ℕ) (a
       told = tells_look (reader_state old.seat) (reader_state new.seat) [] (ap (λ (t : TakerView Step). map run_step t.mine) looks.taker) looks.tried (looks.fails ∙ sym (append-nil (reader_state old.seat).fails)) looks.closed;
     }
 
-    pub looks_on : (needs : Bool) (becoming : When → Option (List ℕ) → Becoming) → OnlyReads becoming
+    pub gets_on : (needs : Bool) (becoming : When → Option (List ℕ) → Becoming) → OnlyReads becoming
         → PartChanges plan number second key needs becoming old (record { when = when; found = Some answer; outcome = None; stamp = stamp }) buffer new
-    looks_on needs becoming reads = record {
+    gets_on needs becoming reads = record {
       still = still;
       taken = let same = ap (λ (t : TakerView Step). length t.mine) looks.taker in omega (arith, same);
       comes = record {
