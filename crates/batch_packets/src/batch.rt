@@ -17,7 +17,7 @@ use std::alloc::Global;
 use std::marker::Model;
 
 /// What a request asks for.
-#[derive(Clone, Copy, Debug, PartialEq, Eq)]
+#[derive(Clone, Copy, PartialEq, Eq)]
 pub enum Want {
     Get,
     Put,
@@ -29,7 +29,7 @@ pub enum Want {
 }
 
 /// A request of a client. Its reply repeats the ticket. The value is empty unless it is a put or an add.
-#[derive(Debug, Drop)]
+#[derive(Drop)]
 pub struct Request {
     pub want: Want,
     pub ticket: u32,
@@ -38,7 +38,7 @@ pub struct Request {
 }
 
 /// A list of requests.
-#[derive(Debug, Drop)]
+#[derive(Drop)]
 pub struct RequestList {
     requests: Vec<Request>,
 }
@@ -77,7 +77,7 @@ impl From<Vec<Request>> for RequestList {
 }
 
 /// The requests of one datagram. The replies have its version and repeat its number.
-#[derive(Debug, Drop)]
+#[derive(Drop)]
 pub struct Batch {
     pub version: u8,
     pub number: u32,

@@ -67,7 +67,7 @@ pub fn read_u64(from: &[u8]) -> Option<(u64, &[u8])>
 }
 
 /// What a header says.
-#[derive(Clone, Copy, Debug, PartialEq, Eq)]
+#[derive(Clone, Copy)]
 pub struct Header {
     pub version: u8,
     /// How many items follow.

@@ -11,7 +11,7 @@ use std::alloc::Global;
 use std::marker::Model;
 
 /// The reply to one request, whose ticket it repeats. The value is empty unless it is a hit.
-#[derive(Debug, Drop)]
+#[derive(Drop)]
 pub struct Reply {
     pub status: Status,
     pub ticket: u32,
@@ -20,7 +20,7 @@ pub struct Reply {
 }
 
 /// A list of replies.
-#[derive(Debug, Drop)]
+#[derive(Drop)]
 pub struct ReplyList {
     replies: Vec<Reply>,
 }
@@ -59,7 +59,7 @@ impl From<Vec<Reply>> for ReplyList {
 }
 
 /// The replies of one datagram, with the number of their batch.
-#[derive(Debug, Drop)]
+#[derive(Drop)]
 pub struct Replies {
     pub version: u8,
     pub number: u32,

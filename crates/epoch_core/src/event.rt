@@ -2,7 +2,7 @@
 use partition_model::Write;
 
 /// An event as it is kept in memory: all of it but the write of a mark.
-#[derive(Clone, Copy, Debug, PartialEq, Eq)]
+#[derive(Clone, Copy, PartialEq, Eq)]
 pub enum OwnerEvent {
     /// The bucket.
     Begin(u32),

@@ -14,7 +14,7 @@ const BUCKET_WORDS: usize = SLOTS as usize + 1;
 const MAIN_WORDS: usize = BUCKET_WORDS + 1;
 
 /// How many words a partition has of each kind, in which mode, and how many writes it may bear.
-#[derive(Clone, Copy, Debug, PartialEq, Eq)]
+#[derive(Clone, Copy, PartialEq, Eq)]
 pub struct Shape {
     pub mode: Mode,
     pub buckets: u32,
@@ -24,7 +24,7 @@ pub struct Shape {
 }
 
 /// A word by its meaning.
-#[derive(Clone, Copy, Debug, PartialEq, Eq)]
+#[derive(Clone, Copy, PartialEq, Eq)]
 pub enum WordAt {
     Stamp,
     /// The main bucket.

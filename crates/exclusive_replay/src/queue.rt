@@ -17,7 +17,7 @@ const CAPACITY: usize = 1_024;
 const YIELDS: u32 = 1;
 
 /// A line of the trace by its number, or the end of all.
-#[derive(Clone, Copy, Debug, PartialEq, Eq)]
+#[derive(Clone, Copy)]
 pub(crate) enum Sent {
     Line(u32),
     End,

@@ -21,7 +21,7 @@ use std::error::Error;
 use std::fmt;
 
 /// Why the partitions could not be made and filled.
-#[derive(Clone, Copy, Debug, PartialEq, Eq)]
+#[derive(Clone, Copy, Debug)]
 pub enum OpenFault {
     /// A write was refused.
     Refused,

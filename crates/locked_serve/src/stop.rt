@@ -9,7 +9,7 @@ use std::error::Error;
 use std::fmt;
 
 /// Why a server did not come to totals.
-#[derive(Clone, Copy, Debug, PartialEq, Eq)]
+#[derive(Clone, Copy, Debug)]
 pub enum Stop {
     /// A write that was to fill its partition was refused. No port was bound.
     Refused,
@@ -21,7 +21,7 @@ pub enum Stop {
 }
 
 /// What was to be told could not be told.
-#[derive(Clone, Copy, Debug, PartialEq, Eq)]
+#[derive(Clone, Copy, Debug)]
 pub struct Untold;
 
 impl fmt::Display for Stop {

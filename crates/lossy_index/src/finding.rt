@@ -11,7 +11,7 @@ use epoch_core::{OwnerWords, WordAt, holds_key_hashed};
 use mica_words::{SLOTS, entry_offset, entry_tag, key_hash, tag_of, tail_of};
 
 /// A key's slot, and the offset in its entry.
-#[derive(Clone, Copy, Debug, PartialEq, Eq)]
+#[derive(Clone, Copy)]
 pub struct Found {
     pub slot: u32,
     pub offset: u64,

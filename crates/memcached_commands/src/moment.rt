@@ -8,7 +8,7 @@ use memcached_text::{Item, Lifetime, read_item};
 pub const LAST_SECOND: u32 = u32::MAX;
 
 /// When a command is carried out.
-#[derive(Clone, Copy, Debug, PartialEq, Eq)]
+#[derive(Clone, Copy)]
 pub struct Moment {
     /// The second, from the beginning of 1970 on.
     pub second: u64,

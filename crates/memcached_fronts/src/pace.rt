@@ -20,7 +20,7 @@ const MOST_LOOKS: u32 = 65_536;
 const MOST_TAKEN: u32 = 512;
 
 /// How far a sweep looks: further after one that found something, and far where a write found no room.
-#[derive(Clone, Copy, Debug)]
+#[derive(Clone, Copy)]
 pub struct Pace {
     stretch: u32,
     hurried: bool,

@@ -17,7 +17,7 @@ use std::sync::atomic::{AtomicU64, Ordering};
 const LARGEST_ITEM: u64 = 1_058;
 
 /// What a server is told of itself as it begins.
-#[derive(Clone, Copy, Debug, PartialEq, Eq)]
+#[derive(Clone, Copy)]
 pub struct Server {
     pub pid: u64,
     /// The second in which it began.

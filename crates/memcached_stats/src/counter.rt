@@ -7,7 +7,7 @@ use memcached_commands::{Ask, Says};
 use memcached_text::{Command, Direction, Fault, Next, Reply, Wants};
 
 /// What a front counts.
-#[derive(Clone, Copy, Debug, PartialEq, Eq)]
+#[derive(Clone, Copy)]
 pub enum Counter {
     /// Stores and joins that found room. A store that wants an item's number counts as one of the three below where it found this number, no item, or another number.
     Sets,

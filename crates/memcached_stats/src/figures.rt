@@ -9,7 +9,7 @@ use crate::counter::{COUNTERS, Counter};
 pub const MOST_COUNT: u64 = 1 << 60;
 
 /// What is told of a server beside what is counted.
-#[derive(Clone, Copy, Debug, PartialEq, Eq)]
+#[derive(Clone, Copy)]
 pub struct About {
     pub pid: u64,
     /// How many seconds ago it began.
@@ -25,7 +25,7 @@ pub struct About {
 }
 
 /// How far a partition is worn.
-#[derive(Clone, Copy, Debug, PartialEq, Eq)]
+#[derive(Clone, Copy)]
 pub struct Wear {
     /// How many writes it has accepted.
     pub writes: u64,

@@ -68,7 +68,7 @@ pub enum Command<'a> {
 }
 
 /// What a store wants to find under its key.
-#[derive(Clone, Copy, Debug, PartialEq, Eq)]
+#[derive(Clone, Copy)]
 pub enum Wants {
     Whatever,
     Absent,
@@ -78,21 +78,21 @@ pub enum Wants {
 }
 
 /// Where a join puts its value.
-#[derive(Clone, Copy, Debug, PartialEq, Eq)]
+#[derive(Clone, Copy)]
 pub enum Side {
     Front,
     Back,
 }
 
 /// Which way a count goes.
-#[derive(Clone, Copy, Debug, PartialEq, Eq)]
+#[derive(Clone, Copy)]
 pub enum Direction {
     Up,
     Down,
 }
 
 /// Of what a client wants to know what is counted.
-#[derive(Clone, Copy, Debug, PartialEq, Eq)]
+#[derive(Clone, Copy, PartialEq, Eq)]
 pub enum Topic {
     /// The server.
     Server,

@@ -1,7 +1,7 @@
 //! Why a command is refused.
 
 /// Why a command is refused. What is replied is `fault_line`.
-#[derive(Clone, Copy, Debug, PartialEq, Eq)]
+#[derive(Clone, Copy)]
 pub enum Fault {
     /// No such command, or one with too few or too many words.
     Unknown,

@@ -5,7 +5,7 @@ ghost use Rattle.memcached_text.specs.Lifetimes.{lifetime_at, lifetime_of, due_o
 use crate::number::{number_of, short_number_of};
 
 /// How long an item is to be kept.
-#[derive(Clone, Copy, Debug, PartialEq, Eq)]
+#[derive(Clone, Copy)]
 pub enum Lifetime {
     Forever,
     /// No longer: it is to be gone at once.
@@ -17,7 +17,7 @@ pub enum Lifetime {
 }
 
 /// When a flush takes place.
-#[derive(Clone, Copy, Debug, PartialEq, Eq)]
+#[derive(Clone, Copy)]
 pub enum Due {
     Now,
     /// So many seconds from now on.

@@ -9,7 +9,7 @@ use itoa::{Buffer, write_digits};
 use mica_io::NoMemory;
 
 /// What is replied to a command, but for the values of a get.
-#[derive(Clone, Copy, Debug, PartialEq, Eq)]
+#[derive(Clone, Copy)]
 pub enum Reply {
     Stored,
     /// What is stored under the key is not as a store or a join wants it.

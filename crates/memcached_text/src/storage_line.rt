@@ -10,7 +10,7 @@ use crate::number::{number_of, short_number_of};
 use crate::{Command, Fault, Lifetime, Side, Text, Wants, Words};
 
 /// What the value of a block is for.
-#[derive(Clone, Copy, Debug, PartialEq, Eq)]
+#[derive(Clone, Copy)]
 pub enum Verb {
     Store(Wants),
     Join(Side),

@@ -9,7 +9,7 @@ use std::alloc::Global;
 
 /// A datagram that passed: where its bytes lie among those that were sent, and its port; or its number among those that were
 /// received. Both have the count of faults before it.
-#[derive(Clone, Copy, Debug, PartialEq, Eq)]
+#[derive(Clone, Copy)]
 pub enum Pass {
     Sent {
         port: u16,

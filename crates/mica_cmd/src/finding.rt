@@ -8,7 +8,7 @@ use report_check::Verdict;
 use std::fmt;
 
 /// What is found of the bytes that a judge of reports reads. Lines count from 1.
-#[derive(Clone, Copy, Debug)]
+#[derive(Clone, Copy)]
 pub enum Finding {
     /// The report is lawful for the trace.
     Lawful,

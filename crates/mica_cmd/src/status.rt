@@ -1,7 +1,7 @@
 //! What a run ends with.
 
 /// How a run ended, in the order of the numbers that the program ends with.
-#[derive(Clone, Copy, Debug, PartialEq, Eq)]
+#[derive(Clone, Copy, PartialEq, Eq)]
 pub enum Status {
     /// The command was carried out.
     Done,

@@ -17,7 +17,7 @@ use std::error::Error;
 use std::fmt;
 
 /// What the program is asked to do.
-#[derive(Clone, Copy, Debug, PartialEq, Eq)]
+#[derive(Clone, Copy, PartialEq, Eq)]
 pub enum Command {
     /// To replay the trace that the source gives.
     Replay(Options),

@@ -18,7 +18,7 @@ use std::alloc::Global;
 pub const MOST_FRONTS: u32 = 64;
 
 /// What a server that stays up is asked to do.
-#[derive(Debug, Drop)]
+#[derive(Drop)]
 pub struct DaemonOptions<'a> {
     pub options: Options,
     /// The ports of datagrams. There may be none.

@@ -11,7 +11,7 @@ use rand_pcg::Pcg32;
 const STREAM: u64 = 54;
 
 /// What an operation does with its key.
-#[derive(Clone, Copy, Debug, PartialEq, Eq)]
+#[derive(Clone, Copy, PartialEq, Eq)]
 pub enum OpKind {
     Put,
     Del,
@@ -19,7 +19,7 @@ pub enum OpKind {
 }
 
 /// An operation before it is spelled.
-#[derive(Clone, Copy, Debug)]
+#[derive(Clone, Copy)]
 pub struct Draw {
     pub kind: OpKind,
     /// The number that its key writes.

@@ -7,7 +7,7 @@ use crate::MAX_SOURCE_LEN;
 use mica_trace::{MAX_LINES, MAX_ROUNDS};
 
 /// What a trace is generated from.
-#[derive(Clone, Copy, Debug, PartialEq, Eq)]
+#[derive(Clone, Copy, PartialEq, Eq)]
 pub struct GenOptions {
     /// Where the generator starts.
     pub seed: u64,

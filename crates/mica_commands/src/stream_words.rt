@@ -10,7 +10,7 @@ use std::net::Ipv4Addr;
 use stream_fronts::{MOST_STREAM_FRONTS, StreamPorts};
 
 /// The fronts behind connections: their ports, the address that these are of, and the most connections that a front has at a time.
-#[derive(Clone, Copy, Debug, PartialEq, Eq)]
+#[derive(Clone, Copy)]
 pub struct StreamOptions {
     pub ports: StreamPorts,
     pub address: Ipv4Addr,

@@ -13,7 +13,7 @@ use std::sync::Wait;
 use std::thread::Threads;
 
 /// When a decision is made.
-#[derive(Clone, Copy, Debug, PartialEq, Eq)]
+#[derive(Clone, Copy)]
 pub struct When {
     /// The second that the caller gave.
     pub second: u64,
@@ -51,7 +51,7 @@ pub trait Decide {
 }
 
 /// What a change came to.
-#[derive(Clone, Copy, Debug, PartialEq, Eq)]
+#[derive(Clone, Copy)]
 pub struct Changed {
     /// When the value was looked at. How many writes there were is that of an earlier look where the decision only reads.
     pub when: When,

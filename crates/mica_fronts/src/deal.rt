@@ -25,7 +25,7 @@ use std::sync::Wait;
 use std::thread::Threads;
 
 /// The replies to a datagram, and how many requests it has: none where it is no batch.
-#[derive(Debug, Drop)]
+#[derive(Drop)]
 pub(crate) struct Dealt {
     pub replies: Vec<Datagram>,
     pub requests: u32,

@@ -7,7 +7,7 @@ use crate::counting::CountsWrites;
 use partition_model::ItemBuf;
 
 /// What stands at a place of an index.
-#[derive(Clone, Copy, Debug, PartialEq, Eq)]
+#[derive(Clone, Copy)]
 pub enum Glimpse {
     Item,
     Nothing,

@@ -4,7 +4,7 @@ ghost use Rattle.std.specs.Prelude.{◌↔◌, IsTrue};
 use crate::totals::MAX_BATCHES;
 
 /// The first port, how many fronts there are, one behind each port from there on, and how many datagrams a front takes.
-#[derive(Clone, Copy, Debug, PartialEq, Eq)]
+#[derive(Clone, Copy, PartialEq, Eq)]
 pub struct PortOptions {
     pub port: u16,
     pub fronts: u32,

@@ -10,7 +10,7 @@ use std::fmt;
 pub const MAX_BATCHES: u64 = 281_474_976_710_656;
 
 /// How many datagrams were received, how many requests stood in those that were batches, and how many were none.
-#[derive(Clone, Copy, Debug, PartialEq, Eq)]
+#[derive(Clone, Copy, PartialEq, Eq)]
 pub struct Totals {
     pub batches: u64,
     pub requests: u64,

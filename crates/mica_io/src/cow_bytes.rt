@@ -7,7 +7,7 @@ use std::borrow::CowSlice;
 use std::marker::Model;
 
 /// Bytes that are borrowed, or owned: what Rust's `Cow<[u8]>` is. Clauses see the list of them.
-#[derive(Debug, Drop)]
+#[derive(Drop)]
 pub struct CowBytes<'a> {
     items: CowSlice<'a, u8, Global>,
 }

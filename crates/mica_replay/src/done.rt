@@ -8,7 +8,7 @@ use std::alloc::Global;
 use std::marker::Model;
 
 /// Outcomes with the stamps after them, and how many more there is room for.
-#[derive(Debug, Drop)]
+#[derive(Drop)]
 pub struct Done {
     pairs: Vec<(Outcome, u64)>,
     spare: u32,

@@ -21,7 +21,7 @@ use std::thread::Threads;
 use std::vec::IntoIter;
 
 /// The lines that a reader found, in the order of its gets.
-#[derive(Debug, Drop)]
+#[derive(Drop)]
 pub struct Found {
     lines: Vec<Line>,
 }

@@ -12,7 +12,7 @@ use std::alloc::Global;
 use std::marker::Model;
 
 /// A line of a report.
-#[derive(Debug, Drop)]
+#[derive(Drop)]
 pub enum Line {
     Wrote {
         op: Op,
@@ -65,7 +65,7 @@ fn has_outcome(op: Op, outcome: Outcome) -> bool
 }
 
 /// A list of lines.
-#[derive(Debug, Drop)]
+#[derive(Drop)]
 pub struct Report {
     lines: Vec<Line>,
 }

@@ -6,7 +6,7 @@ use crate::TraceLine;
 use std::marker::Model;
 
 /// A list of lines, each of them one that a trace may have.
-#[derive(Debug, Drop)]
+#[derive(Drop)]
 pub struct Trace<'a> {
     lines: Vec<TraceLine<'a>>,
 }

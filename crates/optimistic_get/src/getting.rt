@@ -12,7 +12,7 @@ use partition_model::ItemBuf;
 use std::hint::spin_loop;
 
 /// What a get answers.
-#[derive(Clone, Copy, Debug, PartialEq, Eq)]
+#[derive(Clone, Copy, PartialEq, Eq)]
 pub enum Got {
     /// The value is in the buffer, and was the machine's answer at this stamp.
     Hit { stamp: u64 },

@@ -19,7 +19,7 @@ pub const MOST_WORDS: u32 = 1_073_741_824;
 pub const MOST_WEAR: u64 = 4_611_686_018_427_387_904;
 
 /// How a partition keeps its keys.
-#[derive(Clone, Copy, Debug, PartialEq, Eq)]
+#[derive(Clone, Copy, PartialEq, Eq)]
 pub enum Mode {
     /// A circular log, which passes over old items, and a lossy index.
     Cache,
@@ -28,7 +28,7 @@ pub enum Mode {
 }
 
 /// What a run is made of. The partitions share nothing, so each number of one is of each.
-#[derive(Clone, Copy, Debug, PartialEq, Eq)]
+#[derive(Clone, Copy, PartialEq, Eq)]
 pub struct Options {
     pub mode: Mode,
     pub partitions: u32,

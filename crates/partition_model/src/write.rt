@@ -6,7 +6,7 @@ use mica_io::Bytes;
 use mica_words::{key_fits, value_fits};
 
 /// What a write does with its key.
-#[derive(Clone, Copy, Debug, PartialEq, Eq)]
+#[derive(Clone, Copy, PartialEq, Eq)]
 pub enum Op {
     /// It has this value now.
     Put,
@@ -19,7 +19,7 @@ pub enum Op {
 }
 
 /// A write. At a touch and a delete the value is empty.
-#[derive(Debug, Drop)]
+#[derive(Drop)]
 pub struct Write {
     pub op: Op,
     pub key: Bytes,
@@ -38,7 +38,7 @@ pub fn write_fits(op: Op, key: &[u8], value: &[u8]) -> bool
 }
 
 /// The reply to a write. The first four accept it; the others refuse it, and then nothing changes.
-#[derive(Clone, Copy, Debug, PartialEq, Eq)]
+#[derive(Clone, Copy, PartialEq, Eq)]
 pub enum Outcome {
     /// A put or an add was done.
     Stored,
@@ -71,7 +71,7 @@ impl Outcome {
 }
 
 /// The answer to a get. The value of a hit stands in an `ItemBuf`.
-#[derive(Clone, Copy, Debug, PartialEq, Eq)]
+#[derive(Clone, Copy, PartialEq, Eq)]
 pub enum Answer {
     Hit,
     Miss,

@@ -27,7 +27,7 @@ pub const ITEM_WORDS: u64 = 14;
 pub const INDEX_BYTES: u64 = 32;
 
 /// How many partitions there are, and how many main buckets, spare buckets and words each of them has.
-#[derive(Clone, Copy, Debug, PartialEq, Eq)]
+#[derive(Clone, Copy)]
 pub struct Sizes {
     pub partitions: u32,
     pub buckets: u32,

@@ -14,7 +14,7 @@ use partition_model::Options;
 use std::alloc::Global;
 
 /// A get: the stamp that is printed for it, and its place.
-#[derive(Clone, Copy, Debug)]
+#[derive(Clone, Copy)]
 pub struct Asked {
     pub stamp: u64,
     pub place: usize,

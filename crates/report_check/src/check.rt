@@ -19,7 +19,7 @@ use partition_model::Options;
 use std::alloc::Global;
 
 /// What is found of a report. Lines count from 1.
-#[derive(Clone, Copy, Debug, PartialEq, Eq)]
+#[derive(Clone, Copy, PartialEq, Eq)]
 pub enum Verdict {
     Lawful,
     /// The first line that breaks a rule.
@@ -27,7 +27,7 @@ pub enum Verdict {
 }
 
 /// The first wrong write and the first wrong get that were found, by their places.
-#[derive(Clone, Copy, Debug)]
+#[derive(Clone, Copy)]
 pub struct Found {
     pub write: Option<usize>,
     pub get: Option<usize>,

@@ -23,7 +23,7 @@ use std::alloc::Global;
 
 /// What is found of a partition, by places: its first wrong write, or, where its writes are a run of the machine, its
 /// first get that is not answered as at a moment of its round.
-#[derive(Clone, Copy, Debug)]
+#[derive(Clone, Copy)]
 pub enum Judged {
     Wrong(usize),
     Run(Option<usize>),

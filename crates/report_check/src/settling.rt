@@ -14,7 +14,7 @@ use mica_trace::{Line, TraceLine};
 use partition_model::ItemBuf;
 
 /// How many gets are settled, and the place of the first that was missed.
-#[derive(Clone, Copy, Debug)]
+#[derive(Clone, Copy)]
 pub struct Settling {
     pub next: usize,
     pub missed: Option<usize>,

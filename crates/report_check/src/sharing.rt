@@ -10,7 +10,7 @@ use partition_model::Options;
 use std::alloc::Global;
 
 /// A line of a partition: its place, and how many gets of all partitions stand before it.
-#[derive(Clone, Copy, Debug)]
+#[derive(Clone, Copy)]
 pub struct OwnLine {
     pub place: usize,
     pub gets: u32,

@@ -10,7 +10,7 @@ pub const MAGIC: [u8; 4] = *b"MIMG";
 pub const VERSION: u8 = 1;
 
 /// Pairs whose keys rise by their bytes, each key and value one that a trace may have. They are kept as their texts.
-#[derive(Debug, Drop)]
+#[derive(Drop)]
 pub struct Image {
     count: u32,
     texts: Vec<u8>,

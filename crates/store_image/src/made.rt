@@ -26,7 +26,7 @@ use std::alloc::Global;
 use store_partition::StorePartition;
 
 /// What a trace leaves: its report, and the image of the store after it.
-#[derive(Debug, Drop)]
+#[derive(Drop)]
 pub struct Imaged {
     pub report: Report,
     pub image: Image,

@@ -36,7 +36,7 @@ pub fn most_writes(numbering: Numbering) -> u64
 }
 
 /// Why no more was answered.
-#[derive(Clone, Copy, Debug, PartialEq, Eq)]
+#[derive(Clone, Copy, PartialEq, Eq)]
 pub enum Halt {
     /// What is left is no whole command.
     Needs,

@@ -4,7 +4,7 @@
 pub const MOST_STREAM_FRONTS: u32 = 64;
 
 /// The first port, and how many fronts there are, one behind each port from there on. There may be none.
-#[derive(Clone, Copy, Debug, PartialEq, Eq)]
+#[derive(Clone, Copy)]
 pub struct StreamPorts {
     pub port: u16,
     pub fronts: u32,

@@ -32,7 +32,7 @@ use std::thread::Threads;
 use stream_io::{Broken, Connections, Input};
 
 /// What becomes of a connection.
-#[derive(Clone, Copy, Debug, PartialEq, Eq)]
+#[derive(Clone, Copy)]
 pub enum After {
     /// It waits for its peer.
     Waits,

@@ -10,7 +10,7 @@ use std::error::Error;
 use std::fmt;
 
 /// What is reported of the connections at a port.
-#[derive(Clone, Copy, Debug, PartialEq, Eq)]
+#[derive(Clone, Copy)]
 pub enum Event {
     /// A connection was made, and is under this number until it is closed here.
     Opened(u32),
@@ -19,7 +19,7 @@ pub enum Event {
 }
 
 /// What a read gives.
-#[derive(Clone, Copy, Debug, PartialEq, Eq)]
+#[derive(Clone, Copy)]
 pub enum Input {
     /// So many bytes, at least one.
     Bytes(usize),
@@ -32,7 +32,7 @@ pub enum Input {
 }
 
 /// The connection is broken: nothing more is received, and nothing sent.
-#[derive(Clone, Copy, Debug, PartialEq, Eq)]
+#[derive(Clone, Copy, Debug)]
 pub struct Broken;
 
 impl fmt::Display for Broken {

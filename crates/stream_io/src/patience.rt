@@ -7,7 +7,7 @@ const MOST_LOOKS: u32 = 128;
 const SLEEPS_BETWEEN: u32 = 64;
 
 /// How often a port looks before it sleeps: to wake takes longer than many looks. A look that finds something pays for all; those before a sleep did not, and the next are half as many.
-#[derive(Clone, Copy, Debug, PartialEq, Eq)]
+#[derive(Clone, Copy)]
 pub(crate) struct Patience {
     looks: u32,
     sleeps: u32,

@@ -2,7 +2,7 @@
 use mica_io::Bytes;
 
 /// What happens at the peer of a connection.
-#[derive(Clone, Copy, Debug, PartialEq, Eq)]
+#[derive(Clone, Copy)]
 pub struct Change {
     /// So many bytes more of what it sends come.
     pub comes: u32,

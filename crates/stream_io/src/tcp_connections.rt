@@ -46,7 +46,7 @@ struct Slot {
 }
 
 /// Whether a connection may wait to be accepted.
-#[derive(Clone, Copy, Debug, PartialEq, Eq)]
+#[derive(Clone, Copy, PartialEq, Eq)]
 enum Accepting {
     Idle,
     Ready,
