@@ -10,7 +10,6 @@ mod board;
 mod files;
 mod filling;
 mod free_memory;
-mod host;
 mod laws;
 mod memory_files;
 mod process;
@@ -18,9 +17,8 @@ mod program;
 mod speaker;
 mod top;
 
-pub use files::{Files, HostFiles};
+pub use files::Files;
 pub use free_memory::{SystemFiles, free_by};
-pub use host::run_on_host;
 pub use laws::{headline, headline_at_fault};
 pub use memory_files::MemFiles;
 pub use process::Process;

@@ -1,7 +1,10 @@
-//! The program that stays up: a server over standard output and UDP sockets of this machine.
+//! The program that stays up: a server over standard output, the files, the clock and the sockets of this machine.
 #![tactic(auto)]
 
-use mica_daemon::run_on_host;
+mod host;
+mod host_files;
+
+use host::run_on_host;
 use std::process::{self, ExitCode};
 
 fn main(rt: HostRuntime) -> ExitCode {
