@@ -1,7 +1,9 @@
 //! The program: the top call over standard input, standard output and UDP sockets of this machine.
 #![tactic(auto)]
 
-use mica_cmd::run_on_host;
+mod host;
+
+use host::run_on_host;
 use std::process::ExitCode;
 
 fn main(rt: HostRuntime) -> ExitCode {

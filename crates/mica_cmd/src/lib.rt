@@ -13,7 +13,6 @@ mod check_parts;
 mod exclusive_command;
 mod finding;
 mod gen_command;
-mod host;
 mod image_command;
 mod input;
 mod laws;
@@ -25,7 +24,6 @@ mod status;
 mod top;
 mod unpack_command;
 
-pub use host::run_on_host;
 pub use laws::headline;
 pub use mica_commands::{
     Command, GenOptions, MAX_SOURCE_LEN, WordsFault, gen_trace, put_summary, read_words,

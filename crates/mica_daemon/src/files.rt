@@ -3,11 +3,8 @@ ghost use Rattle.std.specs.Prelude.{◌≡◌, ◌<◌, ◌≤◌, ℕ, List, Op
 ghost use Rattle.mica_io.specs.Faults.{Rose, faults_after};
 ghost use Rattle.mica_daemon.specs.Files.{ReadScript, is_next_failing, after_read, has_failed, Foretells};
 
-use crate::free_memory::{SystemFiles, free_by};
-use mica_io::{ReadFault, StdSource, read_up_to};
+use mica_io::ReadFault;
 use std::alloc::Global;
-use std::fs;
-use std::rt::Files as FileSystem;
 
 /// What reads files by their names.
 pub trait Files {
@@ -39,55 +36,4 @@ pub trait Files {
         ensures counted { IfSome (script self.old name.now) (λ _. faults self.new ≡ faults_after (has_failed result) (faults self.old)) }
         ensures same_free { free self.new ≡ free self.old }
         ensures moves_on { (other : List ℕ) → script self.new other ≡ option_map after_read (script self.old other) };
-}
-
-/// The files of this machine. No contract can tell what lies under a name there.
-#[derive(Drop)]
-pub struct HostFiles<'a, R> {
-    rt: &'a R,
-    faults: u64,
-}
-
-impl<'a, R: FileSystem> HostFiles<'a, R> {
-    /// The files of this machine.
-    pub fn new(rt: &'a R) -> HostFiles<'a, R>
-        ensures { ⟦<HostFiles<'a, R> as Files>⟧.faults result ≡ 0 }
-    {
-        HostFiles { rt, faults: 0 }
-    }
-}
-
-impl<'a, R: FileSystem> SystemFiles for HostFiles<'a, R> {
-    // Those that have no more than 64 KiB.
-    fn short_file(&self, alloc: Global, name: &str) -> Option<Vec<u8>> {
-        let file = fs::open(self.rt, name).ok()?;
-        read_up_to(alloc, &mut StdSource::new(file), 65_536).ok()
-    }
-}
-
-impl<'a, R: FileSystem> Files for HostFiles<'a, R> {
-    ghost use Rattle.std.specs.Prelude.{None};
-
-    ghost file = { λ _ _. None };
-
-    ghost faults = { λ f. f.faults };
-
-    ghost script = { λ _ _. None };
-
-    ghost free = { λ _. None };
-
-    fn free_memory(&self, alloc: Global) -> Option<u64> {
-        free_by(alloc, self)
-    }
-
-    fn read(&mut self, alloc: Global, name: &str, limit: usize) -> Result<Vec<u8>, ReadFault> {
-        let read = match fs::open(self.rt, name) {
-            Ok(file) => read_up_to(alloc, &mut StdSource::new(file), limit),
-            Err(_) => Err(ReadFault::Failed),
-        };
-        if matches!(&read, Err(ReadFault::Failed)) {
-            self.faults = self.faults.saturating_add(1);
-        }
-        read
-    }
 }

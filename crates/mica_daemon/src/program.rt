@@ -9,7 +9,6 @@ ghost use Rattle.mica_daemon.specs.Files.{files_facts};
 ghost use Rattle.mica_daemon.specs.Daemon.{daemon_outside};
 ghost use Rattle.mica_daemon.specs.Exit.{first_number, BeginsAbove, DaemonExits};
 
-use crate::listening::PlacedListeners;
 use crate::{Files, Process, Speaker, daemon};
 use locked_serve::Left;
 use mica_clock::Clock;
@@ -20,6 +19,7 @@ use std::io;
 use std::process::ExitCode;
 use std::sync::Wait;
 use std::thread::Threads;
+use stream_io::Listeners;
 
 // Unique numbers of values begin at this many for each second of the clock: a server that starts later begins above the numbers of one before it,
 // as long as each second has no more writes than this.
@@ -44,7 +44,7 @@ pub fn run_daemon<
     F: Files,
     K: Sink + Drop,
     N: Net,
-    L: PlacedListeners,
+    L: Listeners,
     C: Clock + Drop + Send,
     G: Gate,
 >(

@@ -16,7 +16,6 @@ ghost use Rattle.mica_daemon.specs.Daemon.{HasMemory, WritesLast, ServesAloud, S
 use crate::Files;
 use crate::board::board_of;
 use crate::filling::filling_of;
-use crate::listening::PlacedListeners;
 use crate::process::Process;
 use crate::speaker::{Speaker, ready_line, unbound_line};
 use locked_serve::{Left, Service, Shared, Start, Stop, serve_locked};
@@ -93,7 +92,7 @@ fn stay_up<
     W: Threads + Wait + Sync,
     K: Sink + Drop,
     N: Net,
-    L: PlacedListeners,
+    L: Listeners,
     C: Clock + Drop + Send,
     G: Gate,
 >(
@@ -176,7 +175,7 @@ pub fn daemon<
     F: Files,
     K: Sink + Drop,
     N: Net,
-    L: PlacedListeners,
+    L: Listeners,
     C: Clock + Drop + Send,
     G: Gate,
 >(

@@ -5,8 +5,8 @@ use crate::asked::{Progress, WatchedNet, ask_bound};
 use crate::lasting::run_lasting;
 use crate::runs::{End, run_words};
 use mica_cmd::{MAX_SOURCE_LEN, Status};
-use mica_daemon::{Files, HostFiles, MemFiles};
-use mica_io::{FreeGate, MemSink, NoMemory, UdpNet};
+use mica_daemon::MemFiles;
+use mica_io::{FreeGate, MemSink, NoMemory, StdSource, UdpNet, read_up_to};
 use std::alloc::Global;
 use std::fs;
 use std::net::{Net as Sockets, TcpListener, TcpStream};
@@ -74,7 +74,8 @@ fn written_image(
     )?;
     assert!(rt; image.status == Status::Done);
     fs::write(rt, FILE, image.sink.taken())?;
-    let read = HostFiles::new(rt).read(rt.alloc(), FILE, MAX_SOURCE_LEN);
+    let mut source = StdSource::new(fs::open(rt, FILE)?);
+    let read = read_up_to(rt.alloc(), &mut source, MAX_SOURCE_LEN);
     fs::remove_file(rt, FILE)?;
     match read {
         Ok(bytes) => Ok(bytes),

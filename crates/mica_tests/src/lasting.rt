@@ -10,7 +10,7 @@ use locked_serve::Left;
 use mica_clock::MemClock;
 use mica_cmd::Status;
 use mica_commands::MOST_FRONTS;
-use mica_daemon::{Files, MemFiles, PlacedListeners, Process, Speaker, daemon};
+use mica_daemon::{Files, MemFiles, Process, Speaker, daemon};
 use mica_io::{Bytes, FreeGate, Gate, MemNet, MemSink, Net, NoMemory};
 use std::alloc::Global;
 use std::net::Ipv4Addr;
@@ -19,7 +19,7 @@ use std::sync::Wait;
 use std::sync::atomic::AtomicBool;
 use std::test::Fail;
 use std::thread::Threads;
-use stream_io::{Change, MemListeners, Step};
+use stream_io::{Change, Listeners, MemListeners, Step};
 
 // As many clocks as there may be fronts, each of which shows these seconds.
 fn clocks_of(alloc: Global, seconds: &[Option<u64>]) -> Result<Vec<MemClock<'_>>, NoMemory>
@@ -34,7 +34,7 @@ fn clocks_of(alloc: Global, seconds: &[Option<u64>]) -> Result<Vec<MemClock<'_>>
 
 /// The status, what the sink took, which has so much room, and for how many connections there was no memory. Each front over connections has a clock that shows
 /// these seconds; fronts over datagrams come to the gate before their requests.
-pub fn run_whole<W: Threads + Wait + Sync, F: Files, N: Net, L: PlacedListeners, G: Gate>(
+pub fn run_whole<W: Threads + Wait + Sync, F: Files, N: Net, L: Listeners, G: Gate>(
     rt: &W,
     alloc: Global,
     files: &mut F,
@@ -76,7 +76,7 @@ pub fn run_whole<W: Threads + Wait + Sync, F: Files, N: Net, L: PlacedListeners,
 }
 
 /// The status and what the sink took, with no gate.
-pub fn run_listening<W: Threads + Wait + Sync, F: Files, N: Net, L: PlacedListeners>(
+pub fn run_listening<W: Threads + Wait + Sync, F: Files, N: Net, L: Listeners>(
     rt: &W,
     alloc: Global,
     files: &mut F,

@@ -24,7 +24,6 @@ mod filled_udp;
 #[cfg(test)]
 mod front_words;
 #[cfg(test)]
-mod host;
 #[cfg(test)]
 mod large;
 #[cfg(test)]

@@ -2,7 +2,6 @@
 ghost use Rattle.std.specs.Prelude.{◌≡◌};
 
 use crate::overheard::Overheard;
-use mica_daemon::PlacedListeners;
 use mica_io::Failed;
 use std::alloc::Global;
 use std::net::Ipv4Addr;
@@ -55,6 +54,10 @@ impl<'a> Listeners for SameSchedule<'a> {
 
     ghost heard = { λ l. l.listened.items };
 
+    fn set_place(&mut self, address: Ipv4Addr, most: u32) {
+        self.place = Place { address, most };
+    }
+
     fn listen(&mut self, port: u16) -> Result<Overheard<'a>, Failed> {
         if let Ok(connections) = Overheard::new(self.alloc, port, self.schedule) {
             let place = self.place;
@@ -68,11 +71,5 @@ impl<'a> Listeners for SameSchedule<'a> {
 
     fn release(&mut self, connections: Overheard<'a>) {
         let _ = self.heard.extend_from_slice(connections.heard());
-    }
-}
-
-impl<'a> PlacedListeners for SameSchedule<'a> {
-    fn set_place(&mut self, address: Ipv4Addr, most: u32) {
-        self.place = Place { address, most };
     }
 }

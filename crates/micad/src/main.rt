@@ -2,7 +2,10 @@
 //! All that it does stands in `mica_daemon`; here it gets the files, the sockets and the standard output of this machine.
 #![tactic(auto)]
 
-use mica_daemon::run_on_host;
+mod host;
+mod host_files;
+
+use host::run_on_host;
 use std::process::{self, ExitCode};
 
 fn main(rt: HostRuntime) -> ExitCode {

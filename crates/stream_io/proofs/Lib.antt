@@ -1,5 +1,6 @@
 pub mod Marks
 pub mod Places
+pub mod Numbers
 pub mod Room
 pub mod Pending
 pub mod Stages

@@ -1,13 +1,12 @@
 -- A change at one place.
-use Rattle.std.proofs.Common.{◌≡◌, ℕ, zero, suc, ◌+◌, ◌<◌, ◌≤◌, Bool, true, false, cond, ltb, List, [], ◌∷◌, ◌++◌, length, refl, sym, ap, ◌∙◌, subst, arith}
-use Rattle.std.specs.Prelude.{◌==◌, ◌&&◌, not, nat_lt, slice_get, slice_set, slice_index_or, Option, None, Some, IfSome}
+use Rattle.std.proofs.Common.{◌≡◌, ℕ, zero, suc, ◌<◌, ◌≤◌, Bool, true, false, cond, ltb, List, [], ◌∷◌, length, refl, sym, ap, ◌∙◌, subst, arith}
+use Rattle.std.specs.Prelude.{◌==◌, ◌&&◌, not, slice_get, slice_set, slice_index_or, Option, None, Some, IfSome}
 use Rattle.std.specs.List.{position_or_len}
 use Rattle.std.proofs.lemmas.Option.{none-some, same_Some, slice_get-get_or, slice_get_past}
 use Rattle.std.proofs.lemmas.Bool.{ltb-true}
 use Rattle.std.proofs.lemmas.Grind.{common_steps}
 use Rattle.stream_io.specs.Connection.{Connection}
 use Rattle.stream_io.specs.State.{changed, is_under, held, number_or, number_at}
-use Rattle.stream_io.specs.MemoryConnection.{are_below}
 
 pub length_changed : (c : ℕ) (f : Connection → Connection) (all : List Connection) → length (changed c f all) ≡ length all
 length_changed c f [] = refl
@@ -23,33 +22,6 @@ pub changed_none : (c : ℕ) (f : Connection → Connection) (all : List Connect
 changed_none c f [] is = refl
 changed_none zero f (y ∷ all) is = absurd (none-some y (sym is))
 changed_none (suc c) f (y ∷ all) is = ap (λ ys. y ∷ ys) (changed_none c f all is)
-
--- a change keeps the number of each
-abbrev pub KeepsNumber : (Connection → Connection) → Type 0
-KeepsNumber f = (x : Connection) → (f x).number ≡ x.number
-
-pub below_changed : (bound c : ℕ) (f : Connection → Connection) (all : List Connection) → KeepsNumber f → are_below bound (changed c f all) ≡ are_below bound all
-below_changed bound c f [] keeps = refl
-below_changed bound zero f (x ∷ all) keeps = ap (λ n. nat_lt n bound && are_below bound all) (keeps x)
-below_changed bound (suc c) f (x ∷ all) keeps = ap (λ b. nat_lt x.number bound && b) (below_changed bound c f all keeps)
-
-pub below_push : (bound : ℕ) (all : List Connection) (x : Connection) → are_below bound all ≡ true → x.number ≤ bound → are_below (bound + 1) (all ++ x ∷ []) ≡ true
-below_push bound [] x below low = grind (arith, common_steps)
-below_push bound (y ∷ all) x below low =
-    let rest : are_below bound all ≡ true = grind (arith, common_steps) in
-    let later = below_push bound all x rest low in
-    grind (arith, common_steps)
-
-under_none : (bound : ℕ) (all : List Connection) → are_below bound all ≡ true → position_or_len (is_under bound) all ≡ length all
-under_none bound [] below = refl
-under_none bound (y ∷ all) below =
-    let rest : are_below bound all ≡ true = grind (arith, common_steps) in
-    let later = under_none bound all rest in
-    grind (arith, common_steps)
-
--- a number above all is free
-pub above_all : (bound : ℕ) (all : List Connection) → are_below bound all ≡ true → held bound all ≡ None
-above_all bound all below = let none = under_none bound all below in grind (arith, common_steps)
 
 -- the connection at a place was changed there
 pub changed_set : (c : ℕ) (f : Connection → Connection) (all : List Connection) (x y : Connection) → c < length all → x ≡ slice_index_or all c x → y ≡ f x

@@ -15,7 +15,8 @@ use Rattle.stream_io.specs.Log.{after_meeting_one}
 use Rattle.stream_io.specs.Calls.{GivesSome, IsGiven, IsTaken}
 use Rattle.stream_io.specs.MemoryConnection.{owed, pending, need, cost_of, are_below}
 use Rattle.stream_io.specs.Stage.{Goes, IsStage, Played, played_state, played_connections}
-use Rattle.stream_io.proofs.Places.{KeepsNumber, length_changed, below_changed, below_push}
+use Rattle.stream_io.proofs.Places.{length_changed}
+use Rattle.stream_io.proofs.Numbers.{KeepsNumber, below_changed, below_push}
 use Rattle.stream_io.proofs.Room.{opened_needs, reported_needs, happened_needs, pushed_needs, read_needs, write_needs, ask_needs, close_needs}
 use Rattle.stream_io.proofs.Pending.{next_pending, next_owed, more_pending, goes_on, goes_by}
 

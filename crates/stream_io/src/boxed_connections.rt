@@ -2,32 +2,38 @@
 use crate::{Broken, Connections, Event, Input, MemConnections};
 use mica_io::Failed;
 
-impl<'a> Connections for Box<MemConnections<'a>> {
-    ghost port = { λ b. ⟦<MemConnections<'a> as Connections>⟧.port b.value };
+/// Connections in memory that were listened at. They lie in a box, so that a seat for each number of a port takes little.
+#[derive(Drop)]
+pub struct BoxedConnections<'a> {
+    pub(crate) connections: Box<MemConnections<'a>>,
+}
 
-    ghost log = { λ b. ⟦<MemConnections<'a> as Connections>⟧.log b.value };
+impl<'a> Connections for BoxedConnections<'a> {
+    ghost port = { λ b. ⟦<MemConnections<'a> as Connections>⟧.port b.connections.value };
 
-    ghost faults = { λ b. ⟦<MemConnections<'a> as Connections>⟧.faults b.value };
+    ghost log = { λ b. ⟦<MemConnections<'a> as Connections>⟧.log b.connections.value };
 
-    ghost has_ended = { λ b. ⟦<MemConnections<'a> as Connections>⟧.has_ended b.value };
+    ghost faults = { λ b. ⟦<MemConnections<'a> as Connections>⟧.faults b.connections.value };
+
+    ghost has_ended = { λ b. ⟦<MemConnections<'a> as Connections>⟧.has_ended b.connections.value };
 
     fn next(&mut self) -> Result<Option<Event>, Failed> {
-        (**self).next()
+        self.connections.next()
     }
 
     fn read(&mut self, number: u32, out: &mut [u8]) -> Result<Input, Broken> {
-        (**self).read(number, out)
+        self.connections.read(number, out)
     }
 
     fn write(&mut self, number: u32, piece: &[u8]) -> Result<usize, Broken> {
-        (**self).write(number, piece)
+        self.connections.write(number, piece)
     }
 
     fn again(&mut self, number: u32) {
-        (**self).again(number);
+        self.connections.again(number);
     }
 
     fn close(&mut self, number: u32) {
-        (**self).close(number);
+        self.connections.close(number);
     }
 }

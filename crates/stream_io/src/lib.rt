@@ -20,6 +20,7 @@ mod stage;
 mod tcp_connections;
 mod tcp_listeners;
 
+pub use boxed_connections::BoxedConnections;
 pub use connections::{Broken, Connections, Event, Input};
 pub use listeners::{Heard, Listeners, Place};
 pub use memory_connections::MemConnections;

@@ -1,7 +1,7 @@
 //! What listens at ports.
 ghost use Rattle.std.specs.Prelude.{◌≡◌, ◌≤◌, ◌++◌, ◌∷◌, ℕ, false, List, [], Option, option_map, is_none, is_err, IfOk, IfSome, OnErr};
 ghost use Rattle.mica_io.specs.Faults.{Rose, faults_after};
-ghost use Rattle.stream_io.specs.PortLogs.{PortLogs, heard_at, with_port, without_port};
+ghost use Rattle.stream_io.specs.PortLogs.{PortLogs, heard_at, place_at, with_port, without_port};
 
 use crate::Connections;
 use mica_io::Failed;
@@ -42,6 +42,14 @@ pub trait Listeners {
 
     /// The ports that were listened at, one after another, and where.
     ghost heard: { Self → List Heard };
+
+    /// From now on it listens at this address, where a port has at most so many connections at a time.
+    fn set_place(&mut self, address: Ipv4Addr, most: u32)
+        ensures place { place self.new ≡ place_at address most }
+        ensures heard { heard self.new ≡ heard self.old }
+        ensures released { released self.new ≡ released self.old }
+        ensures ports { ports self.new ≡ ports self.old }
+        ensures faults { faults self.new ≡ faults self.old };
 
     /// Listens at a port. Nothing was reported of it yet.
     fn listen(&mut self, port: u16) -> Result<Self::Port, Failed>

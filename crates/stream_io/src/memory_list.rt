@@ -82,7 +82,7 @@ pub fn close_at(all: &mut Vec<MemConnection<'_>>, place: usize)
 }
 
 /// The lowest number that is free.
-#[tactic(auto, using(crate::proofs::Places::above_all))]
+#[tactic(auto, using(crate::proofs::Numbers::above_all))]
 pub fn free_number(all: &[MemConnection<'_>]) -> u32
     requires below { are_below (length all.now) all.now ≡ true }
     requires few { length all.now < 4294967296 }

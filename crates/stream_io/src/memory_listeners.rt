@@ -7,7 +7,7 @@ ghost use Rattle.stream_io.specs.MemoryPorts.{AreNew, seating_in};
 ghost use Rattle.std.proofs.Props.{props};
 
 use crate::memory_ports::MemPorts;
-use crate::{Heard, Listeners, MemConnections, Place, Step};
+use crate::{BoxedConnections, Heard, Listeners, MemConnections, Place, Step};
 use mica_io::{Failed, NoMemory};
 use std::alloc::Global;
 use std::net::Ipv4Addr;
@@ -71,17 +71,6 @@ impl<'a> MemListeners<'a> {
         Ok(())
     }
 
-    /// From now on they are listened at under this address, where a port has at most so many connections at a time.
-    pub fn set_place(&mut self, address: Ipv4Addr, most: u32)
-        ensures place { ⟦<MemListeners<'a> as Listeners>⟧.place self.new ≡ place_at address most }
-        ensures ports { ⟦<MemListeners<'a> as Listeners>⟧.ports self.new ≡ ⟦<MemListeners<'a> as Listeners>⟧.ports self.old }
-        ensures released { ⟦<MemListeners<'a> as Listeners>⟧.released self.new ≡ ⟦<MemListeners<'a> as Listeners>⟧.released self.old }
-        ensures heard { ⟦<MemListeners<'a> as Listeners>⟧.heard self.new ≡ ⟦<MemListeners<'a> as Listeners>⟧.heard self.old }
-        ensures faults { ⟦<MemListeners<'a> as Listeners>⟧.faults self.new ≡ ⟦<MemListeners<'a> as Listeners>⟧.faults self.old }
-    {
-        self.place = Place { address, most };
-    }
-
     /// What was left at a port when it was let go, where it was. Of several times the last one counts.
     pub fn released(&self, port: u16) -> Option<&MemConnections<'a>>
         ensures { IfSome (⟦<MemListeners<'a> as Listeners>⟧.released self.now)
@@ -94,7 +83,7 @@ impl<'a> MemListeners<'a> {
 impl<'a> Listeners for MemListeners<'a> {
     ghost use Rattle.stream_io.specs.MemoryPorts.{logs_at};
 
-    type Port = Box<MemConnections<'a>>;
+    type Port = BoxedConnections<'a>;
 
     ghost faults = { λ l. l.faults };
 
@@ -106,18 +95,23 @@ impl<'a> Listeners for MemListeners<'a> {
 
     ghost heard = { λ l. l.heard.items };
 
+    fn set_place(&mut self, address: Ipv4Addr, most: u32) {
+        self.place = Place { address, most };
+    }
+
     #[tactic(auto, using(crate::proofs::Seats::taken_port, crate::proofs::Seats::taken_unfailed, crate::proofs::Seats::taken_open, crate::proofs::Seats::taken_fresh))]
-    fn listen(&mut self, port: u16) -> Result<Box<MemConnections<'a>>, Failed> {
+    fn listen(&mut self, port: u16) -> Result<BoxedConnections<'a>, Failed> {
         let Some(connections) = self.waiting.take(port) else {
             self.faults = self.faults.saturating_add(1);
             return Err(Failed);
         };
         let place = self.place;
         self.heard.push_reserved(Heard { port, place });
-        Ok(connections)
+        Ok(BoxedConnections { connections })
     }
 
-    fn release(&mut self, connections: Box<MemConnections<'a>>) {
+    fn release(&mut self, connections: BoxedConnections<'a>) {
+        let connections = connections.connections;
         self.released.put(connections.port, connections);
     }
 }

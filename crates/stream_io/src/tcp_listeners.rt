@@ -57,15 +57,6 @@ impl<'a, R: Sockets> TcpListeners<'a, R> {
             faults: 0,
         }
     }
-
-    /// From now on it listens at this address, where a port has at most so many connections at a time.
-    pub fn set_place(&mut self, address: Ipv4Addr, most: u32)
-        ensures place { ⟦<TcpListeners<'a, R> as Listeners>⟧.place self.new ≡ place_at address most }
-        ensures heard { ⟦<TcpListeners<'a, R> as Listeners>⟧.heard self.new ≡ ⟦<TcpListeners<'a, R> as Listeners>⟧.heard self.old }
-        ensures faults { ⟦<TcpListeners<'a, R> as Listeners>⟧.faults self.new ≡ ⟦<TcpListeners<'a, R> as Listeners>⟧.faults self.old }
-    {
-        self.place = Place { address, most };
-    }
 }
 
 impl<'a, R: Sockets> Listeners for TcpListeners<'a, R> {
@@ -80,6 +71,10 @@ impl<'a, R: Sockets> Listeners for TcpListeners<'a, R> {
     ghost place = { λ l. l.place };
 
     ghost heard = { λ l. l.heard.items };
+
+    fn set_place(&mut self, address: Ipv4Addr, most: u32) {
+        self.place = Place { address, most };
+    }
 
     fn listen(&mut self, port: u16) -> Result<TcpConnections<'a>, Failed> {
         let opened = TcpConnections::open(

@@ -6,7 +6,7 @@ use Rattle.stream_io.proofs.memory_listeners.MemListenersListeners.release.Goals
 
 pub returns-clause-released : goal.returns-clause-released
 returns-clause-released c =
-    let connections = c.args.connections.value in
+    let connections = c.args.connections.connections.value in
     let old = seating_in c.args.self.now.released.seats.items in
     logs_put connections.port connections (Some (log_of connections)) old (seating_in c.put.new.self.seats.items)
     (c.put.ensures.at ∙ ap (λ m. with_seat m.port (Some connections) old) c.deref.ensures) refl

@@ -7,11 +7,12 @@ ghost use Rattle.mica_cmd.specs.declared.status.Status.TheVariants.{Done};
 ghost use Rattle.mica_cmd.specs.Exit.{exit_number};
 ghost use Rattle.mica_commands.specs.declared.daemon_words.TheConstants.{MOST_FRONTS};
 
-use crate::{HostFiles, Process, Speaker, run_daemon};
+use crate::host_files::HostFiles;
 use locked_serve::Left;
 use mica_clock::StdClock;
 use mica_cmd::{Status, exit_code};
 use mica_commands::MOST_FRONTS;
+use mica_daemon::{Process, Speaker, run_daemon};
 use mica_io::{FreeGate, NoMemory, StdSink, UdpNet};
 use std::alloc::Global;
 use std::net::{Ipv4Addr, Net as Sockets};

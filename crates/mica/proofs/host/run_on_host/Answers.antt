@@ -1,5 +1,5 @@
 use Rattle.mica_cmd.proofs.Exiting.{ends_with_status}
-use Rattle.mica_cmd.proofs.host.run_on_host.Goals as goal
+use Rattle.mica.proofs.host.run_on_host.Goals as goal
 
 pub returns : goal.returns
 returns g c = ends_with_status _ _ _ _ c.run_program.ensures

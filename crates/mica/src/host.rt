@@ -4,8 +4,8 @@ ghost use Rattle.std.specs.Process.{exit_status};
 ghost use Rattle.mica_cmd.specs.declared.status.Status.{Status};
 ghost use Rattle.mica_cmd.specs.Exit.{exit_number};
 
-use crate::run_program;
 use mica_client::UdpLink;
+use mica_cmd::run_program;
 use mica_io::{FreeGate, StdSink, StdSource, UdpNet};
 use partition_table::Tables;
 use std::net::Net as Sockets;
