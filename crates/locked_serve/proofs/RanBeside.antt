@@ -12,7 +12,7 @@ use Rattle.mica_clock.specs.Seconds.{ClockView}
 use Rattle.mica_fronts.specs.Answered.{Answered, gets_of}
 use Rattle.mica_fronts.specs.declared.totals.ServeFault.{ServeFault}
 use Rattle.mica_fronts.specs.declared.totals.ServeFault.TheVariants.{Net, NoMemory}
-use Rattle.mica_fronts.specs.declared.totals.TheConstants.{MAX_BATCHES}
+use Rattle.server_words.specs.declared.limits.TheConstants.{MAX_BATCHES}
 use Rattle.locked_fronts.specs.declared.part.LockedPart.{LockedPart}
 use Rattle.locked_fronts.specs.Plan.{Plan}
 use Rattle.locked_fronts.specs.Owned.{Owned}

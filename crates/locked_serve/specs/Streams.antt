@@ -17,7 +17,7 @@ use Rattle.mica_fronts.specs.declared.totals.ServeFault.{ServeFault}
 use Rattle.mica_fronts.specs.declared.totals.ServeFault.TheVariants.{Net}
 use Rattle.memcached_fronts.specs.Seconds.{seconds_of, ToldFrom}
 use Rattle.stream_fronts.specs.declared.desk.TheConstants.{MOST_UNSENT}
-use Rattle.stream_fronts.specs.declared.ports.StreamPorts.{StreamPorts}
+use Rattle.server_words.specs.declared.stream_ports.StreamPorts.{StreamPorts}
 use Rattle.stream_fronts.specs.Open.{OnLogs}
 use Rattle.stream_fronts.specs.Serving.{FrontAt, IsFinished, ServesLog}
 use Rattle.locked_fronts.specs.Parts.{most_turns}

@@ -22,6 +22,6 @@ pub use announce::Announce;
 pub use filling::OpenFault;
 pub use left::Left;
 pub use opening::{FilledPart, lend_hand, lock_parts, open_parts};
-pub use serve::{MOST_FRONTS, serve_locked};
+pub use serve::serve_locked;
 pub use service::{Service, Shared, Start};
 pub use stop::{Stop, Untold};

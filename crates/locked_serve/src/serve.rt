@@ -36,9 +36,6 @@ use store_partition::StorePartition;
 use stream_io::Listeners;
 use thread_rehearsal::rehearse;
 
-/// The most fronts of a server, of both kinds together.
-pub const MOST_FRONTS: u32 = 64;
-
 /// Binds the ports of datagrams, listens at those of connections, tells so where all could be had, and serves them.
 fn bind_and_serve<
     W: Threads + Wait + Sync,

@@ -6,7 +6,7 @@ use Rattle.mica_io.specs.Faults.{Rose}
 use Rattle.mica_trace.specs.declared.line.TraceLine.{TraceLine}
 use Rattle.mica_trace.specs.declared.report.Line.{Line}
 use Rattle.mica_trace.specs.ReportGrammar.{report_text}
-use Rattle.mica_client.specs.declared.options.AskOptions.{AskOptions}
+use Rattle.server_words.specs.declared.ask_options.AskOptions.{AskOptions}
 use Rattle.mica_client.specs.declared.fault.AskFault.{AskFault}
 use Rattle.mica_client.specs.declared.fault.AskFault.TheVariants.{Unread, Stranger, Double, Wrong, Lost, Link, NoMemory as NoRoom}
 use Rattle.mica_client.specs.Exchange.{is_lost_fault}

@@ -7,11 +7,12 @@ use Rattle.mica_trace.specs.declared.line.TraceLine.{TraceLine}
 use Rattle.mica_trace.specs.declared.line.TraceFault.{TraceFault}
 use Rattle.mica_trace.specs.declared.line.TraceFault.TheVariants.{NoMemory as NoRoom}
 use Rattle.mica_trace.specs.TraceGrammar.{IsTrace, IsNoTrace, Refuses, fault_text}
-use Rattle.mica_commands.specs.declared.limits.TheConstants.{MAX_SOURCE_LEN}
+use Rattle.server_words.specs.declared.limits.TheConstants.{MAX_SOURCE_LEN}
 use Rattle.mica_cmd.specs.declared.status.Status.{Status}
 use Rattle.mica_cmd.specs.declared.status.Status.TheVariants.{Done, TraceRefused, TraceLong, ReadFault}
 use Rattle.mica_cmd.specs.Outside.{SourceFacts, SinkFacts, Outside}
-use Rattle.mica_cmd.specs.Headline.{IsTooLong, ReadsWhole}
+use Rattle.server_words.specs.Limits.{IsTooLong}
+use Rattle.mica_cmd.specs.Headline.{ReadsWhole}
 use Rattle.mica_cmd.specs.Promise.{IsUnwritten, IsWritten}
 
 -- a line that names what went wrong

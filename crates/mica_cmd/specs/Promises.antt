@@ -10,7 +10,7 @@ use Rattle.mica_trace.specs.ReportGrammar.{report_text}
 use Rattle.mica_trace.specs.LawfulReport.{LawfulReport}
 use Rattle.mica_trace.specs.ExactReport.{ExactReport}
 use Rattle.partition_table.specs.declared.tables.KeptSeat.{KeptSeat}
-use Rattle.mica_client.specs.declared.options.AskOptions.{AskOptions}
+use Rattle.server_words.specs.declared.ask_options.AskOptions.{AskOptions}
 use Rattle.mica_client.specs.declared.fault.AskFault.{AskFault}
 use Rattle.mica_client.specs.declared.fault.AskFault.TheVariants.{Link, NoMemory as NoRoom}
 use Rattle.mica_client.specs.Talk.{OnTalk, Passes}
@@ -23,7 +23,7 @@ use Rattle.store_image.specs.ImageGrammar.{Pair, SpellsImage, image_text, first_
 use Rattle.store_image.specs.ImageLines.{put_lines}
 use Rattle.store_image.specs.ImageOf.{IsImaged}
 use Rattle.mica_replay.specs.Replayed.{IsReplayed}
-use Rattle.mica_fronts.specs.declared.ports.PortOptions.{PortOptions}
+use Rattle.server_words.specs.declared.ports.PortOptions.{PortOptions}
 use Rattle.mica_fronts.specs.declared.totals.Totals.{Totals}
 use Rattle.mica_serve.specs.Others.{alone}
 use Rattle.mica_serve.specs.Served.{empty_origin}

@@ -1,7 +1,7 @@
 //! The command `serve`.
 ghost use Rattle.std.specs.Prelude.{◌≡◌, []};
 ghost use Rattle.partition_model.specs.Options.{IsValid};
-ghost use Rattle.mica_fronts.specs.PortOptions.{IsValidPorts};
+ghost use Rattle.server_words.specs.PortOptions.{IsValidPorts};
 ghost use Rattle.mica_serve.specs.NetRun.{net_facts};
 ghost use Rattle.mica_cmd.specs.Outside.{outside, SourceFacts, sink_facts, LinkFacts};
 ghost use Rattle.mica_cmd.specs.Promise.{KeepsPromise, IsTold};

@@ -6,15 +6,15 @@ use Rattle.partition_model.specs.declared.options.Options.{Options}
 use Rattle.partition_model.specs.declared.write.Write.{Write}
 use Rattle.mica_fronts.specs.declared.totals.Totals.{Totals}
 use Rattle.mica_fronts.specs.declared.totals.ServeFault.TheVariants as faults
-use Rattle.mica_fronts.specs.declared.ports.PortOptions.{PortOptions}
+use Rattle.server_words.specs.declared.ports.PortOptions.{PortOptions}
 use Rattle.locked_serve.specs.declared.service.Service.{Service as LockedService}
 use Rattle.locked_serve.specs.declared.stop.Stop.{Stop}
 use Rattle.locked_serve.specs.declared.stop.Stop.TheVariants.{Refused, Unbound, Unannounced, Fault}
 use Rattle.locked_serve.specs.Causes.{HasAnnounced, Leaves, PortFacts}
 use Rattle.mica_cmd.specs.declared.status.Status.{Status}
-use Rattle.mica_commands.specs.Words.{Text}
-use Rattle.mica_commands.specs.declared.stream_words.StreamOptions.{StreamOptions}
-use Rattle.mica_commands.specs.DaemonWords.{Service}
+use Rattle.option_words.specs.Words.{Text}
+use Rattle.daemon_words.specs.declared.streams.StreamOptions.{StreamOptions}
+use Rattle.daemon_words.specs.DaemonWords.{Service}
 use Rattle.mica_cmd.specs.Outside.{SinkFacts}
 use Rattle.mica_cmd.specs.Promise.{IsUnwritten}
 use Rattle.mica_daemon.specs.Files.{FilesFacts}

@@ -7,14 +7,14 @@ use Rattle.mica_fronts.specs.declared.totals.Totals.{Totals}
 use Rattle.mica_fronts.specs.declared.totals.ServeFault.TheVariants as faults
 use Rattle.locked_serve.specs.declared.stop.Stop.{Stop}
 use Rattle.locked_serve.specs.declared.stop.Stop.TheVariants.{Refused, Unbound, Unannounced, Fault}
-use Rattle.mica_commands.specs.Words.{Text}
-use Rattle.mica_commands.specs.DaemonWords.{Service, daemon_of}
+use Rattle.option_words.specs.Words.{Text}
+use Rattle.daemon_words.specs.DaemonWords.{Service, daemon_of}
 use Rattle.mica_cmd.specs.declared.status.Status.{Status}
 use Rattle.mica_cmd.specs.declared.status.Status.TheVariants.{Done, Usage, NoMemory, NetFault, WriteFault, ImageRefused, UsedUp}
 use Rattle.mica_cmd.specs.Outside.{SinkFacts}
 use Rattle.mica_cmd.specs.Promise.{IsDue, IsUnwritten, IsWritten, WritesDue, IsTold}
 use Rattle.mica_cmd.specs.Exit.{exit_number}
-use Rattle.mica_cmd.proofs.Exiting.{words_behind}
+use Rattle.option_words.proofs.ProgramWords.{words_behind}
 use Rattle.mica_daemon.specs.Files.{FilesFacts}
 use Rattle.mica_daemon.specs.Filling.{IsDueOfFile}
 use Rattle.mica_daemon.specs.Daemon.{DaemonOutside, WritesLast, KeepsUp}

@@ -17,7 +17,7 @@ use Rattle.mica_fronts.specs.Answered.{Answered}
 use Rattle.mica_fronts.specs.declared.totals.Totals.{Totals}
 use Rattle.mica_fronts.specs.declared.totals.ServeFault.{ServeFault}
 use Rattle.mica_fronts.specs.declared.totals.ServeFault.TheVariants as faults
-use Rattle.stream_fronts.specs.declared.ports.StreamPorts.{StreamPorts}
+use Rattle.server_words.specs.declared.stream_ports.StreamPorts.{StreamPorts}
 use Rattle.stream_fronts.specs.declared.desk.TheConstants.{MOST_UNSENT}
 use Rattle.stream_fronts.specs.Open.{OnLogs}
 use Rattle.stream_fronts.specs.Turns.{TakesTurns}
@@ -28,8 +28,8 @@ use Rattle.locked_serve.specs.declared.stop.Stop.TheVariants.{Refused, Unbound, 
 use Rattle.locked_serve.specs.Filled.{origin_of}
 use Rattle.locked_serve.specs.Streams.{StreamFacts, ListenFacts, ServesClients, ServesFrom, AreStreams, HasFinished, HaveFinished, HaveStopped, counted_by_all, others_of, with_ports}
 use Rattle.locked_serve.specs.Causes.{HasCause, IsCauseOfStop, Leaves}
-use Rattle.mica_commands.specs.Words.{Text}
-use Rattle.mica_commands.specs.DaemonWords.{Service}
+use Rattle.option_words.specs.Words.{Text}
+use Rattle.daemon_words.specs.DaemonWords.{Service}
 use Rattle.mica_cmd.specs.declared.status.Status.{Status}
 use Rattle.mica_cmd.specs.declared.status.Status.TheVariants.{ImageRefused, NetFault, UsedUp}
 use Rattle.mica_cmd.specs.Outside.{SinkFacts}

@@ -12,14 +12,14 @@ use Rattle.partition_sizes.specs.Bytes.{start_bytes}
 use Rattle.partition_table.specs.declared.tables.KeptSeat.{KeptSeat}
 use Rattle.mica_fronts.specs.declared.totals.Totals.{Totals}
 use Rattle.mica_fronts.specs.declared.totals.ServeFault.TheVariants as faults
-use Rattle.mica_fronts.specs.declared.ports.PortOptions.{PortOptions}
+use Rattle.server_words.specs.declared.ports.PortOptions.{PortOptions}
 use Rattle.locked_serve.specs.declared.stop.Stop.{Stop}
 use Rattle.locked_serve.specs.declared.stop.Stop.TheVariants.{Refused, Unbound, Unannounced, Fault}
-use Rattle.stream_fronts.specs.declared.ports.StreamPorts.{StreamPorts}
+use Rattle.server_words.specs.declared.stream_ports.StreamPorts.{StreamPorts}
 use Rattle.locked_serve.specs.declared.service.Service.{Service as LockedService}
 use Rattle.locked_serve.specs.Causes.{IsCauseOfStop, Leaves, PortFacts}
-use Rattle.mica_commands.specs.declared.stream_words.StreamOptions.{StreamOptions}
-use Rattle.mica_commands.specs.DaemonWords.{Service}
+use Rattle.daemon_words.specs.declared.streams.StreamOptions.{StreamOptions}
+use Rattle.daemon_words.specs.DaemonWords.{Service}
 use Rattle.mica_cmd.specs.declared.status.Status.{Status}
 use Rattle.mica_cmd.specs.declared.status.Status.TheVariants.{Usage, NoMemory, NetFault, WriteFault, ImageRefused, UsedUp}
 use Rattle.mica_cmd.specs.Outside.{SinkFacts}

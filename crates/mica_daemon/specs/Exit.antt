@@ -1,8 +1,8 @@
 -- How the process of a server that stays up ends.
 use Rattle.std.specs.Prelude.{◌≡◌, ◌+◌, ◌-◌, ◌*◌, ◌^◌, ◌<◌, ◌≤◌, ℕ, List, min, Option, Some, None}
 use Rattle.mica_clock.specs.Seconds.{ClockView, IsReading, once_read}
-use Rattle.mica_commands.specs.Words.{Text}
-use Rattle.mica_commands.specs.DaemonWords.{daemon_of}
+use Rattle.option_words.specs.Words.{Text}
+use Rattle.daemon_words.specs.DaemonWords.{daemon_of}
 use Rattle.mica_cmd.specs.declared.status.Status.{Status}
 use Rattle.mica_cmd.specs.declared.status.Status.TheVariants.{NoMemory}
 use Rattle.mica_cmd.specs.Exit.{exit_number}

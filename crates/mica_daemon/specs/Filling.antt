@@ -4,10 +4,10 @@ use Rattle.mica_io.specs.Faults.{Rose}
 use Rattle.partition_model.specs.declared.write.Write.{Write}
 use Rattle.store_image.specs.ImageGrammar.{Pair, SpellsImage}
 use Rattle.store_image.specs.ImageWrites.{put_writes}
-use Rattle.mica_commands.specs.Words.{Text}
+use Rattle.option_words.specs.Words.{Text}
 use Rattle.mica_cmd.specs.declared.status.Status.{Status}
 use Rattle.mica_cmd.specs.declared.status.Status.TheVariants.{TraceLong, ReadFault, ImageRefused}
-use Rattle.mica_cmd.specs.Headline.{IsTooLong}
+use Rattle.server_words.specs.Limits.{IsTooLong}
 use Rattle.mica_cmd.specs.Input.{with_line_feed}
 use Rattle.mica_cmd.specs.Promises.{IsDueOfUnpack}
 use Rattle.mica_daemon.specs.Files.{FilesFacts}

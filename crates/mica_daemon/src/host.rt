@@ -5,14 +5,14 @@ ghost use Rattle.std.specs.Process.{exit_status};
 ghost use Rattle.mica_cmd.specs.declared.status.Status.{Status};
 ghost use Rattle.mica_cmd.specs.declared.status.Status.TheVariants.{Done};
 ghost use Rattle.mica_cmd.specs.Exit.{exit_number};
-ghost use Rattle.mica_commands.specs.declared.daemon_words.TheConstants.{MOST_FRONTS};
+ghost use Rattle.server_words.specs.declared.limits.TheConstants.{MOST_FRONTS};
 
 use crate::{HostFiles, Process, Speaker, run_daemon};
 use locked_serve::Left;
 use mica_clock::StdClock;
 use mica_cmd::{Status, exit_code};
-use mica_commands::MOST_FRONTS;
 use mica_io::{FreeGate, NoMemory, StdSink, UdpNet};
+use server_words::MOST_FRONTS;
 use std::alloc::Global;
 use std::net::{Ipv4Addr, Net as Sockets};
 use std::process::ExitCode;

@@ -2,7 +2,7 @@
 ghost use Rattle.std.specs.Prelude.{◌≡◌, ◌≤◌, ◌⊎◌, ℕ, List, Some, length};
 ghost use Rattle.mica_clock.specs.Seconds.{ClockView};
 ghost use Rattle.mica_serve.specs.NetRun.{OnPorts};
-ghost use Rattle.mica_commands.specs.DaemonWords.{Service, daemon_of};
+ghost use Rattle.daemon_words.specs.DaemonWords.{Service, daemon_of};
 ghost use Rattle.mica_daemon.specs.Files.{FilesFacts};
 ghost use Rattle.mica_daemon.specs.Daemon.{DaemonOutside, KeepsUp};
 ghost use Rattle.mica_daemon.specs.Headline.{ServesLawfully, StopsLawfully, NamesPort};

@@ -2,9 +2,9 @@
 ghost use Rattle.std.specs.Prelude.{◌≡◌, ◌≤◌, [], length, map, string_bytes};
 ghost use Rattle.std.specs.Process.{exit_status};
 ghost use Rattle.locked_serve.specs.Causes.{ports_at};
-ghost use Rattle.mica_commands.specs.declared.daemon_words.TheConstants.{MOST_FRONTS};
+ghost use Rattle.server_words.specs.declared.limits.TheConstants.{MOST_FRONTS};
 ghost use Rattle.mica_cmd.specs.Outside.{sink_facts};
-ghost use Rattle.mica_cmd.specs.Exit.{words_of};
+ghost use Rattle.option_words.specs.ProgramWords.{words_of};
 ghost use Rattle.mica_daemon.specs.Files.{files_facts};
 ghost use Rattle.mica_daemon.specs.Daemon.{daemon_outside};
 ghost use Rattle.mica_daemon.specs.Exit.{first_number, BeginsAbove, DaemonExits};

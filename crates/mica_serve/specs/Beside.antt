@@ -5,7 +5,7 @@ use Rattle.partition_model.specs.History.{History, IsHistory, IsPrefix}
 use Rattle.partition_model.specs.Run.{RunStep, IsRunFrom}
 use Rattle.epoch_core.specs.Shape.{shape_of}
 use Rattle.partition_table.specs.declared.tables.KeptSeat.{KeptSeat}
-use Rattle.mica_fronts.specs.declared.ports.PortOptions.{PortOptions}
+use Rattle.server_words.specs.declared.ports.PortOptions.{PortOptions}
 use Rattle.mica_fronts.specs.declared.totals.Totals.{Totals}
 use Rattle.mica_io.specs.PortStates.{PortStates}
 use Rattle.mica_fronts.specs.Answered.{Answered, gets_of, count_of_writes}

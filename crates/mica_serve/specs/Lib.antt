@@ -1,5 +1,4 @@
 pub mod Others
-pub mod PossiblePorts
 pub mod Served
 pub mod Beside
 pub mod Ends

@@ -5,7 +5,7 @@ use Rattle.mica_io.specs.PortStates.{Port, PortStates, waiting, back, is_waiting
 use Rattle.partition_model.specs.declared.options.Options.{Options}
 use Rattle.partition_model.specs.History.{History, IsHistory, IsPrefix, stamp_of, answer_of}
 use Rattle.partition_model.specs.Run.{RunStep, IsRunFrom, history_of}
-use Rattle.mica_fronts.specs.declared.ports.PortOptions.{PortOptions}
+use Rattle.server_words.specs.declared.ports.PortOptions.{PortOptions}
 use Rattle.mica_fronts.specs.declared.totals.Totals.{Totals}
 use Rattle.mica_fronts.specs.Looks.{Look, IsLookAt}
 use Rattle.mica_fronts.specs.Answered.{Answered, wrote, got, changed, kept, key_of, stamp_given, accepts, answers_of, writes_of, gets_of}

@@ -1,6 +1,6 @@
 //! The answers of all fronts as one.
 ghost use Rattle.std.specs.Prelude.{◌≡◌, ◌≤◌, ℕ, Some, length, slice_get, Ok};
-ghost use Rattle.mica_fronts.specs.declared.totals.TheConstants.{MAX_BATCHES};
+ghost use Rattle.server_words.specs.declared.limits.TheConstants.{MAX_BATCHES};
 ghost use Rattle.mica_fronts.specs.Totals.{IsUpTo};
 ghost use Rattle.mica_serve.specs.FrontRuns.{SumsUp};
 

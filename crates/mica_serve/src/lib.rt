@@ -14,7 +14,6 @@ mod tables;
 mod worker;
 
 pub use answers::sum_up;
-pub use mica_fronts::{
-    Front, MAX_BATCHES, PortOptions, QueueFront, ServeFault, SoloFront, Totals, serve_batch,
-};
+pub use mica_fronts::{Front, QueueFront, ServeFault, SoloFront, Totals, serve_batch};
+pub use server_words::{MAX_BATCHES, PortOptions};
 pub use service::{bind_all, release_all, serve};

@@ -3,7 +3,7 @@ use Rattle.std.specs.Prelude.{⊤, Result, Ok, Err}
 use Rattle.std.proofs.lemmas.List.{length-map}
 use Rattle.partition_table.specs.declared.tables.KeptSeat.{KeptSeat}
 use Rattle.partition_table.specs.Tabled.{kept_seat_in}
-use Rattle.mica_fronts.specs.declared.totals.TheConstants.{MAX_BATCHES}
+use Rattle.server_words.specs.declared.limits.TheConstants.{MAX_BATCHES}
 use Rattle.mica_fronts.specs.declared.totals.Totals.{Totals}
 use Rattle.mica_fronts.specs.declared.totals.ServeFault.{ServeFault}
 use Rattle.mica_fronts.specs.Totals.{IsUpTo}
