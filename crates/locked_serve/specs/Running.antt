@@ -15,8 +15,8 @@ use Rattle.stream_fronts.specs.Serving.{FrontAt}
 use Rattle.locked_fronts.specs.declared.part.LockedPart.{LockedPart}
 use Rattle.locked_fronts.specs.Plan.{Plan}
 use Rattle.locked_fronts.specs.Parts.{IsLockedFront, locked_view, sessions_of, turns_left}
-use Rattle.mica_serve.specs.Ends.{EndFacts}
-use Rattle.mica_serve.specs.FrontRuns.{FrontRun, RunsFront, RanAll, SumsUp}
+use Rattle.served.specs.Ends.{EndFacts}
+use Rattle.served.specs.FrontRuns.{FrontRun, RunsFront, RanAll, SumsUp}
 use Rattle.locked_serve.specs.declared.worker.FrontTask.{FrontTask}
 use Rattle.locked_serve.specs.declared.streams.StreamTask.{StreamTask}
 use Rattle.locked_serve.specs.Opening.{AreNewParts}

@@ -2,7 +2,7 @@
 ghost use Rattle.std.specs.Prelude.{◌≡◌, None, map, length, OnOk, OnErr};
 ghost use Rattle.server_words.specs.declared.ports.PortOptions.{PortOptions};
 ghost use Rattle.server_words.specs.declared.stream_ports.StreamPorts.{StreamPorts};
-ghost use Rattle.mica_serve.specs.Ends.{AreNewEnds, end_facts};
+ghost use Rattle.served.specs.Ends.{AreNewEnds, end_facts};
 ghost use Rattle.locked_serve.specs.Streams.{AreNewStreams, stream_facts};
 
 use crate::stop::Untold;

@@ -5,7 +5,7 @@ ghost use Rattle.mica_fronts.specs.Totals.{IsUpTo};
 ghost use Rattle.locked_serve.specs.Running.{IsFaultOf, SumsUpBeside};
 
 use mica_fronts::{ServeFault, Totals};
-use mica_serve::sum_up;
+use served::sum_up;
 
 // The fault of a front of connections, where there is one: out of memory of any is that of all.
 fn fault_of(streams: &[Result<(), ServeFault>]) -> Result<(), ServeFault>

@@ -6,7 +6,7 @@ ghost use Rattle.epoch_core.specs.declared.state.Phase.TheVariants.{Idle};
 ghost use Rattle.partition_table.specs.Tabled.{kept_seat_in};
 ghost use Rattle.partition_table.specs.Seats.{note_state, note_home};
 ghost use Rattle.locked_fronts.specs.Owned.{Owned, NotesAre};
-ghost use Rattle.mica_serve.specs.Ends.{AreOpen, end_facts};
+ghost use Rattle.served.specs.Ends.{AreOpen, end_facts};
 ghost use Rattle.server_words.specs.declared.limits.TheConstants.{MOST_FRONTS};
 ghost use Rattle.locked_serve.specs.Service.{IsPossibleService, IsPlanOf};
 ghost use Rattle.locked_serve.specs.Opening.{ArePlanned, filled_view};

@@ -16,10 +16,10 @@ use Rattle.server_words.specs.declared.ports.PortOptions.{PortOptions}
 use Rattle.mica_fronts.specs.declared.totals.Totals.{Totals}
 use Rattle.mica_fronts.specs.declared.totals.ServeFault.{ServeFault}
 use Rattle.mica_fronts.specs.declared.totals.ServeFault.TheVariants.{Net}
-use Rattle.mica_serve.specs.Others.{alone}
-use Rattle.mica_serve.specs.Served.{empty_origin}
-use Rattle.mica_serve.specs.NetRun.{NetFacts, HasServedOnTables, IsCauseOf, KeepsNet}
-use Rattle.mica_serve.proofs.Tabled.{has_served}
+use Rattle.served.specs.Others.{alone}
+use Rattle.served.specs.Served.{empty_origin}
+use Rattle.served.specs.NetRun.{NetFacts, HasServedOnTables, IsCauseOf, KeepsNet}
+use Rattle.served.proofs.Tabled.{has_served}
 use Rattle.mica_trace.specs.ReportGrammar.{report_text}
 use Rattle.server_words.specs.declared.limits.TheConstants.{MAX_SOURCE_LEN}
 use Rattle.mica_cmd.specs.declared.status.Status.{Status}
@@ -30,7 +30,8 @@ use Rattle.server_words.specs.Limits.{IsTooLong}
 use Rattle.mica_cmd.specs.Headline.{ReadsWhole}
 use Rattle.mica_cmd.specs.Promise.{KeepsPromise, IsWritten, WritesDue, IsTold}
 use Rattle.mica_cmd.specs.Input.{with_line_feed, GivesTooMany, IsDueByBytes, IsDueByTrace, IsDueOfInput, IsDueOfTrace, NoneByTrace, ReadsInput, GivesTrace, IsRefusedWith}
-use Rattle.mica_cmd.specs.Promises.{replay_promise, IsDueOfReplay, IsSeatedReport, serve_promise, bench_promise, IsSeatedSummary, IsSeatedService, totals_text}
+use Rattle.mica_cmd.specs.Promises.{replay_promise, IsDueOfReplay, IsSeatedReport, serve_promise, bench_promise, IsSeatedSummary, IsSeatedService}
+use Rattle.served.specs.TotalsText.{totals_text}
 use Rattle.mica_cmd.proofs.Keeping.{keeps_promise, stopped_trace, told_due, trace_not_done, keeps_tables, keeps_seats}
 use Rattle.mica_cmd.proofs.Settled.{settles_replay, settles_serve, settles_bench}
 

@@ -2,7 +2,7 @@
 use Rattle.std.specs.Prelude.{◌≡◌, ℕ, Bool, true, List, Option}
 use Rattle.std.specs.Io.KnownBytes.{IsAtEnd}
 use Rattle.partition_table.specs.declared.tables.KeptSeat.{KeptSeat}
-use Rattle.mica_serve.specs.NetRun.{NetFacts}
+use Rattle.served.specs.NetRun.{NetFacts}
 use Rattle.mica_io.specs.declared.sink.Sink.{Ghosts as SinkTells}
 use Rattle.mica_io.specs.declared.source.Source.{Ghosts as SourceTells}
 use Rattle.mica_client.specs.Talk.{Talk}

@@ -2,7 +2,7 @@
 use Rattle.std.specs.Prelude.{◌≡◌, ℕ, ◌<◌, ◌⊎◌, List, length, take}
 use Rattle.std.specs.Io.KnownBytes.{Appends, Keeps}
 use Rattle.mica_io.specs.Faults.{Rose}
-use Rattle.mica_serve.specs.NetRun.{NetFacts}
+use Rattle.served.specs.NetRun.{NetFacts}
 use Rattle.mica_cmd.specs.declared.status.Status.{Status}
 use Rattle.mica_cmd.specs.declared.status.Status.TheVariants.{NoMemory, WriteFault}
 use Rattle.mica_cmd.specs.Outside.{SourceFacts, SinkFacts, Outside}

@@ -1,6 +1,5 @@
 -- The promises of each command.
-use Rattle.std.specs.Prelude.{◌≡◌, ◌≢◌, ◌⊎◌, ◌||◌, ℕ, List, [], ◌∷◌, ◌++◌, codes, Option, Some, None, Result, Ok, Err}
-use Rattle.std.specs.Fmt.{decimal}
+use Rattle.std.specs.Prelude.{◌≡◌, ◌≢◌, ◌⊎◌, ◌||◌, ℕ, List, codes, Option, Some, None, Result, Ok, Err}
 use Rattle.mica_io.specs.Faults.{Rose}
 use Rattle.partition_model.specs.declared.options.Options.{Options}
 use Rattle.mica_trace.specs.declared.line.TraceLine.{TraceLine}
@@ -25,9 +24,10 @@ use Rattle.store_image.specs.ImageOf.{IsImaged}
 use Rattle.mica_replay.specs.Replayed.{IsReplayed}
 use Rattle.server_words.specs.declared.ports.PortOptions.{PortOptions}
 use Rattle.mica_fronts.specs.declared.totals.Totals.{Totals}
-use Rattle.mica_serve.specs.Others.{alone}
-use Rattle.mica_serve.specs.Served.{empty_origin}
-use Rattle.mica_serve.specs.NetRun.{NetFacts, HasServed, HasServedOnTables, HasStopped, KeepsNet}
+use Rattle.served.specs.TotalsText.{totals_text}
+use Rattle.served.specs.Others.{alone}
+use Rattle.served.specs.Served.{empty_origin}
+use Rattle.served.specs.NetRun.{NetFacts, HasServed, HasServedOnTables, HasStopped, KeepsNet}
 use Rattle.mica_commands.specs.declared.command.Command.{Command}
 use Rattle.mica_commands.specs.declared.command.Command.TheVariants.{Replay, Serve, Gen, Bench, Check, Exclusive, Ask, Image, Unpack}
 use Rattle.mica_cmd.specs.declared.status.Status.{Status}
@@ -120,11 +120,6 @@ replay_promise options = record (trace_promise (IsDueOfReplay options) IsAlwaysD
 }
 
 -- ---- serve: the totals of what the fronts received
-
--- the line of what the fronts of a server received
-abbrev pub totals_text : Totals → List ℕ
-totals_text totals =
-    codes "batches " ++ decimal totals.batches ++ codes " requests " ++ decimal totals.requests ++ codes " bad " ++ decimal totals.bad ++ 10 ∷ []
 
 -- the totals of what was served, or the line of a fault of the net that stopped it
 abbrev pub IsDueOfServe : Options → PortOptions → Outside → Outside → Status → List ℕ → Type 0

@@ -1,7 +1,7 @@
 //! The command `ask`.
 ghost use Rattle.std.specs.Prelude.{◌≡◌, false, List};
 ghost use Rattle.std.specs.List.{AllByRecursion};
-ghost use Rattle.mica_serve.specs.NetRun.{NetFacts};
+ghost use Rattle.served.specs.NetRun.{NetFacts};
 ghost use Rattle.partition_table.specs.declared.tables.KeptSeat.{KeptSeat};
 ghost use Rattle.mica_trace.specs.ReportGrammar.{report_text, IsReportLine};
 ghost use Rattle.server_words.specs.AskOptions.{IsValidAsk};

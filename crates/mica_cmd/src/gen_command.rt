@@ -1,6 +1,6 @@
 //! The command `gen`.
 ghost use Rattle.std.specs.Prelude.{◌≡◌, List, true};
-ghost use Rattle.mica_serve.specs.NetRun.{NetFacts};
+ghost use Rattle.served.specs.NetRun.{NetFacts};
 ghost use Rattle.partition_table.specs.declared.tables.KeptSeat.{KeptSeat};
 ghost use Rattle.mica_commands.specs.GenOptions.{is_valid};
 ghost use Rattle.mica_cmd.specs.Outside.{outside, SourceFacts, sink_facts, LinkFacts};

@@ -1,7 +1,7 @@
 //! The whole program: its words, and the number that it ends with.
 ghost use Rattle.std.specs.Prelude.{◌≡◌, [], false, string_bytes};
 ghost use Rattle.std.specs.Process.{exit_status};
-ghost use Rattle.mica_serve.specs.NetRun.{net_facts};
+ghost use Rattle.served.specs.NetRun.{net_facts};
 ghost use Rattle.mica_cmd.specs.Outside.{outside, source_facts, sink_facts, link_facts};
 ghost use Rattle.mica_cmd.specs.Exit.{exit_number, Exits};
 ghost use Rattle.option_words.specs.ProgramWords.{words_of};

@@ -1,6 +1,6 @@
 //! The command `unpack`.
 ghost use Rattle.std.specs.Prelude.{◌≡◌, false, List};
-ghost use Rattle.mica_serve.specs.NetRun.{NetFacts};
+ghost use Rattle.served.specs.NetRun.{NetFacts};
 ghost use Rattle.partition_table.specs.declared.tables.KeptSeat.{KeptSeat};
 ghost use Rattle.mica_trace.specs.TraceGrammar.{trace_text};
 ghost use Rattle.store_image.specs.ImageLines.{put_lines};

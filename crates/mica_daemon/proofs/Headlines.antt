@@ -21,7 +21,7 @@ use Rattle.server_words.specs.declared.stream_ports.StreamPorts.{StreamPorts}
 use Rattle.stream_fronts.specs.declared.desk.TheConstants.{MOST_UNSENT}
 use Rattle.stream_fronts.specs.Open.{OnLogs}
 use Rattle.stream_fronts.specs.Turns.{TakesTurns}
-use Rattle.mica_serve.specs.NetRun.{OnPorts, IsCauseOnceBound}
+use Rattle.served.specs.NetRun.{OnPorts, IsCauseOnceBound}
 use Rattle.locked_serve.specs.declared.service.Service.{Service as LockedService}
 use Rattle.locked_serve.specs.declared.stop.Stop.{Stop}
 use Rattle.locked_serve.specs.declared.stop.Stop.TheVariants.{Refused, Unbound, Unannounced, Fault}
@@ -34,7 +34,7 @@ use Rattle.mica_cmd.specs.declared.status.Status.{Status}
 use Rattle.mica_cmd.specs.declared.status.Status.TheVariants.{ImageRefused, NetFault, UsedUp}
 use Rattle.mica_cmd.specs.Outside.{SinkFacts}
 use Rattle.mica_cmd.specs.Promise.{IsDue, IsWritten, IsTold}
-use Rattle.mica_cmd.specs.Promises.{totals_text}
+use Rattle.served.specs.TotalsText.{totals_text}
 use Rattle.mica_cmd.specs.Input.{with_line_feed}
 use Rattle.mica_daemon.specs.Files.{FilesFacts}
 use Rattle.mica_daemon.specs.Filling.{Fills, IsDueOfFile}

@@ -24,7 +24,7 @@ use Rattle.mica_cmd.specs.declared.status.Status.{Status}
 use Rattle.mica_cmd.specs.declared.status.Status.TheVariants.{Usage, NoMemory, NetFault, WriteFault, ImageRefused, UsedUp}
 use Rattle.mica_cmd.specs.Outside.{SinkFacts}
 use Rattle.mica_cmd.specs.Promise.{IsWritten, IsUnwritten, WritesDue, IsTold}
-use Rattle.mica_cmd.specs.Promises.{totals_text}
+use Rattle.served.specs.TotalsText.{totals_text}
 use Rattle.mica_cmd.specs.Input.{with_line_feed}
 use Rattle.mica_daemon.specs.Files.{FilesFacts}
 use Rattle.mica_daemon.specs.Filling.{Fills, IsDueOfFile, KeepsFiles}

@@ -21,12 +21,12 @@ use Rattle.stream_fronts.specs.Open.{OnLogs}
 use Rattle.stream_fronts.specs.Serving.{IsSpent}
 use Rattle.stream_fronts.specs.Turns.{TakesTurns}
 use Rattle.locked_fronts.specs.Parts.{most_turns}
-use Rattle.mica_serve.specs.Served.{AnswersLawfully, ServesPort, LeavesPort}
+use Rattle.served.specs.Served.{AnswersLawfully, ServesPort, LeavesPort}
 use Rattle.locked_serve.specs.Filled.{origin_of}
 use Rattle.locked_serve.specs.Streams.{ListenFacts}
 use Rattle.locked_serve.specs.Causes.{LacksPort}
 use Rattle.daemon_words.specs.DaemonWords.{Service}
-use Rattle.mica_cmd.specs.Promises.{totals_text}
+use Rattle.served.specs.TotalsText.{totals_text}
 use Rattle.mica_cmd.specs.Input.{with_line_feed}
 use Rattle.mica_daemon.specs.Files.{FilesFacts}
 use Rattle.mica_daemon.specs.Filling.{Fills}

@@ -1,7 +1,7 @@
 //! The headline of a server, as it follows from the contract of `daemon`.
 ghost use Rattle.std.specs.Prelude.{◌≡◌, ◌≤◌, ◌⊎◌, ℕ, List, Some, length};
 ghost use Rattle.mica_clock.specs.Seconds.{ClockView};
-ghost use Rattle.mica_serve.specs.NetRun.{OnPorts};
+ghost use Rattle.served.specs.NetRun.{OnPorts};
 ghost use Rattle.daemon_words.specs.DaemonWords.{Service, daemon_of};
 ghost use Rattle.mica_daemon.specs.Files.{FilesFacts};
 ghost use Rattle.mica_daemon.specs.Daemon.{DaemonOutside, KeepsUp};

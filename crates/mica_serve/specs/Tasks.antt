@@ -14,8 +14,8 @@ use Rattle.mica_serve.specs.declared.server.Server.{Server}
 use Rattle.server_words.specs.declared.ports.PortOptions.{PortOptions}
 use Rattle.partition_model.specs.declared.options.Options.{Options}
 use Rattle.mica_fronts.specs.QueueFront.{QueueView, IsQueueFront, stand_of, sessions_of, ended_part}
-use Rattle.mica_serve.specs.Ends.{EndFacts}
-use Rattle.mica_serve.specs.FrontRuns.{RunsFront}
+use Rattle.served.specs.Ends.{EndFacts}
+use Rattle.served.specs.FrontRuns.{RunsFront}
 use Rattle.mica_serve.specs.Hands.{OwnerEnd, IsReadyOwner, RanOwner, AreFrontsOf}
 
 abbrev pub owner_end : {P : Type 0} → (P → OwnerState) → (P → TableId) → OwnerTask P → OwnerEnd

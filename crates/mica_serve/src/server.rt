@@ -6,10 +6,10 @@ ghost use Rattle.partition_table.specs.Tabled.{kept_seat_in};
 ghost use Rattle.partition_table.specs.declared.reader.Note.{Note};
 ghost use Rattle.partition_table.specs.Seats.{note_state, note_home};
 ghost use Rattle.server_words.specs.PortOptions.{IsValidPorts};
-ghost use Rattle.mica_serve.specs.Others.{alone};
-ghost use Rattle.mica_serve.specs.Served.{empty_origin};
-ghost use Rattle.mica_serve.specs.Ends.{AreOpen, end_facts};
-ghost use Rattle.mica_serve.specs.FrontRuns.{RanAll};
+ghost use Rattle.served.specs.Others.{alone};
+ghost use Rattle.served.specs.Served.{empty_origin};
+ghost use Rattle.served.specs.Ends.{AreOpen, end_facts};
+ghost use Rattle.served.specs.FrontRuns.{RanAll};
 ghost use Rattle.mica_serve.specs.Tasks.{IsRoom, IsServer};
 
 use crate::meeting::meet_all;

@@ -12,8 +12,8 @@ use Rattle.locked_fronts.specs.Owned.{Owned}
 use Rattle.locked_serve.specs.Taking.{left_view}
 use Rattle.locked_serve.specs.Streams.{StreamFacts, ServesBeside, stream_facts}
 use Rattle.locked_serve.specs.Running.{SumsUpBeside}
-use Rattle.mica_serve.specs.Ends.{EndFacts, end_facts}
-use Rattle.mica_serve.proofs.Gathered.{few_answers, small_answers}
+use Rattle.served.specs.Ends.{EndFacts, end_facts}
+use Rattle.served.proofs.Gathered.{few_answers, small_answers}
 use Rattle.locked_serve.proofs.Came.{serves_beside}
 use Rattle.locked_serve.proofs.Stopped.{ended_with}
 use Rattle.locked_serve.proofs.server.serve_all.Given as given

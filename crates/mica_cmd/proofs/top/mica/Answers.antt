@@ -1,5 +1,5 @@
 use Rattle.std.proofs.Common.{Err, inr, codes, refl, subst, map, string_bytes}
-use Rattle.mica_serve.specs.NetRun.{net_facts}
+use Rattle.served.specs.NetRun.{net_facts}
 use Rattle.mica_commands.specs.CommandLine.{command_of, IsValidCommand, IsReadingOf}
 use Rattle.mica_cmd.specs.Outside.{source_facts, link_facts}
 use Rattle.mica_cmd.specs.declared.status.Status.TheVariants.{Usage}
