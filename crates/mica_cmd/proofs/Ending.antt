@@ -25,11 +25,12 @@ use Rattle.server_words.specs.declared.limits.TheConstants.{MAX_SOURCE_LEN}
 use Rattle.mica_cmd.specs.declared.status.Status.{Status}
 use Rattle.mica_cmd.specs.declared.status.Status.TheVariants.{Done, TraceRefused, WriteFault, NetFault}
 use Rattle.mica_commands.specs.declared.gen_options.GenOptions.{GenOptions}
-use Rattle.mica_cmd.specs.Outside.{SourceFacts, SinkFacts, LinkFacts, Outside, outside}
+use Rattle.mica_cmd.specs.Outside.{SourceFacts, LinkFacts, Outside, outside}
+use Rattle.server_words.specs.Output.{SinkFacts, with_line_feed}
 use Rattle.server_words.specs.Limits.{IsTooLong}
 use Rattle.mica_cmd.specs.Headline.{ReadsWhole}
 use Rattle.mica_cmd.specs.Promise.{KeepsPromise, IsWritten, WritesDue, IsTold}
-use Rattle.mica_cmd.specs.Input.{with_line_feed, GivesTooMany, IsDueByBytes, IsDueByTrace, IsDueOfInput, IsDueOfTrace, NoneByTrace, ReadsInput, GivesTrace, IsRefusedWith}
+use Rattle.mica_cmd.specs.Input.{GivesTooMany, IsDueByBytes, IsDueByTrace, IsDueOfInput, IsDueOfTrace, NoneByTrace, ReadsInput, GivesTrace, IsRefusedWith}
 use Rattle.mica_cmd.specs.Promises.{replay_promise, IsDueOfReplay, IsSeatedReport, serve_promise, bench_promise, IsSeatedSummary, IsSeatedService}
 use Rattle.served.specs.TotalsText.{totals_text}
 use Rattle.mica_cmd.proofs.Keeping.{keeps_promise, stopped_trace, told_due, trace_not_done, keeps_tables, keeps_seats}

@@ -1,7 +1,7 @@
 -- How the process ends.
 use Rattle.std.specs.Prelude.{◌≡◌, ℕ, List, Option, Some, None}
 use Rattle.mica_cmd.specs.declared.status.Status.{Status}
-use Rattle.mica_cmd.specs.declared.status.Status.TheVariants.{Done, Usage, NoMemory, TraceRefused, TraceLong, ReadFault, WriteFault, NetFault, Unlawful, ReportRefused, ReplyRefused, LinkFault, ImageRefused, UsedUp}
+use Rattle.mica_cmd.specs.declared.status.Status.TheVariants.{Done, Usage, NoMemory, TraceRefused, TraceLong, ReadFault, WriteFault, NetFault, Unlawful, ReportRefused, ReplyRefused, LinkFault, ImageRefused}
 use Rattle.option_words.specs.Words.{Text}
 use Rattle.mica_commands.specs.CommandLine.{command_of}
 use Rattle.mica_cmd.specs.Outside.{Outside}
@@ -23,7 +23,6 @@ exit_number ReportRefused = 9
 exit_number ReplyRefused = 10
 exit_number LinkFault = 11
 exit_number ImageRefused = 12
-exit_number UsedUp = 13
 
 -- The process ends with the number of a status that keeps the promises for these words, or with that of out of memory where nothing is
 -- known of them.

@@ -8,7 +8,8 @@ use Rattle.mica_trace.specs.TraceGrammar.{IsTrace}
 use Rattle.mica_trace.specs.ReportGrammar.{report_text}
 use Rattle.mica_trace.specs.LawfulReport.{LawfulReport}
 use Rattle.server_words.specs.Limits.{IsTooLong}
-use Rattle.mica_cmd.specs.Outside.{SourceFacts, SinkFacts, IsReadUp}
+use Rattle.mica_cmd.specs.Outside.{SourceFacts, IsReadUp}
+use Rattle.server_words.specs.Output.{SinkFacts}
 
 -- the source gave these bytes, which are not too many, and was read to its end
 pub record ReadsWhole (old new : SourceFacts) (bytes : List ℕ) : Type 0 where

@@ -37,9 +37,10 @@ use Rattle.mica_commands.specs.Generator.{generated}
 use Rattle.mica_commands.specs.Summary.{summary_text}
 use Rattle.mica_cmd.specs.declared.finding.Finding.{Finding}
 use Rattle.mica_cmd.specs.Findings.{Finds, finding_text, status_of}
-use Rattle.mica_cmd.specs.Outside.{SourceFacts, SinkFacts, Outside}
+use Rattle.mica_cmd.specs.Outside.{SourceFacts, Outside}
+use Rattle.server_words.specs.Output.{SinkFacts, with_line_feed}
 use Rattle.mica_cmd.specs.Promise.{Promise, Prints, IsUnwritten, IsWritten}
-use Rattle.mica_cmd.specs.Input.{with_line_feed, AtDone, IsDueByBytes, IsDueByTrace, IsDueOfInput, IsDueOfTrace, IsUntroubled, TellsInput, IsKindOfTrace, ReadsInput, GivesTrace}
+use Rattle.mica_cmd.specs.Input.{AtDone, IsDueByBytes, IsDueByTrace, IsDueOfInput, IsDueOfTrace, IsUntroubled, TellsInput, IsKindOfTrace, ReadsInput, GivesTrace}
 
 -- ---- what commands share
 

@@ -2,7 +2,8 @@
 ghost use Rattle.std.specs.Prelude.{◌≡◌, [], false, string_bytes};
 ghost use Rattle.std.specs.Process.{exit_status};
 ghost use Rattle.served.specs.NetRun.{net_facts};
-ghost use Rattle.mica_cmd.specs.Outside.{outside, source_facts, sink_facts, link_facts};
+ghost use Rattle.mica_cmd.specs.Outside.{outside, source_facts, link_facts};
+ghost use Rattle.server_words.specs.Output.{sink_facts};
 ghost use Rattle.mica_cmd.specs.Exit.{exit_number, Exits};
 ghost use Rattle.option_words.specs.ProgramWords.{words_of};
 

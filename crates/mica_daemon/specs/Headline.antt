@@ -27,7 +27,7 @@ use Rattle.locked_serve.specs.Streams.{ListenFacts}
 use Rattle.locked_serve.specs.Causes.{LacksPort}
 use Rattle.daemon_words.specs.DaemonWords.{Service}
 use Rattle.served.specs.TotalsText.{totals_text}
-use Rattle.mica_cmd.specs.Input.{with_line_feed}
+use Rattle.server_words.specs.Output.{with_line_feed}
 use Rattle.mica_daemon.specs.Files.{FilesFacts}
 use Rattle.mica_daemon.specs.Filling.{Fills}
 use Rattle.mica_daemon.specs.Daemon.{DaemonOutside, ready_text, unbound_text}

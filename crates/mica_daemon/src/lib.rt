@@ -1,4 +1,4 @@
-//! The program that stays up: a server whose fronts take as many datagrams as can be counted.
+//! The program that stays up: a server over TCP for memcached's clients and over UDP, whose fronts take as many datagrams as can be counted.
 //!
 //! A caller may rely on this: `daemon` ends at once where its partitions take more memory than the system says is free. Else it
 //! fills them by the pairs of an image, where the words name one, before it binds a port. It serves datagrams and connections as
@@ -14,9 +14,11 @@ mod host;
 mod laws;
 mod listening;
 mod memory_files;
+mod output;
 mod process;
 mod program;
 mod speaker;
+mod status;
 mod top;
 
 pub use files::{Files, HostFiles};
@@ -26,6 +28,7 @@ pub use laws::{headline, headline_at_fault};
 pub use listening::PlacedListeners;
 pub use memory_files::MemFiles;
 pub use process::Process;
-pub use program::{begins_above, run_daemon};
+pub use program::{begins_above, exit_code, run_daemon};
 pub use speaker::Speaker;
+pub use status::DaemonStatus;
 pub use top::daemon;

@@ -19,7 +19,7 @@ pub struct Speaker<K> {
 
 impl<K: Sink + Drop> Announce for Speaker<K> {
     ghost use Rattle.std.specs.Prelude.{string_bytes};
-    ghost use Rattle.mica_cmd.specs.Outside.{sink_facts};
+    ghost use Rattle.server_words.specs.Output.{sink_facts};
     ghost use Rattle.mica_daemon.specs.Daemon.{Says, FailsToSay};
 
     ghost says = { λ _ _ a b. Says (string_bytes a.line) (sink_facts K.Sink a.sink) (sink_facts K.Sink b.sink) };

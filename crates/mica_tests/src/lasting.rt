@@ -8,8 +8,9 @@ use crate::runs::words_of;
 use crate::same_schedule::SameSchedule;
 use locked_serve::Left;
 use mica_clock::MemClock;
-use mica_cmd::Status;
-use mica_daemon::{Files, MemFiles, PlacedListeners, Process, Speaker, daemon};
+use mica_daemon::{
+    DaemonStatus as Status, Files, MemFiles, PlacedListeners, Process, Speaker, daemon,
+};
 use mica_io::{Bytes, FreeGate, Gate, MemNet, MemSink, Net, NoMemory};
 use server_words::MOST_FRONTS;
 use std::alloc::Global;

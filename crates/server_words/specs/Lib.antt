@@ -3,3 +3,4 @@ pub mod PossiblePorts
 pub mod StreamPorts
 pub mod AskOptions
 pub mod Limits
+pub mod Output

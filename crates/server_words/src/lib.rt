@@ -1,6 +1,7 @@
 //! Plain words of servers and of those who ask them: ports, how many fronts stand behind them, and limits.
 //!
-//! A caller may rely on this: what is valid or possible lies in the ranges of `specs/`.
+//! A caller may rely on this: what is valid or possible lies in the ranges of `specs/`. `specs/Output.antt` says what contracts see of what a
+//! program writes.
 #![tactic(auto)]
 
 mod ask_options;
