@@ -8,9 +8,9 @@ use Rattle.partition_table.specs.declared.tables.KeptSeat.{KeptSeat}
 use Rattle.mica_fronts.specs.declared.totals.Totals.{Totals}
 use Rattle.mica_fronts.specs.declared.totals.ServeFault.{ServeFault}
 use Rattle.mica_fronts.specs.declared.totals.ServeFault.TheVariants.{Net, NoMemory}
-use Rattle.stream_fronts.specs.declared.ports.StreamPorts.{StreamPorts}
-use Rattle.mica_serve.specs.Others.{Others, HaveAnsweredNothing}
-use Rattle.mica_serve.specs.Ends.{EndFacts}
+use Rattle.server_words.specs.declared.stream_ports.StreamPorts.{StreamPorts}
+use Rattle.served.specs.Others.{Others, HaveAnsweredNothing}
+use Rattle.served.specs.Ends.{EndFacts}
 use Rattle.locked_serve.specs.declared.service.Service.{Service}
 use Rattle.locked_serve.specs.declared.stop.Stop.{Stop}
 use Rattle.locked_serve.specs.declared.stop.Stop.TheVariants.{Fault}

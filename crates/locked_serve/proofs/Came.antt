@@ -8,9 +8,9 @@ use Rattle.partition_table.specs.declared.tables.KeptSeat.{KeptSeat}
 use Rattle.mica_fronts.specs.declared.totals.Totals.{Totals}
 use Rattle.mica_fronts.specs.declared.totals.ServeFault.{ServeFault}
 use Rattle.mica_fronts.specs.declared.totals.ServeFault.TheVariants.{Net, NoMemory}
-use Rattle.mica_serve.specs.Ends.{EndFacts}
-use Rattle.mica_serve.specs.FrontRuns.{ComesTo}
-use Rattle.mica_serve.proofs.Gathered.{all_ran, KeepsOf}
+use Rattle.served.specs.Ends.{EndFacts}
+use Rattle.served.specs.FrontRuns.{ComesTo}
+use Rattle.served.proofs.Gathered.{all_ran, KeepsOf}
 use Rattle.locked_serve.specs.Streams.{StreamFacts, HaveFinished, HaveStopped, StopsStream, ServesBeside, others_of}
 use Rattle.locked_serve.specs.Running.{RanBeside, SumsUpBeside}
 

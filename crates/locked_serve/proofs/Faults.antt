@@ -6,7 +6,7 @@ use Rattle.std.proofs.lemmas.Option.{slice_get_within}
 use Rattle.mica_fronts.specs.declared.totals.ServeFault.{ServeFault}
 use Rattle.mica_fronts.specs.declared.totals.ServeFault.TheVariants.{Net, NoMemory}
 use Rattle.mica_fronts.specs.declared.totals.Totals.{Totals}
-use Rattle.mica_serve.specs.FrontRuns.{SumsUp}
+use Rattle.served.specs.FrontRuns.{SumsUp}
 use Rattle.list_laws.proofs.Places.{from_map}
 use Rattle.locked_serve.specs.Running.{IsFaultOf}
 

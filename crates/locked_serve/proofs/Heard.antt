@@ -6,8 +6,8 @@ use Rattle.stream_io.specs.Log.{Log}
 use Rattle.stream_io.specs.declared.listeners.Heard.{Heard}
 use Rattle.stream_io.specs.declared.listeners.Place.{Place}
 use Rattle.stream_io.specs.PortLogs.{PortLogs, heard_at, without_port}
-use Rattle.mica_serve.proofs.Binding.{at_snoc}
-use Rattle.stream_fronts.specs.declared.ports.StreamPorts.{StreamPorts}
+use Rattle.served.proofs.Binding.{at_snoc}
+use Rattle.server_words.specs.declared.stream_ports.StreamPorts.{StreamPorts}
 use Rattle.locked_serve.specs.Streams.{StreamFacts, ListenFacts, IsNewStream, AreNewStreams, LeavesOthers, KeepsListeners, with_heard}
 
 -- what waited at the next port waits there still

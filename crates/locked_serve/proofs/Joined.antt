@@ -3,7 +3,7 @@ use Rattle.std.proofs.Common.{◌≡◌, ℕ, zero, suc, ◌+◌, ◌⊎◌, inl
 use Rattle.std.specs.Prelude.{sum_by}
 use Rattle.std.proofs.lemmas.List.{length-map, map-append}
 use Rattle.std.proofs.lemmas.List.Sums.{sum_by-cons}
-use Rattle.mica_serve.proofs.Binding.{at_snoc}
+use Rattle.served.proofs.Binding.{at_snoc}
 use Rattle.locked_fronts.specs.declared.part.LockedPart.{LockedPart}
 use Rattle.locked_fronts.specs.Plan.{Plan}
 use Rattle.locked_serve.specs.Opening.{AreNewParts, AreNewHands}

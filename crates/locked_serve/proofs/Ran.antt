@@ -24,9 +24,9 @@ use Rattle.locked_fronts.specs.Owned.{Owned, IsOwned, run_step, run_in}
 use Rattle.locked_fronts.specs.Parts.{IsLockedFront, locked_view, turns_taken, session_or_none}
 use Rattle.locked_fronts.specs.Returned.{placed_in}
 use Rattle.locked_fronts.proofs.Ending.{steps_in_run, steps_of_entries, low_fronts}
-use Rattle.mica_serve.specs.Beside.{total_below, RunsPartitions, HaveShapes}
-use Rattle.mica_serve.specs.FrontRuns.{IsTakenIn}
-use Rattle.mica_serve.proofs.JobCounts.{total_few}
+use Rattle.served.specs.Beside.{total_below, RunsPartitions, HaveShapes}
+use Rattle.served.specs.FrontRuns.{IsTakenIn}
+use Rattle.served.proofs.JobCounts.{total_few}
 use Rattle.locked_serve.specs.Opening.{AreNewParts, AreNewHands}
 use Rattle.locked_serve.specs.Running.{run_of}
 use Rattle.locked_serve.specs.Taking.{AreHands, AreTakenBack, MayTakeHands, TakesHands}

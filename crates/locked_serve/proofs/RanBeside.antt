@@ -12,17 +12,17 @@ use Rattle.mica_clock.specs.Seconds.{ClockView}
 use Rattle.mica_fronts.specs.Answered.{Answered, gets_of}
 use Rattle.mica_fronts.specs.declared.totals.ServeFault.{ServeFault}
 use Rattle.mica_fronts.specs.declared.totals.ServeFault.TheVariants.{Net, NoMemory}
-use Rattle.mica_fronts.specs.declared.totals.TheConstants.{MAX_BATCHES}
+use Rattle.server_words.specs.declared.limits.TheConstants.{MAX_BATCHES}
 use Rattle.locked_fronts.specs.declared.part.LockedPart.{LockedPart}
 use Rattle.locked_fronts.specs.Plan.{Plan}
 use Rattle.locked_fronts.specs.Owned.{Owned}
 use Rattle.locked_fronts.specs.Parts.{IsLockedFront, locked_view, session_or_none, sessions_of}
-use Rattle.mica_serve.specs.Beside.{AnsweredBeside, AreAnsweredBeside, RunsPartitions, closed_of, gets_answered}
-use Rattle.mica_serve.specs.Ends.{EndFacts, AreOpen}
-use Rattle.mica_serve.specs.FrontRuns.{FrontRun, RunsFront, RunFronts, IsTakenIn, closed_in}
-use Rattle.mica_serve.proofs.Gathered.{chosen}
-use Rattle.mica_serve.proofs.MadeOf.{made_of, made_map, made_long, made_at}
-use Rattle.mica_serve.proofs.ServedBeside.{closed_gets}
+use Rattle.served.specs.Beside.{AnsweredBeside, AreAnsweredBeside, RunsPartitions, closed_of, gets_answered}
+use Rattle.served.specs.Ends.{EndFacts, AreOpen}
+use Rattle.served.specs.FrontRuns.{FrontRun, RunsFront, RunFronts, IsTakenIn, closed_in}
+use Rattle.served.proofs.Gathered.{chosen}
+use Rattle.served.proofs.MadeOf.{made_of, made_map, made_long, made_at}
+use Rattle.served.proofs.ServedBeside.{closed_gets}
 use Rattle.locked_serve.specs.declared.streams.StreamTask.{StreamTask}
 use Rattle.locked_serve.specs.declared.worker.FrontTask.{FrontTask}
 use Rattle.locked_serve.specs.Opening.{AreNewParts, AreNewHands}

@@ -2,7 +2,7 @@
 use Rattle.std.proofs.Common.{◌≡◌, ◌≤◌, ℕ, List, [], ◌∷◌, ◌++◌, length, Option, None, Some, refl, sym, ap, ◌∙◌, subst, arith}
 use Rattle.std.specs.Prelude.{option_map}
 use Rattle.stream_io.specs.PortLogs.{PortLogs, with_port}
-use Rattle.stream_fronts.specs.declared.ports.StreamPorts.{StreamPorts}
+use Rattle.server_words.specs.declared.stream_ports.StreamPorts.{StreamPorts}
 use Rattle.locked_serve.specs.Streams.{StreamFacts, ListenFacts, LeavesOthers, KeepsListeners, ReleasesStreams, with_ports}
 
 pub none_released : (all : Option PortLogs) → all ≡ option_map (with_ports []) all

@@ -7,15 +7,15 @@ use Rattle.partition_model.specs.declared.write.Write.{Write}
 use Rattle.partition_model.specs.History.{History}
 use Rattle.partition_table.specs.declared.tables.KeptSeat.{KeptSeat}
 use Rattle.mica_fronts.specs.Answered.{Answered}
-use Rattle.mica_fronts.specs.declared.ports.PortOptions.{PortOptions}
+use Rattle.server_words.specs.declared.ports.PortOptions.{PortOptions}
 use Rattle.mica_fronts.specs.declared.totals.Totals.{Totals}
 use Rattle.mica_fronts.specs.declared.totals.ServeFault.{ServeFault}
 use Rattle.mica_fronts.specs.declared.totals.ServeFault.TheVariants.{Net, NoMemory}
-use Rattle.stream_fronts.specs.declared.ports.StreamPorts.{StreamPorts}
-use Rattle.mica_serve.specs.Others.{Others}
-use Rattle.mica_serve.specs.Ends.{EndFacts}
-use Rattle.mica_serve.specs.NetRun.{ReleasesNet}
-use Rattle.mica_serve.proofs.Whole.{net_kept}
+use Rattle.server_words.specs.declared.stream_ports.StreamPorts.{StreamPorts}
+use Rattle.served.specs.Others.{Others}
+use Rattle.served.specs.Ends.{EndFacts}
+use Rattle.served.specs.NetRun.{ReleasesNet}
+use Rattle.served.proofs.Whole.{net_kept}
 use Rattle.locked_serve.specs.declared.service.Service.{Service}
 use Rattle.locked_serve.specs.declared.filling.OpenFault.{OpenFault}
 use Rattle.locked_serve.specs.declared.filling.OpenFault.TheVariants as open_fault

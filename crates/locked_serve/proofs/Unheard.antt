@@ -9,7 +9,7 @@ use Rattle.stream_io.specs.Log.{Log}
 use Rattle.stream_io.specs.PortLogs.{PortLogs}
 use Rattle.partition_model.specs.declared.options.Options.{Options}
 use Rattle.mica_fronts.specs.Answered.{Answered}
-use Rattle.stream_fronts.specs.declared.ports.StreamPorts.{StreamPorts}
+use Rattle.server_words.specs.declared.stream_ports.StreamPorts.{StreamPorts}
 use Rattle.stream_fronts.specs.Open.{OnLogs}
 use Rattle.stream_fronts.specs.Serving.{FrontAt}
 use Rattle.stream_fronts.specs.declared.desk.TheConstants.{MOST_UNSENT}

@@ -1,10 +1,10 @@
 -- What a server may serve.
 use Rattle.std.specs.Prelude.{◌≡◌, ◌+◌, ◌≤◌, ℕ}
 use Rattle.partition_model.specs.Options.{IsPossible}
-use Rattle.stream_fronts.specs.StreamPorts.{IsPossibleStreams}
+use Rattle.server_words.specs.StreamPorts.{IsPossibleStreams}
 use Rattle.locked_fronts.specs.Plan.{Plan}
-use Rattle.mica_serve.specs.PossiblePorts.{IsPossiblePorts}
-use Rattle.locked_serve.specs.declared.serve.TheConstants.{MOST_FRONTS}
+use Rattle.server_words.specs.PossiblePorts.{IsPossiblePorts}
+use Rattle.server_words.specs.declared.limits.TheConstants.{MOST_FRONTS}
 use Rattle.locked_serve.specs.declared.service.Service.{Service}
 
 -- each number is in its range, and there is a front, and no more than may be

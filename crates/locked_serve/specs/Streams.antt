@@ -17,12 +17,12 @@ use Rattle.mica_fronts.specs.declared.totals.ServeFault.{ServeFault}
 use Rattle.mica_fronts.specs.declared.totals.ServeFault.TheVariants.{Net}
 use Rattle.memcached_fronts.specs.Seconds.{seconds_of, ToldFrom}
 use Rattle.stream_fronts.specs.declared.desk.TheConstants.{MOST_UNSENT}
-use Rattle.stream_fronts.specs.declared.ports.StreamPorts.{StreamPorts}
+use Rattle.server_words.specs.declared.stream_ports.StreamPorts.{StreamPorts}
 use Rattle.stream_fronts.specs.Open.{OnLogs}
 use Rattle.stream_fronts.specs.Serving.{FrontAt, IsFinished, ServesLog}
 use Rattle.locked_fronts.specs.Parts.{most_turns}
-use Rattle.mica_serve.specs.Others.{Others, HaveAnsweredNothing}
-use Rattle.mica_serve.specs.Ends.{EndFacts, ServesFronts}
+use Rattle.served.specs.Others.{Others, HaveAnsweredNothing}
+use Rattle.served.specs.Ends.{EndFacts, ServesFronts}
 
 -- what contracts see of a port of connections at one moment
 pub record StreamFacts : Type 0 where

@@ -1,14 +1,13 @@
 //! What a server tells once it listens at its ports.
 ghost use Rattle.std.specs.Prelude.{◌≡◌, None, map, length, OnOk, OnErr};
-ghost use Rattle.mica_fronts.specs.declared.ports.PortOptions.{PortOptions};
-ghost use Rattle.stream_fronts.specs.declared.ports.StreamPorts.{StreamPorts};
-ghost use Rattle.mica_serve.specs.Ends.{AreNewEnds, end_facts};
+ghost use Rattle.server_words.specs.declared.ports.PortOptions.{PortOptions};
+ghost use Rattle.server_words.specs.declared.stream_ports.StreamPorts.{StreamPorts};
+ghost use Rattle.served.specs.Ends.{AreNewEnds, end_facts};
 ghost use Rattle.locked_serve.specs.Streams.{AreNewStreams, stream_facts};
 
 use crate::stop::Untold;
-use mica_fronts::PortOptions;
 use mica_io::Datagrams;
-use stream_fronts::StreamPorts;
+use server_words::{PortOptions, StreamPorts};
 use stream_io::Connections;
 
 /// What a server tells once it has all its ports, and before it receives anything.

@@ -1,12 +1,11 @@
 //! The answers of all fronts as one.
 ghost use Rattle.std.specs.Prelude.{◌≡◌, ◌≤◌, ℕ, Some, Ok, length, slice_get};
-ghost use Rattle.mica_fronts.specs.declared.totals.TheConstants.{MAX_BATCHES};
+ghost use Rattle.server_words.specs.declared.limits.TheConstants.{MAX_BATCHES, MOST_FRONTS};
 ghost use Rattle.mica_fronts.specs.Totals.{IsUpTo};
-ghost use Rattle.locked_serve.specs.declared.serve.TheConstants.{MOST_FRONTS};
 ghost use Rattle.locked_serve.specs.Running.{IsFaultOf, SumsUpBeside};
 
 use mica_fronts::{ServeFault, Totals};
-use mica_serve::sum_up;
+use served::sum_up;
 
 // The fault of a front of connections, where there is one: out of memory of any is that of all.
 fn fault_of(streams: &[Result<(), ServeFault>]) -> Result<(), ServeFault>

@@ -1,6 +1,6 @@
 //! The server whose partitions lie under locks: its ports of datagrams and of connections, and the fronts behind them, each in a thread of its own.
 //!
-//! What all fronts of `serve_locked` received and replied is `Served` of `mica_serve`, as where the owners are in threads of their own: the writes of
+//! What all fronts of `serve_locked` received and replied is `Served` of `served`, as where the owners are in threads of their own: the writes of
 //! all fronts, of both kinds, are one run of each partition's machine, and each get is its answer at the replied stamp.
 #![tactic(auto)]
 
@@ -22,6 +22,6 @@ pub use announce::Announce;
 pub use filling::OpenFault;
 pub use left::Left;
 pub use opening::{FilledPart, lend_hand, lock_parts, open_parts};
-pub use serve::{MOST_FRONTS, serve_locked};
+pub use serve::serve_locked;
 pub use service::{Service, Shared, Start};
 pub use stop::{Stop, Untold};

@@ -1,11 +1,11 @@
 //! The ports of connections, listened at one after another and let go.
 ghost use Rattle.std.specs.Prelude.{◌≡◌, ◌+◌, ◌<◌, ◌≤◌, [], map, vec_len, vec_capacity, OnOk, OnErr};
 ghost use Rattle.mica_io.specs.Faults.{Rose};
-ghost use Rattle.stream_fronts.specs.StreamPorts.{IsPossibleStreams};
+ghost use Rattle.server_words.specs.StreamPorts.{IsPossibleStreams};
 ghost use Rattle.locked_serve.specs.Streams.{AreNewStreams, KeepsListeners, ReleasesStreams, listen_facts, stream_facts};
 
 use mica_io::Failed;
-use stream_fronts::StreamPorts;
+use server_words::StreamPorts;
 use stream_io::Listeners;
 
 /// Listens at a port for each front of connections, in order, up to the first one that fails.

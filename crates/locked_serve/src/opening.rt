@@ -8,7 +8,7 @@ ghost use Rattle.epoch_core.specs.Shape.{shape_of};
 ghost use Rattle.partition_table.specs.Seats.{note_state, note_home};
 ghost use Rattle.mica_fronts.specs.Flushes.{AreKept};
 ghost use Rattle.locked_fronts.specs.Owned.{NotesAre};
-ghost use Rattle.locked_serve.specs.declared.serve.TheConstants.{MOST_FRONTS};
+ghost use Rattle.server_words.specs.declared.limits.TheConstants.{MOST_FRONTS};
 ghost use Rattle.locked_serve.specs.Filled.{RefusesFilling};
 ghost use Rattle.locked_serve.specs.Opening.{IsFilled, AreFilled, IsOpened, AreOpened, ArePlanned, LendsOne, AreNewParts, AreNewHands, filled_view};
 

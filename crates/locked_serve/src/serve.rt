@@ -4,8 +4,8 @@ ghost use Rattle.partition_model.specs.History.{IsHistory};
 ghost use Rattle.partition_model.specs.Write.{IsWrite};
 ghost use Rattle.partition_table.specs.Seats.{note_state, note_home};
 ghost use Rattle.locked_fronts.specs.Owned.{NotesAre};
-ghost use Rattle.mica_serve.specs.Ends.{end_facts};
-ghost use Rattle.mica_serve.specs.NetRun.{BindsAndServes, net_facts};
+ghost use Rattle.served.specs.Ends.{end_facts};
+ghost use Rattle.served.specs.NetRun.{BindsAndServes, net_facts};
 ghost use Rattle.locked_serve.specs.Service.{IsPossibleService, IsPlanOf};
 ghost use Rattle.locked_serve.specs.Streams.{KeepsListeners, listen_facts, stream_facts};
 ghost use Rattle.locked_serve.specs.Causes.{ComesBeside, HasCause, IsCauseOfStop, HasAnnounced, Leaves, ports_at};
@@ -25,19 +25,16 @@ use locked_fronts::ServerPlan;
 use mica_clock::Clock;
 use mica_fronts::Totals;
 use mica_io::{Gate, Net};
-use mica_serve::{bind_all, release_all};
 use partition_model::Mode;
 use partition_table::{Note, OwnerSeat, ReaderSeat};
 use seated_partition::OnTable;
+use served::{bind_all, release_all};
 use std::marker::Brand;
 use std::sync::Wait;
 use std::thread::Threads;
 use store_partition::StorePartition;
 use stream_io::Listeners;
 use thread_rehearsal::rehearse;
-
-/// The most fronts of a server, of both kinds together.
-pub const MOST_FRONTS: u32 = 64;
 
 /// Binds the ports of datagrams, listens at those of connections, tells so where all could be had, and serves them.
 fn bind_and_serve<

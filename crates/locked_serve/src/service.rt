@@ -1,10 +1,9 @@
 //! What a server serves, and what all its fronts share.
 use memcached_stats::Board;
-use mica_fronts::PortOptions;
 use partition_model::{Options, Write};
+use server_words::{PortOptions, StreamPorts};
 use std::alloc::Global;
 use std::sync::atomic::AtomicBool;
-use stream_fronts::StreamPorts;
 
 /// What a server serves.
 #[derive(Clone, Copy)]

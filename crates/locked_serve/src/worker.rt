@@ -1,7 +1,7 @@
 //! The fronts of datagrams side by side, each in a thread of its own, and those of connections beside them.
 ghost use Rattle.std.specs.Prelude.{◌≡◌, ◌+◌, ◌<◌, ◌≤◌, [], length, map, vec_len, vec_capacity};
 ghost use Rattle.std.specs.Thread.{IsSync};
-ghost use Rattle.mica_serve.specs.Ends.{end_facts};
+ghost use Rattle.served.specs.Ends.{end_facts};
 ghost use Rattle.locked_serve.specs.Service.{IsLockedPlan};
 ghost use Rattle.locked_serve.specs.Streams.{stream_facts};
 ghost use Rattle.locked_serve.specs.Running.{IsReadyTask, TaskRan, AreReadyTasks, TasksRan, AreReadyStreams, StreamsRan};

@@ -9,7 +9,7 @@ use Rattle.mica_trace.specs.declared.line.TraceLine.{TraceLine}
 use Rattle.batch_packets.specs.declared.batch.Request.{Request}
 use Rattle.batch_packets.specs.BatchGrammar.{IsRequest}
 use Rattle.mica_client.specs.declared.options.TheConstants.{VERSION}
-use Rattle.mica_client.specs.declared.options.AskOptions.{AskOptions}
+use Rattle.server_words.specs.declared.ask_options.AskOptions.{AskOptions}
 use Rattle.mica_client.specs.declared.share.Share.{Share}
 use Rattle.mica_client.specs.Batches.{Group, request_of, on_line, rounds_from, joins, cut, batches_with, is_in_partition, port_of, groups_at, groups_in, groups_of_round}
 use Rattle.mica_client.specs.Cutting.{share_with, Holds, AllHold, IsCutting}

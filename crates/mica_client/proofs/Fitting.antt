@@ -21,8 +21,8 @@ use Rattle.batch_packets.specs.declared.batch.Batch.{Batch}
 use Rattle.batch_packets.specs.Datagram.{FitsDatagram}
 use Rattle.batch_packets.specs.BatchGrammar.{IsRequest, request_text, batch_text, operation_of}
 use Rattle.mica_client.specs.declared.options.TheConstants.{VERSION}
-use Rattle.mica_client.specs.declared.options.AskOptions.{AskOptions}
-use Rattle.mica_client.specs.AskOptions.{IsValidAsk}
+use Rattle.server_words.specs.declared.ask_options.AskOptions.{AskOptions}
+use Rattle.server_words.specs.AskOptions.{IsValidAsk}
 use Rattle.mica_client.specs.Batches.{Group, request_of, in_front, requests_from, on_line, rounds_from, text_len, joins, last_batch, cut, is_in_partition, port_of, groups_at, groups_in, groups_of_round, groups_of}
 use Rattle.mica_client.specs.Answers.{TicketsRise}
 use Rattle.mica_client.proofs.Requests.{requests_lawful, requests_count}

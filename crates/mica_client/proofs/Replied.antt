@@ -17,7 +17,7 @@ use Rattle.batch_packets.specs.declared.batch.Want.{Want}
 use Rattle.batch_packets.specs.declared.batch.Request.{Request}
 use Rattle.batch_packets.specs.declared.batch.Batch.{Batch}
 use Rattle.batch_packets.specs.declared.replies.Reply.{Reply}
-use Rattle.mica_client.specs.declared.options.AskOptions.{AskOptions}
+use Rattle.server_words.specs.declared.ask_options.AskOptions.{AskOptions}
 use Rattle.mica_client.specs.declared.fault.AskFault.{AskFault}
 use Rattle.mica_client.specs.Talk.{Passed, sent, received}
 use Rattle.mica_client.specs.Batches.{Group, Ask, groups_of, numbered, want_of}

@@ -16,9 +16,9 @@ use Rattle.mica_trace.specs.ReportGrammar.{IsReportLine}
 use Rattle.mica_trace.specs.LawfulReport.{IsLineFor, IsKindOf}
 use Rattle.batch_packets.specs.declared.batch.Request.{Request}
 use Rattle.batch_packets.specs.BatchGrammar.{IsBatch, IsRequest}
-use Rattle.mica_client.specs.declared.options.AskOptions.{AskOptions}
+use Rattle.server_words.specs.declared.ask_options.AskOptions.{AskOptions}
 use Rattle.mica_client.specs.declared.options.TheConstants.{VERSION}
-use Rattle.mica_client.specs.AskOptions.{IsValidAsk}
+use Rattle.server_words.specs.AskOptions.{IsValidAsk}
 use Rattle.mica_client.specs.Batches.{Group, groups_of, requests_from, request_of, in_front}
 use Rattle.mica_client.specs.Answers.{KnownLines, unanswered, is_answered, HasTicketIn, TicketsRise, HasTickets, AreFor, IsOfTrace, KeepsAll, AnswerIsKnown}
 use Rattle.mica_client.specs.Exchange.{lacks_answer}

@@ -13,7 +13,7 @@ use Rattle.batch_packets.specs.declared.header.TheConstants.{HEADER_LEN}
 use Rattle.batch_packets.specs.BatchGrammar.{request_text}
 use Rattle.batch_packets.specs.Datagram.{max_datagram_len}
 use Rattle.mica_client.specs.declared.options.TheConstants.{VERSION}
-use Rattle.mica_client.specs.declared.options.AskOptions.{AskOptions}
+use Rattle.server_words.specs.declared.ask_options.AskOptions.{AskOptions}
 
 -- what a line asks for; a sync asks for nothing
 abbrev pub want_of : TraceOp → Option Want

@@ -2,7 +2,7 @@
 use Rattle.std.specs.Prelude.{◌≡◌, ℕ, ◌+◌, List, [], ◌∷◌, ◌++◌, filter, flat_map}
 use Rattle.mica_trace.specs.declared.line.TraceLine.{TraceLine}
 use Rattle.batch_packets.specs.declared.batch.Request.{Request}
-use Rattle.mica_client.specs.declared.options.AskOptions.{AskOptions}
+use Rattle.server_words.specs.declared.ask_options.AskOptions.{AskOptions}
 use Rattle.mica_client.specs.declared.share.Share.{Share}
 use Rattle.mica_client.specs.Batches.{Group, cut, groups_at, port_of, is_in_partition, batches_with, groups_of_round, rounds_from}
 

@@ -10,7 +10,7 @@ use Rattle.batch_packets.specs.declared.replies.Replies.{Replies}
 use Rattle.batch_packets.specs.BatchGrammar.{batch_text}
 use Rattle.batch_packets.specs.ReplyGrammar.{SpellsReplies}
 use Rattle.mica_client.specs.declared.options.TheConstants.{VERSION}
-use Rattle.mica_client.specs.declared.options.AskOptions.{AskOptions}
+use Rattle.server_words.specs.declared.ask_options.AskOptions.{AskOptions}
 use Rattle.mica_client.specs.declared.fault.AskFault.{AskFault}
 use Rattle.mica_client.specs.declared.fault.AskFault.TheVariants.{Unread, Stranger, Double, Wrong, Lost, Link, NoMemory}
 use Rattle.mica_client.specs.Talk.{Passed, sent, received, Talk, Went}

@@ -1,5 +1,4 @@
 pub mod Talk
-pub mod AskOptions
 pub mod Batches
 pub mod Cutting
 pub mod Answers

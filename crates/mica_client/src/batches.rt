@@ -4,7 +4,7 @@ ghost use Rattle.std.specs.List.{AllByRecursion};
 ghost use Rattle.mica_words.specs.Hash.{partition_of};
 ghost use Rattle.mica_trace.specs.declared.line.TraceLine.{TraceLine};
 ghost use Rattle.mica_trace.specs.TraceGrammar.{IsTraceLine};
-ghost use Rattle.mica_client.specs.AskOptions.{IsValidAsk};
+ghost use Rattle.server_words.specs.AskOptions.{IsValidAsk};
 ghost use Rattle.mica_client.specs.Batches.{Group, port_of, groups_of};
 ghost use Rattle.mica_client.specs.Cutting.{share_with, AllHold, IsCutting};
 

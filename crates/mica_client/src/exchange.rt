@@ -6,7 +6,7 @@ ghost use Rattle.mica_trace.specs.LawfulReport.{IsLineFor};
 ghost use Rattle.batch_packets.specs.BatchGrammar.{IsBatch};
 ghost use Rattle.batch_packets.specs.ReplyGrammar.{IsReplies};
 ghost use Rattle.mica_client.specs.declared.options.TheConstants.{VERSION};
-ghost use Rattle.mica_client.specs.AskOptions.{IsValidAsk};
+ghost use Rattle.server_words.specs.AskOptions.{IsValidAsk};
 ghost use Rattle.mica_client.specs.Talk.{OnTalk, Passes};
 ghost use Rattle.mica_client.specs.Batches.{numbered};
 ghost use Rattle.mica_client.specs.Answers.{HasTickets, KeepsAnswers, KeepsAll, open_answers};

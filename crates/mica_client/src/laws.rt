@@ -4,7 +4,7 @@ ghost use Rattle.mica_io.specs.Traffic.{Datagram};
 ghost use Rattle.mica_trace.specs.declared.line.TraceLine.{TraceLine};
 ghost use Rattle.mica_trace.specs.declared.report.Line.{Line};
 ghost use Rattle.batch_packets.specs.declared.replies.Reply.{Reply};
-ghost use Rattle.mica_client.specs.declared.options.AskOptions.{AskOptions};
+ghost use Rattle.server_words.specs.declared.ask_options.AskOptions.{AskOptions};
 ghost use Rattle.mica_client.specs.declared.fault.AskFault.{AskFault};
 ghost use Rattle.mica_client.specs.declared.fault.AskFault.TheVariants.{NoMemory};
 ghost use Rattle.mica_client.specs.Talk.{Passed, sent_in};

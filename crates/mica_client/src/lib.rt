@@ -33,5 +33,6 @@ pub use fault::AskFault;
 pub use laws::{answered_once, one_cause, sent_in_order};
 pub use link::Link;
 pub use memory_link::MemLink;
-pub use options::{AskOptions, VERSION};
+pub use options::VERSION;
+pub use server_words::AskOptions;
 pub use udp_link::UdpLink;

@@ -6,16 +6,17 @@ use Rattle.mica_io.specs.Faults.{Rose}
 use Rattle.mica_trace.specs.declared.line.TraceLine.{TraceLine}
 use Rattle.mica_trace.specs.declared.report.Line.{Line}
 use Rattle.mica_trace.specs.ReportGrammar.{report_text}
-use Rattle.mica_client.specs.declared.options.AskOptions.{AskOptions}
+use Rattle.server_words.specs.declared.ask_options.AskOptions.{AskOptions}
 use Rattle.mica_client.specs.declared.fault.AskFault.{AskFault}
 use Rattle.mica_client.specs.declared.fault.AskFault.TheVariants.{Unread, Stranger, Double, Wrong, Lost, Link, NoMemory as NoRoom}
 use Rattle.mica_client.specs.Exchange.{is_lost_fault}
 use Rattle.mica_client.specs.FaultText.{ask_fault_text}
 use Rattle.mica_cmd.specs.declared.status.Status.{Status}
 use Rattle.mica_cmd.specs.declared.status.Status.TheVariants.{Done, WriteFault}
-use Rattle.mica_cmd.specs.Outside.{SinkFacts, Outside}
-use Rattle.mica_cmd.specs.Promise.{IsDue, AppendsPart, KeepsPromise, WritesDue, IsTold}
-use Rattle.mica_cmd.specs.Input.{with_line_feed, IsDueOfInput, IsDueOfTrace, NoneByTrace, ReadsInput, GivesTrace}
+use Rattle.server_words.specs.Output.{SinkFacts, AppendsPart, with_line_feed}
+use Rattle.mica_cmd.specs.Outside.{Outside}
+use Rattle.mica_cmd.specs.Promise.{IsDue, KeepsPromise, WritesDue, IsTold}
+use Rattle.mica_cmd.specs.Input.{IsDueOfInput, IsDueOfTrace, NoneByTrace, ReadsInput, GivesTrace}
 use Rattle.mica_cmd.specs.Promises.{AnswersAs, fault_status, IsFaultLine, IsDueOfAsk, IsToldFault, ask_promise}
 use Rattle.mica_cmd.proofs.Keeping.{keeps_promise, stopped_trace}
 use Rattle.mica_cmd.proofs.Settled.{settles_ask}

@@ -22,7 +22,8 @@ use Rattle.mica_cmd.specs.Outside.{SourceFacts, Outside}
 use Rattle.mica_cmd.specs.Headline.{ReadsWhole}
 use Rattle.mica_cmd.specs.Findings.{FindsOfReport, FindsBehind, FindsOfParts, finding_by, Finds, finding_text, status_of}
 use Rattle.mica_cmd.specs.Promise.{IsDue, KeepsPromise, WritesDue, IsTold}
-use Rattle.mica_cmd.specs.Input.{with_line_feed, IsDueOfInput, NoneByBytes, ReadsInput}
+use Rattle.server_words.specs.Output.{with_line_feed}
+use Rattle.mica_cmd.specs.Input.{IsDueOfInput, NoneByBytes, ReadsInput}
 use Rattle.mica_cmd.specs.Promises.{IsDueOfCheck, IsKindOfCheck, check_promise}
 use Rattle.mica_cmd.proofs.Keeping.{Settles, keeps_promise, unwritten_promise, stopped_input, told_due}
 use Rattle.mica_cmd.proofs.Settled.{settles_input}

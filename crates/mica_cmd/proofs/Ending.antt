@@ -12,24 +12,27 @@ use Rattle.partition_table.specs.declared.tables.KeptSeat.{KeptSeat}
 use Rattle.mica_trace.specs.declared.report.Line.{Line}
 use Rattle.mica_trace.specs.Printed.{PrintsText, PrintsPart}
 use Rattle.mica_replay.specs.Replayed.{IsReplayed}
-use Rattle.mica_fronts.specs.declared.ports.PortOptions.{PortOptions}
+use Rattle.server_words.specs.declared.ports.PortOptions.{PortOptions}
 use Rattle.mica_fronts.specs.declared.totals.Totals.{Totals}
 use Rattle.mica_fronts.specs.declared.totals.ServeFault.{ServeFault}
 use Rattle.mica_fronts.specs.declared.totals.ServeFault.TheVariants.{Net}
-use Rattle.mica_serve.specs.Others.{alone}
-use Rattle.mica_serve.specs.Served.{empty_origin}
-use Rattle.mica_serve.specs.NetRun.{NetFacts, HasServedOnTables, IsCauseOf, KeepsNet}
-use Rattle.mica_serve.proofs.Tabled.{has_served}
+use Rattle.served.specs.Others.{alone}
+use Rattle.served.specs.Served.{empty_origin}
+use Rattle.served.specs.NetRun.{NetFacts, HasServedOnTables, IsCauseOf, KeepsNet}
+use Rattle.served.proofs.Tabled.{has_served}
 use Rattle.mica_trace.specs.ReportGrammar.{report_text}
-use Rattle.mica_commands.specs.declared.limits.TheConstants.{MAX_SOURCE_LEN}
+use Rattle.server_words.specs.declared.limits.TheConstants.{MAX_SOURCE_LEN}
 use Rattle.mica_cmd.specs.declared.status.Status.{Status}
 use Rattle.mica_cmd.specs.declared.status.Status.TheVariants.{Done, TraceRefused, WriteFault, NetFault}
 use Rattle.mica_commands.specs.declared.gen_options.GenOptions.{GenOptions}
-use Rattle.mica_cmd.specs.Outside.{SourceFacts, SinkFacts, LinkFacts, Outside, outside}
-use Rattle.mica_cmd.specs.Headline.{IsTooLong, ReadsWhole}
+use Rattle.mica_cmd.specs.Outside.{SourceFacts, LinkFacts, Outside, outside}
+use Rattle.server_words.specs.Output.{SinkFacts, with_line_feed}
+use Rattle.server_words.specs.Limits.{IsTooLong}
+use Rattle.mica_cmd.specs.Headline.{ReadsWhole}
 use Rattle.mica_cmd.specs.Promise.{KeepsPromise, IsWritten, WritesDue, IsTold}
-use Rattle.mica_cmd.specs.Input.{with_line_feed, GivesTooMany, IsDueByBytes, IsDueByTrace, IsDueOfInput, IsDueOfTrace, NoneByTrace, ReadsInput, GivesTrace, IsRefusedWith}
-use Rattle.mica_cmd.specs.Promises.{replay_promise, IsDueOfReplay, IsSeatedReport, serve_promise, bench_promise, IsSeatedSummary, IsSeatedService, totals_text}
+use Rattle.mica_cmd.specs.Input.{GivesTooMany, IsDueByBytes, IsDueByTrace, IsDueOfInput, IsDueOfTrace, NoneByTrace, ReadsInput, GivesTrace, IsRefusedWith}
+use Rattle.mica_cmd.specs.Promises.{replay_promise, IsDueOfReplay, IsSeatedReport, serve_promise, bench_promise, IsSeatedSummary, IsSeatedService}
+use Rattle.served.specs.TotalsText.{totals_text}
 use Rattle.mica_cmd.proofs.Keeping.{keeps_promise, stopped_trace, told_due, trace_not_done, keeps_tables, keeps_seats}
 use Rattle.mica_cmd.proofs.Settled.{settles_replay, settles_serve, settles_bench}
 

@@ -13,10 +13,11 @@ use Rattle.store_image.specs.ImageGrammar.{Pair, SpellsImage, image_text, first_
 use Rattle.store_image.specs.ImageLines.{put_lines}
 use Rattle.mica_cmd.specs.declared.status.Status.{Status}
 use Rattle.mica_cmd.specs.declared.status.Status.TheVariants.{Done, ImageRefused}
-use Rattle.mica_cmd.specs.Outside.{SourceFacts, SinkFacts}
+use Rattle.mica_cmd.specs.Outside.{SourceFacts}
+use Rattle.server_words.specs.Output.{SinkFacts, with_line_feed}
 use Rattle.mica_cmd.specs.Headline.{ReadsWhole}
 use Rattle.mica_cmd.specs.Promise.{WritesDue, IsTold}
-use Rattle.mica_cmd.specs.Input.{with_line_feed, IsDueOfInput}
+use Rattle.mica_cmd.specs.Input.{IsDueOfInput}
 use Rattle.mica_cmd.specs.Promises.{IsImageText, IsDueOfUnpack, IsRefusedImage}
 use Rattle.mica_cmd.proofs.Keeping.{told_due}
 

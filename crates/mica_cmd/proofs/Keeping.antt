@@ -8,8 +8,10 @@ use Rattle.mica_io.specs.Faults.{Rose}
 use Rattle.mica_trace.specs.declared.line.TraceLine.{TraceLine}
 use Rattle.mica_cmd.specs.declared.status.Status.{Status}
 use Rattle.mica_cmd.specs.declared.status.Status.TheVariants.{Done, NoMemory, TraceRefused, TraceLong, ReadFault, WriteFault}
-use Rattle.mica_cmd.specs.Outside.{SourceFacts, SinkFacts, Outside}
-use Rattle.mica_cmd.specs.Headline.{IsTooLong, ReadsWhole}
+use Rattle.mica_cmd.specs.Outside.{SourceFacts, Outside}
+use Rattle.server_words.specs.Output.{SinkFacts}
+use Rattle.server_words.specs.Limits.{IsTooLong}
+use Rattle.mica_cmd.specs.Headline.{ReadsWhole}
 use Rattle.mica_cmd.specs.Promise.{Promise, IsDue, Ends, KeepsPromise, IsWritten, WritesDue, IsTold}
 use Rattle.mica_cmd.specs.Input.{AtDone, IsDueOfInput, IsDueOfTrace, NoneByBytes, NoneByTrace, TellsInput, IsKindOfTrace}
 use Rattle.mica_cmd.specs.Promises.{KeepsSeats}

@@ -5,10 +5,10 @@ use Rattle.mica_io.specs.Faults.{Rose}
 use Rattle.mica_io.specs.PortStates.{PortStates}
 use Rattle.partition_model.specs.declared.options.Options.{Options}
 use Rattle.mica_trace.specs.declared.line.TraceLine.{TraceLine}
-use Rattle.mica_fronts.specs.declared.ports.PortOptions.{PortOptions}
-use Rattle.mica_serve.specs.Served.{BeginsPorts}
-use Rattle.mica_serve.specs.NetRun.{NetFacts, OnPorts, ReleasesAll}
-use Rattle.mica_client.specs.declared.options.AskOptions.{AskOptions}
+use Rattle.server_words.specs.declared.ports.PortOptions.{PortOptions}
+use Rattle.served.specs.Served.{BeginsPorts}
+use Rattle.served.specs.NetRun.{NetFacts, OnPorts, ReleasesAll}
+use Rattle.server_words.specs.declared.ask_options.AskOptions.{AskOptions}
 use Rattle.store_image.specs.declared.fault.ImageFault.{ImageFault}
 use Rattle.store_image.specs.ImageGrammar.{Pair, SpellsImage, first_fault}
 use Rattle.store_image.proofs.Faultless.{image_has_no_fault}

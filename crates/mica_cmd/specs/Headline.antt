@@ -1,5 +1,5 @@
 -- The headline: what a replay has done that ends with the status Done. `laws.rt` says that each one has.
-use Rattle.std.specs.Prelude.{ℕ, ◌<◌, List, length}
+use Rattle.std.specs.Prelude.{ℕ, List}
 use Rattle.std.specs.Io.KnownBytes.{Appends, Consumes}
 use Rattle.partition_model.specs.declared.options.Options.{Options}
 use Rattle.mica_trace.specs.declared.line.TraceLine.{TraceLine}
@@ -7,12 +7,9 @@ use Rattle.mica_trace.specs.declared.report.Line.{Line}
 use Rattle.mica_trace.specs.TraceGrammar.{IsTrace}
 use Rattle.mica_trace.specs.ReportGrammar.{report_text}
 use Rattle.mica_trace.specs.LawfulReport.{LawfulReport}
-use Rattle.mica_commands.specs.declared.limits.TheConstants.{MAX_SOURCE_LEN}
-use Rattle.mica_cmd.specs.Outside.{SourceFacts, SinkFacts, IsReadUp}
-
--- the bytes are more than a source may give
-abbrev pub IsTooLong : List ℕ → Type 0
-IsTooLong bytes = MAX_SOURCE_LEN < length bytes
+use Rattle.server_words.specs.Limits.{IsTooLong}
+use Rattle.mica_cmd.specs.Outside.{SourceFacts, IsReadUp}
+use Rattle.server_words.specs.Output.{SinkFacts}
 
 -- the source gave these bytes, which are not too many, and was read to its end
 pub record ReadsWhole (old new : SourceFacts) (bytes : List ℕ) : Type 0 where

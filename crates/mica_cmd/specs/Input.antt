@@ -1,5 +1,5 @@
 -- What is due of a command that reads the source, and what it reads.
-use Rattle.std.specs.Prelude.{◌≡◌, ◌≢◌, ℕ, ◌+◌, ◌<◌, ◌≤◌, ◌⊎◌, false, List, [], ◌∷◌, ◌++◌, length, codes, IfSome}
+use Rattle.std.specs.Prelude.{◌≡◌, ◌≢◌, ℕ, ◌+◌, ◌<◌, ◌≤◌, ◌⊎◌, false, List, length, codes, IfSome}
 use Rattle.std.specs.Option.{IsSomeAnd}
 use Rattle.std.specs.Io.KnownBytes.{Consumes}
 use Rattle.mica_io.specs.Faults.{Rose}
@@ -7,16 +7,14 @@ use Rattle.mica_trace.specs.declared.line.TraceLine.{TraceLine}
 use Rattle.mica_trace.specs.declared.line.TraceFault.{TraceFault}
 use Rattle.mica_trace.specs.declared.line.TraceFault.TheVariants.{NoMemory as NoRoom}
 use Rattle.mica_trace.specs.TraceGrammar.{IsTrace, IsNoTrace, Refuses, fault_text}
-use Rattle.mica_commands.specs.declared.limits.TheConstants.{MAX_SOURCE_LEN}
+use Rattle.server_words.specs.declared.limits.TheConstants.{MAX_SOURCE_LEN}
 use Rattle.mica_cmd.specs.declared.status.Status.{Status}
 use Rattle.mica_cmd.specs.declared.status.Status.TheVariants.{Done, TraceRefused, TraceLong, ReadFault}
-use Rattle.mica_cmd.specs.Outside.{SourceFacts, SinkFacts, Outside}
-use Rattle.mica_cmd.specs.Headline.{IsTooLong, ReadsWhole}
+use Rattle.server_words.specs.Output.{SinkFacts, with_line_feed}
+use Rattle.mica_cmd.specs.Outside.{SourceFacts, Outside}
+use Rattle.server_words.specs.Limits.{IsTooLong}
+use Rattle.mica_cmd.specs.Headline.{ReadsWhole}
 use Rattle.mica_cmd.specs.Promise.{IsUnwritten, IsWritten}
-
--- a line that names what went wrong
-abbrev pub with_line_feed : List ℕ → List ℕ
-with_line_feed text = text ++ 10 ∷ []
 
 -- a text of this kind is due with Done, and none with another status
 abbrev pub AtDone : (List ℕ → Type 0) → Status → List ℕ → Type 0

@@ -2,8 +2,8 @@
 use Rattle.std.specs.Prelude.{◌≡◌, ℕ, Bool, true, List, Option}
 use Rattle.std.specs.Io.KnownBytes.{IsAtEnd}
 use Rattle.partition_table.specs.declared.tables.KeptSeat.{KeptSeat}
-use Rattle.mica_serve.specs.NetRun.{NetFacts}
-use Rattle.mica_io.specs.declared.sink.Sink.{Ghosts as SinkTells}
+use Rattle.served.specs.NetRun.{NetFacts}
+use Rattle.server_words.specs.Output.{SinkFacts}
 use Rattle.mica_io.specs.declared.source.Source.{Ghosts as SourceTells}
 use Rattle.mica_client.specs.Talk.{Talk}
 use Rattle.mica_client.specs.declared.link.Link.{Ghosts as LinkTells}
@@ -19,15 +19,6 @@ pub record SourceFacts : Type 0 where
 -- by what a source tells
 abbrev pub source_facts : {S : Type 0} → SourceTells S → S → SourceFacts
 source_facts source = λ s. record { left = source.left s; given = source.given s; has_ended = source.has_ended s; faults = source.faults s }
-
--- a sink: the bytes that it took, where it tells them, and its count of faults
-pub record SinkFacts : Type 0 where
-  pub taken : Option (List ℕ)
-  pub faults : ℕ
-
--- by what a sink tells
-abbrev pub sink_facts : {K : Type 0} → SinkTells K → K → SinkFacts
-sink_facts sink = λ k. record { taken = sink.taken k; faults = sink.faults k }
 
 -- a link: its datagrams, where it tells them, whether a receive has answered that it ended, the seconds of silence after which it ends, and
 -- its count of faults

@@ -1,11 +1,12 @@
 -- What a run of a command promises, whichever command it is.
-use Rattle.std.specs.Prelude.{◌≡◌, ℕ, ◌<◌, ◌⊎◌, List, length, take}
+use Rattle.std.specs.Prelude.{◌≡◌, ℕ, ◌⊎◌, List}
 use Rattle.std.specs.Io.KnownBytes.{Appends, Keeps}
 use Rattle.mica_io.specs.Faults.{Rose}
-use Rattle.mica_serve.specs.NetRun.{NetFacts}
+use Rattle.served.specs.NetRun.{NetFacts}
 use Rattle.mica_cmd.specs.declared.status.Status.{Status}
 use Rattle.mica_cmd.specs.declared.status.Status.TheVariants.{NoMemory, WriteFault}
-use Rattle.mica_cmd.specs.Outside.{SourceFacts, SinkFacts, Outside}
+use Rattle.server_words.specs.Output.{SinkFacts, AppendsPart}
+use Rattle.mica_cmd.specs.Outside.{SourceFacts, Outside}
 
 -- the promises of one command, of what was outside before a run and is after it
 pub record Promise : Type 1 where
@@ -31,10 +32,6 @@ IsDue is_due status text = is_due status text
 -- the sink took a text of this kind, and nothing else
 abbrev pub Prints : (List ℕ → Type 0) → SinkFacts → SinkFacts → Type 0
 Prints is_due old new = (text : List ℕ) × is_due text × Appends old.taken new.taken text
-
--- the sink took a proper prefix of the text, and nothing else
-abbrev pub AppendsPart : SinkFacts → SinkFacts → List ℕ → Type 0
-AppendsPart old new text = (n : ℕ) × (n < length text) × Appends old.taken new.taken (take n text)
 
 -- What each status means: nothing written, as memory ran out; a proper prefix of what was due, where a write failed; or the text that is
 -- due, and nothing else. For a replay that ends with Done this is the headline.

@@ -1,6 +1,5 @@
 -- The promises of each command.
-use Rattle.std.specs.Prelude.{◌≡◌, ◌≢◌, ◌⊎◌, ◌||◌, ℕ, List, [], ◌∷◌, ◌++◌, codes, Option, Some, None, Result, Ok, Err}
-use Rattle.std.specs.Fmt.{decimal}
+use Rattle.std.specs.Prelude.{◌≡◌, ◌≢◌, ◌⊎◌, ◌||◌, ℕ, List, codes, Option, Some, None, Result, Ok, Err}
 use Rattle.mica_io.specs.Faults.{Rose}
 use Rattle.partition_model.specs.declared.options.Options.{Options}
 use Rattle.mica_trace.specs.declared.line.TraceLine.{TraceLine}
@@ -10,7 +9,7 @@ use Rattle.mica_trace.specs.ReportGrammar.{report_text}
 use Rattle.mica_trace.specs.LawfulReport.{LawfulReport}
 use Rattle.mica_trace.specs.ExactReport.{ExactReport}
 use Rattle.partition_table.specs.declared.tables.KeptSeat.{KeptSeat}
-use Rattle.mica_client.specs.declared.options.AskOptions.{AskOptions}
+use Rattle.server_words.specs.declared.ask_options.AskOptions.{AskOptions}
 use Rattle.mica_client.specs.declared.fault.AskFault.{AskFault}
 use Rattle.mica_client.specs.declared.fault.AskFault.TheVariants.{Link, NoMemory as NoRoom}
 use Rattle.mica_client.specs.Talk.{OnTalk, Passes}
@@ -23,11 +22,12 @@ use Rattle.store_image.specs.ImageGrammar.{Pair, SpellsImage, image_text, first_
 use Rattle.store_image.specs.ImageLines.{put_lines}
 use Rattle.store_image.specs.ImageOf.{IsImaged}
 use Rattle.mica_replay.specs.Replayed.{IsReplayed}
-use Rattle.mica_fronts.specs.declared.ports.PortOptions.{PortOptions}
+use Rattle.server_words.specs.declared.ports.PortOptions.{PortOptions}
 use Rattle.mica_fronts.specs.declared.totals.Totals.{Totals}
-use Rattle.mica_serve.specs.Others.{alone}
-use Rattle.mica_serve.specs.Served.{empty_origin}
-use Rattle.mica_serve.specs.NetRun.{NetFacts, HasServed, HasServedOnTables, HasStopped, KeepsNet}
+use Rattle.served.specs.TotalsText.{totals_text}
+use Rattle.served.specs.Others.{alone}
+use Rattle.served.specs.Served.{empty_origin}
+use Rattle.served.specs.NetRun.{NetFacts, HasServed, HasServedOnTables, HasStopped, KeepsNet}
 use Rattle.mica_commands.specs.declared.command.Command.{Command}
 use Rattle.mica_commands.specs.declared.command.Command.TheVariants.{Replay, Serve, Gen, Bench, Check, Exclusive, Ask, Image, Unpack}
 use Rattle.mica_cmd.specs.declared.status.Status.{Status}
@@ -37,9 +37,10 @@ use Rattle.mica_commands.specs.Generator.{generated}
 use Rattle.mica_commands.specs.Summary.{summary_text}
 use Rattle.mica_cmd.specs.declared.finding.Finding.{Finding}
 use Rattle.mica_cmd.specs.Findings.{Finds, finding_text, status_of}
-use Rattle.mica_cmd.specs.Outside.{SourceFacts, SinkFacts, Outside}
+use Rattle.mica_cmd.specs.Outside.{SourceFacts, Outside}
+use Rattle.server_words.specs.Output.{SinkFacts, with_line_feed}
 use Rattle.mica_cmd.specs.Promise.{Promise, Prints, IsUnwritten, IsWritten}
-use Rattle.mica_cmd.specs.Input.{with_line_feed, AtDone, IsDueByBytes, IsDueByTrace, IsDueOfInput, IsDueOfTrace, IsUntroubled, TellsInput, IsKindOfTrace, ReadsInput, GivesTrace}
+use Rattle.mica_cmd.specs.Input.{AtDone, IsDueByBytes, IsDueByTrace, IsDueOfInput, IsDueOfTrace, IsUntroubled, TellsInput, IsKindOfTrace, ReadsInput, GivesTrace}
 
 -- ---- what commands share
 
@@ -120,11 +121,6 @@ replay_promise options = record (trace_promise (IsDueOfReplay options) IsAlwaysD
 }
 
 -- ---- serve: the totals of what the fronts received
-
--- the line of what the fronts of a server received
-abbrev pub totals_text : Totals → List ℕ
-totals_text totals =
-    codes "batches " ++ decimal totals.batches ++ codes " requests " ++ decimal totals.requests ++ codes " bad " ++ decimal totals.bad ++ 10 ∷ []
 
 -- the totals of what was served, or the line of a fault of the net that stopped it
 abbrev pub IsDueOfServe : Options → PortOptions → Outside → Outside → Status → List ℕ → Type 0

@@ -1,11 +1,12 @@
 //! The command `ask`.
 ghost use Rattle.std.specs.Prelude.{◌≡◌, false, List};
 ghost use Rattle.std.specs.List.{AllByRecursion};
-ghost use Rattle.mica_serve.specs.NetRun.{NetFacts};
+ghost use Rattle.served.specs.NetRun.{NetFacts};
 ghost use Rattle.partition_table.specs.declared.tables.KeptSeat.{KeptSeat};
 ghost use Rattle.mica_trace.specs.ReportGrammar.{report_text, IsReportLine};
-ghost use Rattle.mica_client.specs.AskOptions.{IsValidAsk};
-ghost use Rattle.mica_cmd.specs.Outside.{outside, source_facts, sink_facts, link_facts};
+ghost use Rattle.server_words.specs.AskOptions.{IsValidAsk};
+ghost use Rattle.mica_cmd.specs.Outside.{outside, source_facts, link_facts};
+ghost use Rattle.server_words.specs.Output.{sink_facts};
 ghost use Rattle.mica_cmd.specs.Promise.{KeepsPromise, IsTold};
 ghost use Rattle.mica_cmd.specs.Promises.{ask_promise, fault_status, IsToldFault};
 

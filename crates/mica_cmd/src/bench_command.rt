@@ -1,9 +1,10 @@
 //! The command `bench`.
 ghost use Rattle.std.specs.Prelude.{◌≡◌, ◌⊎◌, ℕ, List, [], IfOk, OnErr, true};
 ghost use Rattle.partition_model.specs.Options.{IsValid};
-ghost use Rattle.mica_serve.specs.NetRun.{NetFacts};
+ghost use Rattle.served.specs.NetRun.{NetFacts};
 ghost use Rattle.mica_commands.specs.GenOptions.{is_valid};
-ghost use Rattle.mica_cmd.specs.Outside.{outside, SourceFacts, sink_facts, LinkFacts};
+ghost use Rattle.mica_cmd.specs.Outside.{outside, SourceFacts, LinkFacts};
+ghost use Rattle.server_words.specs.Output.{sink_facts};
 ghost use Rattle.mica_cmd.specs.Promise.{KeepsPromise};
 ghost use Rattle.mica_cmd.specs.Promises.{bench_promise, IsSeatedSummary};
 

@@ -1,12 +1,12 @@
 //! The command `check`.
 ghost use Rattle.std.specs.Prelude.{◌≡◌, ◌≢◌, ◌<◌, List, length, option_map, false, IfOk, IfSome, MatchResult};
 ghost use Rattle.partition_model.specs.Options.{IsValid};
-ghost use Rattle.mica_serve.specs.NetRun.{NetFacts};
+ghost use Rattle.served.specs.NetRun.{NetFacts};
 ghost use Rattle.partition_table.specs.declared.tables.KeptSeat.{KeptSeat};
-ghost use Rattle.mica_cmd.specs.Outside.{outside, source_facts, sink_facts, LinkFacts};
+ghost use Rattle.mica_cmd.specs.Outside.{outside, source_facts, LinkFacts};
+ghost use Rattle.server_words.specs.Output.{sink_facts, with_line_feed};
 ghost use Rattle.mica_cmd.specs.Findings.{Finds, FindsOfReport, FindsBehind, finding_text, status_of};
 ghost use Rattle.mica_cmd.specs.Promise.{KeepsPromise, IsTold};
-ghost use Rattle.mica_cmd.specs.Input.{with_line_feed};
 ghost use Rattle.mica_cmd.specs.Promises.{check_promise};
 
 use crate::Status;

@@ -1,9 +1,10 @@
 //! The command `gen`.
 ghost use Rattle.std.specs.Prelude.{◌≡◌, List, true};
-ghost use Rattle.mica_serve.specs.NetRun.{NetFacts};
+ghost use Rattle.served.specs.NetRun.{NetFacts};
 ghost use Rattle.partition_table.specs.declared.tables.KeptSeat.{KeptSeat};
 ghost use Rattle.mica_commands.specs.GenOptions.{is_valid};
-ghost use Rattle.mica_cmd.specs.Outside.{outside, SourceFacts, sink_facts, LinkFacts};
+ghost use Rattle.mica_cmd.specs.Outside.{outside, SourceFacts, LinkFacts};
+ghost use Rattle.server_words.specs.Output.{sink_facts};
 ghost use Rattle.mica_cmd.specs.Promise.{KeepsPromise};
 ghost use Rattle.mica_cmd.specs.Promises.{gen_promise};
 

@@ -1,6 +1,7 @@
 //! The reading of the source, which every command that uses it begins with.
 ghost use Rattle.std.specs.Prelude.{◌≡◌, IfOk, IfErr, OnOk, false};
-ghost use Rattle.mica_cmd.specs.Outside.{source_facts, sink_facts};
+ghost use Rattle.mica_cmd.specs.Outside.{source_facts};
+ghost use Rattle.server_words.specs.Output.{sink_facts};
 ghost use Rattle.mica_cmd.specs.Headline.{ReadsWhole};
 ghost use Rattle.mica_cmd.specs.Promise.{WritesDue};
 ghost use Rattle.mica_cmd.specs.Input.{NoneByBytes, NoneByTrace, IsRefusedWith, IsDueOfInput, IsDueOfTrace, ReadsInput, GivesTrace};

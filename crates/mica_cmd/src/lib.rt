@@ -28,9 +28,6 @@ pub use laws::headline;
 pub use mica_commands::{
     Command, GenOptions, MAX_SOURCE_LEN, WordsFault, gen_trace, put_summary, read_words,
 };
-pub use output::write_due;
-pub use program::{all_words, behind_name, exit_code, run_program};
-pub use serve_command::print_totals;
+pub use program::{exit_code, run_program};
 pub use status::Status;
 pub use top::mica;
-pub use unpack_command::refuse_image;

@@ -1,5 +1,5 @@
 //! The writing of what is due with a status.
-ghost use Rattle.mica_cmd.specs.Outside.{sink_facts};
+ghost use Rattle.server_words.specs.Output.{sink_facts};
 ghost use Rattle.mica_cmd.specs.Promise.{IsWritten};
 
 use crate::Status;

@@ -1,55 +1,23 @@
 //! The whole program: its words, and the number that it ends with.
-ghost use Rattle.std.specs.Prelude.{◌≡◌, [], IfOk, Some, drop, false, map, string_bytes};
+ghost use Rattle.std.specs.Prelude.{◌≡◌, [], false, string_bytes};
 ghost use Rattle.std.specs.Process.{exit_status};
-ghost use Rattle.std.specs.Vec.Iter.{into_iter_items};
-ghost use Rattle.mica_serve.specs.NetRun.{net_facts};
-ghost use Rattle.mica_cmd.specs.Outside.{outside, source_facts, sink_facts, link_facts};
-ghost use Rattle.mica_cmd.specs.Exit.{all_words_of, words_of, exit_number, Exits};
+ghost use Rattle.served.specs.NetRun.{net_facts};
+ghost use Rattle.mica_cmd.specs.Outside.{outside, source_facts, link_facts};
+ghost use Rattle.server_words.specs.Output.{sink_facts};
+ghost use Rattle.mica_cmd.specs.Exit.{exit_number, Exits};
+ghost use Rattle.option_words.specs.ProgramWords.{words_of};
 
 use crate::{Status, mica};
 use mica_client::Link;
 use mica_io::{Gate, Net, NoMemory, Sink, Source};
+use option_words::{all_words, behind_name};
 use partition_table::Tables;
 use std::alloc::Global;
 use std::env::Args;
-use std::io::{self, ErrorKind};
+use std::io;
 use std::process::ExitCode;
 use std::sync::Wait;
 use std::thread::Threads;
-
-fn gathered(alloc: Global, args: Args) -> Result<Vec<String>, NoMemory>
-    ensures { IfOk result (λ words. words.items ≡ into_iter_items args) }
-{
-    let mut words = Vec::new(alloc);
-    let mut left = args;
-    while let Some(word) = left.next() {
-        words.push(word)?;
-    }
-    Ok(words)
-}
-
-/// All words, the program's name first.
-pub fn all_words(alloc: Global, args: io::Result<Args>) -> Result<Vec<String>, NoMemory>
-    ensures { IfOk result (λ words. all_words_of string_bytes args ≡ Some (map string_bytes words.items)) }
-{
-    match args {
-        Ok(args) => gathered(alloc, args),
-        Err(error) => match error.kind() {
-            ErrorKind::OutOfMemory => Err(NoMemory),
-            _ => Ok(Vec::new(alloc)),
-        },
-    }
-}
-
-/// The words behind the program's name.
-pub fn behind_name(words: &[String]) -> &[String]
-    ensures { result.now ≡ drop 1 words.now }
-{
-    match words.split_first() {
-        Some((_, behind)) => behind,
-        None => words,
-    }
-}
 
 /// The number of a status.
 pub fn exit_code(status: Status) -> ExitCode

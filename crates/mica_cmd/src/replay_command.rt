@@ -1,8 +1,9 @@
 //! The command `replay`.
 ghost use Rattle.std.specs.Prelude.{◌≡◌, [], false};
 ghost use Rattle.partition_model.specs.Options.{IsValid};
-ghost use Rattle.mica_serve.specs.NetRun.{NetFacts};
-ghost use Rattle.mica_cmd.specs.Outside.{outside, source_facts, sink_facts, LinkFacts};
+ghost use Rattle.served.specs.NetRun.{NetFacts};
+ghost use Rattle.mica_cmd.specs.Outside.{outside, source_facts, LinkFacts};
+ghost use Rattle.server_words.specs.Output.{sink_facts};
 ghost use Rattle.mica_cmd.specs.Promise.{KeepsPromise};
 ghost use Rattle.mica_cmd.specs.Promises.{replay_promise};
 

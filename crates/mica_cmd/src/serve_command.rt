@@ -1,18 +1,21 @@
 //! The command `serve`.
 ghost use Rattle.std.specs.Prelude.{◌≡◌, []};
 ghost use Rattle.partition_model.specs.Options.{IsValid};
-ghost use Rattle.mica_fronts.specs.PortOptions.{IsValidPorts};
-ghost use Rattle.mica_serve.specs.NetRun.{net_facts};
-ghost use Rattle.mica_cmd.specs.Outside.{outside, SourceFacts, sink_facts, LinkFacts};
+ghost use Rattle.server_words.specs.PortOptions.{IsValidPorts};
+ghost use Rattle.served.specs.NetRun.{net_facts};
+ghost use Rattle.mica_cmd.specs.Outside.{outside, SourceFacts, LinkFacts};
+ghost use Rattle.server_words.specs.Output.{sink_facts};
 ghost use Rattle.mica_cmd.specs.Promise.{KeepsPromise, IsTold};
-ghost use Rattle.mica_cmd.specs.Promises.{serve_promise, totals_text};
+ghost use Rattle.mica_cmd.specs.Promises.{serve_promise};
+ghost use Rattle.served.specs.TotalsText.{totals_text};
 
 use crate::Status;
 use crate::output::write_due;
-use mica_io::{Gate, Net, Sink};
+use mica_io::{Gate, Net, NoMemory, Sink};
 use mica_serve::{PortOptions, ServeFault, Totals, serve};
 use partition_model::Options;
 use partition_table::Tables;
+use served::totals_line;
 use std::alloc::Global;
 use std::sync::Wait;
 use std::thread::Threads;
@@ -47,13 +50,8 @@ pub fn serve_command<W: Threads + Wait + Sync, K: Sink, N: Net, G: Gate>(
 pub fn print_totals<K: Sink>(alloc: Global, totals: Totals, status: Status, sink: &mut K) -> Status
     ensures { IsTold status (totals_text totals) (sink_facts K.Sink sink.old) (sink_facts K.Sink sink.new) result }
 {
-    let Totals {
-        batches,
-        requests,
-        bad,
-    } = totals;
-    match format!(in alloc; "batches {batches} requests {requests} bad {bad}\n") {
+    match totals_line(alloc, totals) {
         Ok(line) => write_due(sink, line.as_bytes(), status),
-        Err(_) => Status::NoMemory,
+        Err(NoMemory) => Status::NoMemory,
     }
 }

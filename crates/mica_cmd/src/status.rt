@@ -24,6 +24,4 @@ pub enum Status {
     LinkFault,
     /// What the source gave is no image.
     ImageRefused,
-    /// A server that stays up can take no more.
-    UsedUp,
 }

@@ -1,8 +1,9 @@
 //! The top call: from the words of a command to its status, its text and what it leaves.
 ghost use Rattle.std.specs.Prelude.{◌≡◌, [], map, string_bytes, false};
-ghost use Rattle.mica_serve.specs.NetRun.{net_facts};
+ghost use Rattle.served.specs.NetRun.{net_facts};
 ghost use Rattle.mica_commands.specs.CommandLine.{command_of};
-ghost use Rattle.mica_cmd.specs.Outside.{outside, source_facts, sink_facts, link_facts};
+ghost use Rattle.mica_cmd.specs.Outside.{outside, source_facts, link_facts};
+ghost use Rattle.server_words.specs.Output.{sink_facts};
 ghost use Rattle.mica_cmd.specs.Promise.{KeepsPromise};
 ghost use Rattle.mica_cmd.specs.Promises.{promise_of};
 

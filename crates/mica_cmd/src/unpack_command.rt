@@ -1,10 +1,11 @@
 //! The command `unpack`.
 ghost use Rattle.std.specs.Prelude.{◌≡◌, false, List};
-ghost use Rattle.mica_serve.specs.NetRun.{NetFacts};
+ghost use Rattle.served.specs.NetRun.{NetFacts};
 ghost use Rattle.partition_table.specs.declared.tables.KeptSeat.{KeptSeat};
 ghost use Rattle.mica_trace.specs.TraceGrammar.{trace_text};
 ghost use Rattle.store_image.specs.ImageLines.{put_lines};
-ghost use Rattle.mica_cmd.specs.Outside.{outside, source_facts, sink_facts, LinkFacts};
+ghost use Rattle.mica_cmd.specs.Outside.{outside, source_facts, LinkFacts};
+ghost use Rattle.server_words.specs.Output.{sink_facts};
 ghost use Rattle.mica_cmd.specs.Promise.{KeepsPromise, IsTold};
 ghost use Rattle.mica_cmd.specs.Promises.{unpack_promise, IsRefusedImage};
 

@@ -4,37 +4,21 @@ use Rattle.std.specs.Prelude.{bytes_eq}
 use Rattle.std.proofs.lemmas.Slice.Eq.{bytes_eq-Decides}
 use Rattle.std.proofs.lemmas.Option.{none-some}
 use Rattle.std.proofs.lemmas.Grind.{common_steps}
+use Rattle.option_words.specs.declared.words_fault.WordsFault.{WordsFault}
+use Rattle.option_words.specs.declared.words_fault.WordsFault.TheVariants.{Usage, NoMemory}
+use Rattle.option_words.specs.Words.{Text, given_by, text_of}
+use Rattle.option_words.specs.Settings.{read_as, value_of, ◌>>=◌}
+use Rattle.option_words.proofs.ValueLemmas.{both_told}
 use Rattle.mica_commands.specs.declared.command.Command.{Command}
-use Rattle.mica_commands.specs.declared.command.WordsFault.{WordsFault}
-use Rattle.mica_commands.specs.declared.command.WordsFault.TheVariants.{Usage, NoMemory}
 use Rattle.mica_commands.specs.declared.gen_options.GenOptions.{GenOptions}
 use Rattle.mica_commands.specs.GenOptions.{is_valid}
-use Rattle.mica_commands.proofs.ValueLemmas.{both_told}
-use Rattle.mica_commands.specs.Words.{Text, Given, given_by, text_of}
-use Rattle.mica_commands.specs.ClapCommand.{GivesTexts}
-use Rattle.mica_commands.specs.DaemonWords.{daemon_names, daemon_given, daemon_of, IsDaemonReading}
-use Rattle.mica_commands.specs.CommandLine.{command_of, command_named, read_as, IsReadingOf, gen_options, if_valid, value_of, seed, ops, keys, key_len, value_len, gets, dels, hot, every, ◌>>=◌}
-
--- what a command makes of its options' texts, where these texts were given
-pub read_given : {A : Type 0} (known names : List Text) → known ≡ names → (meaning : (Text → Option Text) → Option A) (words : List Text) (texts : Text → Option Text)
-    → GivesTexts texts (given_by known words) → read_as names meaning words ≡ meaning texts
-read_given known names same meaning words texts is = by_given (given_by names words) (subst (λ n. GivesTexts texts (given_by n words)) same is)
-  where
-    by_given : (r : Option Given) → GivesTexts texts r → (r >>= λ given. meaning (text_of given)) ≡ meaning texts
-    by_given None none = absurd none
-    by_given (Some given) is = let same : texts ≡ text_of given = λ j name. is name j in ap meaning (sym same)
+use Rattle.mica_commands.specs.CommandLine.{command_of, command_named, IsReadingOf, gen_options, if_valid, seed, ops, keys, key_len, value_len, gets, dels, hot, every}
 
 -- words that give nothing to the options give no command
 pub read_none : (known names : List Text) → known ≡ names → (meaning : (Text → Option Text) → Option Command) (words : List Text) (fault : WordsFault)
     → (fault ≡ Usage → given_by known words ≡ None) → IsReadingOf (read_as names meaning words) (Err fault)
 read_none known names same meaning words Usage none = ap (λ r. r >>= λ given. meaning (text_of given)) (ap (λ n. given_by n words) (sym same) ∙ none refl)
 read_none known names same meaning words NoMemory none = tt
-
--- nor such a server
-pub daemon_none : (known : List Text) → known ≡ daemon_names → (words : List Text) (fault : WordsFault) → (fault ≡ Usage → given_by known words ≡ None)
-    → IsDaemonReading (daemon_of words) (Err fault)
-daemon_none known same words Usage none = ap (λ r. r >>= λ given. daemon_given (text_of given)) (ap (λ n. given_by n words) (sym same) ∙ none refl)
-daemon_none known same words NoMemory none = tt
 
 -- the words of a command, behind its name
 pub command_is : {S : Type 0} (text : S → Text) (words : List S) (name : S) (rest : List S) → words ≡ name ∷ rest → command_of (map text words) ≡ command_named (text name) (map text rest)

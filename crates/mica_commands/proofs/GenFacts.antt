@@ -5,7 +5,7 @@ use Rattle.std.specs.Fmt.{decimal}
 use Rattle.std.proofs.lemmas.Bool.{false≢true, leb-true, ltb-true}
 use Rattle.std.proofs.lemmas.Fmt.{length-decimal-le}
 use Rattle.mica_trace.specs.declared.limits.TheConstants.{MAX_LINES, MAX_ROUNDS}
-use Rattle.mica_commands.specs.declared.limits.TheConstants.{MAX_SOURCE_LEN}
+use Rattle.server_words.specs.declared.limits.TheConstants.{MAX_SOURCE_LEN}
 use Rattle.mica_commands.specs.declared.gen_options.GenOptions.{GenOptions}
 use Rattle.mica_commands.specs.GenOptions.{are_in_ranges, has_room, is_valid, syncs_of, longest_text}
 use Rattle.mica_commands.specs.Generator.{key_number}

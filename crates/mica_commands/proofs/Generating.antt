@@ -14,7 +14,7 @@ use Rattle.std.proofs.lemmas.Str.Parse.{numerals_by_value, tells_digits}
 use Rattle.std.proofs.lemmas.Grind.{common_steps}
 use Rattle.mica_trace.specs.declared.line.TraceLine.{TraceLine}
 use Rattle.mica_trace.specs.TraceGrammar.{trace_text, line_text, IsKey, IsValue, IsTraceLine, is_sync, sync_line, syncs_in, IsWithinLimits}
-use Rattle.mica_commands.specs.declared.limits.TheConstants.{MAX_SOURCE_LEN}
+use Rattle.server_words.specs.declared.limits.TheConstants.{MAX_SOURCE_LEN}
 use Rattle.mica_commands.specs.declared.gen_options.GenOptions.{GenOptions}
 use Rattle.mica_commands.specs.declared.draw.Draw.{Draw}
 use Rattle.mica_commands.specs.declared.draw.OpKind.{OpKind}

@@ -2,7 +2,7 @@
 use Rattle.std.specs.Prelude.{ℕ, ◌+◌, ◌-◌, ◌*◌, ◌/◌, Bool, ◌&&◌, nat_le, nat_lt}
 use Rattle.std.specs.Int.{is_in_range}
 use Rattle.mica_trace.specs.declared.limits.TheConstants.{MAX_LINES, MAX_ROUNDS}
-use Rattle.mica_commands.specs.declared.limits.TheConstants.{MAX_SOURCE_LEN}
+use Rattle.server_words.specs.declared.limits.TheConstants.{MAX_SOURCE_LEN}
 use Rattle.mica_commands.specs.declared.gen_options.GenOptions.{GenOptions}
 
 -- each number is in its range

@@ -1,20 +1,17 @@
 //! The commands, and the words that give them.
 ghost use Rattle.std.specs.Prelude.{◌≡◌, map, string_bytes};
-ghost use Rattle.mica_commands.specs.CommandLine.{ask_given, ask_names, bench_given, bench_names, check_given, command_of, exclusive_given, exclusive_names, image_given, image_names, unpack_given, unpack_names, gen_given, gen_names, read_as, replay_given, replay_names, serve_given, serve_names, IsReadingOf};
+ghost use Rattle.mica_commands.specs.CommandLine.{ask_given, ask_names, bench_given, bench_names, check_given, command_of, exclusive_given, exclusive_names, image_given, image_names, unpack_given, unpack_names, gen_given, gen_names, replay_given, replay_names, serve_given, serve_names, IsReadingOf};
+ghost use Rattle.option_words.specs.Settings.{read_as};
 
 use crate::GenOptions;
-use crate::clap_command::matches_of;
 use crate::option_values::{
     ask_options, exclusive_options, gen_options, image_options, port_options, replay_options,
     serve_options,
 };
-use mica_client::AskOptions;
-use mica_fronts::PortOptions;
-use mica_io::NoMemory;
+use option_words::{WordsFault, matches_of};
 use partition_model::Options;
+use server_words::{AskOptions, PortOptions};
 use std::alloc::Global;
-use std::error::Error;
-use std::fmt;
 
 /// What the program is asked to do.
 #[derive(Clone, Copy, PartialEq, Eq)]
@@ -38,24 +35,6 @@ pub enum Command {
     /// To print the pairs of the image that the source gives.
     Unpack,
 }
-
-/// Why there is no command: the words give none, or there was no memory to read them.
-#[derive(Clone, Copy, Debug, PartialEq, Eq)]
-pub enum WordsFault {
-    Usage,
-    NoMemory,
-}
-
-impl fmt::Display for WordsFault {
-    fn fmt<W: fmt::Write>(&self, f: &mut fmt::Formatter<W>) -> fmt::Result {
-        match self {
-            WordsFault::Usage => f.write_str("the words are no command"),
-            WordsFault::NoMemory => fmt::Display::fmt(&NoMemory, f),
-        }
-    }
-}
-
-impl Error for WordsFault {}
 
 static REPLAY_OPTIONS: [&str; 8] = [
     "mode",

@@ -3,8 +3,8 @@ ghost use Rattle.std.specs.Prelude.{◌≡◌, true};
 ghost use Rattle.std.specs.Int.{is_in_range};
 ghost use Rattle.mica_commands.specs.GenOptions.{are_in_ranges, has_room, is_valid, longest_text, syncs_of};
 
-use crate::MAX_SOURCE_LEN;
 use mica_trace::{MAX_LINES, MAX_ROUNDS};
+use server_words::MAX_SOURCE_LEN;
 
 /// What a trace is generated from.
 #[derive(Clone, Copy, PartialEq, Eq)]

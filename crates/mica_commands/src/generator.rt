@@ -1,12 +1,13 @@
 //! Generates traces.
 ghost use Rattle.std.specs.Prelude.{◌≡◌, ◌≤◌, ◌<◌, ◌*◌, ◌++◌, length, true, IfOk, OnOk};
 ghost use Rattle.mica_trace.specs.TraceGrammar.{trace_text};
+ghost use Rattle.server_words.specs.declared.limits.TheConstants.{MAX_SOURCE_LEN};
 ghost use Rattle.mica_commands.specs.GenOptions.{is_valid};
 ghost use Rattle.mica_commands.specs.Generator.{padded, drawn_key, drawn_line, drawn_lines, generated};
 
+use crate::GenOptions;
 use crate::draw::{Draw, OpKind, ends_round, next_draw, start};
 use crate::spelling::{put_key, put_value};
-use crate::{GenOptions, MAX_SOURCE_LEN};
 use mica_io::{Bytes, CowBytes, NoMemory};
 use mica_trace::{Trace, TraceLine, TraceOp};
 use std::alloc::Global;

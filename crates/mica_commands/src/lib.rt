@@ -5,28 +5,21 @@
 //! generator, and a summary is that of its trace and its report.
 #![tactic(auto)]
 
-mod clap_command;
 mod command;
-mod daemon_words;
 mod draw;
 mod examples;
 mod gen_options;
 mod generated_text;
 mod generator;
-mod limits;
-mod memory;
 mod option_values;
 mod spelling;
-mod stream_words;
 mod summary;
 
-pub use command::{Command, WordsFault, read_words};
-pub use daemon_words::{DaemonOptions, MOST_FRONTS, read_daemon};
+pub use command::{Command, read_words};
 pub use examples::{default_replay, named_options};
 pub use gen_options::GenOptions;
 pub use generated_text::gen_text;
 pub use generator::gen_trace;
-pub use limits::MAX_SOURCE_LEN;
-pub use option_values::number_of;
-pub use stream_words::StreamOptions;
+pub use option_words::WordsFault;
+pub use server_words::MAX_SOURCE_LEN;
 pub use summary::put_summary;

@@ -6,17 +6,17 @@ use Rattle.partition_model.specs.declared.options.Options.{Options}
 use Rattle.partition_model.specs.declared.write.Write.{Write}
 use Rattle.mica_fronts.specs.declared.totals.Totals.{Totals}
 use Rattle.mica_fronts.specs.declared.totals.ServeFault.TheVariants as faults
-use Rattle.mica_fronts.specs.declared.ports.PortOptions.{PortOptions}
+use Rattle.server_words.specs.declared.ports.PortOptions.{PortOptions}
 use Rattle.locked_serve.specs.declared.service.Service.{Service as LockedService}
 use Rattle.locked_serve.specs.declared.stop.Stop.{Stop}
 use Rattle.locked_serve.specs.declared.stop.Stop.TheVariants.{Refused, Unbound, Unannounced, Fault}
 use Rattle.locked_serve.specs.Causes.{HasAnnounced, Leaves, PortFacts}
-use Rattle.mica_cmd.specs.declared.status.Status.{Status}
-use Rattle.mica_commands.specs.Words.{Text}
-use Rattle.mica_commands.specs.declared.stream_words.StreamOptions.{StreamOptions}
-use Rattle.mica_commands.specs.DaemonWords.{Service}
-use Rattle.mica_cmd.specs.Outside.{SinkFacts}
-use Rattle.mica_cmd.specs.Promise.{IsUnwritten}
+use Rattle.mica_daemon.specs.declared.status.DaemonStatus.{DaemonStatus}
+use Rattle.option_words.specs.Words.{Text}
+use Rattle.daemon_words.specs.declared.streams.StreamOptions.{StreamOptions}
+use Rattle.daemon_words.specs.DaemonWords.{Service}
+use Rattle.server_words.specs.Output.{SinkFacts}
+use Rattle.mica_daemon.specs.Written.{IsUnwritten}
 use Rattle.mica_daemon.specs.Files.{FilesFacts}
 use Rattle.mica_daemon.specs.Filling.{KeepsFiles}
 use Rattle.mica_daemon.specs.Daemon.{DaemonOutside, Says, FailsToSay, ready_text, WritesLast, ServesAloud, ServesPlaced, BindsNothing, KeepsUp, place_of, placed}
@@ -54,12 +54,12 @@ leaves_by line_of sink_of {answer} {service} {before} {after} {old} {new} same i
 }
 
 -- what is written last, by why it stopped short
-pub written_last : (stop cause : Stop) (old new : SinkFacts) (status : Status) → stop ≡ cause → WritesLast (Err cause) old new status → WritesLast (Err stop) old new status
+pub written_last : (stop cause : Stop) (old new : SinkFacts) (status : DaemonStatus) → stop ≡ cause → WritesLast (Err cause) old new status → WritesLast (Err stop) old new status
 written_last stop cause old new status is last = subst (λ (s : Stop). WritesLast (Err s) old new status) (sym is) last
 
 -- a server whose listeners had been told where to listen, with the clocks that it took
 pub serves_placed : {options : Options} {ports : PortOptions} {streams : StreamOptions} (all : List ClockView) {taken : List ClockView} {base : ℕ} {writes : List Write} (old : DaemonOutside) {told new : DaemonOutside}
-    {status : Status} → take streams.ports.fronts all ≡ taken → told ≡ placed (place_of streams) old
+    {status : DaemonStatus} → take streams.ports.fronts all ≡ taken → told ≡ placed (place_of streams) old
     → ServesAloud (record { options = options; ports = ports; streams = streams.ports; base = base }) taken writes told new status
     → ServesPlaced options ports streams all base writes old new status
 serves_placed {options} {ports} {streams} all {base = base} {writes = writes} old {new = new} {status = status} same is served =
@@ -71,7 +71,7 @@ kept_files None files = refl
 kept_files (Some name) files = omega arith
 
 -- where there was no memory before it began, the words do not matter
-pub unwritten : (given : Option Service) (clocks : List ClockView) (base : ℕ) (files : FilesFacts) (old new : DaemonOutside) (status : Status) → IsUnwritten old.sink new.sink status → BindsNothing old new
+pub unwritten : (given : Option Service) (clocks : List ClockView) (base : ℕ) (files : FilesFacts) (old new : DaemonOutside) (status : DaemonStatus) → IsUnwritten old.sink new.sink status → BindsNothing old new
     → KeepsUp given clocks base files files old new status
 unwritten None clocks base files old new status none same = (inl none, same, refl)
 unwritten (Some service) clocks base files old new status none same = (inr (inl none, same), kept_files service.image files)

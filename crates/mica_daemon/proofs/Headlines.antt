@@ -17,25 +17,24 @@ use Rattle.mica_fronts.specs.Answered.{Answered}
 use Rattle.mica_fronts.specs.declared.totals.Totals.{Totals}
 use Rattle.mica_fronts.specs.declared.totals.ServeFault.{ServeFault}
 use Rattle.mica_fronts.specs.declared.totals.ServeFault.TheVariants as faults
-use Rattle.stream_fronts.specs.declared.ports.StreamPorts.{StreamPorts}
+use Rattle.server_words.specs.declared.stream_ports.StreamPorts.{StreamPorts}
 use Rattle.stream_fronts.specs.declared.desk.TheConstants.{MOST_UNSENT}
 use Rattle.stream_fronts.specs.Open.{OnLogs}
 use Rattle.stream_fronts.specs.Turns.{TakesTurns}
-use Rattle.mica_serve.specs.NetRun.{OnPorts, IsCauseOnceBound}
+use Rattle.served.specs.NetRun.{OnPorts, IsCauseOnceBound}
 use Rattle.locked_serve.specs.declared.service.Service.{Service as LockedService}
 use Rattle.locked_serve.specs.declared.stop.Stop.{Stop}
 use Rattle.locked_serve.specs.declared.stop.Stop.TheVariants.{Refused, Unbound, Unannounced, Fault}
 use Rattle.locked_serve.specs.Filled.{origin_of}
 use Rattle.locked_serve.specs.Streams.{StreamFacts, ListenFacts, ServesClients, ServesFrom, AreStreams, HasFinished, HaveFinished, HaveStopped, counted_by_all, others_of, with_ports}
 use Rattle.locked_serve.specs.Causes.{HasCause, IsCauseOfStop, Leaves}
-use Rattle.mica_commands.specs.Words.{Text}
-use Rattle.mica_commands.specs.DaemonWords.{Service}
-use Rattle.mica_cmd.specs.declared.status.Status.{Status}
-use Rattle.mica_cmd.specs.declared.status.Status.TheVariants.{ImageRefused, NetFault, UsedUp}
-use Rattle.mica_cmd.specs.Outside.{SinkFacts}
-use Rattle.mica_cmd.specs.Promise.{IsDue, IsWritten, IsTold}
-use Rattle.mica_cmd.specs.Promises.{totals_text}
-use Rattle.mica_cmd.specs.Input.{with_line_feed}
+use Rattle.option_words.specs.Words.{Text}
+use Rattle.daemon_words.specs.DaemonWords.{Service}
+use Rattle.mica_daemon.specs.declared.status.DaemonStatus.{DaemonStatus}
+use Rattle.mica_daemon.specs.declared.status.DaemonStatus.TheVariants.{ImageRefused, NetFault, UsedUp}
+use Rattle.server_words.specs.Output.{SinkFacts, with_line_feed}
+use Rattle.mica_daemon.specs.Written.{IsDue, IsWritten, IsTold}
+use Rattle.served.specs.TotalsText.{totals_text}
 use Rattle.mica_daemon.specs.Files.{FilesFacts}
 use Rattle.mica_daemon.specs.Filling.{Fills, IsDueOfFile}
 use Rattle.mica_daemon.specs.Daemon.{DaemonOutside, Says, FailsToSay, ready_text, unbound_text, WritesLast, placed, place_of, FillsAndServes}
@@ -160,21 +159,21 @@ module _ (options : Options) (base : ℕ) (streams : StreamPorts) (clocks : List
 -- What is written
 
 -- neither out of memory nor a write that failed
-abbrev pub IsToTheLast : Status → Type 0
+abbrev pub IsToTheLast : DaemonStatus → Type 0
 IsToTheLast UsedUp = ⊤
 IsToTheLast NetFault = ⊤
 IsToTheLast _ = ⊥
 
-written : (due status : Status) (text : List ℕ) (old new : SinkFacts) → IsToTheLast status → IsWritten due text old new status → (status ≡ due) × Appends old.taken new.taken text
+written : (due status : DaemonStatus) (text : List ℕ) (old new : SinkFacts) → IsToTheLast status → IsWritten due text old new status → (status ≡ due) × Appends old.taken new.taken text
 written due status text old new last (inl is) = is
 written due status text old new last (inr failed) = absurd (subst IsToTheLast failed.0 last)
 
-is_told : (due status : Status) (text : List ℕ) (old new : SinkFacts) → IsToTheLast status → IsTold due text old new status → (status ≡ due) × Appends old.taken new.taken text
+is_told : (due status : DaemonStatus) (text : List ℕ) (old new : SinkFacts) → IsToTheLast status → IsTold due text old new status → (status ≡ due) × Appends old.taken new.taken text
 is_told due status text old new last (inl none) = absurd (subst IsToTheLast none.0 last)
 is_told due status text old new last (inr is) = written due status text old new last is
 
 -- with neither status an image is refused
-no_image : (files after : FilesFacts) (image : Option Text) (status : Status) (text : List ℕ) → IsToTheLast status → IsDue (IsDueOfFile files after image) status text → ⊥
+no_image : (files after : FilesFacts) (image : Option Text) (status : DaemonStatus) (text : List ℕ) → IsToTheLast status → IsDue (IsDueOfFile files after image) status text → ⊥
 no_image files after None UsedUp text last is = is
 no_image files after None NetFault text last is = is
 no_image files after (Some name) UsedUp text last is = is.3
@@ -194,7 +193,7 @@ module _ (service : Service) (base : ℕ) (clocks : List ClockView) (files after
   before = placed (place_of service.streams) old
 
   -- what follows, by the status
-  abbrev pub Promised : Status → Type 0
+  abbrev pub Promised : DaemonStatus → Type 0
   Promised UsedUp = OnPorts (ServesLawfully service base files old new) old.ports.net.ports new.ports.net.ports
   Promised NetFault = NamesPort old new ⊎ OnPorts (StopsLawfully service base files old new) old.ports.net.ports new.ports.net.ports
   Promised _ = ⊤
@@ -236,7 +235,7 @@ module _ (service : Service) (base : ℕ) (clocks : List ClockView) (files after
         printed = printed;
       }))
 
-  by_answer : (writes : List Write) → Fills files service.image writes → (status : Status) → IsToTheLast status → (said : SinkFacts) (answer : Result Totals Stop)
+  by_answer : (writes : List Write) → Fills files service.image writes → (status : DaemonStatus) → IsToTheLast status → (said : SinkFacts) (answer : Result Totals Stop)
       → IsCauseOfStop answer locked writes taken new.tables new.lacked before.ports new.ports
       → Leaves (λ ports streams. Says (ready_text ports streams)) (λ ports streams. FailsToSay (ready_text ports streams)) answer locked before.ports new.ports old.sink said
       → WritesLast answer said new.sink status → Promised status
@@ -258,7 +257,7 @@ module _ (service : Service) (base : ℕ) (clocks : List ClockView) (files after
   by_answer writes filled status final said (Err Refused) cause leaves last =
       absurd (subst IsToTheLast (written ImageRefused status (with_line_feed (codes "pair refused")) said new.sink final last).0 final)
 
-  pub promised : (status : Status) → IsToTheLast status → FillsAndServes service clocks base files after old new status → Promised status
+  pub promised : (status : DaemonStatus) → IsToTheLast status → FillsAndServes service clocks base files after old new status → Promised status
   promised status final (inl it) = by_answer it.0 it.2 status final it.3.said it.3.answer it.3.cause it.3.leaves it.3.last
   promised status final (inr it) = elim it.0 [
     | inl none ↦ absurd (subst IsToTheLast none.0 final)

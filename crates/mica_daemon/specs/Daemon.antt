@@ -12,20 +12,19 @@ use Rattle.partition_sizes.specs.Bytes.{start_bytes}
 use Rattle.partition_table.specs.declared.tables.KeptSeat.{KeptSeat}
 use Rattle.mica_fronts.specs.declared.totals.Totals.{Totals}
 use Rattle.mica_fronts.specs.declared.totals.ServeFault.TheVariants as faults
-use Rattle.mica_fronts.specs.declared.ports.PortOptions.{PortOptions}
+use Rattle.server_words.specs.declared.ports.PortOptions.{PortOptions}
 use Rattle.locked_serve.specs.declared.stop.Stop.{Stop}
 use Rattle.locked_serve.specs.declared.stop.Stop.TheVariants.{Refused, Unbound, Unannounced, Fault}
-use Rattle.stream_fronts.specs.declared.ports.StreamPorts.{StreamPorts}
+use Rattle.server_words.specs.declared.stream_ports.StreamPorts.{StreamPorts}
 use Rattle.locked_serve.specs.declared.service.Service.{Service as LockedService}
 use Rattle.locked_serve.specs.Causes.{IsCauseOfStop, Leaves, PortFacts}
-use Rattle.mica_commands.specs.declared.stream_words.StreamOptions.{StreamOptions}
-use Rattle.mica_commands.specs.DaemonWords.{Service}
-use Rattle.mica_cmd.specs.declared.status.Status.{Status}
-use Rattle.mica_cmd.specs.declared.status.Status.TheVariants.{Usage, NoMemory, NetFault, WriteFault, ImageRefused, UsedUp}
-use Rattle.mica_cmd.specs.Outside.{SinkFacts}
-use Rattle.mica_cmd.specs.Promise.{IsWritten, IsUnwritten, WritesDue, IsTold}
-use Rattle.mica_cmd.specs.Promises.{totals_text}
-use Rattle.mica_cmd.specs.Input.{with_line_feed}
+use Rattle.daemon_words.specs.declared.streams.StreamOptions.{StreamOptions}
+use Rattle.daemon_words.specs.DaemonWords.{Service}
+use Rattle.mica_daemon.specs.declared.status.DaemonStatus.{DaemonStatus}
+use Rattle.mica_daemon.specs.declared.status.DaemonStatus.TheVariants.{Usage, NoMemory, NetFault, WriteFault, ImageRefused, UsedUp}
+use Rattle.server_words.specs.Output.{SinkFacts, with_line_feed}
+use Rattle.mica_daemon.specs.Written.{IsWritten, IsUnwritten, WritesDue, IsTold}
+use Rattle.served.specs.TotalsText.{totals_text}
 use Rattle.mica_daemon.specs.Files.{FilesFacts}
 use Rattle.mica_daemon.specs.Filling.{Fills, IsDueOfFile, KeepsFiles}
 
@@ -60,7 +59,7 @@ abbrev pub unbound_text : ℕ → List ℕ
 unbound_text port = codes "port " ++ decimal port ++ codes " not bound\n"
 
 -- what is written last, by what the server came to, and the status
-abbrev pub WritesLast : Result Totals Stop → SinkFacts → SinkFacts → Status → Type 0
+abbrev pub WritesLast : Result Totals Stop → SinkFacts → SinkFacts → DaemonStatus → Type 0
 WritesLast (Ok totals) old new status = IsTold UsedUp (totals_text totals) old new status
 WritesLast (Err (Unbound port)) old new status = IsTold NetFault (unbound_text port) old new status
 WritesLast (Err (Fault faults.Net)) old new status = IsWritten NetFault (with_line_feed (codes "net fault")) old new status
@@ -70,7 +69,7 @@ WritesLast (Err Unannounced) old new status = (status ≡ WriteFault) × (new �
 
 -- The server, which these writes filled, came to this answer, for the cause that it names. It said that its ports are had where they were, and wrote what is due at its end.
 -- So the clocks of its fronts behind connections were seen before, and unique numbers of values begin at the base.
-pub record ServesAloud (service : LockedService) (clocks : List ClockView) (writes : List Write) (old new : DaemonOutside) (status : Status) : Type 0 where
+pub record ServesAloud (service : LockedService) (clocks : List ClockView) (writes : List Write) (old new : DaemonOutside) (status : DaemonStatus) : Type 0 where
   pub answer : Result Totals Stop
   pub said : SinkFacts
   pub cause : IsCauseOfStop answer service writes clocks new.tables new.lacked old.ports new.ports
@@ -92,12 +91,12 @@ abbrev pub placed : Place → DaemonOutside → DaemonOutside
 placed place old = record old { ports = record old.ports { listens = record old.ports.listens { place = place } } }
 
 -- It served, and all ports of connections were listened at where the words say. Of the clocks each of their fronts took one.
-abbrev pub ServesPlaced : Options → PortOptions → StreamOptions → List ClockView → ℕ → List Write → DaemonOutside → DaemonOutside → Status → Type 0
+abbrev pub ServesPlaced : Options → PortOptions → StreamOptions → List ClockView → ℕ → List Write → DaemonOutside → DaemonOutside → DaemonStatus → Type 0
 ServesPlaced options ports streams clocks base writes old new status =
     ServesAloud (record { options = options; ports = ports; streams = streams.ports; base = base }) (take streams.ports.fronts clocks) writes (placed (place_of streams) old) new status
 
 -- it served so, or had no memory before it began
-abbrev pub ServesOrNot : Options → PortOptions → StreamOptions → List ClockView → ℕ → List Write → DaemonOutside → DaemonOutside → Status → Type 0
+abbrev pub ServesOrNot : Options → PortOptions → StreamOptions → List ClockView → ℕ → List Write → DaemonOutside → DaemonOutside → DaemonStatus → Type 0
 ServesOrNot options ports streams clocks base writes old new status =
     ServesPlaced options ports streams clocks base writes old new status ⊎ (IsUnwritten old.sink new.sink status × BindsNothing old new)
 
@@ -106,13 +105,13 @@ abbrev pub HasMemory : FilesFacts → Options → Type 0
 HasMemory files options = IfSome files.free (λ free. start_bytes options ≤ free)
 
 -- It served: there was memory for the partitions, and they were filled as was asked. Or it wrote why there is nothing to fill them with, or had no memory, before it began.
-abbrev pub FillsAndServes : Service → List ClockView → ℕ → FilesFacts → FilesFacts → DaemonOutside → DaemonOutside → Status → Type 0
+abbrev pub FillsAndServes : Service → List ClockView → ℕ → FilesFacts → FilesFacts → DaemonOutside → DaemonOutside → DaemonStatus → Type 0
 FillsAndServes service clocks base before after old new status =
     ((writes : List Write) × HasMemory before service.options × Fills before service.image writes
     × ServesPlaced service.options service.ports service.streams clocks base writes old new status)
     ⊎ (WritesDue (IsDueOfFile before after service.image) old.sink new.sink status × BindsNothing old new)
 
 -- What a run promises by its words: it served as they ask, or said that they are none of its own.
-abbrev pub KeepsUp : Option Service → List ClockView → ℕ → FilesFacts → FilesFacts → DaemonOutside → DaemonOutside → Status → Type 0
+abbrev pub KeepsUp : Option Service → List ClockView → ℕ → FilesFacts → FilesFacts → DaemonOutside → DaemonOutside → DaemonStatus → Type 0
 KeepsUp (Some service) clocks base before after old new status = FillsAndServes service clocks base before after old new status × KeepsFiles service.image before after
 KeepsUp None clocks base before after old new status = IsTold Usage (with_line_feed (codes "usage")) old.sink new.sink status × BindsNothing old new × KeepsFiles None before after

@@ -1,11 +1,11 @@
 -- How the process of a server that stays up ends.
 use Rattle.std.specs.Prelude.{◌≡◌, ◌+◌, ◌-◌, ◌*◌, ◌^◌, ◌<◌, ◌≤◌, ℕ, List, min, Option, Some, None}
 use Rattle.mica_clock.specs.Seconds.{ClockView, IsReading, once_read}
-use Rattle.mica_commands.specs.Words.{Text}
-use Rattle.mica_commands.specs.DaemonWords.{daemon_of}
-use Rattle.mica_cmd.specs.declared.status.Status.{Status}
-use Rattle.mica_cmd.specs.declared.status.Status.TheVariants.{NoMemory}
-use Rattle.mica_cmd.specs.Exit.{exit_number}
+use Rattle.option_words.specs.Words.{Text}
+use Rattle.daemon_words.specs.DaemonWords.{daemon_of}
+use Rattle.mica_daemon.specs.declared.status.DaemonStatus.{DaemonStatus}
+use Rattle.mica_daemon.specs.declared.status.DaemonStatus.TheVariants.{NoMemory}
+use Rattle.mica_daemon.specs.Numbers.{exit_number}
 use Rattle.mica_daemon.specs.declared.program.TheConstants.{NUMBERS_OF_A_SECOND}
 use Rattle.mica_daemon.specs.Files.{FilesFacts}
 use Rattle.mica_daemon.specs.Daemon.{DaemonOutside, KeepsUp}
@@ -19,13 +19,13 @@ abbrev pub BeginsAbove : Type 0
 BeginsAbove = (before later written : ℕ) → later ≤ 2 ^ 39 → written < NUMBERS_OF_A_SECOND * (later - before) → first_number before + written < first_number later
 
 -- A run keeps what these words ask for; or there was no memory for words, and it touched nothing.
-abbrev pub KeepsUpFor : Option (List Text) → List ClockView → ℕ → FilesFacts → FilesFacts → DaemonOutside → DaemonOutside → Status → Type 0
+abbrev pub KeepsUpFor : Option (List Text) → List ClockView → ℕ → FilesFacts → FilesFacts → DaemonOutside → DaemonOutside → DaemonStatus → Type 0
 KeepsUpFor None clocks base before after old new status = (status ≡ NoMemory) × (new ≡ old) × (after ≡ before)
 KeepsUpFor (Some words) clocks base before after old new status = KeepsUp (daemon_of words) clocks base before after old new status
 
 -- The process ends with the number of the status with which a run keeps these words. Its clock was read once, and unique numbers begin at those of the second that it gave.
 pub record DaemonExits (words : Option (List Text)) (told tells : ClockView) (clocks : List ClockView) (before after : FilesFacts) (old new : DaemonOutside) (number : ℕ) : Type 0 where
-  pub status : Status
+  pub status : DaemonStatus
   pub ends : number ≡ exit_number status
   pub second : ℕ
   pub read : IsReading told second

@@ -3,7 +3,7 @@ use Rattle.std.specs.Prelude.{◌≡◌, ◌||◌, ℕ, Bool, true, false, not, 
 use Rattle.mica_io.specs.Script.{is_listed, next_number}
 use Rattle.mica_io.specs.declared.source.ReadFault.{ReadFault}
 use Rattle.mica_io.specs.declared.source.ReadFault.TheVariants.{Failed, NoMemory}
-use Rattle.mica_commands.specs.Words.{Text}
+use Rattle.option_words.specs.Words.{Text}
 use Rattle.mica_daemon.specs.declared.memory_files.MemFile.{MemFile}
 
 -- at one moment: the bytes of each file by its name and of the memory that is free, where they are told, and the count of faults

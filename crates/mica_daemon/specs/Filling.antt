@@ -1,15 +1,17 @@
 -- What fills the partitions of a server that stays up, and what is written where that can't be had.
-use Rattle.std.specs.Prelude.{◌≡◌, ◌≤◌, ℕ, List, [], codes, Option, Some, None, IfSome}
+use Rattle.std.specs.Prelude.{◌≡◌, ◌≢◌, ◌≤◌, ◌⊎◌, ℕ, List, [], codes, Option, Some, None, IfSome}
 use Rattle.mica_io.specs.Faults.{Rose}
 use Rattle.partition_model.specs.declared.write.Write.{Write}
-use Rattle.store_image.specs.ImageGrammar.{Pair, SpellsImage}
+use Rattle.store_image.specs.declared.fault.ImageFault.{ImageFault}
+use Rattle.store_image.specs.declared.fault.ImageFault.TheVariants.{NoMemory as NoSpace}
+use Rattle.store_image.specs.ImageGrammar.{Pair, SpellsImage, first_fault, fault_name}
 use Rattle.store_image.specs.ImageWrites.{put_writes}
-use Rattle.mica_commands.specs.Words.{Text}
-use Rattle.mica_cmd.specs.declared.status.Status.{Status}
-use Rattle.mica_cmd.specs.declared.status.Status.TheVariants.{TraceLong, ReadFault, ImageRefused}
-use Rattle.mica_cmd.specs.Headline.{IsTooLong}
-use Rattle.mica_cmd.specs.Input.{with_line_feed}
-use Rattle.mica_cmd.specs.Promises.{IsDueOfUnpack}
+use Rattle.option_words.specs.Words.{Text}
+use Rattle.mica_daemon.specs.declared.status.DaemonStatus.{DaemonStatus}
+use Rattle.mica_daemon.specs.declared.status.DaemonStatus.TheVariants.{TraceLong, ReadFault, ImageRefused}
+use Rattle.server_words.specs.Limits.{IsTooLong}
+use Rattle.server_words.specs.Output.{SinkFacts, with_line_feed}
+use Rattle.mica_daemon.specs.Written.{IsWritten, IsUnwritten}
 use Rattle.mica_daemon.specs.Files.{FilesFacts}
 
 -- the bytes of a file, which are those that are told
@@ -25,13 +27,18 @@ abbrev pub Fills : FilesFacts → Option Text → List Write → Type 0
 Fills files None writes = writes ≡ []
 Fills files (Some name) writes = OfFile (files.file name) (PutsImage writes)
 
--- the text that is due of bytes that are no image, as `unpack` writes it
-abbrev pub IsDueOfBytes : Status → List ℕ → List ℕ → Type 0
-IsDueOfBytes ImageRefused bytes text = IsDueOfUnpack ImageRefused bytes text
+-- the text that is due of bytes that are no image: the line of their first fault
+abbrev pub IsDueOfBytes : DaemonStatus → List ℕ → List ℕ → Type 0
+IsDueOfBytes ImageRefused bytes text = (fault : ImageFault) × (first_fault bytes ≡ Some fault) × (text ≡ with_line_feed (fault_name fault))
 IsDueOfBytes _ bytes text = ⊥
 
+-- what became of an image that was refused for the fault
+abbrev pub IsRefusedImage : ImageFault → SinkFacts → SinkFacts → DaemonStatus → Type 0
+IsRefusedImage fault old new result =
+    IsUnwritten old new result ⊎ ((fault ≢ NoSpace) × IsWritten ImageRefused (with_line_feed (fault_name fault)) old new result)
+
 -- the text that is due where the file has no image
-abbrev pub IsDueOfFile : FilesFacts → FilesFacts → Option Text → Status → List ℕ → Type 0
+abbrev pub IsDueOfFile : FilesFacts → FilesFacts → Option Text → DaemonStatus → List ℕ → Type 0
 IsDueOfFile old new None status text = ⊥
 IsDueOfFile old new (Some name) TraceLong text = IfSome (old.file name) IsTooLong × (text ≡ with_line_feed (codes "trace too long"))
 IsDueOfFile old new (Some name) ReadFault text = Rose old.faults new.faults × (text ≡ with_line_feed (codes "read fault"))

@@ -7,27 +7,27 @@ use Rattle.mica_io.specs.PortStates.{PortStates}
 use Rattle.stream_io.specs.Log.{Log, LastFailed, state_of}
 use Rattle.partition_model.specs.declared.options.Options.{Options}
 use Rattle.partition_model.specs.declared.write.Write.{Write}
-use Rattle.mica_fronts.specs.declared.ports.PortOptions.{PortOptions}
+use Rattle.server_words.specs.declared.ports.PortOptions.{PortOptions}
 use Rattle.mica_fronts.specs.declared.totals.Totals.{Totals}
 use Rattle.mica_fronts.specs.Answered.{Answered, count_of_writes}
 use Rattle.mica_fronts.specs.Dealing.{Dealing, answered_in}
 use Rattle.mica_fronts.specs.Placed.{Placed}
 use Rattle.mica_fronts.specs.DealingTotals.{AreTotalsOf}
 use Rattle.stream_fronts.specs.declared.desk.TheConstants.{MOST_UNSENT}
-use Rattle.stream_fronts.specs.declared.ports.StreamPorts.{StreamPorts}
+use Rattle.server_words.specs.declared.stream_ports.StreamPorts.{StreamPorts}
 use Rattle.stream_fronts.specs.Given.{Given}
 use Rattle.stream_fronts.specs.Moments.{TalksThrough, IsCaughtUp}
 use Rattle.stream_fronts.specs.Open.{OnLogs}
 use Rattle.stream_fronts.specs.Serving.{IsSpent}
 use Rattle.stream_fronts.specs.Turns.{TakesTurns}
 use Rattle.locked_fronts.specs.Parts.{most_turns}
-use Rattle.mica_serve.specs.Served.{AnswersLawfully, ServesPort, LeavesPort}
+use Rattle.served.specs.Served.{AnswersLawfully, ServesPort, LeavesPort}
 use Rattle.locked_serve.specs.Filled.{origin_of}
 use Rattle.locked_serve.specs.Streams.{ListenFacts}
 use Rattle.locked_serve.specs.Causes.{LacksPort}
-use Rattle.mica_commands.specs.DaemonWords.{Service}
-use Rattle.mica_cmd.specs.Promises.{totals_text}
-use Rattle.mica_cmd.specs.Input.{with_line_feed}
+use Rattle.daemon_words.specs.DaemonWords.{Service}
+use Rattle.served.specs.TotalsText.{totals_text}
+use Rattle.server_words.specs.Output.{with_line_feed}
 use Rattle.mica_daemon.specs.Files.{FilesFacts}
 use Rattle.mica_daemon.specs.Filling.{Fills}
 use Rattle.mica_daemon.specs.Daemon.{DaemonOutside, ready_text, unbound_text}

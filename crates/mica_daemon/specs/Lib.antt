@@ -1,3 +1,5 @@
+pub mod Numbers
+pub mod Written
 pub mod Exit
 pub mod Files
 pub mod Filling

@@ -1,12 +1,12 @@
 //! What the server is told of itself as it begins.
 
+use daemon_words::StreamOptions;
 use memcached_stats::{Board, Server, Tally};
 use mica_clock::Clock;
-use mica_commands::StreamOptions;
-use mica_fronts::PortOptions;
 use mica_io::NoMemory;
 use mica_words::{key_hash, partition_of};
 use partition_model::{MOST_PARTITIONS, Options, Write};
+use server_words::PortOptions;
 use std::alloc::Global;
 
 // How many writes fill each partition.

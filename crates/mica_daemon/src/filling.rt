@@ -2,15 +2,16 @@
 ghost use Rattle.std.specs.Prelude.{◌≡◌, ◌≤◌, ◌⊎◌, All, Some, option_map, IfOk, IfErr, OnOk};
 ghost use Rattle.partition_model.specs.Write.{IsWrite};
 ghost use Rattle.store_image.specs.ImageGrammar.{first_fault};
-ghost use Rattle.mica_cmd.specs.Outside.{sink_facts};
-ghost use Rattle.mica_cmd.specs.Promise.{WritesDue};
+ghost use Rattle.server_words.specs.Output.{sink_facts};
+ghost use Rattle.mica_daemon.specs.Written.{WritesDue};
 ghost use Rattle.mica_daemon.specs.Files.{files_facts};
-ghost use Rattle.mica_daemon.specs.Filling.{OfFile, PutsImage, Fills, IsDueOfFile, KeepsFiles};
+ghost use Rattle.mica_daemon.specs.Filling.{OfFile, PutsImage, Fills, IsDueOfFile, IsRefusedImage, KeepsFiles};
 
-use crate::Files;
-use mica_cmd::{MAX_SOURCE_LEN, Status, refuse_image, write_due};
+use crate::output::write_due;
+use crate::{DaemonStatus, Files};
 use mica_io::{NoMemory, ReadFault, Sink};
 use partition_model::Write;
+use server_words::MAX_SOURCE_LEN;
 use std::alloc::Global;
 use store_image::{ImageFault, read_image, writes_of};
 
@@ -20,7 +21,7 @@ fn read_file<F: Files, K: Sink>(
     files: &mut F,
     name: &str,
     sink: &mut K,
-) -> Result<Vec<u8>, Status>
+) -> Result<Vec<u8>, DaemonStatus>
     ensures all { IfOk result (λ bytes. OfFile (F.file files.old name.now) (λ b. bytes.items ≡ b)) }
     ensures unwritten { OnOk result (sink.new ≡ sink.old) }
     ensures stopped { IfErr result (λ status. WritesDue (IsDueOfFile (files_facts F.file F.free F.faults files.old) (files_facts F.file F.free F.faults files.new) (Some name.now))
@@ -29,9 +30,9 @@ fn read_file<F: Files, K: Sink>(
 {
     match files.read(alloc, name, MAX_SOURCE_LEN) {
         Ok(bytes) => Ok(bytes),
-        Err(ReadFault::Failed) => Err(write_due(sink, b"read fault\n", Status::ReadFault)),
-        Err(ReadFault::Long) => Err(write_due(sink, b"trace too long\n", Status::TraceLong)),
-        Err(ReadFault::NoMemory) => Err(Status::NoMemory),
+        Err(ReadFault::Failed) => Err(write_due(sink, b"read fault\n", DaemonStatus::ReadFault)),
+        Err(ReadFault::Long) => Err(write_due(sink, b"trace too long\n", DaemonStatus::TraceLong)),
+        Err(ReadFault::NoMemory) => Err(DaemonStatus::NoMemory),
     }
 }
 
@@ -48,6 +49,19 @@ fn writes_in(alloc: Global, bytes: &[u8]) -> Result<Vec<Write>, ImageFault>
     }
 }
 
+// Writes the line that names why an image is refused.
+fn refuse_image<K: Sink>(alloc: Global, sink: &mut K, fault: ImageFault) -> DaemonStatus
+    ensures { IsRefusedImage fault (sink_facts K.Sink sink.old) (sink_facts K.Sink sink.new) result }
+{
+    if fault == ImageFault::NoMemory {
+        return DaemonStatus::NoMemory;
+    }
+    match format!(in alloc; "{fault}\n") {
+        Ok(line) => write_due(sink, line.as_bytes(), DaemonStatus::ImageRefused),
+        Err(_) => DaemonStatus::NoMemory,
+    }
+}
+
 /// The writes that fill the partitions: those of the image of this file, or none. Where they can't be had, what is due is written, and the
 /// answer is its status.
 pub(crate) fn filling_of<F: Files, K: Sink>(
@@ -55,7 +69,7 @@ pub(crate) fn filling_of<F: Files, K: Sink>(
     files: &mut F,
     image: Option<&str>,
     sink: &mut K,
-) -> Result<Vec<Write>, Status>
+) -> Result<Vec<Write>, DaemonStatus>
     ensures fills { IfOk result (λ writes. Fills (files_facts F.file F.free F.faults files.old) (option_map (λ name. name.now) image.entry) writes.items) }
     ensures are_writes { IfOk result (λ writes. All IsWrite writes.items) }
     ensures unwritten { OnOk result (sink.new ≡ sink.old) }

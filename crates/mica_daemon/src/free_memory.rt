@@ -1,6 +1,6 @@
 //! How much memory is free, from what the system writes of it.
 
-use mica_commands::number_of;
+use option_words::number_of;
 use std::alloc::Global;
 use std::str;
 

@@ -2,18 +2,19 @@
 ghost use Rattle.std.specs.Prelude.{◌≡◌, ◌≤◌, [], length, map, string_bytes};
 ghost use Rattle.std.specs.Process.{exit_status};
 ghost use Rattle.locked_serve.specs.Causes.{ports_at};
-ghost use Rattle.mica_commands.specs.declared.daemon_words.TheConstants.{MOST_FRONTS};
-ghost use Rattle.mica_cmd.specs.Outside.{sink_facts};
-ghost use Rattle.mica_cmd.specs.Exit.{words_of};
+ghost use Rattle.server_words.specs.declared.limits.TheConstants.{MOST_FRONTS};
+ghost use Rattle.server_words.specs.Output.{sink_facts};
+ghost use Rattle.option_words.specs.ProgramWords.{words_of};
+ghost use Rattle.mica_daemon.specs.Numbers.{exit_number};
 ghost use Rattle.mica_daemon.specs.Files.{files_facts};
 ghost use Rattle.mica_daemon.specs.Daemon.{daemon_outside};
 ghost use Rattle.mica_daemon.specs.Exit.{first_number, BeginsAbove, DaemonExits};
 
-use crate::{Files, Process, Speaker, daemon};
+use crate::{DaemonStatus, Files, Process, Speaker, daemon};
 use locked_serve::Left;
 use mica_clock::Clock;
-use mica_cmd::{Status, all_words, behind_name, exit_code};
 use mica_io::{Gate, Net, NoMemory, Sink};
+use option_words::{all_words, behind_name};
 use std::env::Args;
 use std::io;
 use std::process::ExitCode;
@@ -36,6 +37,13 @@ fn first_number(second: u64) -> u64
 pub fn begins_above()
     ensures { BeginsAbove }
 {}
+
+/// The number of a status.
+pub fn exit_code(status: DaemonStatus) -> ExitCode
+    ensures { exit_status result ≡ exit_number status }
+{
+    ExitCode::from(status as u8)
+}
 
 /// Runs the server that the program's words give, which are `env::args(&rt)` in `main`, and ends with the number of its status. The clock says in which second it
 /// starts; each front of connections takes one of `clocks`. Only an `rt` that may start threads, as in `main`, serves.
@@ -79,6 +87,6 @@ pub fn run_daemon<
             listeners,
             left,
         )),
-        Err(NoMemory) => exit_code(Status::NoMemory),
+        Err(NoMemory) => exit_code(DaemonStatus::NoMemory),
     }
 }

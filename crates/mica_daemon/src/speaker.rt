@@ -1,14 +1,13 @@
 //! The sink of a server that stays up, with the line that it is to write once it has its ports.
 ghost use Rattle.std.specs.Prelude.{◌≡◌, ◌+◌, ◌≤◌, string_bytes, IfOk};
-ghost use Rattle.mica_serve.specs.PossiblePorts.{IsPossiblePorts};
-ghost use Rattle.stream_fronts.specs.StreamPorts.{IsPossibleStreams};
+ghost use Rattle.server_words.specs.PossiblePorts.{IsPossiblePorts};
+ghost use Rattle.server_words.specs.StreamPorts.{IsPossibleStreams};
 ghost use Rattle.mica_daemon.specs.Daemon.{range_text, ready_text, unbound_text};
 
 use locked_serve::{Announce, Untold};
-use mica_fronts::PortOptions;
 use mica_io::{Datagrams, NoMemory, Sink, write_all};
+use server_words::{PortOptions, StreamPorts};
 use std::alloc::Global;
-use stream_fronts::StreamPorts;
 use stream_io::Connections;
 
 /// A sink, and the line that says that the ports are had.
@@ -20,7 +19,7 @@ pub struct Speaker<K> {
 
 impl<K: Sink + Drop> Announce for Speaker<K> {
     ghost use Rattle.std.specs.Prelude.{string_bytes};
-    ghost use Rattle.mica_cmd.specs.Outside.{sink_facts};
+    ghost use Rattle.server_words.specs.Output.{sink_facts};
     ghost use Rattle.mica_daemon.specs.Daemon.{Says, FailsToSay};
 
     ghost says = { λ _ _ a b. Says (string_bytes a.line) (sink_facts K.Sink a.sink) (sink_facts K.Sink b.sink) };

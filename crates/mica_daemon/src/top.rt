@@ -5,49 +5,51 @@ ghost use Rattle.partition_model.specs.Write.{IsWrite};
 ghost use Rattle.locked_serve.specs.declared.stop.Stop.TheVariants.{Fault};
 ghost use Rattle.locked_serve.specs.Service.{IsPossibleService};
 ghost use Rattle.locked_serve.specs.Causes.{ports_at};
-ghost use Rattle.mica_commands.specs.declared.daemon_words.TheConstants.{MOST_FRONTS};
-ghost use Rattle.mica_commands.specs.DaemonWords.{daemon_of, ArePossibleFronts};
-ghost use Rattle.mica_cmd.specs.Outside.{sink_facts};
-ghost use Rattle.mica_cmd.specs.declared.status.Status.TheVariants.{NetFault};
-ghost use Rattle.mica_cmd.specs.Promise.{IsTold};
+ghost use Rattle.server_words.specs.declared.limits.TheConstants.{MOST_FRONTS};
+ghost use Rattle.daemon_words.specs.DaemonWords.{daemon_of, ArePossibleFronts};
+ghost use Rattle.server_words.specs.Output.{sink_facts};
+ghost use Rattle.mica_daemon.specs.declared.status.DaemonStatus.TheVariants.{NetFault};
+ghost use Rattle.mica_daemon.specs.Written.{IsTold};
 ghost use Rattle.mica_daemon.specs.Files.{files_facts};
 ghost use Rattle.mica_daemon.specs.Daemon.{HasMemory, WritesLast, ServesAloud, ServesOrNot, KeepsUp, daemon_outside, ready_text, unbound_text};
 
-use crate::Files;
 use crate::board::board_of;
 use crate::filling::filling_of;
+use crate::output::{print_totals, write_due};
 use crate::process::Process;
 use crate::speaker::{Speaker, ready_line, unbound_line};
+use crate::{DaemonStatus, Files};
+use daemon_words::{DaemonOptions, StreamOptions, read_daemon};
 use locked_serve::{Left, Service, Shared, Start, Stop, serve_locked};
 use mica_clock::Clock;
-use mica_cmd::{Status, print_totals, write_due};
-use mica_commands::{DaemonOptions, StreamOptions, WordsFault, read_daemon};
-use mica_fronts::{PortOptions, ServeFault};
+use mica_fronts::ServeFault;
 use mica_io::{Gate, Net, NoMemory, Sink};
+use option_words::WordsFault;
 use partition_model::Options;
 use partition_sizes::start_bytes;
+use server_words::PortOptions;
 use std::alloc::Global;
 use std::sync::Wait;
 use std::thread::Threads;
 use stream_io::Listeners;
 
 // Writes the line of a fault that stopped the server.
-fn write_fault<K: Sink>(fault: ServeFault, sink: &mut K) -> Status
+fn write_fault<K: Sink>(fault: ServeFault, sink: &mut K) -> DaemonStatus
     ensures { WritesLast (Err (Fault fault)) (sink_facts K.Sink sink.old) (sink_facts K.Sink sink.new) result }
 {
     match fault {
-        ServeFault::Net => write_due(sink, b"net fault\n", Status::NetFault),
-        ServeFault::NoMemory => Status::NoMemory,
+        ServeFault::Net => write_due(sink, b"net fault\n", DaemonStatus::NetFault),
+        ServeFault::NoMemory => DaemonStatus::NoMemory,
     }
 }
 
 // Writes the line that names a port which was not had.
-fn write_unbound<K: Sink>(alloc: Global, port: u16, sink: &mut K) -> Status
+fn write_unbound<K: Sink>(alloc: Global, port: u16, sink: &mut K) -> DaemonStatus
     ensures { IsTold NetFault (unbound_text port) (sink_facts K.Sink sink.old) (sink_facts K.Sink sink.new) result }
 {
     match unbound_line(alloc, port) {
-        Ok(line) => write_due(sink, line.as_bytes(), Status::NetFault),
-        Err(NoMemory) => Status::NoMemory,
+        Ok(line) => write_due(sink, line.as_bytes(), DaemonStatus::NetFault),
+        Err(NoMemory) => DaemonStatus::NoMemory,
     }
 }
 
@@ -66,7 +68,7 @@ fn serve_aloud<
     net: &mut N,
     listeners: &mut L,
     left: &mut Left,
-) -> Status
+) -> DaemonStatus
     requires service { IsPossibleService shared.now.service }
     requires clocks { length start.clocks.items ≡ shared.now.service.streams.fronts }
     requires filling { All IsWrite start.filling.items }
@@ -79,11 +81,15 @@ fn serve_aloud<
         (daemon_outside (sink_facts K.Sink speaker.new.sink) (ports_at N.Net L.Listeners net.new listeners.new) left.new.tables left.new.lacked) result }
 {
     match serve_locked(shared, start, net, listeners, speaker, left) {
-        Ok(totals) => print_totals(shared.alloc, totals, Status::UsedUp, &mut speaker.sink),
-        Err(Stop::Refused) => write_due(&mut speaker.sink, b"pair refused\n", Status::ImageRefused),
+        Ok(totals) => print_totals(shared.alloc, totals, &mut speaker.sink),
+        Err(Stop::Refused) => write_due(
+            &mut speaker.sink,
+            b"pair refused\n",
+            DaemonStatus::ImageRefused,
+        ),
         Err(Stop::Unbound(port)) => write_unbound(shared.alloc, port, &mut speaker.sink),
         Err(Stop::Fault(fault)) => write_fault(fault, &mut speaker.sink),
-        Err(Stop::Unannounced) => Status::WriteFault,
+        Err(Stop::Unannounced) => DaemonStatus::WriteFault,
     }
 }
 
@@ -106,7 +112,7 @@ fn stay_up<
     net: &mut N,
     listeners: &mut L,
     left: &mut Left,
-) -> Status
+) -> DaemonStatus
     requires options { IsPossible options.now }
     requires fronts { ArePossibleFronts ports.now streams.now.ports }
     requires clocks { MOST_FRONTS ≤ length start.clocks.items }
@@ -127,7 +133,7 @@ fn stay_up<
         start.filling.as_slice(),
         process.pid,
     ) else {
-        return Status::NoMemory;
+        return DaemonStatus::NoMemory;
     };
     match ready_line(process.alloc, ports, &streams.ports) {
         Ok(line) => {
@@ -151,7 +157,7 @@ fn stay_up<
             };
             serve_aloud(&shared, start, speaker, net, listeners, left)
         }
-        Err(NoMemory) => Status::NoMemory,
+        Err(NoMemory) => DaemonStatus::NoMemory,
     }
 }
 
@@ -188,7 +194,7 @@ pub fn daemon<
     net: &mut N,
     listeners: &mut L,
     left: &mut Left,
-) -> Status
+) -> DaemonStatus
     requires net { N.binds net.old ≡ 0 }
     requires clocks { MOST_FRONTS ≤ length clocks.items }
     requires tables { left.old.tables ≡ [] }
@@ -204,11 +210,15 @@ pub fn daemon<
         image,
     } = match read_daemon(process.alloc, words) {
         Ok(read) => read,
-        Err(WordsFault::Usage) => return write_due(&mut speaker.sink, b"usage\n", Status::Usage),
-        Err(WordsFault::NoMemory) => return Status::NoMemory,
+        Err(WordsFault::Usage) => return write_due(
+            &mut speaker.sink,
+            b"usage\n",
+            DaemonStatus::Usage,
+        ),
+        Err(WordsFault::NoMemory) => return DaemonStatus::NoMemory,
     };
     if !has_memory(process.alloc, files, &options) {
-        return Status::NoMemory;
+        return DaemonStatus::NoMemory;
     }
     match filling_of(process.alloc, files, image, &mut speaker.sink) {
         Ok(filling) => {

@@ -1,4 +1,3 @@
-pub mod PortOptions
 pub mod Flushes
 pub mod Looks
 pub mod Answered

@@ -3,7 +3,7 @@ ghost use Rattle.std.specs.Prelude.{◌≡◌, ◌*◌, ◌+◌, ◌<◌, ◌≤
 ghost use Rattle.mica_io.specs.Faults.{Rose};
 ghost use Rattle.mica_io.specs.Traffic.{new_traffic};
 ghost use Rattle.mica_fronts.specs.OneEnd.{OnTraffic, SendsAll, SendsPart, IsAtEnd, ServesOne, StopsOne, LeavesUnread, ServesEnd, LeavesEnd, WantsAtEnd};
-ghost use Rattle.mica_fronts.specs.declared.totals.TheConstants.{MAX_BATCHES};
+ghost use Rattle.server_words.specs.declared.limits.TheConstants.{MAX_BATCHES};
 ghost use Rattle.mica_fronts.specs.Totals.{IsUpTo};
 
 use crate::deal::deal;

@@ -6,9 +6,6 @@ use std::alloc::AllocError;
 use std::error::Error;
 use std::fmt;
 
-/// The most datagrams of one front, whose requests, and those of all fronts, can be counted in 64 bits.
-pub const MAX_BATCHES: u64 = 281_474_976_710_656;
-
 /// How many datagrams were received, how many requests stood in those that were batches, and how many were none.
 #[derive(Clone, Copy, PartialEq, Eq)]
 pub struct Totals {
@@ -38,7 +35,7 @@ impl Error for ServeFault {}
 
 impl Totals {
     ghost use Rattle.std.specs.Prelude.{◌≡◌, ◌<◌, ◌+◌, ◌*◌};
-    ghost use Rattle.mica_fronts.specs.declared.totals.TheConstants.{MAX_BATCHES};
+    ghost use Rattle.server_words.specs.declared.limits.TheConstants.{MAX_BATCHES};
     ghost use Rattle.mica_fronts.specs.Totals.{added, counted, none_counted};
 
     /// Nothing was counted yet.

@@ -19,7 +19,7 @@ use Rattle.owner_queue.specs.AckEnds.{AckBox, ack_box}
 use Rattle.mica_fronts.specs.declared.queue_front.FrontPart.{FrontPart}
 use Rattle.mica_fronts.specs.QueueFront.{IsNewPart}
 use Rattle.mica_serve.specs.Hands.{OwnerEnd, IsNewOwner, IsLentBy, AreLent, LendsOneMore}
-use Rattle.mica_serve.proofs.Binding.{at_snoc}
+use Rattle.served.proofs.Binding.{at_snoc}
 
 get_left : {X : Type 0} (xs : List X) (y x : X) (i : ℕ) → slice_get xs i ≡ Some x → slice_get (xs ++ y ∷ []) i ≡ Some x
 get_left [] y x zero is = absurd (cc)

@@ -14,12 +14,8 @@ use Rattle.owner_queue.specs.AckEnds.{AckBox, ack_box}
 use Rattle.mica_fronts.specs.declared.queue_front.FrontPart.{FrontPart}
 use Rattle.mica_fronts.specs.QueueFront.{QueueView, IsNewPart, queue_view}
 use Rattle.mica_serve.specs.Hands.{OwnerEnd, IsLentBy, LendsPart, AreSendersOf, LendsEach, AreLent, LendsOneMore}
-use Rattle.mica_serve.proofs.Binding.{at_snoc}
+use Rattle.served.proofs.Binding.{at_snoc}
 use Rattle.mica_serve.proofs.LentParts.{LendsTo, lends_none, lends_one, hands_more, new_parts}
-
-pub nil_of : {X : Type 0} (xs : List X) → length xs ≡ 0 → xs ≡ []
-nil_of [] none = refl
-nil_of (x ∷ xs) none = absurd (omega arith)
 
 abbrev pub rows : List (Vec FrontPart Global) → List (List FrontPart)
 rows hands = map (λ (own : Vec FrontPart Global). own.items) hands

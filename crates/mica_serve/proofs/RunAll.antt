@@ -16,15 +16,15 @@ use Rattle.partition_table.specs.Tabled.{kept_seat_in}
 use Rattle.partition_table.specs.declared.tables.KeptSeat.{KeptSeat}
 use Rattle.owner_queue.specs.JobEnds.{Inbox}
 use Rattle.owner_queue.specs.AckEnds.{AckBox}
-use Rattle.mica_fronts.specs.declared.totals.TheConstants.{MAX_BATCHES}
-use Rattle.mica_fronts.specs.declared.ports.PortOptions.{PortOptions}
+use Rattle.server_words.specs.declared.limits.TheConstants.{MAX_BATCHES}
+use Rattle.server_words.specs.declared.ports.PortOptions.{PortOptions}
 use Rattle.mica_fronts.specs.declared.queue_front.FrontPart.{FrontPart}
 use Rattle.mica_serve.specs.declared.worker.OwnerTask.{OwnerTask}
 use Rattle.mica_serve.specs.declared.worker.FrontTask.{FrontTask}
-use Rattle.mica_serve.specs.Others.{alone}
-use Rattle.mica_serve.specs.Served.{empty_origin}
-use Rattle.mica_serve.specs.Ends.{EndFacts, AreOpen}
-use Rattle.mica_serve.specs.FrontRuns.{RanAll}
+use Rattle.served.specs.Others.{alone}
+use Rattle.served.specs.Served.{empty_origin}
+use Rattle.served.specs.Ends.{EndFacts, AreOpen}
+use Rattle.served.specs.FrontRuns.{RanAll}
 use Rattle.mica_serve.specs.Hands.{OwnerEnd, IsReadyOwner, IsNewOwner, AreFrontsOf, RanOwner, MayMeetAll, HaveMetAll}
 use Rattle.mica_fronts.specs.OwnerWork.{IsNewAckBox}
 use Rattle.mica_fronts.specs.QueueFront.{QueueView}

@@ -32,18 +32,18 @@ use Rattle.mica_serve.specs.declared.worker.FrontTask.{FrontTask}
 use Rattle.mica_fronts.specs.QueueStand.{QueueStand}
 use Rattle.mica_fronts.specs.Session.{Told, Session}
 use Rattle.mica_fronts.specs.Placed.{Placed, steps_in, steps_by, history_in}
-use Rattle.mica_serve.specs.Others.{alone}
-use Rattle.mica_serve.specs.Served.{empty_origin}
-use Rattle.mica_serve.specs.Beside.{closed_of, total_below, RunsPartitions}
+use Rattle.served.specs.Others.{alone}
+use Rattle.served.specs.Served.{empty_origin}
+use Rattle.served.specs.Beside.{closed_of, total_below, RunsPartitions}
 use Rattle.mica_fronts.specs.QueueFront.{QueueView, IsFrontPart, queue_view, stand_of, told_by, session_or_none, sessions_of, ended_part, step_by, acknowledged_by}
 use Rattle.owner_queue.specs.Worked.{Acknowledged, DoneJob, jobs_in, job_of}
 use Rattle.mica_fronts.specs.OwnerWork.{placed_in}
-use Rattle.mica_serve.specs.Ends.{EndFacts}
-use Rattle.mica_serve.specs.FrontRuns.{FrontRun, RunsFront, RunFronts, RanAll, IsTakenIn, AreTakenIn, closed_in}
+use Rattle.served.specs.Ends.{EndFacts}
+use Rattle.served.specs.FrontRuns.{FrontRun, RunsFront, RunFronts, RanAll, IsTakenIn, AreTakenIn, closed_in}
 use Rattle.mica_serve.specs.Hands.{OwnerEnd, IsNewOwner, IsLentBy, AreFrontsOf, RanOwner, MayMeet, HasMet, MayMeetAll, HaveMetAll, closed_by, closed_at, met_after}
 use Rattle.mica_serve.specs.Tasks.{FrontRan}
-use Rattle.mica_serve.proofs.MadeOf.{made_of, made_map, made_long, made_at}
-use Rattle.mica_serve.proofs.JobCounts.{steps_answered, steps_placed, few_answered, total_few}
+use Rattle.served.proofs.MadeOf.{made_of, made_map, made_long, made_at}
+use Rattle.served.proofs.JobCounts.{steps_answered, steps_placed, few_answered, total_few}
 
 module _ {D : Type 0} (batches : ℕ) (facts : D → EndFacts) (options : Options) (fronts most : ℕ) where
   -- owners and fronts as made, and the same after all of them ran as workers

@@ -1,9 +1,2 @@
-pub mod Others
-pub mod PossiblePorts
-pub mod Served
-pub mod Beside
-pub mod Ends
-pub mod NetRun
-pub mod FrontRuns
 pub mod Hands
 pub mod Tasks

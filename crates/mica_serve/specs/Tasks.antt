@@ -4,18 +4,18 @@ use Rattle.atomic_table.specs.Seated.{TableId}
 use Rattle.mica_io.specs.Traffic.{new_traffic}
 use Rattle.epoch_core.specs.declared.state.OwnerState.{OwnerState}
 use Rattle.mica_fronts.specs.declared.queue_front.FrontPart.{FrontPart}
-use Rattle.mica_fronts.specs.declared.totals.TheConstants.{MAX_BATCHES}
+use Rattle.server_words.specs.declared.limits.TheConstants.{MAX_BATCHES}
 use Rattle.mica_fronts.specs.declared.totals.Totals.{Totals}
 use Rattle.mica_fronts.specs.declared.totals.ServeFault.{ServeFault}
 use Rattle.mica_serve.specs.declared.worker.OwnerTask.{OwnerTask}
 use Rattle.mica_serve.specs.declared.worker.FrontTask.{FrontTask}
 use Rattle.mica_serve.specs.declared.server.Room.{Room}
 use Rattle.mica_serve.specs.declared.server.Server.{Server}
-use Rattle.mica_fronts.specs.declared.ports.PortOptions.{PortOptions}
+use Rattle.server_words.specs.declared.ports.PortOptions.{PortOptions}
 use Rattle.partition_model.specs.declared.options.Options.{Options}
 use Rattle.mica_fronts.specs.QueueFront.{QueueView, IsQueueFront, stand_of, sessions_of, ended_part}
-use Rattle.mica_serve.specs.Ends.{EndFacts}
-use Rattle.mica_serve.specs.FrontRuns.{RunsFront}
+use Rattle.served.specs.Ends.{EndFacts}
+use Rattle.served.specs.FrontRuns.{RunsFront}
 use Rattle.mica_serve.specs.Hands.{OwnerEnd, IsReadyOwner, RanOwner, AreFrontsOf}
 
 abbrev pub owner_end : {P : Type 0} → (P → OwnerState) → (P → TableId) → OwnerTask P → OwnerEnd

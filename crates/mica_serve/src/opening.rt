@@ -3,18 +3,19 @@ ghost use Rattle.std.specs.Prelude.{◌≡◌, ◌*◌, ◌<◌, ◌≤◌, [], 
 ghost use Rattle.partition_model.specs.Options.{IsValid};
 ghost use Rattle.epoch_core.specs.OwnerState.{as_made};
 ghost use Rattle.epoch_core.specs.Shape.{shape_of};
-ghost use Rattle.mica_fronts.specs.PortOptions.{IsValidPorts};
+ghost use Rattle.server_words.specs.PortOptions.{IsValidPorts};
 ghost use Rattle.mica_serve.specs.Hands.{LendsPart, AreSendersOf, LendsEach, AreLent, LendsOneMore, AreFrontsOf};
 ghost use Rattle.mica_serve.specs.Tasks.{owner_end};
 
 use crate::worker::OwnerTask;
 use epoch_core::{LendPartition, Shape};
-use mica_fronts::{FrontPart, PortOptions, QueueFront};
+use mica_fronts::{FrontPart, QueueFront};
 use mica_io::NoMemory;
 use owner_queue::{JobSender, ack_queue, job_queue};
 use partition_model::Options;
 use partition_table::{Note, ReaderSeat, zeros_for};
 use seated_partition::OnTable;
+use server_words::PortOptions;
 use std::alloc::Global;
 
 impl<P: LendPartition<Reader = ReaderSeat, Note = Note>> OwnerTask<P> {

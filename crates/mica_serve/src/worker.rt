@@ -5,7 +5,7 @@ ghost use Rattle.partition_table.specs.declared.reader.Note.{Note};
 ghost use Rattle.partition_table.specs.Seats.{note_state, note_home};
 ghost use Rattle.mica_serve.specs.Hands.{IsReadyOwner, RanOwner};
 ghost use Rattle.mica_serve.specs.Tasks.{owner_end, IsReadyTask, TaskRan, OwnersRan, IsReadyFront, FrontRan, FrontsRan};
-ghost use Rattle.mica_serve.specs.Ends.{end_facts};
+ghost use Rattle.served.specs.Ends.{end_facts};
 
 use epoch_core::LendPartition;
 use mica_fronts::{FrontPart, QueueFront, ServeFault, Totals, serve_end, serve_owner};

@@ -2,8 +2,7 @@
 
 use crate::lasting::run_whole;
 use crate::same_schedule::SameSchedule;
-use mica_cmd::Status;
-use mica_daemon::MemFiles;
+use mica_daemon::{DaemonStatus as Status, MemFiles};
 use mica_io::{Bytes, FreeGate, MemNet, NoMemory};
 use std::alloc::Global;
 use std::process::Abort;

@@ -1,8 +1,7 @@
 //! What a server that stays up sends at each of its ports of connections, over ports in memory.
 
 use crate::lasting::run_whole;
-use mica_cmd::Status;
-use mica_daemon::MemFiles;
+use mica_daemon::{DaemonStatus as Status, MemFiles};
 use mica_io::{Bytes, FreeGate, MemNet, NoMemory};
 use std::alloc::Global;
 use std::net::Ipv4Addr;

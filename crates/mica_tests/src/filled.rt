@@ -2,8 +2,8 @@
 ghost use Rattle.std.specs.Prelude.{◌≡◌};
 
 use crate::lasting::run_lasting;
-use mica_cmd::{MAX_SOURCE_LEN, Status};
-use mica_daemon::MemFiles;
+use mica_cmd::MAX_SOURCE_LEN;
+use mica_daemon::{DaemonStatus as Status, MemFiles};
 use mica_io::{MemNet, Net};
 use std::process::Abort;
 use std::sync::Wait;

@@ -5,7 +5,7 @@ use crate::asked::{Progress, WatchedNet, ask_bound};
 use crate::lasting::run_lasting;
 use crate::runs::{End, run_words};
 use mica_cmd::{MAX_SOURCE_LEN, Status};
-use mica_daemon::MemFiles;
+use mica_daemon::{DaemonStatus, Files, MemFiles};
 use mica_io::{FreeGate, MemSink, NoMemory, StdSource, UdpNet, read_up_to};
 use std::alloc::Global;
 use std::fs;
@@ -26,7 +26,7 @@ fn serve_image<W: Threads + Wait + Sockets + Sync>(
     port: u16,
     image: &[u8],
     progress: &Progress,
-) -> Result<(Status, MemSink), NoMemory> {
+) -> Result<(DaemonStatus, MemSink), NoMemory> {
     let line = format!(in alloc;
         "--mode store --partitions 2 --port {port} --fronts 2 --image {FILE}"
     )?;
@@ -49,7 +49,7 @@ fn serve_and_ask<W: Threads + Wait + Sockets<Listener = TcpListener, Stream = Tc
     port: u16,
     image: &[u8],
     trace: &[u8],
-) -> Result<((Status, MemSink), Option<End>), NoMemory> {
+) -> Result<((DaemonStatus, MemSink), Option<End>), NoMemory> {
     let progress = Progress {
         bound: AtomicU32::new(0),
         has_ended: AtomicBool::new(false),
@@ -104,10 +104,10 @@ fn a_client_gets_what_an_image_has(rt: HostRuntime) -> Result<(), Fail> {
                 "ready {port} to {}\nbatches 2 requests 2 bad 0\n",
                 port + 1
             )?;
-            assert!(rt; status == Status::UsedUp && sink.taken() == said.as_bytes());
+            assert!(rt; status == DaemonStatus::UsedUp && sink.taken() == said.as_bytes());
             return Ok(());
         }
-        assert!(rt; status == Status::NetFault);
+        assert!(rt; status == DaemonStatus::NetFault);
     }
     panic!(rt; "no two ports are free");
 }

@@ -1,8 +1,7 @@
 //! The words of a server that stays up about its fronts: over datagrams and over connections.
 
 use crate::lasting::run_lasting;
-use mica_cmd::Status;
-use mica_daemon::MemFiles;
+use mica_daemon::{DaemonStatus as Status, MemFiles};
 use mica_io::MemNet;
 use std::process::Abort;
 use std::sync::Wait;

@@ -1,8 +1,7 @@
 //! The sizes that the words of a server that stays up may ask for, and the memory that they take.
 
 use crate::lasting::run_lasting;
-use mica_cmd::Status;
-use mica_daemon::{MemFiles, free_by};
+use mica_daemon::{DaemonStatus as Status, MemFiles, free_by};
 use mica_io::{MemNet, NoMemory};
 use std::alloc::Global;
 use std::process::Abort;

@@ -1,17 +1,16 @@
 //! A server that stays up, over a net and connections in memory.
 
 ghost use Rattle.std.specs.Prelude.{◌≡◌, length, IfOk};
-ghost use Rattle.mica_commands.specs.declared.daemon_words.TheConstants.{MOST_FRONTS};
+ghost use Rattle.server_words.specs.declared.limits.TheConstants.{MOST_FRONTS};
 
 use crate::datagrams::{BATCH, REPLIES};
 use crate::runs::words_of;
 use crate::same_schedule::SameSchedule;
 use locked_serve::Left;
 use mica_clock::MemClock;
-use mica_cmd::Status;
-use mica_commands::MOST_FRONTS;
-use mica_daemon::{Files, MemFiles, Process, Speaker, daemon};
+use mica_daemon::{DaemonStatus as Status, Files, MemFiles, Process, Speaker, daemon};
 use mica_io::{Bytes, FreeGate, Gate, MemNet, MemSink, Net, NoMemory};
+use server_words::MOST_FRONTS;
 use std::alloc::Global;
 use std::net::Ipv4Addr;
 use std::process::Abort;

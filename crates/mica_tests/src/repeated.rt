@@ -5,8 +5,7 @@ ghost use Rattle.mica_io.specs.Traffic.{new_traffic};
 
 use crate::datagrams::BAD_BATCH;
 use crate::lasting::run_lasting;
-use mica_cmd::Status;
-use mica_daemon::MemFiles;
+use mica_daemon::{DaemonStatus as Status, MemFiles};
 use mica_io::{Datagrams, Failed, Net};
 use std::process::Abort;
 use std::sync::Wait;

@@ -1,8 +1,7 @@
 //! A server that stays up, one of whose ports another socket has.
 
 use crate::lasting::run_listening;
-use mica_cmd::Status;
-use mica_daemon::MemFiles;
+use mica_daemon::{DaemonStatus as Status, MemFiles};
 use mica_io::{MemSink, Net, UdpNet};
 use std::net::{Ipv4Addr, Net as Sockets};
 use std::process::Abort;

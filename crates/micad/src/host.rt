@@ -2,18 +2,16 @@
 
 ghost use Rattle.std.specs.Prelude.{◌≡◌, ◌≢◌, length, IfOk};
 ghost use Rattle.std.specs.Process.{exit_status};
-ghost use Rattle.mica_cmd.specs.declared.status.Status.{Status};
-ghost use Rattle.mica_cmd.specs.declared.status.Status.TheVariants.{Done};
-ghost use Rattle.mica_cmd.specs.Exit.{exit_number};
-ghost use Rattle.mica_commands.specs.declared.daemon_words.TheConstants.{MOST_FRONTS};
+ghost use Rattle.mica_daemon.specs.declared.status.DaemonStatus.{DaemonStatus};
+ghost use Rattle.mica_daemon.specs.Numbers.{exit_number};
+ghost use Rattle.server_words.specs.declared.limits.TheConstants.{MOST_FRONTS};
 
 use crate::host_files::HostFiles;
 use locked_serve::Left;
 use mica_clock::StdClock;
-use mica_cmd::{Status, exit_code};
-use mica_commands::MOST_FRONTS;
-use mica_daemon::{Process, Speaker, run_daemon};
+use mica_daemon::{DaemonStatus, Process, Speaker, exit_code, run_daemon};
 use mica_io::{FreeGate, NoMemory, StdSink, UdpNet};
+use server_words::MOST_FRONTS;
 use std::alloc::Global;
 use std::net::{Ipv4Addr, Net as Sockets};
 use std::process::ExitCode;
@@ -39,11 +37,11 @@ fn clocks_of<'a, R: time::Clock>(rt: &'a R, alloc: Global) -> Result<Vec<StdCloc
 pub fn run_on_host<
     R: Threads + Wait + Sync + AllocGlobal + Env + Files + Print + Sockets + time::Clock,
 >(rt: &R, pid: u32) -> ExitCode
-    ensures { (status : Status) × (status ≢ Done) × (exit_status result ≡ exit_number status) }
+    ensures { (status : DaemonStatus) × (exit_status result ≢ 0) × (exit_status result ≡ exit_number status) }
 {
     let alloc = rt.alloc();
     let Ok(clocks) = clocks_of(rt, alloc) else {
-        return exit_code(Status::NoMemory);
+        return exit_code(DaemonStatus::NoMemory);
     };
     let ended = AtomicBool::new(false);
     let process = Process {

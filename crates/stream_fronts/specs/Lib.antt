@@ -15,4 +15,3 @@ pub mod Clients
 pub mod Resting
 pub mod Held
 pub mod Standing
-pub mod StreamPorts

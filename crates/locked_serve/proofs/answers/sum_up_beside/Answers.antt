@@ -2,7 +2,7 @@ use Rattle.std.proofs.Common.{inl, subst}
 use Rattle.std.specs.Prelude.{Result, Err}
 use Rattle.mica_fronts.specs.declared.totals.Totals.{Totals}
 use Rattle.mica_fronts.specs.declared.totals.ServeFault.{ServeFault}
-use Rattle.mica_serve.specs.FrontRuns.{SumsUp}
+use Rattle.served.specs.FrontRuns.{SumsUp}
 use Rattle.locked_serve.specs.Running.{IsFaultOf}
 use Rattle.locked_serve.proofs.Faults.{all_counted}
 use Rattle.locked_serve.proofs.answers.sum_up_beside.Goals as goal

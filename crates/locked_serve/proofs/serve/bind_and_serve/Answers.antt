@@ -1,9 +1,9 @@
 use Rattle.std.proofs.Common.{◌≡◌, ◌≤◌, ℕ, inl, inr, [], length, vec_len, List, map, refl, sym, ap, ◌∙◌, subst, arith}
 use Rattle.std.specs.Prelude.{None, Ok, Err}
 use Rattle.std.proofs.lemmas.List.{length-map}
-use Rattle.mica_serve.specs.Ends.{EndFacts, AreNewEnds, end_facts}
-use Rattle.mica_serve.specs.NetRun.{NetFacts, net_facts}
-use Rattle.mica_serve.proofs.Whole.{Bound, run_failed, run_left, run_served}
+use Rattle.served.specs.Ends.{EndFacts, AreNewEnds, end_facts}
+use Rattle.served.specs.NetRun.{NetFacts, net_facts}
+use Rattle.served.proofs.Whole.{Bound, run_failed, run_left, run_served}
 use Rattle.mica_fronts.specs.declared.totals.ServeFault.TheVariants.{Net}
 use Rattle.locked_serve.specs.declared.stop.Stop.TheVariants.{Unbound, Unannounced}
 use Rattle.locked_serve.specs.Streams.{StreamFacts, AreNewStreams, KeepsListeners, listen_facts, stream_facts}

@@ -4,11 +4,11 @@ use Rattle.std.proofs.lemmas.List.{length-map}
 use Rattle.mica_io.specs.PortStates.{out}
 use Rattle.mica_fronts.specs.declared.totals.Totals.{Totals}
 use Rattle.mica_fronts.specs.declared.totals.ServeFault.{ServeFault}
-use Rattle.mica_serve.specs.Others.{Others}
-use Rattle.mica_serve.specs.Ends.{EndFacts, end_facts}
-use Rattle.mica_serve.specs.NetRun.{NetFacts, net_facts}
-use Rattle.mica_serve.proofs.PortRuns.{kept_at}
-use Rattle.mica_serve.proofs.Whole.{out_until, tell_until, keeps, cause}
+use Rattle.served.specs.Others.{Others}
+use Rattle.served.specs.Ends.{EndFacts, end_facts}
+use Rattle.served.specs.NetRun.{NetFacts, net_facts}
+use Rattle.served.proofs.PortRuns.{kept_at}
+use Rattle.served.proofs.Whole.{out_until, tell_until, keeps, cause}
 use Rattle.partition_model.specs.declared.options.Options.{Options}
 use Rattle.partition_model.specs.History.{IsHistory}
 use Rattle.locked_serve.specs.declared.filling.OpenFault.TheVariants as open_fault

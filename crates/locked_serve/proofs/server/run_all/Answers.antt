@@ -11,7 +11,7 @@ use Rattle.mica_fronts.specs.declared.totals.ServeFault.{ServeFault}
 use Rattle.locked_fronts.specs.declared.returned.Returned.{Returned}
 use Rattle.locked_fronts.specs.Plan.{Plan}
 use Rattle.locked_fronts.specs.Owned.{Owned}
-use Rattle.mica_serve.specs.Ends.{EndFacts, end_facts}
+use Rattle.served.specs.Ends.{EndFacts, end_facts}
 use Rattle.locked_serve.specs.declared.worker.FrontTask.{FrontTask}
 use Rattle.locked_serve.specs.declared.streams.StreamTask.{StreamTask}
 use Rattle.locked_serve.specs.Opening.{AreNewHands}

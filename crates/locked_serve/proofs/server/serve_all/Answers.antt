@@ -3,7 +3,7 @@ use Rattle.std.specs.Prelude.{⊤, Result, Ok, Err}
 use Rattle.std.proofs.lemmas.List.{length-map}
 use Rattle.partition_table.specs.declared.tables.KeptSeat.{KeptSeat}
 use Rattle.partition_table.specs.Tabled.{kept_seat_in}
-use Rattle.mica_fronts.specs.declared.totals.TheConstants.{MAX_BATCHES}
+use Rattle.server_words.specs.declared.limits.TheConstants.{MAX_BATCHES}
 use Rattle.mica_fronts.specs.declared.totals.Totals.{Totals}
 use Rattle.mica_fronts.specs.declared.totals.ServeFault.{ServeFault}
 use Rattle.mica_fronts.specs.Totals.{IsUpTo}
@@ -12,8 +12,8 @@ use Rattle.locked_fronts.specs.Owned.{Owned}
 use Rattle.locked_serve.specs.Taking.{left_view}
 use Rattle.locked_serve.specs.Streams.{StreamFacts, ServesBeside, stream_facts}
 use Rattle.locked_serve.specs.Running.{SumsUpBeside}
-use Rattle.mica_serve.specs.Ends.{EndFacts, end_facts}
-use Rattle.mica_serve.proofs.Gathered.{few_answers, small_answers}
+use Rattle.served.specs.Ends.{EndFacts, end_facts}
+use Rattle.served.proofs.Gathered.{few_answers, small_answers}
 use Rattle.locked_serve.proofs.Came.{serves_beside}
 use Rattle.locked_serve.proofs.Stopped.{ended_with}
 use Rattle.locked_serve.proofs.server.serve_all.Given as given

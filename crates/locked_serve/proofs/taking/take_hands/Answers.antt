@@ -3,7 +3,7 @@ use Rattle.std.specs.Vec.Iter.{into_iter_items}
 use Rattle.locked_fronts.specs.declared.returned.Returned.{Returned}
 use Rattle.locked_fronts.specs.Owned.{Owned}
 use Rattle.locked_serve.specs.Taking.{MayTakeHands, TakesHands, left_view}
-use Rattle.mica_serve.proofs.Opened.{nil_of}
+use Rattle.served.proofs.MadeOf.{nil_of}
 use Rattle.locked_serve.proofs.Taken.{may_still}
 use Rattle.locked_serve.proofs.taking.take_hands.Given as given
 use Rattle.locked_serve.proofs.taking.take_hands.Goals as goal

@@ -2,7 +2,7 @@ use Rattle.std.proofs.Common.{Err, refl, ap, subst}
 use Rattle.mica_trace.specs.ReportGrammar.{report_text}
 use Rattle.mica_trace.proofs.TextParts.{are_report_lines}
 use Rattle.mica_cmd.specs.declared.status.Status.TheVariants.{Done}
-use Rattle.mica_cmd.specs.Outside.{sink_facts}
+use Rattle.server_words.specs.Output.{sink_facts}
 use Rattle.mica_cmd.specs.Promise.{IsTold}
 use Rattle.mica_cmd.specs.Promises.{IsToldFault}
 use Rattle.mica_cmd.proofs.Asking.{ask_stopped, ask_done, ask_fault}

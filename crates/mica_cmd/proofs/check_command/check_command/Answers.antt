@@ -1,7 +1,6 @@
 use Rattle.std.proofs.Common.{List, ℕ, refl, ap, subst}
-use Rattle.mica_cmd.specs.Outside.{sink_facts}
+use Rattle.server_words.specs.Output.{sink_facts, with_line_feed}
 use Rattle.mica_cmd.specs.Promise.{IsTold}
-use Rattle.mica_cmd.specs.Input.{with_line_feed}
 use Rattle.mica_cmd.specs.Findings.{Finds, finding_text, status_of}
 use Rattle.mica_cmd.proofs.Checking.{check_stopped, check_told, check_unwritten}
 use Rattle.mica_cmd.proofs.check_command.check_command.Goals as goal

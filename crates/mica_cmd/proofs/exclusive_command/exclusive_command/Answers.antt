@@ -2,7 +2,7 @@ use Rattle.std.proofs.Common.{◌∙◌, Err, refl, ap, subst}
 use Rattle.mica_io.specs.Faults.{Rose}
 use Rattle.mica_trace.specs.ExactReport.{ExactReport}
 use Rattle.mica_trace.specs.Printed.{PrintsText, PrintsPart}
-use Rattle.mica_cmd.specs.Outside.{sink_facts}
+use Rattle.server_words.specs.Output.{sink_facts}
 use Rattle.mica_cmd.specs.Input.{AtDone}
 use Rattle.mica_cmd.specs.Promises.{exclusive_promise, IsExactText}
 use Rattle.mica_cmd.proofs.Keeping.{keeps_promise, stopped_trace, unwritten_promise}

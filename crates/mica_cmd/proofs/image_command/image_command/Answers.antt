@@ -1,6 +1,6 @@
 use Rattle.std.proofs.Common.{sym, inr, refl, ap, subst}
 use Rattle.mica_cmd.specs.declared.status.Status.TheVariants.{Done}
-use Rattle.mica_cmd.specs.Outside.{sink_facts}
+use Rattle.server_words.specs.Output.{sink_facts}
 use Rattle.mica_cmd.specs.Promise.{IsWritten}
 use Rattle.mica_cmd.specs.Input.{AtDone}
 use Rattle.mica_cmd.specs.Promises.{image_promise, IsImageText}

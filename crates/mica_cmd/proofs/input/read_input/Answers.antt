@@ -1,7 +1,7 @@
 use Rattle.std.proofs.Common.{◌≡◌, ◌⊎◌, subst}
 use Rattle.mica_trace.specs.TraceGrammar.{IsTrace, IsNoTrace, Refuses}
 use Rattle.mica_trace.specs.declared.line.TraceFault.TheVariants.{NoMemory as NoRoom}
-use Rattle.mica_cmd.specs.Outside.{sink_facts}
+use Rattle.server_words.specs.Output.{sink_facts}
 use Rattle.mica_cmd.specs.Input.{IsDueOfTrace, NoneByTrace, IsRefusedWith}
 use Rattle.mica_cmd.proofs.Ending.{refused_due}
 use Rattle.mica_cmd.proofs.Keeping.{stopped_input}

@@ -2,7 +2,7 @@ use Rattle.std.proofs.Common.{Err, inl, inr, codes, refl, ap, arith}
 use Rattle.std.proofs.KnownBytes.{Keeps-refl}
 use Rattle.mica_cmd.specs.declared.status.Status.TheVariants.{TraceLong, ReadFault}
 use Rattle.mica_cmd.specs.Outside.{SourceFacts, source_facts}
-use Rattle.mica_cmd.specs.Input.{with_line_feed}
+use Rattle.server_words.specs.Output.{with_line_feed}
 use Rattle.mica_cmd.proofs.Ending.{long_source}
 use Rattle.mica_cmd.proofs.input.read_source.Given as given
 use Rattle.mica_cmd.proofs.input.read_source.Goals as goal

@@ -1,5 +1,5 @@
 use Rattle.std.proofs.Common.{◌∙◌, ap, drop, string_bytes}
-use Rattle.mica_cmd.specs.Exit.{words_of}
+use Rattle.option_words.specs.ProgramWords.{words_of}
 use Rattle.mica_cmd.proofs.Exiting.{no_memory_exits, words_exit}
 use Rattle.mica_cmd.proofs.program.run_program.Goals as goal
 

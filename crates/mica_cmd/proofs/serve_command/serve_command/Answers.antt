@@ -1,7 +1,7 @@
 use Rattle.std.proofs.Common.{◌∙◌, inl, Err, refl, sym, subst}
-use Rattle.mica_serve.specs.Others.{alone}
-use Rattle.mica_serve.specs.Served.{empty_origin}
-use Rattle.mica_serve.specs.NetRun.{NetFacts, IsCauseOf, net_facts}
+use Rattle.served.specs.Others.{alone}
+use Rattle.served.specs.Served.{empty_origin}
+use Rattle.served.specs.NetRun.{NetFacts, IsCauseOf, net_facts}
 use Rattle.mica_cmd.specs.Promises.{serve_promise}
 use Rattle.mica_cmd.proofs.Keeping.{unwritten_promise}
 use Rattle.mica_cmd.proofs.Settled.{settles_serve}

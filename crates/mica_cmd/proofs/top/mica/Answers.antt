@@ -1,9 +1,9 @@
 use Rattle.std.proofs.Common.{Err, inr, codes, refl, subst, map, string_bytes}
-use Rattle.mica_serve.specs.NetRun.{net_facts}
+use Rattle.served.specs.NetRun.{net_facts}
 use Rattle.mica_commands.specs.CommandLine.{command_of, IsValidCommand, IsReadingOf}
 use Rattle.mica_cmd.specs.Outside.{source_facts, link_facts}
 use Rattle.mica_cmd.specs.declared.status.Status.TheVariants.{Usage}
-use Rattle.mica_cmd.specs.Input.{with_line_feed}
+use Rattle.server_words.specs.Output.{with_line_feed}
 use Rattle.mica_cmd.specs.Promises.{usage_promise}
 use Rattle.mica_cmd.proofs.Keeping.{keeps_promise}
 use Rattle.mica_cmd.proofs.Settled.{settles_usage, given_promise, memory_promise, no_promise}

@@ -4,7 +4,7 @@ use Rattle.store_image.specs.ImageGrammar.{SpellsImage, first_fault}
 use Rattle.store_image.specs.ImageLines.{put_lines}
 use Rattle.mica_trace.specs.TraceGrammar.{trace_text}
 use Rattle.mica_cmd.specs.declared.status.Status.TheVariants.{Done}
-use Rattle.mica_cmd.specs.Outside.{sink_facts}
+use Rattle.server_words.specs.Output.{sink_facts}
 use Rattle.mica_cmd.specs.Promise.{IsTold}
 use Rattle.mica_cmd.specs.Promises.{unpack_promise, IsDueOfUnpack, IsRefusedImage}
 use Rattle.mica_cmd.proofs.Keeping.{keeps_promise, stopped_input}

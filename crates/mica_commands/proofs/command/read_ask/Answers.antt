@@ -3,7 +3,8 @@ use Rattle.std.proofs.lemmas.Result.{err_from_is_err_and}
 use Rattle.clap.specs.Matches.{first_value, found_of}
 use Rattle.mica_commands.specs.declared.command.Command.TheVariants.{Ask}
 use Rattle.mica_commands.specs.CommandLine.{ask_names, ask_given}
-use Rattle.mica_commands.proofs.CommandLemmas.{read_given, read_none}
+use Rattle.option_words.proofs.ReadAs.{read_given}
+use Rattle.mica_commands.proofs.CommandLemmas.{read_none}
 use Rattle.mica_commands.proofs.ValueLemmas.{ask_valid}
 use Rattle.mica_commands.proofs.command.read_ask.Goals as goal
 

@@ -2,8 +2,10 @@ use Rattle.std.proofs.Common.{◌∙◌, map, string_bytes, ap, sym, option_map}
 use Rattle.std.proofs.lemmas.Result.{err_from_is_err_and}
 use Rattle.clap.specs.Matches.{first_value, found_of}
 use Rattle.mica_commands.specs.declared.command.Command.TheVariants.{Bench}
-use Rattle.mica_commands.specs.CommandLine.{bench_names, bench_given, gen_options, ◌>>=◌}
-use Rattle.mica_commands.proofs.CommandLemmas.{read_given, read_none, gen_valid}
+use Rattle.mica_commands.specs.CommandLine.{bench_names, bench_given, gen_options}
+use Rattle.option_words.specs.Settings.{◌>>=◌}
+use Rattle.option_words.proofs.ReadAs.{read_given}
+use Rattle.mica_commands.proofs.CommandLemmas.{read_none, gen_valid}
 use Rattle.mica_commands.proofs.ValueLemmas.{replay_valid}
 use Rattle.mica_commands.proofs.command.read_bench.Goals as goal
 

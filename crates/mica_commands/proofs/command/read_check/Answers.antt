@@ -3,7 +3,8 @@ use Rattle.std.proofs.lemmas.Result.{err_from_is_err_and}
 use Rattle.clap.specs.Matches.{first_value, found_of}
 use Rattle.mica_commands.specs.declared.command.Command.TheVariants.{Check}
 use Rattle.mica_commands.specs.CommandLine.{check_given, replay_names}
-use Rattle.mica_commands.proofs.CommandLemmas.{read_given, read_none}
+use Rattle.option_words.proofs.ReadAs.{read_given}
+use Rattle.mica_commands.proofs.CommandLemmas.{read_none}
 use Rattle.mica_commands.proofs.ValueLemmas.{replay_valid}
 use Rattle.mica_commands.proofs.command.read_check.Goals as goal
 

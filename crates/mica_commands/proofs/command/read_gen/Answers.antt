@@ -3,7 +3,8 @@ use Rattle.std.proofs.lemmas.Result.{err_from_is_err_and}
 use Rattle.clap.specs.Matches.{first_value, found_of}
 use Rattle.mica_commands.specs.declared.command.Command.TheVariants.{Gen}
 use Rattle.mica_commands.specs.CommandLine.{gen_names, gen_given}
-use Rattle.mica_commands.proofs.CommandLemmas.{read_given, read_none, gen_valid}
+use Rattle.option_words.proofs.ReadAs.{read_given}
+use Rattle.mica_commands.proofs.CommandLemmas.{read_none, gen_valid}
 use Rattle.mica_commands.proofs.command.read_gen.Goals as goal
 
 pub returns-in_err-found : goal.returns-in_err-found

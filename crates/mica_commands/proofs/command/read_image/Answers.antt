@@ -3,7 +3,8 @@ use Rattle.std.proofs.lemmas.Result.{err_from_is_err_and}
 use Rattle.clap.specs.Matches.{first_value, found_of}
 use Rattle.mica_commands.specs.declared.command.Command.TheVariants.{Image}
 use Rattle.mica_commands.specs.CommandLine.{image_names, image_given}
-use Rattle.mica_commands.proofs.CommandLemmas.{read_given, read_none}
+use Rattle.option_words.proofs.ReadAs.{read_given}
+use Rattle.mica_commands.proofs.CommandLemmas.{read_none}
 use Rattle.mica_commands.proofs.ValueLemmas.{image_valid}
 use Rattle.mica_commands.proofs.command.read_image.Goals as goal
 

@@ -2,8 +2,10 @@ use Rattle.std.proofs.Common.{◌∙◌, map, string_bytes, ap, sym, option_map}
 use Rattle.std.proofs.lemmas.Result.{err_from_is_err_and}
 use Rattle.clap.specs.Matches.{first_value, found_of}
 use Rattle.mica_commands.specs.declared.command.Command.TheVariants.{Serve}
-use Rattle.mica_commands.specs.CommandLine.{serve_names, serve_given, port_options, ◌>>=◌}
-use Rattle.mica_commands.proofs.CommandLemmas.{read_given, read_none}
+use Rattle.mica_commands.specs.CommandLine.{serve_names, serve_given, port_options}
+use Rattle.option_words.specs.Settings.{◌>>=◌}
+use Rattle.option_words.proofs.ReadAs.{read_given}
+use Rattle.mica_commands.proofs.CommandLemmas.{read_none}
 use Rattle.mica_commands.proofs.ValueLemmas.{serve_valid, ports_valid}
 use Rattle.mica_commands.proofs.command.read_serve.Goals as goal
 

@@ -2,7 +2,8 @@ use Rattle.std.proofs.Common.{map, string_bytes, ap}
 use Rattle.std.proofs.lemmas.Result.{err_from_is_err_and}
 use Rattle.clap.specs.Matches.{first_value, found_of}
 use Rattle.mica_commands.specs.CommandLine.{unpack_names, unpack_given}
-use Rattle.mica_commands.proofs.CommandLemmas.{read_given, read_none}
+use Rattle.option_words.proofs.ReadAs.{read_given}
+use Rattle.mica_commands.proofs.CommandLemmas.{read_none}
 use Rattle.mica_commands.proofs.command.read_unpack.Goals as goal
 
 pub returns-in_err-matches_of : goal.returns-in_err-matches_of

@@ -1,5 +1,5 @@
 use Rattle.std.proofs.Common.{subst}
-use Rattle.mica_cmd.specs.declared.status.Status.TheVariants.{NetFault}
+use Rattle.mica_daemon.specs.declared.status.DaemonStatus.TheVariants.{NetFault}
 use Rattle.mica_daemon.specs.Daemon.{KeepsUp}
 use Rattle.mica_daemon.proofs.Headlines.{promised}
 use Rattle.mica_daemon.proofs.laws.headline_at_fault.Goals as goal

@@ -1,6 +1,6 @@
 use Rattle.std.proofs.Common.{◌∙◌, ap, drop, string_bytes}
-use Rattle.mica_cmd.specs.declared.status.Status.TheVariants.{NoMemory}
-use Rattle.mica_cmd.specs.Exit.{all_words_of, words_of}
+use Rattle.mica_daemon.specs.declared.status.DaemonStatus.TheVariants.{NoMemory}
+use Rattle.option_words.specs.ProgramWords.{all_words_of, words_of}
 use Rattle.mica_daemon.proofs.Exiting.{keeps_behind, no_memory_keeps}
 use Rattle.mica_daemon.proofs.program.run_daemon.Goals as goal
 

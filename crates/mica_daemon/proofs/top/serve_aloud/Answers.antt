@@ -1,7 +1,7 @@
 use Rattle.std.proofs.Common.{ℕ, List, refl, string_bytes}
 use Rattle.std.specs.Prelude.{Ok, Err}
 use Rattle.locked_serve.specs.declared.stop.Stop.TheVariants.{Refused, Unbound, Fault, Unannounced}
-use Rattle.mica_cmd.specs.Outside.{SinkFacts, sink_facts}
+use Rattle.server_words.specs.Output.{SinkFacts, sink_facts}
 use Rattle.mica_daemon.specs.declared.speaker.Speaker.{Speaker}
 use Rattle.mica_daemon.proofs.Announced.{leaves_by, written_last}
 use Rattle.mica_daemon.proofs.top.serve_aloud.Given as given

@@ -1,8 +1,8 @@
 use Rattle.std.proofs.Common.{◌∙◌, inl, inr, map, ap, sym, refl}
 use Rattle.std.proofs.lemmas.List.{take-map}
 use Rattle.std.proofs.KnownBytes.{Keeps-refl}
-use Rattle.mica_serve.specs.NetRun.{net_facts}
-use Rattle.mica_cmd.specs.Outside.{sink_facts}
+use Rattle.served.specs.NetRun.{net_facts}
+use Rattle.server_words.specs.Output.{sink_facts}
 use Rattle.locked_serve.specs.Causes.{ports_at}
 use Rattle.mica_daemon.specs.Daemon.{daemon_outside}
 use Rattle.mica_daemon.proofs.Announced.{serves_placed}

@@ -7,7 +7,8 @@ use Rattle.mica_serve.specs.Hands.{AreLent}
 use Rattle.mica_fronts.specs.QueueFront.{QueueView, queue_view}
 use Rattle.mica_serve.specs.Tasks.{owner_end}
 use Rattle.mica_fronts.specs.declared.queue_front.FrontPart.{FrontPart}
-use Rattle.mica_serve.proofs.Opened.{nil_of, rows, parts_of, next_long, next_new, next_lent, fronts_pushed}
+use Rattle.served.proofs.MadeOf.{nil_of}
+use Rattle.mica_serve.proofs.Opened.{rows, parts_of, next_long, next_new, next_lent, fronts_pushed}
 use Rattle.mica_serve.proofs.opening.open_all.Goals as goal
 
 pub new-requires-clause-many : goal.new-requires-clause-many

@@ -2,10 +2,10 @@ use Rattle.std.proofs.Common.{◌≡◌, map, vec_capacity, sym, ap, ◌∙◌, 
 use Rattle.std.proofs.lemmas.Simd.{map-map}
 use Rattle.partition_table.specs.Tabled.{kept_seat_in}
 use Rattle.mica_serve.specs.declared.worker.FrontTask.{FrontTask}
-use Rattle.mica_serve.specs.Others.{alone}
-use Rattle.mica_serve.specs.Served.{empty_origin}
-use Rattle.mica_serve.specs.Ends.{EndFacts, end_facts}
-use Rattle.mica_serve.specs.FrontRuns.{RanAll}
+use Rattle.served.specs.Others.{alone}
+use Rattle.served.specs.Served.{empty_origin}
+use Rattle.served.specs.Ends.{EndFacts, end_facts}
+use Rattle.served.specs.FrontRuns.{RanAll}
 use Rattle.mica_serve.proofs.RunAll.{Paired, Ran, owners_ready, fronts_ready, served_long, meeting, all_came, idle}
 use Rattle.mica_serve.proofs.server.run_all.Given as given
 use Rattle.mica_serve.proofs.server.run_all.Goals.{After-pair_up, After-run_workers, After-part_fronts}

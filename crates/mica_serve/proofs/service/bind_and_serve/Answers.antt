@@ -2,10 +2,10 @@ use Rattle.std.proofs.Common.{◌≡◌, length, vec_len, map, Some, ap, ◌∙�
 use Rattle.std.specs.Prelude.{Err}
 use Rattle.std.proofs.lemmas.List.{length-map}
 use Rattle.std.proofs.lemmas.Result.{err_from_is_err_and}
-use Rattle.mica_serve.specs.Ends.{EndFacts, end_facts}
-use Rattle.mica_serve.specs.NetRun.{NetFacts, net_facts}
+use Rattle.served.specs.Ends.{EndFacts, end_facts}
+use Rattle.served.specs.NetRun.{NetFacts, net_facts}
 use Rattle.mica_serve.proofs.ValidPorts.{possible_ports}
-use Rattle.mica_serve.proofs.Whole.{Bound, run_failed, run_served}
+use Rattle.served.proofs.Whole.{Bound, run_failed, run_served}
 use Rattle.mica_serve.proofs.service.bind_and_serve.Given as given
 use Rattle.mica_serve.proofs.service.bind_and_serve.Goals.{After-bind_all}
 use Rattle.mica_serve.proofs.service.bind_and_serve.Goals as goal

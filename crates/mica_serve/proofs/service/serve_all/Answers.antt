@@ -4,17 +4,17 @@ use Rattle.std.proofs.lemmas.List.{length-map}
 use Rattle.std.proofs.lemmas.Result.{err_from_is_err_and}
 use Rattle.partition_table.specs.declared.tables.KeptSeat.{KeptSeat}
 use Rattle.partition_table.specs.Tabled.{kept_seat_in}
-use Rattle.mica_fronts.specs.declared.totals.TheConstants.{MAX_BATCHES}
+use Rattle.server_words.specs.declared.limits.TheConstants.{MAX_BATCHES}
 use Rattle.mica_fronts.specs.declared.totals.Totals.{Totals}
 use Rattle.mica_fronts.specs.declared.totals.ServeFault.{ServeFault}
 use Rattle.mica_serve.specs.declared.worker.OwnerTask.{OwnerTask}
-use Rattle.mica_serve.specs.Others.{alone}
-use Rattle.mica_serve.specs.Served.{empty_origin}
-use Rattle.mica_serve.specs.Ends.{EndFacts, ServesFronts, end_facts}
+use Rattle.served.specs.Others.{alone}
+use Rattle.served.specs.Served.{empty_origin}
+use Rattle.served.specs.Ends.{EndFacts, ServesFronts, end_facts}
 use Rattle.mica_fronts.specs.Totals.{IsUpTo}
-use Rattle.mica_serve.specs.FrontRuns.{SumsUp}
-use Rattle.mica_serve.proofs.Gathered.{all_ran, few_answers, small_answers}
-use Rattle.mica_serve.proofs.SumsUp.{sums_beside}
+use Rattle.served.specs.FrontRuns.{SumsUp}
+use Rattle.served.proofs.Gathered.{all_ran, few_answers, small_answers}
+use Rattle.served.proofs.SumsUp.{sums_beside}
 use Rattle.mica_serve.proofs.service.serve_all.Given as given
 use Rattle.mica_serve.proofs.service.serve_all.Goals as goal
 

@@ -2,12 +2,12 @@ use Rattle.std.proofs.Common.{rules, ◌≡◌, ◌+◌, ◌<◌, ℕ, length, v
 use Rattle.std.specs.Prelude.{IfSome}
 use Rattle.std.proofs.lemmas.List.{length-map}
 use Rattle.mica_io.specs.PortStates.{out}
-use Rattle.mica_serve.specs.Others.{alone}
-use Rattle.mica_serve.specs.Served.{empty_origin}
-use Rattle.mica_serve.specs.Ends.{EndFacts, end_facts}
-use Rattle.mica_serve.specs.NetRun.{NetFacts, net_facts}
-use Rattle.mica_serve.proofs.PortRuns.{kept_at}
-use Rattle.mica_serve.proofs.Whole.{out_until, tell_until, keeps, cause, net_kept}
+use Rattle.served.specs.Others.{alone}
+use Rattle.served.specs.Served.{empty_origin}
+use Rattle.served.specs.Ends.{EndFacts, end_facts}
+use Rattle.served.specs.NetRun.{NetFacts, net_facts}
+use Rattle.served.proofs.PortRuns.{kept_at}
+use Rattle.served.proofs.Whole.{out_until, tell_until, keeps, cause, net_kept}
 use Rattle.mica_serve.proofs.service.serve_on.Given as given
 use Rattle.mica_serve.proofs.service.serve_on.Goals as goal
 

@@ -1,6 +1,6 @@
 use Rattle.std.proofs.Common.{◌≡◌, ◌≤◌, length}
 use Rattle.std.specs.Vec.{vec_capacity}
-use Rattle.mica_commands.specs.declared.daemon_words.TheConstants.{MOST_FRONTS}
+use Rattle.server_words.specs.declared.limits.TheConstants.{MOST_FRONTS}
 use Rattle.mica_tests.proofs.lasting.clocks_of.Given as goal
 
 abbrev pub invariant-loop : goal.invariant-loop

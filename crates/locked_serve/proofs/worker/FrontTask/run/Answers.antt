@@ -1,8 +1,8 @@
 use Rattle.std.proofs.Common.{◌≡◌, slice_get, sym, ap, ◌∙◌, subst, arith}
 use Rattle.locked_fronts.specs.Parts.{LockedView, IsLockedFront, locked_view, turns_taken}
-use Rattle.mica_serve.specs.Ends.{EndFacts, end_facts}
-use Rattle.mica_serve.specs.FrontRuns.{RunsFront}
-use Rattle.mica_serve.proofs.FrontEnds.{runs_front, tells_still}
+use Rattle.served.specs.Ends.{EndFacts, end_facts}
+use Rattle.served.specs.FrontRuns.{RunsFront}
+use Rattle.served.proofs.FrontEnds.{runs_front, tells_still}
 use Rattle.locked_serve.specs.Running.{run_of}
 use Rattle.locked_serve.proofs.Ran.{none_taken}
 use Rattle.locked_serve.proofs.worker.FrontTask.run.Goals as goal

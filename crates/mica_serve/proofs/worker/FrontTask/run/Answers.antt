@@ -1,7 +1,7 @@
 use Rattle.std.proofs.Common.{sym, ◌∙◌}
 use Rattle.mica_fronts.specs.QueueFront.{sessions_of}
-use Rattle.mica_serve.specs.Ends.{EndFacts, end_facts}
-use Rattle.mica_serve.proofs.FrontEnds.{runs_front, tells_still}
+use Rattle.served.specs.Ends.{EndFacts, end_facts}
+use Rattle.served.proofs.FrontEnds.{runs_front, tells_still}
 use Rattle.mica_serve.proofs.worker.FrontTask.run.Goals as goal
 
 pub returns : goal.returns

@@ -1,0 +1,163 @@
+-- What the words of a server that stays up give is possible.
+use Rattle.std.proofs.Common.{◌≡◌, ℕ, List, Option, Some, None, Err, sym, ◌∙◌, Bool, true, false, ◌&&◌, is_some, option_map, unwrap_or, ap, refl, subst, if◌then◌else◌, arith}
+use Rattle.std.proofs.lemmas.Bool.{leb-true}
+use Rattle.std.proofs.lemmas.Option.{none-some}
+use Rattle.partition_model.specs.declared.options.TheConstants.{MOST_PARTITIONS, MOST_SPARES, MOST_WORDS, MOST_WEAR}
+use Rattle.partition_model.specs.declared.options.Options.{Options}
+use Rattle.partition_model.specs.declared.options.Mode.{Mode}
+use Rattle.partition_model.specs.Options.{InRange, IsPossible}
+use Rattle.partition_sizes.specs.declared.sizes.Sizes.{Sizes}
+use Rattle.partition_sizes.specs.declared.sizes.TheConstants.{LEAST_MEMORY, MOST_MEMORY}
+use Rattle.partition_sizes.specs.Sizes.{with_sizes, sizes_for}
+use Rattle.partition_sizes.proofs.Fitting as fitting
+use Rattle.server_words.specs.declared.limits.TheConstants.{MAX_BATCHES, MOST_FRONTS}
+use Rattle.server_words.specs.declared.ports.PortOptions.{PortOptions}
+use Rattle.server_words.specs.StreamPorts.{IsPossibleStreams}
+use Rattle.daemon_words.specs.declared.streams.StreamOptions.{StreamOptions}
+use Rattle.option_words.specs.declared.words_fault.WordsFault.{WordsFault}
+use Rattle.option_words.specs.declared.words_fault.WordsFault.TheVariants.{Usage, NoMemory}
+use Rattle.option_words.specs.Words.{Text, given_by, text_of}
+use Rattle.option_words.specs.Settings.{mode, tries, port, value_of, ◌>>=◌}
+use Rattle.daemon_words.specs.Memory.{memory_of}
+use Rattle.daemon_words.specs.StreamWords.{memcached, memcached_fronts, listen, connections, no_streams, gives_more, some_streams, streams_by, streams_given}
+use Rattle.daemon_words.specs.DaemonWords.{Service, partitions, buckets, spares, words, wear, memory_name, sizes_by_words, sizes_by, sizes_given, mode_given, service_options, image_name, fronts, lasting_ports, no_ports, ports_by, ports_given, are_possible, may_fill, daemon_names, daemon_given, daemon_of, gives_size, ArePossibleFronts, IsDaemonReading}
+use Rattle.option_words.proofs.ValueLemmas.{both_told, value_bounds, power_value, one_kilo, required_bounds}
+use Rattle.option_words.proofs.StrayWords.{and_left, and_right}
+use Rattle.daemon_words.proofs.MemoryLemmas.{memory_bounds}
+
+-- options that are possible but for their sizes
+abbrev base : Mode → ℕ → ℕ → Options
+base mode tries wear = record { mode = mode; partitions = 1; buckets = 1; spares = 0; words = 256; readers = 1; tries = tries; wear = wear }
+
+base_possible : (mode : Mode) (tries wear : ℕ) → InRange 1 1000 tries → InRange 1 MOST_WEAR wear → IsPossible (base mode tries wear)
+base_possible mode tries wear t w = record {
+  partitions = (omega arith, omega arith);
+  buckets = (0, omega arith, refl);
+  spares = (omega arith, omega arith);
+  words = (omega arith, omega arith);
+  readers = (omega arith, omega arith);
+  tries = t;
+  wear = w;
+}
+
+same_options : (a b : Options) → Some a ≡ Some b → a ≡ b
+same_options a b e = ap (λ o. unwrap_or o a) e
+
+same_sizes : (a b : Sizes) → Some a ≡ Some b → a ≡ b
+same_sizes a b e = ap (λ o. unwrap_or o a) e
+
+by_words : (given : Text → Option Text) (sizes : Sizes) → sizes_by_words given ≡ Some sizes → (options : Options) → IsPossible options → IsPossible (with_sizes sizes options)
+by_words given sizes is options rest =
+    let p = both_told (value_of partitions given) _ sizes is in
+    let b = both_told (value_of buckets given) _ sizes p.2 in
+    let s = both_told (value_of spares given) _ sizes b.2 in
+    let w = both_told (value_of words given) _ sizes s.2 in
+    subst (λ z. IsPossible (with_sizes z options)) (same_sizes _ sizes w.2) (record {
+      partitions = value_bounds partitions.name 1 MOST_PARTITIONS 4 (given partitions.name) p.0 (omega arith, omega arith) p.1;
+      buckets = power_value buckets.name 16777216 24 1024 (given buckets.name) b.0 refl (omega arith) one_kilo b.1;
+      spares = value_bounds spares.name 0 MOST_SPARES 1024 (given spares.name) s.0 (omega arith, omega arith) s.1;
+      words = value_bounds words.name 256 MOST_WORDS 65536 (given words.name) w.0 (omega arith, omega arith) w.1;
+      readers = rest.readers;
+      tries = rest.tries;
+      wear = rest.wear;
+    })
+
+for_amount : (amount : Option ℕ) (sizes : Sizes) (options : Options) → ((n : ℕ) → amount ≡ Some n → InRange LEAST_MEMORY MOST_MEMORY n) → option_map (sizes_for options.mode) amount ≡ Some sizes
+    → IsPossible options → IsPossible (with_sizes sizes options)
+for_amount None sizes options between is rest = absurd (none-some sizes is)
+for_amount (Some n) sizes options between is rest = subst (λ z. IsPossible (with_sizes z options)) (same_sizes _ sizes is) (fitting.possible options n (between n refl) rest)
+
+by_memory : (given : Text → Option Text) (text : Text) (sizes : Sizes) (options : Options) (one : Bool) → (if one then None else option_map (sizes_for options.mode) (memory_of text)) ≡ Some sizes
+    → IsPossible options → IsPossible (with_sizes sizes options)
+by_memory given text sizes options true is rest = absurd (none-some sizes is)
+by_memory given text sizes options false is rest = for_amount (memory_of text) sizes options (memory_bounds text) is rest
+
+by_either : (given : Text → Option Text) (memory : Option Text) (sizes : Sizes) (options : Options) → sizes_by options.mode given memory ≡ Some sizes → IsPossible options → IsPossible (with_sizes sizes options)
+by_either given None sizes options is rest = by_words given sizes is options rest
+by_either given (Some text) sizes options is rest = by_memory given text sizes options (gives_size given) is rest
+
+service_possible : (given : Text → Option Text) (options : Options) → service_options given ≡ Some options → IsPossible options
+service_possible given options is =
+    let m = both_told (mode_given given) _ options is in
+    let z = both_told (sizes_given m.0 given) _ options m.2 in
+    let t = both_told (value_of tries given) _ options z.2 in
+    let e = both_told (value_of wear given) _ options t.2 in
+    subst IsPossible (same_options _ options e.2) (by_either given (given memory_name) z.0 (base m.0 t.0 e.0) z.1 (base_possible m.0 t.0 e.0
+    (value_bounds tries.name 1 1000 100 (given tries.name) t.0 (omega arith, omega arith) t.1)
+    (value_bounds wear.name 1 MOST_WEAR MOST_WEAR (given wear.name) e.0 (omega arith, omega arith) e.1)))
+
+-- ports of datagrams and of connections that may be given, apart from each other
+record ArePorts (ports : PortOptions) : Type 0 where
+  port : InRange 1024 65000 ports.port
+  fronts : InRange 0 MOST_FRONTS ports.fronts
+  batches : InRange 1 MAX_BATCHES ports.batches
+
+lasting_valid : (given : Text → Option Text) (ports : PortOptions) → lasting_ports given ≡ Some ports → ArePorts ports
+lasting_valid given ports is =
+    let p = both_told (value_of port given) _ ports is in
+    let f = both_told (value_of fronts given) _ ports p.2 in
+    let made : PortOptions = record { port = p.0; fronts = f.0; batches = MAX_BATCHES } in
+    subst ArePorts (ap (λ o. unwrap_or o made) f.2) (record {
+      port = required_bounds port.name 1024 65000 (given port.name) p.0 p.1;
+      fronts = (omega arith, (value_bounds fronts.name 1 MOST_FRONTS 1 (given fronts.name) f.0 (omega arith, omega arith) f.1).1);
+      batches = (omega arith, omega arith);
+    })
+
+no_ports_valid : ArePorts no_ports
+no_ports_valid = record { port = (omega arith, omega arith); fronts = (omega arith, omega arith); batches = (omega arith, omega arith) }
+
+ports_valid : (given : Text → Option Text) (first : Option Text) (ports : PortOptions) → ports_by given first ≡ Some ports → ArePorts ports
+ports_valid given None ports is =
+    elim (is_some (given fronts.name)) as (λ b. (if b then None else Some no_ports) ≡ Some ports → ArePorts ports) [
+      | true ↦ λ none. absurd (none-some ports none)
+      | false ↦ λ same. subst ArePorts (ap (λ o. unwrap_or o no_ports) same) no_ports_valid
+    ] is
+ports_valid given (Some text) ports is = lasting_valid given ports is
+
+some_streams_valid : (given : Text → Option Text) (streams : StreamOptions) → some_streams given ≡ Some streams → IsPossibleStreams streams.ports
+some_streams_valid given streams is =
+    let p = both_told (value_of memcached given) _ streams is in
+    let f = both_told (value_of memcached_fronts given) _ streams p.2 in
+    let l = both_told (value_of listen given) _ streams f.2 in
+    let c = both_told (value_of connections given) _ streams l.2 in
+    let made : StreamOptions = record { ports = record { port = p.0; fronts = f.0 }; address = l.0; connections = c.0 } in
+    let first = required_bounds memcached.name 1024 65000 (given memcached.name) p.0 p.1 in
+    let few = value_bounds memcached_fronts.name 1 MOST_FRONTS 1 (given memcached_fronts.name) f.0 (omega arith, omega arith) f.1 in
+    subst (λ (s : StreamOptions). IsPossibleStreams s.ports) (ap (λ o. unwrap_or o made) c.2) (record { numbers = omega (arith, first.1, few.1); fronts = few.1 })
+
+streams_valid : (given : Text → Option Text) (first : Option Text) (streams : StreamOptions) → streams_by given first ≡ Some streams → IsPossibleStreams streams.ports
+streams_valid given None streams is =
+    elim (gives_more given) as (λ b. (if b then None else Some no_streams) ≡ Some streams → IsPossibleStreams streams.ports) [
+      | true ↦ λ none. absurd (none-some streams none)
+      | false ↦ λ same. subst (λ (s : StreamOptions). IsPossibleStreams s.ports) (ap (λ o. unwrap_or o no_streams) same) (record { numbers = omega arith; fronts = omega arith })
+    ] is
+streams_valid given (Some text) streams is = some_streams_valid given streams is
+
+both_valid : (ports : PortOptions) (streams : StreamOptions) → ArePorts ports → IsPossibleStreams streams.ports → are_possible ports streams ≡ true → ArePossibleFronts ports streams.ports
+both_valid ports streams p s is = record {
+  port = p.port;
+  fronts = p.fronts;
+  batches = p.batches;
+  stream_ports = s;
+  all = (leb-true 1 _ (and_left _ _ is), leb-true _ MOST_FRONTS (and_right _ _ is));
+}
+
+pub service_valid : (given : Text → Option Text) (service : Service) → daemon_given given ≡ Some service → IsPossible service.options × ArePossibleFronts service.ports service.streams.ports
+service_valid given service is =
+    let o = both_told (service_options given) _ service is in
+    let p = both_told (ports_given given) _ service o.2 in
+    let s = both_told (streams_given given) _ service p.2 in
+    let made : Service = record { options = o.0; ports = p.0; streams = s.0; image = given image_name } in
+    told made (are_possible p.0 s.0) (may_fill o.0.mode (given image_name)) refl (service_possible given o.0 o.1) (ports_valid given (given port.name) p.0 p.1) (streams_valid given (given memcached.name) s.0 s.1) s.2
+  where
+    told : (made : Service) (possible fills : Bool) → are_possible made.ports made.streams ≡ possible → IsPossible made.options → ArePorts made.ports → IsPossibleStreams made.streams.ports
+        → (if possible && fills then Some made else None) ≡ Some service → IsPossible service.options × ArePossibleFronts service.ports service.streams.ports
+    told made true true possible o p s same = subst (λ (s : Service). IsPossible s.options × ArePossibleFronts s.ports s.streams.ports) (ap (λ s. unwrap_or s made) same) (o, both_valid made.ports made.streams p s possible)
+    told made true false possible o p s none = absurd (none-some service none)
+    told made false fills possible o p s none = absurd (none-some service none)
+
+-- words that give nothing to the options give no such server
+pub daemon_none : (known : List Text) → known ≡ daemon_names → (words : List Text) (fault : WordsFault) → (fault ≡ Usage → given_by known words ≡ None)
+    → IsDaemonReading (daemon_of words) (Err fault)
+daemon_none known same words Usage none = ap (λ r. r >>= λ given. daemon_given (text_of given)) (ap (λ n. given_by n words) (sym same) ∙ none refl)
+daemon_none known same words NoMemory none = tt

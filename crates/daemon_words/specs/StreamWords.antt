@@ -1,0 +1,78 @@
+-- The words of fronts behind connections: their ports, the address that these are of, and how many connections each has at most.
+use Rattle.std.specs.Prelude.{ℕ, ◌==◌, ◌||◌, Bool, List, [], ◌∷◌, Option, Some, None, is_some, codes, if◌then◌else◌}
+use Rattle.std.specs.List.{before_first, after_first}
+use Rattle.std.specs.declared.net.ipv4_addr.Ipv4Addr.{Ipv4Addr}
+use Rattle.server_words.specs.declared.limits.TheConstants.{MOST_FRONTS}
+use Rattle.daemon_words.specs.declared.streams.StreamOptions.{StreamOptions}
+use Rattle.option_words.specs.Words.{Text}
+use Rattle.option_words.specs.Settings.{Setting, number, required_number, number_of, value_of, ◌>>=◌}
+
+abbrev pub is_dot : ℕ → Bool
+is_dot x = x == 46
+
+-- the text before the first dot, or all of it where there is none
+abbrev pub before_dot : Text → Text
+before_dot text = before_first is_dot text
+
+-- the text behind the first dot, or nothing where there is none
+abbrev pub behind_dot : Text → Text
+behind_dot text = after_first is_dot text
+
+abbrev pub octet_of : Text → Option ℕ
+octet_of text = number_of 0 255 text
+
+abbrev pub address : ℕ → ℕ → ℕ → ℕ → Ipv4Addr
+address a b c d = record { octets = a ∷ b ∷ c ∷ d ∷ [] }
+
+-- the address that a text writes: four numbers up to 255, with a dot between each and the next
+abbrev pub address_of : Text → Option Ipv4Addr
+address_of text =
+    octet_of (before_dot text) >>= λ a.
+    octet_of (before_dot (behind_dot text)) >>= λ b.
+    octet_of (before_dot (behind_dot (behind_dot text))) >>= λ c.
+    octet_of (behind_dot (behind_dot (behind_dot text))) >>= λ d.
+    Some (address a b c d)
+
+-- the first port, and how many fronts there are
+abbrev pub memcached : Setting ℕ
+memcached = required_number (codes "memcached") 1024 65000
+
+abbrev pub memcached_fronts : Setting ℕ
+memcached_fronts = number (codes "memcached-fronts") 1 MOST_FRONTS 1
+
+-- the address that the ports are of, which is the machine's own where none is given
+abbrev pub listen : Setting Ipv4Addr
+listen = record { name = codes "listen"; meaning = address_of; default = Some (address 127 0 0 1) }
+
+-- the most connections that a front has at a time
+abbrev pub connections : Setting ℕ
+connections = number (codes "connections") 1 65536 1024
+
+-- the names of these options
+abbrev pub stream_names : List Text
+stream_names = memcached.name ∷ memcached_fronts.name ∷ listen.name ∷ connections.name ∷ []
+
+-- there are no such fronts
+abbrev pub no_streams : StreamOptions
+no_streams = record { ports = record { port = 0; fronts = 0 }; address = address 127 0 0 1; connections = 0 }
+
+-- one of the options is given that say more of such fronts
+abbrev pub gives_more : (Text → Option Text) → Bool
+gives_more given = is_some (given memcached_fronts.name) || is_some (given listen.name) || is_some (given connections.name)
+
+-- fronts from the first port on
+abbrev pub some_streams : (Text → Option Text) → Option StreamOptions
+some_streams given =
+    value_of memcached given >>= λ port.
+    value_of memcached_fronts given >>= λ fronts.
+    value_of listen given >>= λ address.
+    value_of connections given >>= λ connections.
+    Some (record { ports = record { port = port; fronts = fronts }; address = address; connections = connections })
+
+-- There are such fronts where their first port is given, and nothing more is said of them where it is not.
+abbrev pub streams_by : (Text → Option Text) → Option Text → Option StreamOptions
+streams_by given None = if gives_more given then None else Some no_streams
+streams_by given (Some text) = some_streams given
+
+abbrev pub streams_given : (Text → Option Text) → Option StreamOptions
+streams_given given = streams_by given (given memcached.name)

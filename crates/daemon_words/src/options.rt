@@ -1,0 +1,173 @@
+//! The words of a server that stays up.
+ghost use Rattle.std.specs.Prelude.{◌≡◌, map, string_bytes, option_map};
+ghost use Rattle.clap.specs.Matches.{first_value, found_of};
+ghost use Rattle.daemon_words.specs.DaemonWords.{sizes_by_words, gives_size, sizes_given, mode_given, service_options, lasting_ports, ports_given, are_possible, daemon_given, daemon_of, service_of, IsDaemonReading};
+
+use crate::memory::memory_of;
+use crate::streams::{StreamOptions, streams_given};
+use clap::ArgMatches;
+use option_words::{WordsFault, count, matches_of, mode, number, power_of_two, required};
+use partition_model::{MOST_PARTITIONS, MOST_SPARES, MOST_WEAR, MOST_WORDS, Mode, Options};
+use partition_sizes::{Sizes, sizes_for};
+use server_words::{MAX_BATCHES, MOST_FRONTS, PortOptions};
+use std::alloc::Global;
+
+/// What a server that stays up is asked to do.
+#[derive(Drop)]
+pub struct DaemonOptions<'a> {
+    pub options: Options,
+    /// The ports of datagrams. There may be none.
+    pub ports: PortOptions,
+    /// The ports of connections. There may be none.
+    pub streams: StreamOptions,
+    /// The file whose image fills the store.
+    pub image: Option<&'a str>,
+}
+
+static DAEMON_OPTIONS: [&str; 15] = [
+    "mode",
+    "partitions",
+    "buckets",
+    "spares",
+    "words",
+    "memory",
+    "tries",
+    "wear",
+    "port",
+    "fronts",
+    "image",
+    "memcached",
+    "memcached-fronts",
+    "listen",
+    "connections",
+];
+
+// The sizes that are given one by one.
+fn sizes_by_words(found: &ArgMatches<'_>) -> Option<Sizes>
+    ensures { result ≡ sizes_by_words (first_value (found_of found.now)) }
+{
+    Some(Sizes {
+        partitions: count(found, "partitions", 1, MOST_PARTITIONS, 4)?,
+        buckets: power_of_two(found, "buckets", 16_777_216, 1_024)?,
+        spares: count(found, "spares", 0, MOST_SPARES, 1_024)?,
+        words: count(found, "words", 256, MOST_WORDS, 65_536)?,
+    })
+}
+
+// Whether one of them is given.
+fn gives_size(found: &ArgMatches<'_>) -> bool
+    ensures { result ≡ gives_size (first_value (found_of found.now)) }
+{
+    found.get_str("partitions").is_some()
+        || found.get_str("buckets").is_some()
+        || found.get_str("spares").is_some()
+        || found.get_str("words").is_some()
+}
+
+// The sizes that are given one by one, or those for the memory that is given.
+fn sizes_given(found: &ArgMatches<'_>, mode: Mode) -> Option<Sizes>
+    ensures { result ≡ sizes_given mode (first_value (found_of found.now)) }
+{
+    let Some(text) = found.get_str("memory") else {
+        return sizes_by_words(found);
+    };
+    if gives_size(found) {
+        return None;
+    }
+    let memory = memory_of(text)?;
+    Some(sizes_for(mode, memory))
+}
+
+// The mode, which is that of a cache where none is given beside a port for memcached's clients.
+fn mode_given(found: &ArgMatches<'_>) -> Option<Mode>
+    ensures { result ≡ mode_given (first_value (found_of found.now)) }
+{
+    if found.get_str("mode").is_none() && found.get_str("memcached").is_some() {
+        return Some(Mode::Cache);
+    }
+    mode(found)
+}
+
+// The partitions, which one reader a front reads.
+fn service_options(found: &ArgMatches<'_>) -> Option<Options>
+    ensures { result ≡ service_options (first_value (found_of found.now)) }
+{
+    let mode = mode_given(found)?;
+    let sizes = sizes_given(found, mode)?;
+    Some(Options {
+        mode,
+        partitions: sizes.partitions,
+        buckets: sizes.buckets,
+        spares: sizes.spares,
+        words: sizes.words,
+        readers: 1,
+        tries: count(found, "tries", 1, 1_000, 100)?,
+        wear: number(found, "wear", 1, MOST_WEAR, MOST_WEAR)?,
+    })
+}
+
+// The ports of datagrams, each of whose fronts takes as many as can be counted.
+fn lasting_ports(found: &ArgMatches<'_>) -> Option<PortOptions>
+    ensures { result ≡ lasting_ports (first_value (found_of found.now)) }
+{
+    Some(PortOptions {
+        port: required(found, "port", 1_024, 65_000)? as u16,
+        fronts: count(found, "fronts", 1, MOST_FRONTS, 1)?,
+        batches: MAX_BATCHES,
+    })
+}
+
+// The ports of datagrams. There are some where their first port is given; else nothing more may be said of them.
+fn ports_given(found: &ArgMatches<'_>) -> Option<PortOptions>
+    ensures { result ≡ ports_given (first_value (found_of found.now)) }
+{
+    if found.get_str("port").is_some() {
+        return lasting_ports(found);
+    }
+    if found.get_str("fronts").is_some() {
+        return None;
+    }
+    Some(PortOptions {
+        port: 1_024,
+        fronts: 0,
+        batches: MAX_BATCHES,
+    })
+}
+
+// Whether there is a front, and there are not too many.
+fn are_possible(ports: &PortOptions, streams: &StreamOptions) -> bool
+    ensures { result ≡ are_possible ports.now streams.now }
+{
+    let all = u64::from(ports.fronts) + u64::from(streams.ports.fronts);
+    1 <= all && all <= u64::from(MOST_FRONTS)
+}
+
+// What a server that stays up is to do, by the texts of its options. An image fills a store, and no cache.
+fn daemon_options<'a>(found: &ArgMatches<'a>) -> Option<DaemonOptions<'a>>
+    ensures { option_map service_of result ≡ daemon_given (first_value (found_of found.now)) }
+{
+    let options = service_options(found)?;
+    let ports = ports_given(found)?;
+    let streams = streams_given(found)?;
+    let image = found.get_str("image");
+    if !are_possible(&ports, &streams) || options.mode == Mode::Cache && image.is_some() {
+        return None;
+    }
+    Some(DaemonOptions {
+        options,
+        ports,
+        streams,
+        image,
+    })
+}
+
+/// The partitions, the ports and the image that the words after the program's name give.
+pub fn read_daemon<'a>(alloc: Global, words: &'a [String]) -> Result<DaemonOptions<'a>, WordsFault>
+    ensures { IsDaemonReading (daemon_of (map string_bytes words.entry.now)) result }
+{
+    let found = matches_of(alloc, "micad", DAEMON_OPTIONS.as_slice(), words)?;
+    match daemon_options(&found) {
+        Some(options) => Ok(options),
+        None => Err(WordsFault::Usage),
+    }
+}

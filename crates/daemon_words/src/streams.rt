@@ -1,0 +1,96 @@
+//! The words of fronts behind connections.
+ghost use Rattle.std.specs.Prelude.{◌≡◌};
+ghost use Rattle.clap.specs.Matches.{first_value, found_of};
+ghost use Rattle.option_words.specs.Settings.{value_of};
+ghost use Rattle.daemon_words.specs.StreamWords.{before_dot, behind_dot, octet_of, address_of, listen, gives_more, some_streams, streams_given};
+
+use clap::ArgMatches;
+use option_words::{count, number_of, required};
+use server_words::{MOST_FRONTS, StreamPorts};
+use std::net::Ipv4Addr;
+
+/// The fronts behind connections: their ports, the address that these are of, and the most connections that a front has at a time.
+#[derive(Clone, Copy)]
+pub struct StreamOptions {
+    pub ports: StreamPorts,
+    pub address: Ipv4Addr,
+    pub connections: u32,
+}
+
+// The text before the first dot and the text behind it: all and nothing where there is none.
+fn at_dot(text: &str) -> (&str, &str)
+    ensures before { result.0.now ≡ before_dot text.now }
+    ensures behind { result.1.now ≡ behind_dot text.now }
+{
+    match text.split_once('.') {
+        Some((before, behind)) => (before, behind),
+        None => (text, ""),
+    }
+}
+
+fn octet_of(text: &str) -> Option<u8>
+    ensures { result ≡ octet_of text.now }
+{
+    Some(number_of(text, 0, 255)? as u8)
+}
+
+/// The IPv4 address that a text writes.
+fn address_of(text: &str) -> Option<Ipv4Addr>
+    ensures { result ≡ address_of text.now }
+{
+    let (a, behind) = at_dot(text);
+    let (b, behind) = at_dot(behind);
+    let (c, d) = at_dot(behind);
+    Some(Ipv4Addr::new(octet_of(a)?, octet_of(b)?, octet_of(c)?, octet_of(d)?))
+}
+
+// The address that the ports are of.
+fn listen(found: &ArgMatches<'_>) -> Option<Ipv4Addr>
+    ensures { result ≡ value_of listen (first_value (found_of found.now)) }
+{
+    match found.get_str("listen") {
+        Some(text) => address_of(text),
+        None => Some(Ipv4Addr::LOCALHOST),
+    }
+}
+
+// Whether one of the options is given that say more of such fronts.
+fn gives_more(found: &ArgMatches<'_>) -> bool
+    ensures { result ≡ gives_more (first_value (found_of found.now)) }
+{
+    found.get_str("memcached-fronts").is_some()
+        || found.get_str("listen").is_some()
+        || found.get_str("connections").is_some()
+}
+
+// Fronts from the first port on.
+fn some_streams(found: &ArgMatches<'_>) -> Option<StreamOptions>
+    ensures { result ≡ some_streams (first_value (found_of found.now)) }
+{
+    let port = required(found, "memcached", 1_024, 65_000)? as u16;
+    let fronts = count(found, "memcached-fronts", 1, MOST_FRONTS, 1)?;
+    let address = listen(found)?;
+    let connections = count(found, "connections", 1, 65_536, 1_024)?;
+    Some(StreamOptions {
+        ports: StreamPorts { port, fronts },
+        address,
+        connections,
+    })
+}
+
+/// The fronts behind connections. There are some where their first port is given; else nothing more may be said of them.
+pub fn streams_given(found: &ArgMatches<'_>) -> Option<StreamOptions>
+    ensures { result ≡ streams_given (first_value (found_of found.now)) }
+{
+    if found.get_str("memcached").is_some() {
+        return some_streams(found);
+    }
+    if gives_more(found) {
+        return None;
+    }
+    Some(StreamOptions {
+        ports: StreamPorts { port: 0, fronts: 0 },
+        address: Ipv4Addr::LOCALHOST,
+        connections: 0,
+    })
+}

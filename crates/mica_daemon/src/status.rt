@@ -1,0 +1,19 @@
+//! What a server that stays up ends with.
+
+/// How a server that stays up ended, each with the number that its process ends with. None is 0: it ends only where it can't go on.
+#[derive(Clone, Copy, PartialEq, Eq)]
+pub enum DaemonStatus {
+    /// The words give no server.
+    Usage = 1,
+    NoMemory = 2,
+    /// The file of the image has more bytes than a trace may have.
+    TraceLong = 4,
+    /// The file of the image could not be read.
+    ReadFault = 5,
+    WriteFault = 6,
+    NetFault = 7,
+    /// The file has no image, or a partition took no pair of it.
+    ImageRefused = 12,
+    /// It can take no more.
+    UsedUp = 13,
+}
