@@ -10,7 +10,9 @@ import re
 import sys
 from pathlib import Path
 
-from move import USE, blank_comments, leaves, read_crates
+sys.dont_write_bytecode = True
+from rust import USE, blank_comments, leaves
+from table import read_crates
 
 top = Path(sys.argv[1] if len(sys.argv) > 1 else ".").resolve()
 crates = top / "crates"
