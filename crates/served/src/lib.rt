@@ -7,8 +7,8 @@
 
 mod answers;
 mod bound_ends;
-mod totals_line;
+mod totals;
 
 pub use answers::sum_up;
 pub use bound_ends::{bind_all, release_all};
-pub use totals_line::totals_line;
+pub use totals::totals_line;

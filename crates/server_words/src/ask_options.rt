@@ -2,7 +2,7 @@
 ghost use Rattle.std.specs.Prelude.{◌↔◌, IsTrue};
 
 /// Where the fronts of a server are, and how it is asked. Partition p is asked at `port + p % fronts`.
-#[derive(Clone, Copy, Debug, PartialEq, Eq)]
+#[derive(Clone, Copy, PartialEq, Eq)]
 pub struct AskOptions {
     /// The port of the first front, from 1,024 to 65,000; each other has the next one.
     pub port: u16,
