@@ -14,7 +14,9 @@ def in_comments(tree, text, path, source):
     mark = {".rt": "//", ".antt": "--"}.get(path.suffix)
     if not mark or not source[0]:
         return text
-    return re.sub(rf"{mark}[^\n]*", lambda line: in_prose(tree, line[0], "/".join(map(str, source)), True), text)
+    name = "/".join(map(str, source))
+    text = with_phrases(f"crates/{name}", text)
+    return re.sub(rf"{mark}[^\n]*", lambda line: in_prose(tree, line[0], name, True), text)
 
 
 def in_prose(tree, text, where, ticked):
@@ -152,19 +154,34 @@ def outside_crates(tree, deps):
     return out
 
 
+def sections(mark):
+    """rows.txt: a section begins with its mark, a file and what its row begins with, or a phrase; then comes what stands there instead."""
+    for section in re.split(r"^(?=[=~] )", (HERE / "rows.txt").read_text(), flags=re.M)[1:]:
+        head, _, new = section.partition("\n")
+        name, _, old = head[2:].partition(": ")
+        if section[0] == mark:
+            yield name, old, new
+
+
 def with_rows(name, text):
     """A document whose rows of parted crates are marked, and what rows.txt has in their place."""
     rows = []
-    for section in re.split(r"^= ", (HERE / "rows.txt").read_text(), flags=re.M)[1:]:
-        head, _, new = section.partition("\n")
-        document, _, begin = head.partition(": ")
-        if document != name:
-            continue
-        text, times = re.subn(rf"^{re.escape(begin)}[^\n]*\n", f"\0{len(rows)}\0\n", text, count=1, flags=re.M)
-        if not times:
-            loud(f"{name}: no row begins with {begin}")
-        rows.append(new)
-    return text, rows
+    for document, begin, new in sections("="):
+        if document == name:
+            text, times = re.subn(rf"^{re.escape(begin)}[^\n]*\n", f"\0{len(rows)}\0\n", text, count=1, flags=re.M)
+            if not times:
+                loud(f"{name}: no row begins with {begin}")
+            rows.append(new)
+    return with_phrases(name, text), rows
+
+
+def with_phrases(name, text):
+    for document, old, new in sections("~"):
+        if document == name and old not in text:
+            loud(f"{name}: it does not say: {old}")
+        elif document == name:
+            text = text.replace(old, new.removesuffix("\n"))
+    return text
 
 
 def replace_texts(tree, text):
