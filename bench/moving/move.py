@@ -3,10 +3,10 @@
 
 bench/moving/move.py [--no-fmt] [TREE]      (TREE: the tree's top; without it the folder where it is run)
 
-What goes where stands beside this script: table.txt (crates, modules, renames), heads.txt (the heads of new crates) and
-crates_order.txt (groups and comments of crates.txt). It works by modules and symbols, so it can be run on any tree with the
-old names. A patch for the old names is carried over so: apply it to the old tree, run this, and take the difference to the
-moved tree. It moves files in the folder alone: `git add -A` then sees renames.
+What goes where stands beside this script: table.txt (crates, modules, renames), heads.txt (the heads of new crates),
+crates_order.txt (groups and comments of crates.txt) and rows.txt (rows of tables in documents). It works by modules and
+symbols, so it can be run on any tree with the old names. A patch for the old names is carried over so: apply it to the old
+tree, run this, and take the difference to the moved tree. It moves files in the folder alone: `git add -A` then sees renames.
 
 It writes what it did, and what it could not place as lines that begin with '!!'; its status is 1 where there were any such.
 """

@@ -4,7 +4,7 @@ from pathlib import Path
 
 from files import file_of_edit, moved_edit, new_file, with_words
 from rust import RustFile, rewrite_ghost
-from table import loud
+from table import HERE, loud
 
 DOCUMENTS = ["README.md", "docs/*.md"]
 
@@ -14,7 +14,9 @@ def in_comments(tree, text, path, source):
     mark = {".rt": "//", ".antt": "--"}.get(path.suffix)
     if not mark or not source[0]:
         return text
-    return re.sub(rf"{mark}[^\n]*", lambda line: in_prose(tree, line[0], "/".join(map(str, source)), True), text)
+    name = "/".join(map(str, source))
+    text = with_phrases(f"crates/{name}", text)
+    return re.sub(rf"{mark}[^\n]*", lambda line: in_prose(tree, line[0], name, True), text)
 
 
 def in_prose(tree, text, where, ticked):
@@ -30,12 +32,39 @@ def in_prose(tree, text, where, ticked):
         text = re.sub(rf"(?<![\w-]){old}/([A-Z]\w*)", lambda f: new_spec_in_prose(tree, old, f), text)
         text = re.sub(rf"(?<![\w-]){old}::(\w+)", lambda f: new_symbol_in_prose(tree, old, f), text)
         text = re.sub(rf"(?<![\w-]){old}(/|` \| `)(\w+)", lambda f: new_edit_in_prose(tree, old, f), text)
+        if not ticked:
+            text = re.sub(rf"`{old}`", lambda f: by_company(tree, old, f), text)
         left = rf"`{old}`" if ticked else rf"(?<![\w-]){old}(?![\w-])"
         if old not in table.facades or not ticked:
             for found in re.finditer(left, text):
                 number = text.count("\n", 0, found.start()) + 1
                 loud(f"{where}{'' if ticked else f':{number}'}: names {old}, which was parted")
     return text
+
+
+def by_company(tree, old, found):
+    """The crate of what is named behind a parted crate, or else before it, in the same cell or sentence: where it is one."""
+    text = found.string
+    behind = re.split(r"\||;|\. |\n|" + "|".join(f"`{name}`" for name in tree.names), text[found.end():], maxsplit=1)[0]
+    before = re.split(r"\||;|\. |\n", text[:found.start()])[-1]
+    for part in (behind, before):
+        homes = {home_of(tree, old, word) for word in re.findall(r"`([^`]+)`", part)} - {None}
+        if homes:
+            return f"`{homes.pop()}`" if len(homes) == 1 else found[0]
+    return found[0]
+
+
+def home_of(tree, old, word):
+    """The new crate of a file, a module or a symbol of an old crate."""
+    parts = tree.table.parts[old]
+    path = re.fullmatch(r"(?:src/)?(\w+)\.rt", word)
+    if path:
+        return parts["src"].get(path[1])
+    word = re.sub(r"^(?:specs|proofs)/", "", word)
+    if word in parts["specs"] or word in parts["proofs"]:
+        return parts["specs"].get(word) or parts["proofs"].get(word)
+    modules, _ = tree.symbols[old].get(word.split("::")[0], ((), None))
+    return parts["src"].get(modules[0]) if modules else None
 
 
 def new_edit_in_prose(tree, old, found):
@@ -104,8 +133,10 @@ def outside_crates(tree, deps):
     out = {}
     for pattern in DOCUMENTS:
         for file in sorted(tree.top.glob(pattern)):
-            text = file.read_text()
-            new = replace_texts(tree, in_prose(tree, text, str(file.relative_to(tree.top)), False))
+            text, name = file.read_text(), str(file.relative_to(tree.top))
+            marked, rows = with_rows(name, text)
+            new = replace_texts(tree, in_prose(tree, marked, name, False))
+            new = re.sub(r"\0(\d+)\0\n", lambda f: rows[int(f[1])], new)
             if new != text:
                 out[file] = new
     for file in sorted((tree.top / "bench").rglob("*")):
@@ -121,6 +152,36 @@ def outside_crates(tree, deps):
         if new != before:
             out[file] = new
     return out
+
+
+def sections(mark):
+    """rows.txt: a section begins with its mark, a file and what its row begins with, or a phrase; then comes what stands there instead."""
+    for section in re.split(r"^(?=[=~] )", (HERE / "rows.txt").read_text(), flags=re.M)[1:]:
+        head, _, new = section.partition("\n")
+        name, _, old = head[2:].partition(": ")
+        if section[0] == mark:
+            yield name, old, new
+
+
+def with_rows(name, text):
+    """A document whose rows of parted crates are marked, and what rows.txt has in their place."""
+    rows = []
+    for document, begin, new in sections("="):
+        if document == name:
+            text, times = re.subn(rf"^{re.escape(begin)}[^\n]*\n", f"\0{len(rows)}\0\n", text, count=1, flags=re.M)
+            if not times:
+                loud(f"{name}: no row begins with {begin}")
+            rows.append(new)
+    return with_phrases(name, text), rows
+
+
+def with_phrases(name, text):
+    for document, old, new in sections("~"):
+        if document == name and old not in text:
+            loud(f"{name}: it does not say: {old}")
+        elif document == name:
+            text = text.replace(old, new.removesuffix("\n"))
+    return text
 
 
 def replace_texts(tree, text):

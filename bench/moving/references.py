@@ -116,6 +116,15 @@ for crate in lines:
                     if path and (path[0] == "crate" or path[0] in lines):
                         used(crate, path, name, where)
 
+for crate in lines:
+    for lib in (crates / crate / "src").glob("*.rt"):
+        text = blank_comments(lib.read_text())
+        modules = set(re.findall(r"^(?:pub )?mod (\w+);", text, re.M))
+        beside = {alias or name for found in USE.finditer(text) for _, name, alias in leaves(found[3])}
+        beside |= set(re.findall(r"^(?:pub(?:\(\w+\))? )?(?:fn|struct|enum|trait|const|type|static) (\w+)", text, re.M))
+        for name in sorted(modules & beside):
+            missing.append(f"{crate}/src/{lib.name}: {name} is a module and an item beside it")
+
 for line in dict.fromkeys(missing):
     print(line)
 sys.exit(1 if missing else 0)
