@@ -32,7 +32,7 @@ reply_is_line Deleted = record { line = codes "DELETED\r"; whole = refl; lacks =
 reply_is_line NotFound = record { line = codes "NOT_FOUND\r"; whole = refl; lacks = search rules }
 reply_is_line Touched = record { line = codes "TOUCHED\r"; whole = refl; lacks = search rules }
 reply_is_line End = record { line = codes "END\r"; whole = refl; lacks = search rules }
-reply_is_line Version = record { line = codes "VERSION 1.6.0-mica\r"; whole = refl; lacks = search rules }
+reply_is_line Version = record { line = codes "VERSION 1.6.18\r"; whole = refl; lacks = search rules }
 reply_is_line Done = record { line = codes "OK\r"; whole = refl; lacks = search rules }
 reply_is_line Noop = record { line = codes "MN\r"; whole = refl; lacks = search rules }
 reply_is_line LongLine = record { line = codes "CLIENT_ERROR line too long\r"; whole = refl; lacks = search rules }
