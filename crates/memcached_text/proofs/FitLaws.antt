@@ -1,13 +1,13 @@
 -- The parts of a command that is read have the lengths that an item's may have.
-use Rattle.std.proofs.Common.{◌≡◌, ℕ, ◌+◌, ◌^◌, ◌<◌, ◌≤◌, Bool, true, false, true≢false, ◌&&◌, ◌||◌, eqb, cond, List, [], ◌∷◌, length, take, Option, Some, None, nat_lt, nat_le, refl, sym, ap, subst, ◌∙◌, arith, codes}
+use Rattle.std.proofs.Common.{◌≡◌, ℕ, ◌+◌, ◌%◌, ◌^◌, ◌<◌, ◌≤◌, Bool, true, false, true≢false, ◌&&◌, ◌||◌, eqb, cond, List, [], ◌∷◌, length, take, Option, Some, None, nat_lt, nat_le, refl, sym, ap, subst, ◌∙◌, arith, codes, mod-lt}
 use Rattle.std.specs.Prelude.{⊤, ◌==◌, bytes_eq, filter, find, option_map, option_and_then}
 use Rattle.std.specs.Option.{IfSome}
 use Rattle.std.specs.List.{AllByRecursion, list_all, slice_split}
 use Rattle.std.specs.Str.Parse.{starts_with_minus}
-use Rattle.std.proofs.lemmas.Bool.{ltb-false, le-ltb, leb-true, leb-false, eqb-false}
+use Rattle.std.proofs.lemmas.Bool.{ltb-false, le-ltb, le-leb, leb-true, leb-false, eqb-false}
 use Rattle.std.proofs.lemmas.List.{length-take-le}
 use Rattle.memcached_text.specs.declared.limits.TheConstants.{MAX_KEY_LEN, MAX_TEXT_LEN, MAX_LINE_LEN}
-use Rattle.memcached_text.specs.declared.lifetime.TheConstants.{MAX_SECONDS, MOST_BELOW}
+use Rattle.memcached_text.specs.declared.lifetime.TheConstants.{MAX_SECONDS, LAST_SAID, MOST_ABOVE, MOST_BELOW}
 use Rattle.memcached_text.specs.declared.lifetime.Lifetime.{Lifetime}
 use Rattle.memcached_text.specs.declared.lifetime.Lifetime.TheVariants.{Forever, Over, For, Until}
 use Rattle.memcached_text.specs.declared.command.Command.TheVariants as commands
@@ -29,7 +29,7 @@ use Rattle.memcached_text.specs.declared.next.Next.TheVariants.{LongLine, More, 
 use Rattle.memcached_text.specs.declared.fault.Fault.TheVariants as faults
 use Rattle.memcached_text.specs.Lines.{is_some_text, words_of, without_return, line_at}
 use Rattle.memcached_text.specs.Numbers.{number_of}
-use Rattle.memcached_text.specs.Lifetimes.{lifetime_at, lifetime_below, lifetime_of, due_of, IsLifetime, IsDue}
+use Rattle.memcached_text.specs.Lifetimes.{lifetime_at, lifetime_below, lifetime_of, due_of, IsLifetime, IsDue, IsSaid}
 use Rattle.memcached_text.specs.Line.{is_key, is_noreply, refused, quiet_tail}
 use Rattle.memcached_text.specs.StorageLine.{◌>>=◌, block_len, item_of, numbered_item_of, stored, set_line, cas_line, dropped, drop_meta_line, command_by, stale_by}
 use Rattle.memcached_text.specs.KeyLine.{got, get_line, got_by, get_touch_line, deleted, delete_line, counted_by, counted, count_line, touched_by, touched, touch_line}
@@ -56,12 +56,22 @@ words_are_some text = filter_some (slice_split (λ b. b == 32) text)
 
 -- a lifetime that a word says
 pub at_fits : (n : ℕ) → n ≤ 4294967295 → IsLifetime (lifetime_at n)
-at_fits n low = go (eqb n 0) (nat_le n MAX_SECONDS) refl refl
+at_fits n low = go (eqb n 0) (nat_le n MAX_SECONDS) (nat_le n LAST_SAID) refl refl
   where
-    go : (zero short : Bool) → eqb n 0 ≡ zero → nat_le n MAX_SECONDS ≡ short → IsLifetime (cond zero Forever (cond short (For n) (Until n)))
+    go : (zero short near : Bool) → eqb n 0 ≡ zero → nat_le n MAX_SECONDS ≡ short → IsLifetime (cond zero Forever (cond short (For n) (cond near (Until n) Over)))
+    go true short near none less = tt
+    go false true near none less = (omega (arith, eqb-false n 0 none), leb-true _ _ less)
+    go false false true none less = (leb-false _ _ less, omega arith)
+    go false false false none less = tt
+
+-- the lifetime of a number that is none below 0
+pub at_said : (n : ℕ) → n ≤ LAST_SAID → IsSaid (lifetime_at n)
+at_said n low = go (eqb n 0) (nat_le n MAX_SECONDS) refl refl
+  where
+    go : (zero short : Bool) → eqb n 0 ≡ zero → nat_le n MAX_SECONDS ≡ short → IsSaid (cond zero Forever (cond short (For n) (cond (nat_le n LAST_SAID) (Until n) Over)))
     go true short none less = tt
     go false true none less = (omega (arith, eqb-false n 0 none), leb-true _ _ less)
-    go false false none less = (leb-false _ _ less, omega arith)
+    go false false none less = rw (le-leb n LAST_SAID low) ((leb-false _ _ less, omega arith), low)
 
 below_fits : (n : ℕ) → IsLifetime (lifetime_below n)
 below_fits n = go (eqb n 0)
@@ -72,13 +82,13 @@ below_fits n = go (eqb n 0)
 
 lifetime_fits : (word : List ℕ) → IfSome (lifetime_of word) IsLifetime
 unfolding lifetime_of
-lifetime_fits word = go (starts_with_minus word) (number_of MOST_BELOW _) (number_of 4294967295 word) (small_number 4294967295 word)
+lifetime_fits word = go (starts_with_minus word) (number_of MOST_BELOW _) (number_of MOST_ABOVE word)
   where
-    go : (t : Bool) (a b : Option ℕ) → IfSome b (λ n. n ≤ 4294967295) → IfSome (cond t (option_map lifetime_below a) (option_map lifetime_at b)) IsLifetime
-    go true None b small = tt
-    go true (Some a) b small = below_fits a
-    go false a None small = tt
-    go false a (Some b) small = at_fits b small
+    go : (t : Bool) (a b : Option ℕ) → IfSome (cond t (option_map lifetime_below a) (option_map (λ n. lifetime_at (n % 2 ^ 32)) b)) IsLifetime
+    go true None b = tt
+    go true (Some a) b = below_fits a
+    go false a None = tt
+    go false a (Some b) = let low : b % 2 ^ 32 < 2 ^ 32 = mod-lt b (omega arith) in at_fits (b % 2 ^ 32) (omega arith)
 
 due_fits : (lifetime : Lifetime) → IsLifetime lifetime → IsDue (due_of lifetime)
 due_fits Forever fits = tt

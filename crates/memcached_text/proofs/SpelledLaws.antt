@@ -6,11 +6,12 @@ use Rattle.std.specs.Str.{all_ascii_digits}
 use Rattle.std.specs.Str.Parse.{digits_value}
 use Rattle.std.proofs.lemmas.Fmt.{decimal_digit, decimal-digits_value}
 use Rattle.std.proofs.lemmas.Int.Digits.{digits_value_more}
+use Rattle.std.proofs.lemmas.Bool.{le-leb}
 use Rattle.std.proofs.lemmas.List.{append-nil, take_more}
 use Rattle.memchr.specs.Find.{is_byte2}
 use Rattle.memcached_text.specs.declared.limits.TheConstants.{MAX_KEY_LEN, MAX_TEXT_LEN, MAX_LINE_LEN}
-use Rattle.memcached_text.specs.declared.lifetime.TheConstants.{MAX_SECONDS}
-use Rattle.memcached_text.specs.declared.lifetime.Lifetime.TheVariants.{Forever, For, Until}
+use Rattle.memcached_text.specs.declared.lifetime.TheConstants.{MAX_SECONDS, LAST_SAID}
+use Rattle.memcached_text.specs.declared.lifetime.Lifetime.TheVariants.{Forever, Over, For, Until}
 use Rattle.memcached_text.specs.declared.command.Command.{Command}
 use Rattle.memcached_text.specs.declared.command.Command.TheVariants.{Get, Store, Count}
 use Rattle.memcached_text.specs.declared.next.Next.TheVariants as nexts
@@ -22,7 +23,7 @@ use Rattle.memcached_text.specs.Lifetimes.{lifetime_at}
 use Rattle.memcached_text.specs.Next.{next_of}
 use Rattle.memcached_text.specs.Spelling.{IsKey, asking, lifetime_text, count_word, command_text, BeginsAs}
 use Rattle.memcached_text.proofs.NumberLaws.{own, both, digit_is}
-use Rattle.memcached_text.proofs.FitLaws.{at_fits}
+use Rattle.memcached_text.proofs.FitLaws.{at_said}
 use Rattle.memcached_text.proofs.SpellingLaws.{regroup_text, text_len, reads_back}
 
 -- bytes that begin with the text of a command are read as it
@@ -94,13 +95,13 @@ spelled_number text word rest number parts read some plain small =
     let spelled : decimal (digits_value 10 word) ≡ word = decimal-digits_value own word read.digits some plain (omega (arith, read.value)) in
     parts ∙ ap (λ w. w ++ rest) (sym spelled ∙ ap decimal read.value)
 
-lifetime_spelled : (n : ℕ) → lifetime_text (lifetime_at n) ≡ decimal n
-lifetime_spelled n = go (eqb n 0) refl (nat_le n MAX_SECONDS)
+lifetime_spelled : (n : ℕ) → n ≤ LAST_SAID → lifetime_text (lifetime_at n) ≡ decimal n
+lifetime_spelled n low = go (eqb n 0) refl (nat_le n MAX_SECONDS)
   where
-    go : (zero : Bool) → eqb n 0 ≡ zero → (short : Bool) → lifetime_text (cond zero Forever (cond short (For n) (Until n))) ≡ decimal n
+    go : (zero : Bool) → eqb n 0 ≡ zero → (short : Bool) → lifetime_text (cond zero Forever (cond short (For n) (cond (nat_le n LAST_SAID) (Until n) Over))) ≡ decimal n
     go true is short = let here : n ≡ 0 = eqb-true n 0 is in rw here (sym (decimal_digit 0 (omega arith)))
     go false is true = refl
-    go false is false = refl
+    go false is false = rw (le-leb n LAST_SAID low) refl
 
 -- words with a space between each two, and what stands behind them
 regroup_words : (a b c d e x : List ℕ) → (a ++ 32 ∷ (b ++ 32 ∷ (c ++ 32 ∷ (d ++ e)))) ++ x ≡ a ++ 32 ∷ (b ++ 32 ∷ (c ++ 32 ∷ (d ++ (e ++ x))))
@@ -110,12 +111,12 @@ regroup_words a b c d e x =
     ∙ ap (λ t. b ++ 32 ∷ t) (append_assoc c (32 ∷ (d ++ e)) x ∙ ap (λ t. c ++ 32 ∷ t) (append_assoc d e x)))
 
 -- the text of a set, with more behind it
-set_text : (key value more : List ℕ) (flags expiry len : ℕ) (quiet : Bool) → length value ≡ len
+set_text : (key value more : List ℕ) (flags expiry len : ℕ) (quiet : Bool) → length value ≡ len → expiry ≤ LAST_SAID
     → command_text (Store Whatever key flags (lifetime_at expiry) value quiet) ++ more ≡ codes "set " ++ (key ++ 32 ∷ (decimal flags ++ 32 ∷ (decimal expiry ++ 32 ∷ (decimal len ++ (asking quiet ++ 13 ∷ 10 ∷ (value ++ 13 ∷ 10 ∷ more))))))
-set_text key value more flags expiry len quiet count =
+set_text key value more flags expiry len quiet count near =
     regroup_text (codes "set " ++ (key ++ 32 ∷ (decimal flags ++ 32 ∷ (lifetime_text (lifetime_at expiry) ++ 32 ∷ (decimal (length value) ++ asking quiet))))) (value ++ codes "\r\n") more
     ∙ ap (λ t. codes "set " ++ t) (regroup_words key (decimal flags) (lifetime_text (lifetime_at expiry)) (decimal (length value)) (asking quiet) (13 ∷ 10 ∷ (value ++ codes "\r\n" ++ more)))
-    ∙ ap (λ t. codes "set " ++ (key ++ 32 ∷ (decimal flags ++ 32 ∷ (t ++ 32 ∷ (decimal (length value) ++ (asking quiet ++ 13 ∷ 10 ∷ (value ++ codes "\r\n" ++ more))))))) (lifetime_spelled expiry)
+    ∙ ap (λ t. codes "set " ++ (key ++ 32 ∷ (decimal flags ++ 32 ∷ (t ++ 32 ∷ (decimal (length value) ++ (asking quiet ++ 13 ∷ 10 ∷ (value ++ codes "\r\n" ++ more))))))) (lifetime_spelled expiry near)
     ∙ ap (λ n. codes "set " ++ (key ++ 32 ∷ (decimal flags ++ 32 ∷ (decimal expiry ++ 32 ∷ (decimal n ++ (asking quiet ++ 13 ∷ 10 ∷ (value ++ codes "\r\n" ++ more))))))) count
     ∙ ap (λ t. codes "set " ++ (key ++ 32 ∷ (decimal flags ++ 32 ∷ (decimal expiry ++ 32 ∷ (decimal len ++ (asking quiet ++ 13 ∷ 10 ∷ t)))))) (append_assoc value (codes "\r\n") more)
 
@@ -143,12 +144,12 @@ set_is from key value more flags expiry len quiet is =
     ∙ ap (λ t. decimal flags ++ 32 ∷ t) (is.expiry_read ∙ ap (λ t. decimal expiry ++ 32 ∷ t) (is.len_read
     ∙ ap (λ t. decimal len ++ t) (is.tail_read ∙ ap (λ t. asking quiet ++ 13 ∷ 10 ∷ t) is.block_read))))))
 
-pub set_begins : (from key value more : List ℕ) (flags expiry len : ℕ) (quiet : Bool) → IsSetText from key value more flags expiry len quiet → IsKey key → flags ≤ 4294967295 → expiry ≤ 4294967295 → length value ≡ len → len ≤ MAX_TEXT_LEN → BeginsAs from (Store Whatever key flags (lifetime_at expiry) value quiet) (length from - length more)
+pub set_begins : (from key value more : List ℕ) (flags expiry len : ℕ) (quiet : Bool) → IsSetText from key value more flags expiry len quiet → IsKey key → flags ≤ 4294967295 → expiry ≤ LAST_SAID → length value ≡ len → len ≤ MAX_TEXT_LEN → BeginsAs from (Store Whatever key flags (lifetime_at expiry) value quiet) (length from - length more)
 set_begins from key value more flags expiry len quiet is is_key flags_is expiry_is count small =
-    let text : from ≡ command_text (Store Whatever key flags (lifetime_at expiry) value quiet) ++ more = set_is from key value more flags expiry len quiet is ∙ sym (set_text key value more flags expiry len quiet count) in
+    let text : from ≡ command_text (Store Whatever key flags (lifetime_at expiry) value quiet) ++ more = set_is from key value more flags expiry len quiet is ∙ sym (set_text key value more flags expiry len quiet count expiry_is) in
     let size : length from ≡ length (command_text (Store Whatever key flags (lifetime_at expiry) value quiet)) + length more = ap length text ∙ length-append (command_text (Store Whatever key flags (lifetime_at expiry) value quiet)) more in
     record {
-      is = (tt, is_key, omega arith, at_fits expiry expiry_is, omega arith);
+      is = (tt, is_key, omega arith, at_said expiry expiry_is, omega arith);
       more = more;
       text = text;
       whole = omega arith;

@@ -4,7 +4,7 @@ ghost use Rattle.std.specs.Prelude.{◌≡◌, ◌<◌, ◌≤◌, ◌++◌, ◌
 ghost use Rattle.memcached_text.specs.Lines.{Lacks};
 ghost use Rattle.memcached_text.specs.Spelling.{BeginsAs, asking, count_word};
 
-use crate::lifetime::lifetime_at;
+use crate::lifetime::{LAST_SAID, lifetime_at};
 use crate::limits::{MAX_KEY_LEN, MAX_TEXT_LEN};
 use crate::{Command, Direction, Lifetime, Wants};
 use memchr::memchr2;
@@ -184,7 +184,7 @@ pub fn spelled_set(from: &[u8]) -> Option<SpelledSet>
     let (value_len, end) = leading_number(numbers)?;
     let (quiet, block) = line_end(end)?;
     let value_len = value_len as usize;
-    if !is_key_len(key.len()) || value_len > MAX_TEXT_LEN {
+    if !is_key_len(key.len()) || value_len > MAX_TEXT_LEN || expiry > LAST_SAID {
         return None;
     }
     let (value, more) = block_of(block, value_len)?;

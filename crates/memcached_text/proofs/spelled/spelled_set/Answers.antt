@@ -31,4 +31,4 @@ returns c =
       block_read = c.in_ok-value.ensures.1;
     } in
     subst (λ lifetime. BeginsAs from (Store Whatever key c.in_ok-flags.flags lifetime value c.in_ok-quiet.quiet) (length from - length more)) (sym c.lifetime_at.ensures)
-    (set_begins from key value more c.in_ok-flags.flags c.in_ok-expiry.expiry c.in_ok-value_len.value_len c.in_ok-quiet.quiet read is_key c.in_ok-flags.ensures.0 c.in_ok-expiry.ensures.0 c.in_ok-value.ensures.0 c.if-value_len-gt-MAX_TEXT_LEN.false)
+    (set_begins from key value more c.in_ok-flags.flags c.in_ok-expiry.expiry c.in_ok-value_len.value_len c.in_ok-quiet.quiet read is_key c.in_ok-flags.ensures.0 c.if-expiry-gt-LAST_SAID.false c.in_ok-value.ensures.0 c.if-value_len-gt-MAX_TEXT_LEN.false)
