@@ -8,7 +8,7 @@ use Rattle.std.proofs.lemmas.Fmt.{decimal_digit, decimal-digits_value}
 use Rattle.std.proofs.lemmas.Int.Digits.{digits_value_more}
 use Rattle.std.proofs.lemmas.Bool.{le-leb}
 use Rattle.std.proofs.lemmas.List.{append-nil, take_more}
-use Rattle.memchr.specs.Find.{is_byte2}
+use Rattle.memchr.specs.Find.{is_byte3}
 use Rattle.memcached_text.specs.declared.limits.TheConstants.{MAX_KEY_LEN, MAX_TEXT_LEN, MAX_LINE_LEN}
 use Rattle.memcached_text.specs.declared.lifetime.TheConstants.{MAX_SECONDS, LAST_SAID}
 use Rattle.memcached_text.specs.declared.lifetime.Lifetime.TheVariants.{Forever, Over, For, Until}
@@ -30,14 +30,14 @@ use Rattle.memcached_text.proofs.SpellingLaws.{regroup_text, text_len, reads_bac
 pub begins_next : (from : List ℕ) (command : Command) (len : ℕ) → BeginsAs from command len → nexts.Command command len ≡ next_of from
 begins_next from command len is = ap (λ n. nexts.Command command n) is.whole ∙ sym (ap next_of is.text ∙ reads_back command is.more is.is)
 
--- bytes of which none up to a place is a space or a line feed
-pub lacks_before : (text : List ℕ) (k : ℕ) → ((j : ℕ) → 0 ≤ j → j < k → ¬ (is_byte2 32 10 (get_or text j 0) ≡ true)) → Lacks 32 (take k text) × Lacks 10 (take k text)
-lacks_before text zero none = (tt, tt)
-lacks_before [] (suc k) none = (tt, tt)
+-- bytes of which none up to a place is a space, a line feed or a 0
+pub lacks_before : (text : List ℕ) (k : ℕ) → ((j : ℕ) → 0 ≤ j → j < k → ¬ (is_byte3 32 10 0 (get_or text j 0) ≡ true)) → Lacks 32 (take k text) × Lacks 10 (take k text) × Lacks 0 (take k text)
+lacks_before text zero none = (tt, tt, tt)
+lacks_before [] (suc k) none = (tt, tt, tt)
 lacks_before (b ∷ text) (suc k) none =
-    let here : ¬ (is_byte2 32 10 b ≡ true) = none 0 (omega arith) (omega arith) in
+    let here : ¬ (is_byte3 32 10 0 b ≡ true) = none 0 (omega arith) (omega arith) in
     let later = lacks_before text k (λ j low high. none (suc j) (omega arith) (omega arith)) in
-    (((λ e. here (rw e refl)), later.0), ((λ e. here (rw e refl)), later.1))
+    (((λ e. here (rw e refl)), later.0), ((λ e. here (rw e refl)), later.1), ((λ e. here (rw e refl)), later.2))
 
 pub take_within : (text : List ℕ) (k m : ℕ) → k ≤ m → take k (take m text) ≡ take k text
 take_within text zero m le = refl
@@ -50,13 +50,14 @@ Lacks_front byte [] b lacks = tt
 Lacks_front byte (x ∷ a) b lacks = (lacks.0, Lacks_front byte a b lacks.1)
 
 -- a get of one key
-pub get_begins : (from text line tail rest key : List ℕ) → from ≡ codes "get " ++ text → text ≡ line ++ tail → Lacks 32 line → Lacks 10 line → tail ≡ 10 ∷ rest → line ≡ key ++ 13 ∷ [] → 0 < length key → length key ≤ MAX_KEY_LEN → BeginsAs from (Get (key ∷ []) false None) (length line + 5)
-get_begins from text line tail rest key whole parts no_space no_feed feed stripped some short =
+pub get_begins : (from text line tail rest key : List ℕ) → from ≡ codes "get " ++ text → text ≡ line ++ tail → Lacks 32 line → Lacks 10 line → Lacks 0 line → tail ≡ 10 ∷ rest → line ≡ key ++ 13 ∷ [] → 0 < length key → length key ≤ MAX_KEY_LEN → BeginsAs from (Get (key ∷ []) false None) (length line + 5)
+get_begins from text line tail rest key whole parts no_space no_feed no_zero feed stripped some short =
     let is_key : IsKey key = record {
       some = some;
       short = short;
       no_space = Lacks_front 32 key (13 ∷ []) (subst (Lacks 32) stripped no_space);
       no_feed = Lacks_front 10 key (13 ∷ []) (subst (Lacks 10) stripped no_feed);
+      no_zero = Lacks_front 0 key (13 ∷ []) (subst (Lacks 0) stripped no_zero);
     } in
     let fits : length (codes "get " ++ (key ++ [])) < MAX_LINE_LEN = omega (arith, short, length-append (codes "get ") (key ++ []), length-append key []) in
     let here : from ≡ codes "get " ++ (key ++ 13 ∷ 10 ∷ rest) = whole ∙ ap (λ t. codes "get " ++ t) (parts ∙ ap (λ t. t ++ tail) stripped ∙ ap (λ t. (key ++ 13 ∷ []) ++ t) feed ∙ append_assoc key (13 ∷ []) (10 ∷ rest)) in

@@ -30,7 +30,7 @@ use Rattle.memcached_text.specs.declared.line.Line.{Line}
 use Rattle.memcached_text.specs.declared.line.Line.TheVariants as lines
 use Rattle.memcached_text.specs.declared.block.TheConstants.{END_LEN}
 use Rattle.memcached_text.specs.declared.next.Next.TheVariants as nexts
-use Rattle.memcached_text.specs.Lines.{Lacks, line_at, words_of}
+use Rattle.memcached_text.specs.Lines.{Lacks, lacks, line_at, words_of}
 use Rattle.memcached_text.specs.Numbers.{number_of}
 use Rattle.memcached_text.specs.Lifetimes.{lifetime_at, lifetime_of, IsSaid, IsSaidDue}
 use Rattle.memcached_text.specs.Line.{is_key, is_noreply, quiet_tail}
@@ -42,7 +42,7 @@ use Rattle.memcached_text.specs.Block.{block_at}
 use Rattle.memcached_text.specs.Next.{storing_at, says_at, next_in, is_binary, next_of}
 use Rattle.memcached_text.specs.Fit.{IsWant}
 use Rattle.memcached_text.specs.Spelling.{IsKey, quiet_words, lifetime_text, kept_words, due_words, get_word, store_word, wanted_words, join_word, count_word, joined, command_text, IsCommand, ReadsBack, IsOneCommand}
-use Rattle.memcached_text.proofs.LineLaws.{Lacks_append, line_at_fed, without_return_fed}
+use Rattle.memcached_text.proofs.LineLaws.{Lacks_append, lacks_all, lacks_is, line_at_fed, without_return_fed}
 use Rattle.memcached_text.proofs.WordLaws.{is_binary_word, text_by_words, words_of_word, words_of_last}
 use Rattle.memcached_text.proofs.NumberLaws.{both, decimal_lacks, decimal_digits, number_of_decimal}
 use Rattle.memcached_text.proofs.NextLaws.{text_more, next_is}
@@ -52,7 +52,7 @@ AreKeys words = AllByRecursion IsKey words
 
 -- a word that is spelled out is a key, by computing
 abbrev is_plain : List ℕ → Bool
-is_plain word = (nat_lt 0 (length word) && nat_le (length word) MAX_KEY_LEN) && list_all (λ b. not (eqb b 32) && not (eqb b 10)) word
+is_plain word = ((nat_lt 0 (length word) && nat_le (length word) MAX_KEY_LEN) && list_all (λ b. not (eqb b 32) && not (eqb b 10)) word) && lacks 0 word
 
 plain_lacks : (word : List ℕ) → list_all (λ b. not (eqb b 32) && not (eqb b 10)) word ≡ true → Lacks 32 word × Lacks 10 word
 plain_lacks [] is = (tt, tt)
@@ -65,10 +65,11 @@ plain_lacks (b ∷ word) is = let all = both _ _ is in go (eqb b 32) (eqb b 10) 
 
 plain_key : (word : List ℕ) → is_plain word ≡ true → IsKey word
 plain_key word is =
-    let parts = both _ _ is in
+    let all = both _ _ is in
+    let parts = both _ _ all.0 in
     let sizes = both _ _ parts.0 in
-    let lacks = plain_lacks word parts.1 in
-    record { some = ltb-true _ _ sizes.0; short = leb-true _ _ sizes.1; no_space = lacks.0; no_feed = lacks.1 }
+    let without = plain_lacks word parts.1 in
+    record { some = ltb-true _ _ sizes.0; short = leb-true _ _ sizes.1; no_space = without.0; no_feed = without.1; no_zero = lacks_is 0 word all.1 }
 
 -- the words of joined words are these
 joined_words : (word : List ℕ) (words : List (List ℕ)) → IsKey word → AreKeys words → words_of (joined (word ∷ words)) ≡ word ∷ words
@@ -118,6 +119,7 @@ decimal_is_key n is = record {
   short = omega (arith, length-decimal-le 20 n (omega arith) (omega arith) is);
   no_space = decimal_lacks 32 n (omega arith) is;
   no_feed = decimal_lacks 10 n (omega arith) is;
+  no_zero = decimal_lacks 0 n (omega arith) is;
 }
 
 quiet_keys : (quiet : Bool) → AreKeys (quiet_words quiet)
@@ -184,12 +186,12 @@ lifetime_asks Over is = refl
 lifetime_asks (For n) is = decimal_asks n (omega (arith, is.1))
 lifetime_asks (Until n) is = decimal_asks n (omega (arith, is.0.1))
 
-key_fits : (key : List ℕ) → IsKey key → nat_lt MAX_KEY_LEN (length key) ≡ false
-key_fits key is = le-ltb _ _ is.short
+key_fits : (key : List ℕ) → IsKey key → is_key key ≡ true
+key_fits key is = rw (le-leb (length key) MAX_KEY_LEN is.short, lacks_all 0 key is.no_zero) refl
 
 keys_fit : (keys : List (List ℕ)) → AreKeys keys → list_all is_key keys ≡ true
 keys_fit [] all = refl
-keys_fit (key ∷ keys) all = rw (le-leb (length key) MAX_KEY_LEN all.0.short, keys_fit keys all.1) refl
+keys_fit (key ∷ keys) all = rw (key_fits key all.0, keys_fit keys all.1) refl
 
 get_is_read : (keys : List (List ℕ)) (unique : Bool) (lifetime : Option Lifetime) → IsCommand (Get keys unique lifetime) → IsRead (get_word unique lifetime) (kept_words lifetime ++ keys) (lines.Whole (Get keys unique lifetime))
 unfolding line_of get_line get_touch_line

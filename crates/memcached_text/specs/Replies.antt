@@ -6,7 +6,7 @@ use Rattle.memcached_text.specs.declared.fault.Fault.{Fault}
 use Rattle.memcached_text.specs.declared.fault.Fault.TheVariants.{Unknown, Format, DeleteUsage, ExpiryFormat, DeltaFormat, BadBlock, TooLarge, NotNumber, NotSupported}
 use Rattle.memcached_text.specs.declared.reply.Reply.{Reply}
 use Rattle.memcached_text.specs.declared.reply.Reply.TheVariants.{Stored, NotStored, Exists, NoRoom, Deleted, NotFound, Touched, End, Version, Done, Noop, LongLine}
-use Rattle.memcached_text.specs.Spelling.{IsKey}
+use Rattle.memcached_text.specs.Lines.{Lacks}
 
 -- the line of a reply
 abbrev pub reply_text : Reply → List ℕ
@@ -75,7 +75,7 @@ HasUnique _ _ = ⊥
 
 -- a value that may be found, by a get that asks for unique numbers or not
 pub record IsFound (asks : Bool) (found : Found) : Type 0 where
-  pub key : IsKey found.key
+  pub no_space : Lacks 32 found.key
   pub flags : found.flags < 2 ^ 32
   pub value : length found.value ≤ MAX_TEXT_LEN
   pub unique : HasUnique asks found.unique

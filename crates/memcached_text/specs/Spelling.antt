@@ -22,12 +22,13 @@ use Rattle.memcached_text.specs.Lines.{Lacks}
 use Rattle.memcached_text.specs.Fit.{IsWant}
 use Rattle.memcached_text.specs.Next.{next_of}
 
--- a key that a line can have: some bytes, none a space or a line feed
+-- a key that a line can have: some bytes, none a space, a line feed or a 0
 pub record IsKey (key : List ℕ) : Type 0 where
   pub some : 0 < length key
   pub short : length key ≤ MAX_KEY_LEN
   pub no_space : Lacks 32 key
   pub no_feed : Lacks 10 key
+  pub no_zero : Lacks 0 key
 
 -- the word that asks for no reply
 abbrev pub quiet_words : Bool → List (List ℕ)

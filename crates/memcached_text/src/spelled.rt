@@ -7,25 +7,25 @@ ghost use Rattle.memcached_text.specs.Spelling.{BeginsAs, asking, count_word};
 use crate::lifetime::{LAST_SAID, lifetime_at};
 use crate::limits::{MAX_KEY_LEN, MAX_TEXT_LEN};
 use crate::{Command, Direction, Lifetime, Wants};
-use memchr::memchr2;
+use memchr::memchr3;
 
 /// Most keys end within so many bytes, and these are looked through in half the time of more.
 const NEAR_LEN: usize = 32;
 
-// What stands before the first space or line feed, and the text from there on. None where neither is among so many bytes.
+// What stands before the first space, line feed or byte 0, and the text from there on. None where none is among so many bytes.
 #[inline(always)]
 fn part_within(text: &[u8], most: usize) -> Option<(&[u8], &[u8])>
-    ensures { IfSome result (λ parts. (text.now ≡ parts.0.now ++ parts.1.now) × Lacks 32 parts.0.now × Lacks 10 parts.0.now) }
+    ensures { IfSome result (λ parts. (text.now ≡ parts.0.now ++ parts.1.now) × Lacks 32 parts.0.now × Lacks 10 parts.0.now × Lacks 0 parts.0.now) }
 {
     let near = &text[..text.len().min(most)];
-    let end = memchr2(b' ', b'\n', near)?;
+    let end = memchr3(b' ', b'\n', 0, near)?;
     Some(text.split_at(end))
 }
 
 // The same, where a part may have as many bytes as a key and the end of its line.
 #[inline(always)]
 fn first_part(text: &[u8]) -> Option<(&[u8], &[u8])>
-    ensures { IfSome result (λ parts. (text.now ≡ parts.0.now ++ parts.1.now) × Lacks 32 parts.0.now × Lacks 10 parts.0.now) }
+    ensures { IfSome result (λ parts. (text.now ≡ parts.0.now ++ parts.1.now) × Lacks 32 parts.0.now × Lacks 10 parts.0.now × Lacks 0 parts.0.now) }
 {
     match part_within(text, NEAR_LEN) {
         Some(parts) => Some(parts),
