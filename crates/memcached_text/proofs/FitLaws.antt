@@ -276,7 +276,7 @@ stats_fits (word ∷ words) = go (is_part word)
 verbosity_fits : (words : List (List ℕ)) → IsFitOption (verbosity_line words)
 unfolding verbosity_line
 verbosity_fits [] = tt
-verbosity_fits (level ∷ tail) = by_tail _ (level_fits (number_of 4294967295 level)) (quiet_tail level tail)
+verbosity_fits (level ∷ tail) = by_tail _ (level_fits (number_of 18446744073709551615 level)) (quiet_tail level tail)
   where
     level_fits : (o : Option ℕ) (quiet : Bool) → IsFitLine (verbosity_by o quiet)
     level_fits None quiet = tt

@@ -187,7 +187,7 @@ stats_quiet (word ∷ words) = go (is_part word)
 verbosity_quiet : (words : List (List ℕ)) → IsQuietOption (ends_quietly words) (verbosity_line words)
 unfolding verbosity_line
 verbosity_quiet [] = tt
-verbosity_quiet (level ∷ tail) = by_tail (verbosity_by (number_of 4294967295 level)) (go (number_of 4294967295 level)) level tail
+verbosity_quiet (level ∷ tail) = by_tail (verbosity_by (number_of 18446744073709551615 level)) (go (number_of 18446744073709551615 level)) level tail
   where
     go : (o : Option ℕ) (quiet : Bool) → IsQuietLine quiet (verbosity_by o quiet)
     go None quiet = refl
