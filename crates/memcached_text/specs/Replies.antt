@@ -5,7 +5,7 @@ use Rattle.memcached_text.specs.declared.limits.TheConstants.{MAX_TEXT_LEN}
 use Rattle.memcached_text.specs.declared.fault.Fault.{Fault}
 use Rattle.memcached_text.specs.declared.fault.Fault.TheVariants.{Unknown, Format, DeleteUsage, ExpiryFormat, DeltaFormat, BadBlock, TooLarge, NotNumber, NotSupported}
 use Rattle.memcached_text.specs.declared.reply.Reply.{Reply}
-use Rattle.memcached_text.specs.declared.reply.Reply.TheVariants.{Stored, NotStored, Exists, NoRoom, Deleted, NotFound, Touched, End, Version, Done, Noop, LongLine}
+use Rattle.memcached_text.specs.declared.reply.Reply.TheVariants.{Stored, NotStored, Exists, NoRoom, NoRoomToCount, Deleted, NotFound, Touched, End, Version, Done, Noop, LongLine}
 use Rattle.memcached_text.specs.Lines.{Lacks}
 
 -- the line of a reply
@@ -14,6 +14,7 @@ reply_text Stored = codes "STORED\r\n"
 reply_text NotStored = codes "NOT_STORED\r\n"
 reply_text Exists = codes "EXISTS\r\n"
 reply_text NoRoom = codes "SERVER_ERROR out of memory storing object\r\n"
+reply_text NoRoomToCount = codes "SERVER_ERROR out of memory\r\n"
 reply_text Deleted = codes "DELETED\r\n"
 reply_text NotFound = codes "NOT_FOUND\r\n"
 reply_text Touched = codes "TOUCHED\r\n"

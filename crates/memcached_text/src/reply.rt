@@ -21,6 +21,8 @@ pub enum Reply {
     Exists,
     /// There is no room for an item.
     NoRoom,
+    /// There is no room for what a count makes of an item.
+    NoRoomToCount,
     Deleted,
     /// The key is absent.
     NotFound,
@@ -46,6 +48,7 @@ pub fn reply_line(reply: Reply) -> &'static [u8]
         Reply::NotStored => b"NOT_STORED\r\n",
         Reply::Exists => b"EXISTS\r\n",
         Reply::NoRoom => b"SERVER_ERROR out of memory storing object\r\n",
+        Reply::NoRoomToCount => b"SERVER_ERROR out of memory\r\n",
         Reply::Deleted => b"DELETED\r\n",
         Reply::NotFound => b"NOT_FOUND\r\n",
         Reply::Touched => b"TOUCHED\r\n",
