@@ -31,4 +31,4 @@ pub says_alike : (order : Order) (told when : When) (stored : Option (List ℕ))
     → says_by order told stored outcome ≡ says_by order when stored outcome
 says_alike order told when stored outcome is =
     ap (λ w. says_by order w stored outcome) is
-    ∙ ap (unless_refused outcome) (commands_alike (moment_at order.base when) (moment_at order.base told).unique order.ask (value_in stored))
+    ∙ ap (unless_refused order.ask outcome) (commands_alike (moment_at order.base when) (moment_at order.base told).unique order.ask (value_in stored))

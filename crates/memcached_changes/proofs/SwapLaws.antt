@@ -16,13 +16,14 @@ use Rattle.memcached_text.specs.declared.limits.TheConstants.{HEADER_LEN}
 use Rattle.memcached_text.specs.declared.command.Wants.TheVariants.{Numbered}
 use Rattle.memcached_text.specs.declared.lifetime.Lifetime.{Lifetime}
 use Rattle.memcached_text.specs.declared.item.Item.{Item}
-use Rattle.memcached_text.specs.declared.reply.Reply.TheVariants.{Stored, NoRoom}
+use Rattle.memcached_text.specs.declared.reply.Reply.TheVariants.{Stored}
 use Rattle.memcached_text.specs.Item.{item_text, item_in}
 use Rattle.memcached_commands.specs.declared.ask.Ask.{Ask}
 use Rattle.memcached_commands.specs.declared.ask.Ask.TheVariants.{Store}
 use Rattle.memcached_commands.specs.declared.ask.Says.{Says}
 use Rattle.memcached_commands.specs.declared.ask.Says.TheVariants.{Line, Shows}
 use Rattle.memcached_commands.specs.declared.moment.Moment.{Moment}
+use Rattle.memcached_commands.specs.Answers.{no_room}
 use Rattle.memcached_commands.specs.Asks.{get_ask}
 use Rattle.memcached_commands.specs.Changes.{only_reads, without_dead, ends_with_flush, becoming_of}
 use Rattle.memcached_commands.specs.Decide.{Becoming, stays, becomes, goes, decide, is_wanted, stored, leaves, missed}
@@ -206,7 +207,7 @@ module _ (options : Options) (base : ℕ) (key : List ℕ) (first last : History
 -- What is said
 
 -- what is said is so of nothing, or of what is stored
-said_stored : (options : Options) (base : ℕ) (history : History) (key : List ℕ) (ask : Ask) (says : Says) → (says ≡ Line NoRoom → ⊥) → IsSaid options base history key ask says
+said_stored : (options : Options) (base : ℕ) (history : History) (key : List ℕ) (ask : Ask) (says : Says) → (says ≡ Line (no_room ask) → ⊥) → IsSaid options base history key ask says
     → (at : Moment) × (((decide at ask None).says ≡ says) ⊎ ((decide at ask (option_map item_in (answer_of options history key))).says ≡ says))
 said_stored options base history key ask says wanted is = (
   at,
@@ -217,9 +218,9 @@ said_stored options base history key ask says wanted is = (
     at : Moment
     at = moment_at base is.look.when
 
-    unrefused : (outcome : Option Outcome) (said : Says) → unless_refused outcome said ≡ says → said ≡ says
+    unrefused : (outcome : Option Outcome) (said : Says) → unless_refused ask outcome said ≡ says → said ≡ says
     unrefused None said same = same
-    unrefused (Some o) said same = cond_both (is_accepted o) said (Line NoRoom) (λ answer. answer ≡ says → said ≡ says) (λ _ same. same) (λ _ refused. absurd (wanted (sym refused))) same
+    unrefused (Some o) said same = cond_both (is_accepted o) said (Line (no_room ask)) (λ answer. answer ≡ says → said ≡ says) (λ _ same. same) (λ _ refused. absurd (wanted (sym refused))) same
 
 shows : (at : Moment) (touched : Option Lifetime) (found : Option Item) (item : Item) → (decide at (get_ask touched) found).says ≡ Shows item → found ≡ Some item
 unfolding decide

@@ -4,10 +4,10 @@ use Rattle.mica_words.specs.declared.item.TheConstants.{MAX_VALUE_LEN}
 use Rattle.memcached_text.specs.Item.{item_text}
 use Rattle.partition_model.specs.declared.write.Outcome.{Outcome}
 use Rattle.partition_model.specs.Write.{is_accepted}
-use Rattle.memcached_text.specs.declared.reply.Reply.TheVariants.{NoRoom}
 use Rattle.memcached_commands.specs.declared.ask.Ask.{Ask}
 use Rattle.memcached_commands.specs.declared.ask.Says.{Says}
 use Rattle.memcached_commands.specs.declared.ask.Says.TheVariants.{Line}
+use Rattle.memcached_commands.specs.Answers.{no_room}
 use Rattle.memcached_commands.specs.Moments.{found_in}
 use Rattle.memcached_commands.specs.declared.moment.Moment.{Moment}
 use Rattle.memcached_commands.specs.Changes.{becoming_of}
@@ -49,15 +49,15 @@ abbrev pub becoming_by : Order → When → Option (List ℕ) → Becoming
 becoming_by order when stored = stored_becoming (becoming_of (moment_at order.base when) order.ask (value_in stored))
 
 -- What is answered to it: what is decided of what was stored, unless the write of that was refused. Then there was no room.
-abbrev pub unless_refused : Option Outcome → Says → Says
-unless_refused None says = says
-unless_refused (Some outcome) says = if is_accepted outcome then says else Line NoRoom
+abbrev pub unless_refused : Ask → Option Outcome → Says → Says
+unless_refused ask None says = says
+unless_refused ask (Some outcome) says = if is_accepted outcome then says else Line (no_room ask)
 
 -- what is answered to a command, by what was stored at its second and what came of the write
 abbrev pub says_by : Order → When → Option (List ℕ) → Option Outcome → Says
 says_by order when stored outcome =
     let at = moment_at order.base when in
-    unless_refused outcome (decided.decide at order.ask (found_in at (value_in stored))).says
+    unless_refused order.ask outcome (decided.decide at order.ask (found_in at (value_in stored))).says
 
 -- Values that are accepted one behind another have numbers that rise, so a flush parts those before it from those behind it.
 abbrev pub NumbersRise : Type 0

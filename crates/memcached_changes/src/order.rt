@@ -8,8 +8,9 @@ ghost use Rattle.mica_fronts.specs.declared.changing.When.{When};
 ghost use Rattle.mica_fronts.specs.Changing.{IsChange};
 ghost use Rattle.memcached_changes.specs.Numbered.{numbered, moment_at, value_in, becoming_by, says_by};
 
-use memcached_commands::{Ask, Moment, Says, change_stored, found_in, looks, only_reads, says_of};
-use memcached_text::Reply;
+use memcached_commands::{
+    Ask, Moment, Says, change_stored, found_in, looks, no_room, only_reads, says_of,
+};
 use mica_fronts::{Decide, When};
 use mica_words::MAX_VALUE_LEN;
 use partition_model::{Change, ItemBuf, Outcome};
@@ -84,7 +85,7 @@ impl<'a> CommandOrder<'a> {
         ensures short { shown_len result ≤ MAX_TEXT_LEN }
     {
         if outcome.is_some_and(|outcome| !outcome.is_accepted()) {
-            return Says::Line(Reply::NoRoom);
+            return Says::Line(no_room(self.ask));
         }
         let at = moment_at(self.base, when);
         says_of(self.ask, found_in(&at, value_in(stored)))

@@ -1,11 +1,19 @@
 -- What is replied to a command.
 use Rattle.std.specs.Prelude.{ℕ, Bool, true, false, List, [], ◌∷◌, length, flat_map, Some, None, if◌then◌else◌}
 use Rattle.memcached_text.specs.declared.item.Item.{Item}
-use Rattle.memcached_text.specs.declared.reply.Reply.TheVariants.{End}
+use Rattle.memcached_text.specs.declared.reply.Reply.{Reply}
+use Rattle.memcached_text.specs.declared.reply.Reply.TheVariants.{End, NoRoom, NoRoomToCount}
 use Rattle.memcached_text.specs.Answer.{Part, value, Last, line, refusal, number, Answer}
 use Rattle.memcached_text.specs.Replies.{Found}
+use Rattle.memcached_commands.specs.declared.ask.Ask.{Ask}
+use Rattle.memcached_commands.specs.declared.ask.Ask.TheVariants.{Count}
 use Rattle.memcached_commands.specs.declared.ask.Says.{Says}
 use Rattle.memcached_commands.specs.declared.ask.Says.TheVariants.{Line, Refusal, Number, Shows, Nothing}
+
+-- what is replied where the write of this found no room
+abbrev pub no_room : Ask → Reply
+no_room (Count direction delta) = NoRoomToCount
+no_room _ = NoRoom
 
 -- what a get tells of the item of a key, with its number where that is asked for
 abbrev pub found_of : Bool → List ℕ → Item → Found

@@ -23,4 +23,4 @@ pub use change::{change_stored, looks, only_reads};
 pub use counting::{counted, number_in};
 pub use laws::{counts, fits, in_time, one_value};
 pub use moment::{LAST_SECOND, Moment, end_of, ended_by, found_in, is_there};
-pub use says::says_of;
+pub use says::{no_room, says_of};

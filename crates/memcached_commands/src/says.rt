@@ -4,7 +4,7 @@ ghost use Rattle.memcached_text.specs.declared.limits.TheConstants.{MAX_TEXT_LEN
 ghost use Rattle.memcached_text.specs.declared.command.Side.{Side};
 ghost use Rattle.memcached_text.specs.declared.lifetime.Lifetime.{Lifetime};
 ghost use Rattle.memcached_commands.specs.declared.moment.Moment.{Moment};
-ghost use Rattle.memcached_commands.specs.Answers.{shown_len};
+ghost use Rattle.memcached_commands.specs.Answers.{no_room, shown_len};
 ghost use Rattle.memcached_commands.specs.Decide.{decide};
 
 use crate::wanted::{is_wanted, missed};
@@ -73,6 +73,16 @@ fn says_done<'a>(done: Reply, found: Option<&Item>) -> Says<'a>
     } else {
         Reply::NotFound
     })
+}
+
+/// What is replied where the write of this found no room.
+pub fn no_room(ask: &Ask) -> Reply
+    ensures { result ≡ no_room ask.now }
+{
+    match ask {
+        Ask::Count { .. } => Reply::NoRoomToCount,
+        _ => Reply::NoRoom,
+    }
 }
 
 /// What is answered to a command that finds this item, at whatever moment.

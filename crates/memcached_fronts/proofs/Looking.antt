@@ -52,7 +52,7 @@ pub says_stored : (order : Order) (when : When) (found : Option Answer) (buffer 
     → IsFound (looks order.ask) found buffer value → says_by order when (value_found found buffer) outcome ≡ says_by order when value outcome
 says_stored order when None buffer value outcome is =
     let at = moment_at order.base when in
-    ap (unless_refused outcome) (blind at order.ask (found_in at (value_in None)) (found_in at (value_in value)) is)
+    ap (unless_refused order.ask outcome) (blind at order.ask (found_in at (value_in None)) (found_in at (value_in value)) is)
 says_stored order when (Some Hit) buffer value outcome is = ap (λ v. says_by order when v outcome) (sym is)
 says_stored order when (Some Miss) buffer value outcome is = ap (λ v. says_by order when v outcome) (sym is.0)
 

@@ -9,7 +9,7 @@ use Rattle.std.proofs.lemmas.Grind.{common_steps}
 use Rattle.memcached_text.specs.declared.fault.Fault.{Fault}
 use Rattle.memcached_text.specs.declared.fault.Fault.TheVariants.{Unknown, Format, DeleteUsage, ExpiryFormat, DeltaFormat, BadBlock, TooLarge, NotNumber, NotSupported}
 use Rattle.memcached_text.specs.declared.reply.Reply.{Reply}
-use Rattle.memcached_text.specs.declared.reply.Reply.TheVariants.{Stored, NotStored, Exists, NoRoom, Deleted, NotFound, Touched, End, Version, Done, Noop, LongLine}
+use Rattle.memcached_text.specs.declared.reply.Reply.TheVariants.{Stored, NotStored, Exists, NoRoom, NoRoomToCount, Deleted, NotFound, Touched, End, Version, Done, Noop, LongLine}
 use Rattle.memcached_text.specs.Lines.{Lacks}
 use Rattle.memcached_text.specs.Replies.{reply_text, fault_text, number_text, stat_text, value_text, Found}
 use Rattle.memcached_text.specs.Answer.{Stat, IsStat, Part, value, stat, Last, line, refusal, number, part_text, last_text, IsPart, IsLast, IsOneAnswer}
@@ -28,11 +28,12 @@ reply_is_line Stored = record { line = codes "STORED\r"; whole = refl; lacks = s
 reply_is_line NotStored = record { line = codes "NOT_STORED\r"; whole = refl; lacks = search rules }
 reply_is_line Exists = record { line = codes "EXISTS\r"; whole = refl; lacks = search rules }
 reply_is_line NoRoom = record { line = codes "SERVER_ERROR out of memory storing object\r"; whole = refl; lacks = search rules }
+reply_is_line NoRoomToCount = record { line = codes "SERVER_ERROR out of memory\r"; whole = refl; lacks = search rules }
 reply_is_line Deleted = record { line = codes "DELETED\r"; whole = refl; lacks = search rules }
 reply_is_line NotFound = record { line = codes "NOT_FOUND\r"; whole = refl; lacks = search rules }
 reply_is_line Touched = record { line = codes "TOUCHED\r"; whole = refl; lacks = search rules }
 reply_is_line End = record { line = codes "END\r"; whole = refl; lacks = search rules }
-reply_is_line Version = record { line = codes "VERSION 1.6.0-mica\r"; whole = refl; lacks = search rules }
+reply_is_line Version = record { line = codes "VERSION 1.6.18\r"; whole = refl; lacks = search rules }
 reply_is_line Done = record { line = codes "OK\r"; whole = refl; lacks = search rules }
 reply_is_line Noop = record { line = codes "MN\r"; whole = refl; lacks = search rules }
 reply_is_line LongLine = record { line = codes "CLIENT_ERROR line too long\r"; whole = refl; lacks = search rules }
@@ -78,6 +79,7 @@ reply_is_other Stored = record { no_value = λ x. refl; no_stat = λ x. refl }
 reply_is_other NotStored = record { no_value = λ x. refl; no_stat = λ x. refl }
 reply_is_other Exists = record { no_value = λ x. refl; no_stat = λ x. refl }
 reply_is_other NoRoom = record { no_value = λ x. refl; no_stat = λ x. refl }
+reply_is_other NoRoomToCount = record { no_value = λ x. refl; no_stat = λ x. refl }
 reply_is_other Deleted = record { no_value = λ x. refl; no_stat = λ x. refl }
 reply_is_other NotFound = record { no_value = λ x. refl; no_stat = λ x. refl }
 reply_is_other Touched = record { no_value = λ x. refl; no_stat = λ x. refl }

@@ -1,13 +1,13 @@
 -- The parts of a command that is read have the lengths that an item's may have.
-use Rattle.std.proofs.Common.{◌≡◌, ℕ, ◌+◌, ◌^◌, ◌<◌, ◌≤◌, Bool, true, false, true≢false, ◌&&◌, ◌||◌, eqb, cond, List, [], ◌∷◌, length, take, Option, Some, None, nat_lt, nat_le, refl, sym, ap, subst, ◌∙◌, arith, codes}
+use Rattle.std.proofs.Common.{◌≡◌, ℕ, ◌+◌, ◌%◌, ◌^◌, ◌<◌, ◌≤◌, Bool, true, false, ◌&&◌, ◌||◌, eqb, cond, List, [], ◌∷◌, length, take, Option, Some, None, nat_lt, nat_le, refl, sym, ap, subst, ◌∙◌, arith, codes, mod-lt}
 use Rattle.std.specs.Prelude.{⊤, ◌==◌, bytes_eq, filter, find, option_map, option_and_then}
 use Rattle.std.specs.Option.{IfSome}
 use Rattle.std.specs.List.{AllByRecursion, list_all, slice_split}
 use Rattle.std.specs.Str.Parse.{starts_with_minus}
-use Rattle.std.proofs.lemmas.Bool.{ltb-false, le-ltb, leb-true, leb-false, eqb-false}
+use Rattle.std.proofs.lemmas.Bool.{ltb-false, le-ltb, le-leb, leb-true, leb-false, eqb-false}
 use Rattle.std.proofs.lemmas.List.{length-take-le}
 use Rattle.memcached_text.specs.declared.limits.TheConstants.{MAX_KEY_LEN, MAX_TEXT_LEN, MAX_LINE_LEN}
-use Rattle.memcached_text.specs.declared.lifetime.TheConstants.{MAX_SECONDS, MOST_BELOW}
+use Rattle.memcached_text.specs.declared.lifetime.TheConstants.{MAX_SECONDS, LAST_SAID, MOST_ABOVE, MOST_BELOW}
 use Rattle.memcached_text.specs.declared.lifetime.Lifetime.{Lifetime}
 use Rattle.memcached_text.specs.declared.lifetime.Lifetime.TheVariants.{Forever, Over, For, Until}
 use Rattle.memcached_text.specs.declared.command.Command.TheVariants as commands
@@ -27,10 +27,10 @@ use Rattle.memcached_text.specs.declared.block.Block.TheVariants as blocks
 use Rattle.memcached_text.specs.declared.next.Next.{Next}
 use Rattle.memcached_text.specs.declared.next.Next.TheVariants.{LongLine, More, Refused}
 use Rattle.memcached_text.specs.declared.fault.Fault.TheVariants as faults
-use Rattle.memcached_text.specs.Lines.{is_some_text, words_of, without_return, line_at}
+use Rattle.memcached_text.specs.Lines.{lacks, is_some_text, words_of, without_return, line_at}
 use Rattle.memcached_text.specs.Numbers.{number_of}
-use Rattle.memcached_text.specs.Lifetimes.{lifetime_at, lifetime_below, lifetime_of, due_of, IsLifetime, IsDue}
-use Rattle.memcached_text.specs.Line.{is_key, is_noreply, refused, quiet_tail}
+use Rattle.memcached_text.specs.Lifetimes.{lifetime_at, lifetime_below, lifetime_of, due_of, IsLifetime, IsDue, IsSaid}
+use Rattle.memcached_text.specs.Line.{is_short, is_key, is_noreply, refused, quiet_tail}
 use Rattle.memcached_text.specs.StorageLine.{◌>>=◌, block_len, item_of, numbered_item_of, stored, set_line, cas_line, dropped, drop_meta_line, command_by, stale_by}
 use Rattle.memcached_text.specs.KeyLine.{got, get_line, got_by, get_touch_line, deleted, delete_line, counted_by, counted, count_line, touched_by, touched, touch_line}
 use Rattle.memcached_text.specs.ServerLine.{flushed, flush_line, is_part, stats_line, verbosity_by, verbosity_line}
@@ -38,7 +38,7 @@ use Rattle.memcached_text.specs.Forms.{Form, forms, line_by, ends_as_http, or_un
 use Rattle.memcached_text.specs.Block.{block_at}
 use Rattle.memcached_text.specs.Next.{blocked, storing_at, says_at, next_in, is_binary, next_of}
 use Rattle.memcached_text.specs.Fit.{IsFitKey, IsWant, IsKept, IsFit, IsFitNext}
-use Rattle.memcached_text.proofs.NumberLaws.{small_number}
+use Rattle.memcached_text.proofs.NumberLaws.{both, small_number}
 use Rattle.memcached_text.proofs.NextLaws.{binary_is, next_is, block_has_come}
 
 -- texts that are not empty
@@ -56,12 +56,22 @@ words_are_some text = filter_some (slice_split (λ b. b == 32) text)
 
 -- a lifetime that a word says
 pub at_fits : (n : ℕ) → n ≤ 4294967295 → IsLifetime (lifetime_at n)
-at_fits n low = go (eqb n 0) (nat_le n MAX_SECONDS) refl refl
+at_fits n low = go (eqb n 0) (nat_le n MAX_SECONDS) (nat_le n LAST_SAID) refl refl
   where
-    go : (zero short : Bool) → eqb n 0 ≡ zero → nat_le n MAX_SECONDS ≡ short → IsLifetime (cond zero Forever (cond short (For n) (Until n)))
+    go : (zero short near : Bool) → eqb n 0 ≡ zero → nat_le n MAX_SECONDS ≡ short → IsLifetime (cond zero Forever (cond short (For n) (cond near (Until n) Over)))
+    go true short near none less = tt
+    go false true near none less = (omega (arith, eqb-false n 0 none), leb-true _ _ less)
+    go false false true none less = (leb-false _ _ less, omega arith)
+    go false false false none less = tt
+
+-- the lifetime of a number that is none below 0
+pub at_said : (n : ℕ) → n ≤ LAST_SAID → IsSaid (lifetime_at n)
+at_said n low = go (eqb n 0) (nat_le n MAX_SECONDS) refl refl
+  where
+    go : (zero short : Bool) → eqb n 0 ≡ zero → nat_le n MAX_SECONDS ≡ short → IsSaid (cond zero Forever (cond short (For n) (cond (nat_le n LAST_SAID) (Until n) Over)))
     go true short none less = tt
     go false true none less = (omega (arith, eqb-false n 0 none), leb-true _ _ less)
-    go false false none less = (leb-false _ _ less, omega arith)
+    go false false none less = rw (le-leb n LAST_SAID low) ((leb-false _ _ less, omega arith), low)
 
 below_fits : (n : ℕ) → IsLifetime (lifetime_below n)
 below_fits n = go (eqb n 0)
@@ -72,13 +82,13 @@ below_fits n = go (eqb n 0)
 
 lifetime_fits : (word : List ℕ) → IfSome (lifetime_of word) IsLifetime
 unfolding lifetime_of
-lifetime_fits word = go (starts_with_minus word) (number_of MOST_BELOW _) (number_of 4294967295 word) (small_number 4294967295 word)
+lifetime_fits word = go (starts_with_minus word) (number_of MOST_BELOW _) (number_of MOST_ABOVE word)
   where
-    go : (t : Bool) (a b : Option ℕ) → IfSome b (λ n. n ≤ 4294967295) → IfSome (cond t (option_map lifetime_below a) (option_map lifetime_at b)) IsLifetime
-    go true None b small = tt
-    go true (Some a) b small = below_fits a
-    go false a None small = tt
-    go false a (Some b) small = at_fits b small
+    go : (t : Bool) (a b : Option ℕ) → IfSome (cond t (option_map lifetime_below a) (option_map (λ n. lifetime_at (n % 2 ^ 32)) b)) IsLifetime
+    go true None b = tt
+    go true (Some a) b = below_fits a
+    go false a None = tt
+    go false a (Some b) = let low : b % 2 ^ 32 < 2 ^ 32 = mod-lt b (omega arith) in at_fits (b % 2 ^ 32) (omega arith)
 
 due_fits : (lifetime : Lifetime) → IsLifetime lifetime → IsDue (due_of lifetime)
 due_fits Forever fits = tt
@@ -112,13 +122,13 @@ either_fits : (t : Bool) (x y : Line) → IsFitLine x → IsFitLine y → IsFitL
 either_fits true x y left right = left
 either_fits false x y left right = right
 
+-- a word that may be a key
+key_fits : (word : List ℕ) → is_key word ≡ true → length word ≤ MAX_KEY_LEN
+key_fits word is = leb-true _ _ (both (is_short word) (lacks 0 word) is).0
+
 keys_fit : (words : List (List ℕ)) → AreSome words → list_all is_key words ≡ true → AllByRecursion IsFitKey words
 keys_fit [] some all = tt
-keys_fit (word ∷ words) some all = go (nat_le (length word) MAX_KEY_LEN) refl (keys_fit words some.1)
-  where
-    go : (t : Bool) → nat_le (length word) MAX_KEY_LEN ≡ t → (list_all is_key words ≡ true → AllByRecursion IsFitKey words) → AllByRecursion IsFitKey (word ∷ words)
-    go true is later = ((some.0, leb-true _ _ is), later (rw is at all))
-    go false is later = absurd (true≢false (sym (rw is at all)))
+keys_fit (word ∷ words) some all = let parts = both (is_key word) (list_all is_key words) all in ((some.0, key_fits word parts.0), keys_fit words some.1 parts.1)
 
 got_fits : (unique : Bool) (lifetime : Option Lifetime) (words : List (List ℕ)) → AreSome words → IsKept lifetime → IsFitLine (got unique lifetime words)
 got_fits unique lifetime words some kept = go (list_all is_key words) refl
@@ -146,14 +156,14 @@ item_with verb key flags lifetime = Some (record { verb = verb; key = key; flags
 
 item_fits : (verb : Verb) (key flags expiry : List ℕ) → 0 < length key → IsFitVerb verb → IfSome (item_of verb key flags expiry) IsFitItem
 unfolding item_of
-item_fits verb key flags expiry some is = go (nat_lt MAX_KEY_LEN (length key)) refl (number_of 4294967295 flags) (lifetime_of expiry) (small_number 4294967295 flags) (lifetime_fits expiry)
+item_fits verb key flags expiry some is = go (is_key key) refl (number_of 4294967295 flags) (lifetime_of expiry) (small_number 4294967295 flags) (lifetime_fits expiry)
   where
-    go : (long : Bool) → nat_lt MAX_KEY_LEN (length key) ≡ long → (f : Option ℕ) (l : Option Lifetime) → IfSome f (λ n. n ≤ 4294967295) → IfSome l IsLifetime
-        → IfSome (cond long None (f >>= λ flags. l >>= λ lifetime. item_with verb key flags lifetime)) IsFitItem
-    go true here f l small kept = tt
-    go false here None l small kept = tt
-    go false here (Some f) None small kept = tt
-    go false here (Some f) (Some l) small kept = (is, (some, ltb-false _ _ here), omega arith, kept)
+    go : (t : Bool) → is_key key ≡ t → (f : Option ℕ) (l : Option Lifetime) → IfSome f (λ n. n ≤ 4294967295) → IfSome l IsLifetime
+        → IfSome (cond t (f >>= λ flags. l >>= λ lifetime. item_with verb key flags lifetime) None) IsFitItem
+    go false here f l small kept = tt
+    go true here None l small kept = tt
+    go true here (Some f) None small kept = tt
+    go true here (Some f) (Some l) small kept = (is, (some, key_fits key here), omega arith, kept)
 
 numbered_fits : (unique key flags expiry : List ℕ) → 0 < length key → IfSome (numbered_item_of unique key flags expiry) IsFitItem
 unfolding numbered_item_of
@@ -199,11 +209,11 @@ meta_fits (key ∷ len ∷ tail) = go (block_len len)
 
 deleted_fits : (key : List ℕ) (quiet : Bool) → 0 < length key → IsFitLine (deleted key quiet)
 unfolding deleted
-deleted_fits key quiet some = go (nat_lt MAX_KEY_LEN (length key)) refl
+deleted_fits key quiet some = go (is_key key) refl
   where
-    go : (t : Bool) → nat_lt MAX_KEY_LEN (length key) ≡ t → IsFitLine (cond t (refused faults.Format quiet) (lines.Whole (commands.Delete key quiet)))
-    go true is = tt
-    go false is = (some, ltb-false _ _ is)
+    go : (t : Bool) → is_key key ≡ t → IsFitLine (cond t (lines.Whole (commands.Delete key quiet)) (refused faults.Format quiet))
+    go true is = (some, key_fits key is)
+    go false is = tt
 
 delete_fits : (words : List (List ℕ)) → AreSome words → IsFitOption (delete_line words)
 unfolding delete_line
@@ -215,12 +225,12 @@ delete_fits (key ∷ second ∷ third ∷ fourth ∷ words) some = tt
 
 counted_fits : (direction : Direction) (key delta : List ℕ) (quiet : Bool) → 0 < length key → IsFitLine (counted direction key delta quiet)
 unfolding counted
-counted_fits direction key delta quiet some = go (nat_lt MAX_KEY_LEN (length key)) refl (number_of 18446744073709551615 delta) (small_number 18446744073709551615 delta)
+counted_fits direction key delta quiet some = go (is_key key) refl (number_of 18446744073709551615 delta) (small_number 18446744073709551615 delta)
   where
-    go : (t : Bool) → nat_lt MAX_KEY_LEN (length key) ≡ t → (o : Option ℕ) → IfSome o (λ n. n ≤ 18446744073709551615) → IsFitLine (cond t (refused faults.Format quiet) (counted_by direction key o quiet))
-    go true is o small = tt
-    go false is None small = tt
-    go false is (Some n) small = ((some, ltb-false _ _ is), omega arith)
+    go : (t : Bool) → is_key key ≡ t → (o : Option ℕ) → IfSome o (λ n. n ≤ 18446744073709551615) → IsFitLine (cond t (counted_by direction key o quiet) (refused faults.Format quiet))
+    go false is o small = tt
+    go true is None small = tt
+    go true is (Some n) small = ((some, key_fits key is), omega arith)
 
 count_fits : (direction : Direction) (words : List (List ℕ)) → AreSome words → IsFitOption (count_line direction words)
 unfolding count_line
@@ -230,12 +240,12 @@ count_fits direction (key ∷ delta ∷ tail) some = by_tail _ (λ quiet. counte
 
 touched_fits : (key expiry : List ℕ) (quiet : Bool) → 0 < length key → IsFitLine (touched key expiry quiet)
 unfolding touched
-touched_fits key expiry quiet some = go (nat_lt MAX_KEY_LEN (length key)) refl (lifetime_of expiry) (lifetime_fits expiry)
+touched_fits key expiry quiet some = go (is_key key) refl (lifetime_of expiry) (lifetime_fits expiry)
   where
-    go : (t : Bool) → nat_lt MAX_KEY_LEN (length key) ≡ t → (o : Option Lifetime) → IfSome o IsLifetime → IsFitLine (cond t (refused faults.Format quiet) (touched_by key o quiet))
-    go true is o fits = tt
-    go false is None fits = tt
-    go false is (Some lifetime) fits = ((some, ltb-false _ _ is), fits)
+    go : (t : Bool) → is_key key ≡ t → (o : Option Lifetime) → IfSome o IsLifetime → IsFitLine (cond t (touched_by key o quiet) (refused faults.Format quiet))
+    go false is o fits = tt
+    go true is None fits = tt
+    go true is (Some lifetime) fits = ((some, key_fits key is), fits)
 
 touch_fits : (words : List (List ℕ)) → AreSome words → IsFitOption (touch_line words)
 unfolding touch_line
@@ -266,7 +276,7 @@ stats_fits (word ∷ words) = go (is_part word)
 verbosity_fits : (words : List (List ℕ)) → IsFitOption (verbosity_line words)
 unfolding verbosity_line
 verbosity_fits [] = tt
-verbosity_fits (level ∷ tail) = by_tail _ (level_fits (number_of 4294967295 level)) (quiet_tail level tail)
+verbosity_fits (level ∷ tail) = by_tail _ (level_fits (number_of 18446744073709551615 level)) (quiet_tail level tail)
   where
     level_fits : (o : Option ℕ) (quiet : Bool) → IsFitLine (verbosity_by o quiet)
     level_fits None quiet = tt

@@ -1,13 +1,35 @@
 -- The line at the front of bytes.
 use Rattle.std.proofs.Common.{◌≡◌, ◌≢◌, ℕ, Bool, true, false, true≢false, cond, eqb, eqb-true, List, [], ◌∷◌, ◌++◌, Option, Some, None, refl, sym, ap, ◌∙◌, ne_eqb}
-use Rattle.std.specs.Prelude.{option_map, MatchOption}
+use Rattle.std.specs.Prelude.{not, ◌&&◌, option_map, MatchOption}
 use denote.Ref.{Bor}
+use Rattle.std.proofs.lemmas.Bool.{eq-eqb}
 use Rattle.std.proofs.lemmas.Option.{none-some}
-use Rattle.memcached_text.specs.Lines.{Lacks, HasLine, line_at, without_return}
+use Rattle.memcached_text.specs.Lines.{Lacks, lacks, HasLine, line_at, without_return}
 
 pub Lacks_append : (byte : ℕ) (a b : List ℕ) → Lacks byte a → Lacks byte b → Lacks byte (a ++ b)
 Lacks_append byte [] b left right = right
 Lacks_append byte (x ∷ a) b left right = (left.0, Lacks_append byte a b left.1 right)
+
+-- bytes that lack one, by their test
+pub lacks_all : (byte : ℕ) (text : List ℕ) → Lacks byte text → lacks byte text ≡ true
+lacks_all byte [] all = refl
+lacks_all byte (b ∷ text) all = rw (ne_eqb b byte all.0, lacks_all byte text all.1) refl
+
+pub lacks_is : (byte : ℕ) (text : List ℕ) → lacks byte text ≡ true → Lacks byte text
+lacks_is byte [] is = tt
+lacks_is byte (b ∷ text) is = go (eqb b byte) refl is (λ all. lacks_is byte text all)
+  where
+    go : (t : Bool) → eqb b byte ≡ t → (not t && lacks byte text) ≡ true → (lacks byte text ≡ true → Lacks byte text) → Lacks byte (b ∷ text)
+    go true here all later = absurd (true≢false (sym all))
+    go false here all later = ((λ e. true≢false (sym (eq-eqb b byte e) ∙ here)), later all)
+
+pub lacks_none : (byte : ℕ) (front rest : List ℕ) → lacks byte (front ++ byte ∷ rest) ≡ false
+lacks_none byte [] rest = rw (eq-eqb byte byte refl) refl
+lacks_none byte (b ∷ front) rest = go (not (eqb b byte)) (lacks_none byte front rest)
+  where
+    go : (t : Bool) → lacks byte (front ++ byte ∷ rest) ≡ false → (t && lacks byte (front ++ byte ∷ rest)) ≡ false
+    go true later = later
+    go false later = refl
 
 -- bytes with a line feed behind a line
 pub line_at_fed : (line rest : List ℕ) → Lacks 10 line → line_at (line ++ 10 ∷ rest) ≡ Some (line, rest)

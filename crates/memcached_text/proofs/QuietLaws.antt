@@ -4,7 +4,7 @@ use Rattle.std.specs.Prelude.{⊤, bytes_eq, find, option_map, option_and_then}
 use Rattle.std.specs.Option.{IfSome}
 use Rattle.std.specs.List.{AllByRecursion, list_all}
 use Rattle.std.proofs.lemmas.Slice.Eq.{bytes_eq-Decides}
-use Rattle.memcached_text.specs.declared.limits.TheConstants.{MAX_KEY_LEN, MAX_TEXT_LEN}
+use Rattle.memcached_text.specs.declared.limits.TheConstants.{MAX_TEXT_LEN}
 use Rattle.memcached_text.specs.declared.lifetime.Lifetime.{Lifetime}
 use Rattle.memcached_text.specs.declared.command.Command.{Command}
 use Rattle.memcached_text.specs.declared.command.Command.TheVariants as commands
@@ -112,7 +112,7 @@ get_touch_quiet unique (expiry ∷ keys) = go (lifetime_of expiry)
 
 deleted_quiet : (key : List ℕ) (quiet : Bool) → IsQuietLine quiet (deleted key quiet)
 unfolding deleted
-deleted_quiet key quiet = either_quiet quiet (nat_lt MAX_KEY_LEN (length key)) _ _ refl refl
+deleted_quiet key quiet = either_quiet quiet (is_key key) _ _ refl refl
 
 delete_quiet : (words : List (List ℕ)) → IsQuietOption (ends_quietly (drop 1 words)) (delete_line words)
 unfolding delete_line ends_quietly
@@ -134,7 +134,7 @@ delete_quiet (key ∷ second ∷ third ∷ fourth ∷ words) = tt
 
 counted_quiet : (direction : Direction) (key delta : List ℕ) (quiet : Bool) → IsQuietLine quiet (counted direction key delta quiet)
 unfolding counted
-counted_quiet direction key delta quiet = either_quiet quiet (nat_lt MAX_KEY_LEN (length key)) _ _ refl (go (number_of 18446744073709551615 delta))
+counted_quiet direction key delta quiet = either_quiet quiet (is_key key) _ _ (go (number_of 18446744073709551615 delta)) refl
   where
     go : (o : Option ℕ) → IsQuietLine quiet (counted_by direction key o quiet)
     go None = refl
@@ -148,7 +148,7 @@ count_quiet direction (key ∷ delta ∷ tail) = by_tail (counted direction key 
 
 touched_quiet : (key expiry : List ℕ) (quiet : Bool) → IsQuietLine quiet (touched key expiry quiet)
 unfolding touched
-touched_quiet key expiry quiet = either_quiet quiet (nat_lt MAX_KEY_LEN (length key)) _ _ refl (go (lifetime_of expiry))
+touched_quiet key expiry quiet = either_quiet quiet (is_key key) _ _ (go (lifetime_of expiry)) refl
   where
     go : (o : Option Lifetime) → IsQuietLine quiet (touched_by key o quiet)
     go None = refl
@@ -187,7 +187,7 @@ stats_quiet (word ∷ words) = go (is_part word)
 verbosity_quiet : (words : List (List ℕ)) → IsQuietOption (ends_quietly words) (verbosity_line words)
 unfolding verbosity_line
 verbosity_quiet [] = tt
-verbosity_quiet (level ∷ tail) = by_tail (verbosity_by (number_of 4294967295 level)) (go (number_of 4294967295 level)) level tail
+verbosity_quiet (level ∷ tail) = by_tail (verbosity_by (number_of 18446744073709551615 level)) (go (number_of 18446744073709551615 level)) level tail
   where
     go : (o : Option ℕ) (quiet : Bool) → IsQuietLine quiet (verbosity_by o quiet)
     go None quiet = refl

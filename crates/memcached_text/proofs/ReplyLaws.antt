@@ -78,7 +78,7 @@ pub one_value : (asks : Bool) (a b : Found) (x y : List ℕ) → IsFound asks a 
 one_value asks a b x y a_is b_is same =
     let whole = sym (regroup a x) ∙ same ∙ regroup b y in
     let inner = append_cancel_left (codes "VALUE ") _ _ whole in
-    let keys = one_split 32 a.key _ b.key _ a_is.key.no_space b_is.key.no_space inner in
+    let keys = one_split 32 a.key _ b.key _ a_is.no_space b_is.no_space inner in
     let flags = one_number 32 a.flags b.flags _ _ (omega arith) (omega (arith, a_is.flags)) (omega (arith, b_is.flags)) keys.1 in
     let ends = one_end asks (length a.value) (length b.value) a.unique b.unique _ _ (omega (arith, a_is.value)) (omega (arith, b_is.value)) a_is.unique b_is.unique flags.1 in
     let values = one_part a.value (13 ∷ 10 ∷ x) b.value (13 ∷ 10 ∷ y) ends.count (append_cancel_left (10 ∷ []) _ _ ends.behind) in

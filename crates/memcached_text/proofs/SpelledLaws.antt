@@ -6,11 +6,12 @@ use Rattle.std.specs.Str.{all_ascii_digits}
 use Rattle.std.specs.Str.Parse.{digits_value}
 use Rattle.std.proofs.lemmas.Fmt.{decimal_digit, decimal-digits_value}
 use Rattle.std.proofs.lemmas.Int.Digits.{digits_value_more}
+use Rattle.std.proofs.lemmas.Bool.{le-leb}
 use Rattle.std.proofs.lemmas.List.{append-nil, take_more}
-use Rattle.memchr.specs.Find.{is_byte2}
+use Rattle.memchr.specs.Find.{is_byte3}
 use Rattle.memcached_text.specs.declared.limits.TheConstants.{MAX_KEY_LEN, MAX_TEXT_LEN, MAX_LINE_LEN}
-use Rattle.memcached_text.specs.declared.lifetime.TheConstants.{MAX_SECONDS}
-use Rattle.memcached_text.specs.declared.lifetime.Lifetime.TheVariants.{Forever, For, Until}
+use Rattle.memcached_text.specs.declared.lifetime.TheConstants.{MAX_SECONDS, LAST_SAID}
+use Rattle.memcached_text.specs.declared.lifetime.Lifetime.TheVariants.{Forever, Over, For, Until}
 use Rattle.memcached_text.specs.declared.command.Command.{Command}
 use Rattle.memcached_text.specs.declared.command.Command.TheVariants.{Get, Store, Count}
 use Rattle.memcached_text.specs.declared.next.Next.TheVariants as nexts
@@ -22,21 +23,21 @@ use Rattle.memcached_text.specs.Lifetimes.{lifetime_at}
 use Rattle.memcached_text.specs.Next.{next_of}
 use Rattle.memcached_text.specs.Spelling.{IsKey, asking, lifetime_text, count_word, command_text, BeginsAs}
 use Rattle.memcached_text.proofs.NumberLaws.{own, both, digit_is}
-use Rattle.memcached_text.proofs.FitLaws.{at_fits}
+use Rattle.memcached_text.proofs.FitLaws.{at_said}
 use Rattle.memcached_text.proofs.SpellingLaws.{regroup_text, text_len, reads_back}
 
 -- bytes that begin with the text of a command are read as it
 pub begins_next : (from : List ℕ) (command : Command) (len : ℕ) → BeginsAs from command len → nexts.Command command len ≡ next_of from
 begins_next from command len is = ap (λ n. nexts.Command command n) is.whole ∙ sym (ap next_of is.text ∙ reads_back command is.more is.is)
 
--- bytes of which none up to a place is a space or a line feed
-pub lacks_before : (text : List ℕ) (k : ℕ) → ((j : ℕ) → 0 ≤ j → j < k → ¬ (is_byte2 32 10 (get_or text j 0) ≡ true)) → Lacks 32 (take k text) × Lacks 10 (take k text)
-lacks_before text zero none = (tt, tt)
-lacks_before [] (suc k) none = (tt, tt)
+-- bytes of which none up to a place is a space, a line feed or a 0
+pub lacks_before : (text : List ℕ) (k : ℕ) → ((j : ℕ) → 0 ≤ j → j < k → ¬ (is_byte3 32 10 0 (get_or text j 0) ≡ true)) → Lacks 32 (take k text) × Lacks 10 (take k text) × Lacks 0 (take k text)
+lacks_before text zero none = (tt, tt, tt)
+lacks_before [] (suc k) none = (tt, tt, tt)
 lacks_before (b ∷ text) (suc k) none =
-    let here : ¬ (is_byte2 32 10 b ≡ true) = none 0 (omega arith) (omega arith) in
+    let here : ¬ (is_byte3 32 10 0 b ≡ true) = none 0 (omega arith) (omega arith) in
     let later = lacks_before text k (λ j low high. none (suc j) (omega arith) (omega arith)) in
-    (((λ e. here (rw e refl)), later.0), ((λ e. here (rw e refl)), later.1))
+    (((λ e. here (rw e refl)), later.0), ((λ e. here (rw e refl)), later.1), ((λ e. here (rw e refl)), later.2))
 
 pub take_within : (text : List ℕ) (k m : ℕ) → k ≤ m → take k (take m text) ≡ take k text
 take_within text zero m le = refl
@@ -49,13 +50,14 @@ Lacks_front byte [] b lacks = tt
 Lacks_front byte (x ∷ a) b lacks = (lacks.0, Lacks_front byte a b lacks.1)
 
 -- a get of one key
-pub get_begins : (from text line tail rest key : List ℕ) → from ≡ codes "get " ++ text → text ≡ line ++ tail → Lacks 32 line → Lacks 10 line → tail ≡ 10 ∷ rest → line ≡ key ++ 13 ∷ [] → 0 < length key → length key ≤ MAX_KEY_LEN → BeginsAs from (Get (key ∷ []) false None) (length line + 5)
-get_begins from text line tail rest key whole parts no_space no_feed feed stripped some short =
+pub get_begins : (from text line tail rest key : List ℕ) → from ≡ codes "get " ++ text → text ≡ line ++ tail → Lacks 32 line → Lacks 10 line → Lacks 0 line → tail ≡ 10 ∷ rest → line ≡ key ++ 13 ∷ [] → 0 < length key → length key ≤ MAX_KEY_LEN → BeginsAs from (Get (key ∷ []) false None) (length line + 5)
+get_begins from text line tail rest key whole parts no_space no_feed no_zero feed stripped some short =
     let is_key : IsKey key = record {
       some = some;
       short = short;
       no_space = Lacks_front 32 key (13 ∷ []) (subst (Lacks 32) stripped no_space);
       no_feed = Lacks_front 10 key (13 ∷ []) (subst (Lacks 10) stripped no_feed);
+      no_zero = Lacks_front 0 key (13 ∷ []) (subst (Lacks 0) stripped no_zero);
     } in
     let fits : length (codes "get " ++ (key ++ [])) < MAX_LINE_LEN = omega (arith, short, length-append (codes "get ") (key ++ []), length-append key []) in
     let here : from ≡ codes "get " ++ (key ++ 13 ∷ 10 ∷ rest) = whole ∙ ap (λ t. codes "get " ++ t) (parts ∙ ap (λ t. t ++ tail) stripped ∙ ap (λ t. (key ++ 13 ∷ []) ++ t) feed ∙ append_assoc key (13 ∷ []) (10 ∷ rest)) in
@@ -94,13 +96,13 @@ spelled_number text word rest number parts read some plain small =
     let spelled : decimal (digits_value 10 word) ≡ word = decimal-digits_value own word read.digits some plain (omega (arith, read.value)) in
     parts ∙ ap (λ w. w ++ rest) (sym spelled ∙ ap decimal read.value)
 
-lifetime_spelled : (n : ℕ) → lifetime_text (lifetime_at n) ≡ decimal n
-lifetime_spelled n = go (eqb n 0) refl (nat_le n MAX_SECONDS)
+lifetime_spelled : (n : ℕ) → n ≤ LAST_SAID → lifetime_text (lifetime_at n) ≡ decimal n
+lifetime_spelled n low = go (eqb n 0) refl (nat_le n MAX_SECONDS)
   where
-    go : (zero : Bool) → eqb n 0 ≡ zero → (short : Bool) → lifetime_text (cond zero Forever (cond short (For n) (Until n))) ≡ decimal n
+    go : (zero : Bool) → eqb n 0 ≡ zero → (short : Bool) → lifetime_text (cond zero Forever (cond short (For n) (cond (nat_le n LAST_SAID) (Until n) Over))) ≡ decimal n
     go true is short = let here : n ≡ 0 = eqb-true n 0 is in rw here (sym (decimal_digit 0 (omega arith)))
     go false is true = refl
-    go false is false = refl
+    go false is false = rw (le-leb n LAST_SAID low) refl
 
 -- words with a space between each two, and what stands behind them
 regroup_words : (a b c d e x : List ℕ) → (a ++ 32 ∷ (b ++ 32 ∷ (c ++ 32 ∷ (d ++ e)))) ++ x ≡ a ++ 32 ∷ (b ++ 32 ∷ (c ++ 32 ∷ (d ++ (e ++ x))))
@@ -110,12 +112,12 @@ regroup_words a b c d e x =
     ∙ ap (λ t. b ++ 32 ∷ t) (append_assoc c (32 ∷ (d ++ e)) x ∙ ap (λ t. c ++ 32 ∷ t) (append_assoc d e x)))
 
 -- the text of a set, with more behind it
-set_text : (key value more : List ℕ) (flags expiry len : ℕ) (quiet : Bool) → length value ≡ len
+set_text : (key value more : List ℕ) (flags expiry len : ℕ) (quiet : Bool) → length value ≡ len → expiry ≤ LAST_SAID
     → command_text (Store Whatever key flags (lifetime_at expiry) value quiet) ++ more ≡ codes "set " ++ (key ++ 32 ∷ (decimal flags ++ 32 ∷ (decimal expiry ++ 32 ∷ (decimal len ++ (asking quiet ++ 13 ∷ 10 ∷ (value ++ 13 ∷ 10 ∷ more))))))
-set_text key value more flags expiry len quiet count =
+set_text key value more flags expiry len quiet count near =
     regroup_text (codes "set " ++ (key ++ 32 ∷ (decimal flags ++ 32 ∷ (lifetime_text (lifetime_at expiry) ++ 32 ∷ (decimal (length value) ++ asking quiet))))) (value ++ codes "\r\n") more
     ∙ ap (λ t. codes "set " ++ t) (regroup_words key (decimal flags) (lifetime_text (lifetime_at expiry)) (decimal (length value)) (asking quiet) (13 ∷ 10 ∷ (value ++ codes "\r\n" ++ more)))
-    ∙ ap (λ t. codes "set " ++ (key ++ 32 ∷ (decimal flags ++ 32 ∷ (t ++ 32 ∷ (decimal (length value) ++ (asking quiet ++ 13 ∷ 10 ∷ (value ++ codes "\r\n" ++ more))))))) (lifetime_spelled expiry)
+    ∙ ap (λ t. codes "set " ++ (key ++ 32 ∷ (decimal flags ++ 32 ∷ (t ++ 32 ∷ (decimal (length value) ++ (asking quiet ++ 13 ∷ 10 ∷ (value ++ codes "\r\n" ++ more))))))) (lifetime_spelled expiry near)
     ∙ ap (λ n. codes "set " ++ (key ++ 32 ∷ (decimal flags ++ 32 ∷ (decimal expiry ++ 32 ∷ (decimal n ++ (asking quiet ++ 13 ∷ 10 ∷ (value ++ codes "\r\n" ++ more))))))) count
     ∙ ap (λ t. codes "set " ++ (key ++ 32 ∷ (decimal flags ++ 32 ∷ (decimal expiry ++ 32 ∷ (decimal len ++ (asking quiet ++ 13 ∷ 10 ∷ t)))))) (append_assoc value (codes "\r\n") more)
 
@@ -143,12 +145,12 @@ set_is from key value more flags expiry len quiet is =
     ∙ ap (λ t. decimal flags ++ 32 ∷ t) (is.expiry_read ∙ ap (λ t. decimal expiry ++ 32 ∷ t) (is.len_read
     ∙ ap (λ t. decimal len ++ t) (is.tail_read ∙ ap (λ t. asking quiet ++ 13 ∷ 10 ∷ t) is.block_read))))))
 
-pub set_begins : (from key value more : List ℕ) (flags expiry len : ℕ) (quiet : Bool) → IsSetText from key value more flags expiry len quiet → IsKey key → flags ≤ 4294967295 → expiry ≤ 4294967295 → length value ≡ len → len ≤ MAX_TEXT_LEN → BeginsAs from (Store Whatever key flags (lifetime_at expiry) value quiet) (length from - length more)
+pub set_begins : (from key value more : List ℕ) (flags expiry len : ℕ) (quiet : Bool) → IsSetText from key value more flags expiry len quiet → IsKey key → flags ≤ 4294967295 → expiry ≤ LAST_SAID → length value ≡ len → len ≤ MAX_TEXT_LEN → BeginsAs from (Store Whatever key flags (lifetime_at expiry) value quiet) (length from - length more)
 set_begins from key value more flags expiry len quiet is is_key flags_is expiry_is count small =
-    let text : from ≡ command_text (Store Whatever key flags (lifetime_at expiry) value quiet) ++ more = set_is from key value more flags expiry len quiet is ∙ sym (set_text key value more flags expiry len quiet count) in
+    let text : from ≡ command_text (Store Whatever key flags (lifetime_at expiry) value quiet) ++ more = set_is from key value more flags expiry len quiet is ∙ sym (set_text key value more flags expiry len quiet count expiry_is) in
     let size : length from ≡ length (command_text (Store Whatever key flags (lifetime_at expiry) value quiet)) + length more = ap length text ∙ length-append (command_text (Store Whatever key flags (lifetime_at expiry) value quiet)) more in
     record {
-      is = (tt, is_key, omega arith, at_fits expiry expiry_is, omega arith);
+      is = (tt, is_key, omega arith, at_said expiry expiry_is, omega arith);
       more = more;
       text = text;
       whole = omega arith;

@@ -1,5 +1,5 @@
 -- The text of a command is read as that command.
-use Rattle.std.proofs.Common.{◌≡◌, ℕ, ◌+◌, ◌*◌, ◌^◌, ◌<◌, ◌≤◌, Bool, true, false, true≢false, not, ◌&&◌, eqb, eqb-true, List, [], ◌∷◌, ◌++◌, length, take, drop, Option, Some, None, nat_lt, nat_le, refl, sym, ap, subst, ◌∙◌, arith, codes, length-append, append_assoc}
+use Rattle.std.proofs.Common.{◌≡◌, ℕ, ◌+◌, ◌*◌, ◌%◌, ◌^◌, ◌<◌, ◌≤◌, Bool, true, false, true≢false, not, ◌&&◌, eqb, eqb-true, List, [], ◌∷◌, ◌++◌, length, take, drop, Option, Some, None, nat_lt, nat_le, refl, sym, ap, subst, ◌∙◌, arith, codes, length-append, append_assoc, mod-eq_of_lt}
 use Rattle.std.specs.Fmt.{decimal}
 use Rattle.std.specs.List.{AllByRecursion, list_all}
 use Rattle.std.specs.Str.{all_ascii_digits}
@@ -9,7 +9,7 @@ use Rattle.std.proofs.Math.Seq.{take-append_seam, drop-append_seam}
 use Rattle.std.proofs.lemmas.Bool.{le-ltb, le-leb, lt-leb, leb-true, ltb-true, eqb-false, ne_eqb}
 use Rattle.std.proofs.lemmas.Fmt.{decimal_nonempty, length-decimal-le}
 use Rattle.memcached_text.specs.declared.limits.TheConstants.{MAX_KEY_LEN, MAX_TEXT_LEN, MAX_LINE_LEN, MAX_BLOCK_LEN}
-use Rattle.memcached_text.specs.declared.lifetime.TheConstants.{MAX_SECONDS}
+use Rattle.memcached_text.specs.declared.lifetime.TheConstants.{MAX_SECONDS, LAST_SAID, MOST_ABOVE}
 use Rattle.memcached_text.specs.declared.lifetime.Lifetime.{Lifetime}
 use Rattle.memcached_text.specs.declared.lifetime.Lifetime.TheVariants.{Forever, Over, For, Until}
 use Rattle.memcached_text.specs.declared.lifetime.Due.{Due}
@@ -30,9 +30,9 @@ use Rattle.memcached_text.specs.declared.line.Line.{Line}
 use Rattle.memcached_text.specs.declared.line.Line.TheVariants as lines
 use Rattle.memcached_text.specs.declared.block.TheConstants.{END_LEN}
 use Rattle.memcached_text.specs.declared.next.Next.TheVariants as nexts
-use Rattle.memcached_text.specs.Lines.{Lacks, line_at, words_of}
+use Rattle.memcached_text.specs.Lines.{Lacks, lacks, line_at, words_of}
 use Rattle.memcached_text.specs.Numbers.{number_of}
-use Rattle.memcached_text.specs.Lifetimes.{lifetime_at, lifetime_of, IsLifetime, IsDue}
+use Rattle.memcached_text.specs.Lifetimes.{lifetime_at, lifetime_of, IsSaid, IsSaidDue}
 use Rattle.memcached_text.specs.Line.{is_key, is_noreply, quiet_tail}
 use Rattle.memcached_text.specs.StorageLine.{item_of, numbered_item_of, stored, set_line, cas_line, command_of}
 use Rattle.memcached_text.specs.KeyLine.{get_line, get_touch_line, deleted, delete_line, counted, count_line, touched, touch_line}
@@ -42,7 +42,7 @@ use Rattle.memcached_text.specs.Block.{block_at}
 use Rattle.memcached_text.specs.Next.{storing_at, says_at, next_in, is_binary, next_of}
 use Rattle.memcached_text.specs.Fit.{IsWant}
 use Rattle.memcached_text.specs.Spelling.{IsKey, quiet_words, lifetime_text, kept_words, due_words, get_word, store_word, wanted_words, join_word, count_word, joined, command_text, IsCommand, ReadsBack, IsOneCommand}
-use Rattle.memcached_text.proofs.LineLaws.{Lacks_append, line_at_fed, without_return_fed}
+use Rattle.memcached_text.proofs.LineLaws.{Lacks_append, lacks_all, lacks_is, line_at_fed, without_return_fed}
 use Rattle.memcached_text.proofs.WordLaws.{is_binary_word, text_by_words, words_of_word, words_of_last}
 use Rattle.memcached_text.proofs.NumberLaws.{both, decimal_lacks, decimal_digits, number_of_decimal}
 use Rattle.memcached_text.proofs.NextLaws.{text_more, next_is}
@@ -52,7 +52,7 @@ AreKeys words = AllByRecursion IsKey words
 
 -- a word that is spelled out is a key, by computing
 abbrev is_plain : List ℕ → Bool
-is_plain word = (nat_lt 0 (length word) && nat_le (length word) MAX_KEY_LEN) && list_all (λ b. not (eqb b 32) && not (eqb b 10)) word
+is_plain word = ((nat_lt 0 (length word) && nat_le (length word) MAX_KEY_LEN) && list_all (λ b. not (eqb b 32) && not (eqb b 10)) word) && lacks 0 word
 
 plain_lacks : (word : List ℕ) → list_all (λ b. not (eqb b 32) && not (eqb b 10)) word ≡ true → Lacks 32 word × Lacks 10 word
 plain_lacks [] is = (tt, tt)
@@ -65,10 +65,11 @@ plain_lacks (b ∷ word) is = let all = both _ _ is in go (eqb b 32) (eqb b 10) 
 
 plain_key : (word : List ℕ) → is_plain word ≡ true → IsKey word
 plain_key word is =
-    let parts = both _ _ is in
+    let all = both _ _ is in
+    let parts = both _ _ all.0 in
     let sizes = both _ _ parts.0 in
-    let lacks = plain_lacks word parts.1 in
-    record { some = ltb-true _ _ sizes.0; short = leb-true _ _ sizes.1; no_space = lacks.0; no_feed = lacks.1 }
+    let without = plain_lacks word parts.1 in
+    record { some = ltb-true _ _ sizes.0; short = leb-true _ _ sizes.1; no_space = without.0; no_feed = without.1; no_zero = lacks_is 0 word all.1 }
 
 -- the words of joined words are these
 joined_words : (word : List ℕ) (words : List (List ℕ)) → IsKey word → AreKeys words → words_of (joined (word ∷ words)) ≡ word ∷ words
@@ -118,6 +119,7 @@ decimal_is_key n is = record {
   short = omega (arith, length-decimal-le 20 n (omega arith) (omega arith) is);
   no_space = decimal_lacks 32 n (omega arith) is;
   no_feed = decimal_lacks 10 n (omega arith) is;
+  no_zero = decimal_lacks 0 n (omega arith) is;
 }
 
 quiet_keys : (quiet : Bool) → AreKeys (quiet_words quiet)
@@ -127,11 +129,11 @@ quiet_keys true = (plain_key (codes "noreply") refl, tt)
 zero_key : IsKey (codes "0")
 zero_key = plain_key (codes "0") refl
 
-lifetime_key : (lifetime : Lifetime) → IsLifetime lifetime → IsKey (lifetime_text lifetime)
+lifetime_key : (lifetime : Lifetime) → IsSaid lifetime → IsKey (lifetime_text lifetime)
 lifetime_key Forever is = zero_key
 lifetime_key Over is = plain_key (codes "-1") refl
 lifetime_key (For seconds) is = decimal_is_key seconds (omega (arith, is.1))
-lifetime_key (Until second) is = decimal_is_key second (omega (arith, is.1))
+lifetime_key (Until second) is = decimal_is_key second (omega (arith, is.0.1))
 
 -- the last words, where the first of them is another
 tail_is : (word : List ℕ) (quiet : Bool) → is_noreply word ≡ false → quiet_tail word (quiet_words quiet) ≡ Some quiet
@@ -160,34 +162,36 @@ digits_plus (d ∷ word) all = go (eqb d 45) refl
 
 lifetime_of_decimal : (n : ℕ) → n < 2 ^ 32 → lifetime_of (decimal n) ≡ Some (lifetime_at n)
 unfolding lifetime_of
-lifetime_of_decimal n is = rw (digits_plus (decimal n) (decimal_digits n (omega arith)), number_of_decimal 4294967295 n (omega arith) (omega arith)) refl
+lifetime_of_decimal n is =
+    let low : n % 2 ^ 32 ≡ n = mod-eq_of_lt is in
+    rw (digits_plus (decimal n) (decimal_digits n (omega arith)), number_of_decimal MOST_ABOVE n (omega arith) (omega arith), low) refl
 
 for_is : (n : ℕ) → 0 < n → n ≤ MAX_SECONDS → lifetime_at n ≡ For n
 for_is n some short = rw (ne_eqb n 0 (λ e. omega arith), le-leb n MAX_SECONDS short) refl
 
-until_is : (n : ℕ) → MAX_SECONDS < n → lifetime_at n ≡ Until n
-until_is n long = rw (ne_eqb n 0 (λ e. omega arith), lt-leb n MAX_SECONDS long) refl
+until_is : (n : ℕ) → MAX_SECONDS < n → n ≤ LAST_SAID → lifetime_at n ≡ Until n
+until_is n long near = rw (ne_eqb n 0 (λ e. omega arith), lt-leb n MAX_SECONDS long, le-leb n LAST_SAID near) refl
 
 -- an expiry time is read as it
-lifetime_told : (lifetime : Lifetime) → IsLifetime lifetime → lifetime_of (lifetime_text lifetime) ≡ Some lifetime
+lifetime_told : (lifetime : Lifetime) → IsSaid lifetime → lifetime_of (lifetime_text lifetime) ≡ Some lifetime
 unfolding lifetime_of number_of
 lifetime_told Forever is = refl
 lifetime_told Over is = refl
 lifetime_told (For n) is = lifetime_of_decimal n (omega (arith, is.1)) ∙ ap (λ l. Some l) (for_is n is.0 is.1)
-lifetime_told (Until n) is = lifetime_of_decimal n is.1 ∙ ap (λ l. Some l) (until_is n is.0)
+lifetime_told (Until n) is = lifetime_of_decimal n is.0.1 ∙ ap (λ l. Some l) (until_is n is.0.0 is.1)
 
-lifetime_asks : (lifetime : Lifetime) → IsLifetime lifetime → is_noreply (lifetime_text lifetime) ≡ false
+lifetime_asks : (lifetime : Lifetime) → IsSaid lifetime → is_noreply (lifetime_text lifetime) ≡ false
 lifetime_asks Forever is = refl
 lifetime_asks Over is = refl
 lifetime_asks (For n) is = decimal_asks n (omega (arith, is.1))
-lifetime_asks (Until n) is = decimal_asks n (omega (arith, is.1))
+lifetime_asks (Until n) is = decimal_asks n (omega (arith, is.0.1))
 
-key_fits : (key : List ℕ) → IsKey key → nat_lt MAX_KEY_LEN (length key) ≡ false
-key_fits key is = le-ltb _ _ is.short
+key_fits : (key : List ℕ) → IsKey key → is_key key ≡ true
+key_fits key is = rw (le-leb (length key) MAX_KEY_LEN is.short, lacks_all 0 key is.no_zero) refl
 
 keys_fit : (keys : List (List ℕ)) → AreKeys keys → list_all is_key keys ≡ true
 keys_fit [] all = refl
-keys_fit (key ∷ keys) all = rw (le-leb (length key) MAX_KEY_LEN all.0.short, keys_fit keys all.1) refl
+keys_fit (key ∷ keys) all = rw (key_fits key all.0, keys_fit keys all.1) refl
 
 get_is_read : (keys : List (List ℕ)) (unique : Bool) (lifetime : Option Lifetime) → IsCommand (Get keys unique lifetime) → IsRead (get_word unique lifetime) (kept_words lifetime ++ keys) (lines.Whole (Get keys unique lifetime))
 unfolding line_of get_line get_touch_line
@@ -242,13 +246,13 @@ delete_is_read key quiet is = few _ _ _ refl (is, quiet_keys quiet) (omega (arit
     meant false = rw (key_fits key is) refl
     meant true = rw (key_fits key is) refl
 
-touch_is_read : (key : List ℕ) (lifetime : Lifetime) (quiet : Bool) → IsKey key → IsLifetime lifetime → IsRead (codes "touch") (key ∷ lifetime_text lifetime ∷ quiet_words quiet) (lines.Whole (Touch key lifetime quiet))
+touch_is_read : (key : List ℕ) (lifetime : Lifetime) (quiet : Bool) → IsKey key → IsSaid lifetime → IsRead (codes "touch") (key ∷ lifetime_text lifetime ∷ quiet_words quiet) (lines.Whole (Touch key lifetime quiet))
 unfolding line_of touch_line touched
 touch_is_read key lifetime quiet is kept =
     few _ _ _ refl (is, (lifetime_key lifetime kept, quiet_keys quiet)) (omega (arith, quiet_few quiet)) refl
     (rw (tail_is (lifetime_text lifetime) quiet (lifetime_asks lifetime kept), key_fits key is, lifetime_told lifetime kept) refl)
 
-flush_is_read : (due : Due) (quiet : Bool) → IsDue due → IsRead (codes "flush_all") (due_words due ++ quiet_words quiet) (lines.Whole (Flush due quiet))
+flush_is_read : (due : Due) (quiet : Bool) → IsSaidDue due → IsRead (codes "flush_all") (due_words due ++ quiet_words quiet) (lines.Whole (Flush due quiet))
 unfolding line_of flush_line
 flush_is_read Now false is = few _ _ _ refl tt (omega arith) refl refl
 flush_is_read Now true is = few _ _ _ refl (quiet_keys true) (omega arith) refl refl
@@ -257,9 +261,9 @@ flush_is_read (After n) false is =
 flush_is_read (After n) true is =
     few _ _ _ refl (decimal_is_key n (omega (arith, is.1)), quiet_keys true) (omega arith) refl (rw (lifetime_told (For n) is) refl)
 flush_is_read (At n) false is =
-    few _ _ _ refl (decimal_is_key n (omega (arith, is.1)), tt) (omega arith) refl (rw (decimal_asks n (omega (arith, is.1)), lifetime_told (Until n) is) refl)
+    few _ _ _ refl (decimal_is_key n (omega (arith, is.0.1)), tt) (omega arith) refl (rw (decimal_asks n (omega (arith, is.0.1)), lifetime_told (Until n) is) refl)
 flush_is_read (At n) true is =
-    few _ _ _ refl (decimal_is_key n (omega (arith, is.1)), quiet_keys true) (omega arith) refl (rw (lifetime_told (Until n) is) refl)
+    few _ _ _ refl (decimal_is_key n (omega (arith, is.0.1)), quiet_keys true) (omega arith) refl (rw (lifetime_told (Until n) is) refl)
 
 verbosity_is_read : (quiet : Bool) → IsRead (codes "verbosity") (codes "0" ∷ quiet_words quiet) (lines.Whole (Verbosity quiet))
 unfolding line_of number_of verbosity_line
@@ -269,12 +273,12 @@ verbosity_is_read quiet = few _ _ _ refl (zero_key, quiet_keys quiet) (omega (ar
 abbrev item_told : Verb → List ℕ → ℕ → Lifetime → ItemLine
 item_told verb key flags lifetime = record { verb = verb; key = key; flags = flags; lifetime = lifetime }
 
-item_is : (verb : Verb) (key : List ℕ) (flags : ℕ) (lifetime : Lifetime) → IsKey key → flags < 2 ^ 32 → IsLifetime lifetime → item_of verb key (decimal flags) (lifetime_text lifetime) ≡ Some (item_told verb key flags lifetime)
+item_is : (verb : Verb) (key : List ℕ) (flags : ℕ) (lifetime : Lifetime) → IsKey key → flags < 2 ^ 32 → IsSaid lifetime → item_of verb key (decimal flags) (lifetime_text lifetime) ≡ Some (item_told verb key flags lifetime)
 unfolding item_of
 item_is verb key flags lifetime is flags_is kept = rw (key_fits key is, number_of_decimal 4294967295 flags (omega arith) (omega arith), lifetime_told lifetime kept) refl
 
 -- a store's line
-module _ (verb : Verb) (key : List ℕ) (flags len : ℕ) (lifetime : Lifetime) (quiet : Bool) (is : IsKey key) (flags_is : flags < 2 ^ 32) (kept : IsLifetime lifetime) (len_is : len ≤ MAX_TEXT_LEN) where
+module _ (verb : Verb) (key : List ℕ) (flags len : ℕ) (lifetime : Lifetime) (quiet : Bool) (is : IsKey key) (flags_is : flags < 2 ^ 32) (kept : IsSaid lifetime) (len_is : len ≤ MAX_TEXT_LEN) where
   abbrev behind : List (List ℕ) → List (List ℕ)
   behind last = key ∷ decimal flags ∷ lifetime_text lifetime ∷ decimal len ∷ last
 
@@ -285,13 +289,13 @@ module _ (verb : Verb) (key : List ℕ) (flags len : ℕ) (lifetime : Lifetime) 
   unfolding set_line stored
   set_meant = rw (tail_is (decimal len) quiet (decimal_asks len (omega arith)), number_of_decimal MAX_BLOCK_LEN len (omega arith) (omega arith), item_is verb key flags lifetime is flags_is kept) refl
 
-cas_meant : (key : List ℕ) (flags len unique : ℕ) (lifetime : Lifetime) (quiet : Bool) → IsKey key → flags < 2 ^ 32 → IsLifetime lifetime → len ≤ MAX_TEXT_LEN → unique < 2 ^ 64
+cas_meant : (key : List ℕ) (flags len unique : ℕ) (lifetime : Lifetime) (quiet : Bool) → IsKey key → flags < 2 ^ 32 → IsSaid lifetime → len ≤ MAX_TEXT_LEN → unique < 2 ^ 64
     → cas_line (key ∷ decimal flags ∷ lifetime_text lifetime ∷ decimal len ∷ decimal unique ∷ quiet_words quiet) ≡ Some (lines.Storing (item_told (verbs.Store (Numbered unique)) key flags lifetime) len quiet)
 unfolding cas_line stored numbered_item_of
 cas_meant key flags len unique lifetime quiet is flags_is kept len_is unique_is =
     rw (tail_is (decimal unique) quiet (decimal_asks unique unique_is), number_of_decimal MAX_BLOCK_LEN len (omega arith) (omega arith), number_of_decimal 18446744073709551615 unique (omega arith) unique_is, item_is (verbs.Store (Numbered unique)) key flags lifetime is flags_is kept) refl
 
-store_is_read : (wants : Wants) (key : List ℕ) (flags len : ℕ) (lifetime : Lifetime) (quiet : Bool) → IsWant wants → IsKey key → flags < 2 ^ 32 → IsLifetime lifetime → len ≤ MAX_TEXT_LEN
+store_is_read : (wants : Wants) (key : List ℕ) (flags len : ℕ) (lifetime : Lifetime) (quiet : Bool) → IsWant wants → IsKey key → flags < 2 ^ 32 → IsSaid lifetime → len ≤ MAX_TEXT_LEN
     → IsRead (store_word wants) (key ∷ decimal flags ∷ lifetime_text lifetime ∷ decimal len ∷ wanted_words wants ++ quiet_words quiet) (lines.Storing (item_told (verbs.Store wants) key flags lifetime) len quiet)
 unfolding line_of
 store_is_read Whatever key flags len lifetime quiet want is flags_is kept len_is =

@@ -1,7 +1,6 @@
 -- Lines about keys: get, gets, gat, gats, delete, incr, decr, touch.
-use Rattle.std.specs.Prelude.{ℕ, ◌&&◌, ◌||◌, Bool, true, false, List, [], ◌∷◌, length, nat_lt, codes, bytes_eq, Option, Some, None, option_map, if◌then◌else◌}
+use Rattle.std.specs.Prelude.{ℕ, ◌&&◌, ◌||◌, Bool, true, false, List, [], ◌∷◌, codes, bytes_eq, Option, Some, None, option_map, if◌then◌else◌}
 use Rattle.std.specs.List.{list_all}
-use Rattle.memcached_text.specs.declared.limits.TheConstants.{MAX_KEY_LEN}
 use Rattle.memcached_text.specs.declared.fault.Fault.TheVariants.{Format, DeleteUsage, ExpiryFormat, DeltaFormat}
 use Rattle.memcached_text.specs.declared.command.Direction.{Direction}
 use Rattle.memcached_text.specs.declared.command.Command.TheVariants as commands
@@ -14,7 +13,7 @@ use Rattle.memcached_text.specs.Numbers.{number_of}
 
 -- Each of the lines below is of the words behind a command's name. None where they are too few or too many.
 
--- keys, of which one may be too long
+-- words, of which one may be no key
 abbrev pub got : Bool → Option Lifetime → List (List ℕ) → Line
 got unique lifetime keys =
     if list_all is_key keys then Whole (commands.Get keys unique lifetime) else refused Format false
@@ -34,9 +33,9 @@ unfoldable pub get_touch_line : Bool → List (List ℕ) → Option Line
 get_touch_line unique [] = None
 get_touch_line unique (expiry ∷ keys) = Some (got_by unique (lifetime_of expiry) keys)
 
--- a delete of a key, which may be too long
+-- a delete of a word, which may be no key
 unfoldable pub deleted : List ℕ → Bool → Line
-deleted key quiet = if nat_lt MAX_KEY_LEN (length key) then refused Format quiet else Whole (commands.Delete key quiet)
+deleted key quiet = if is_key key then Whole (commands.Delete key quiet) else refused Format quiet
 
 -- a key, a zero that may stand there, and whether a reply is wanted
 unfoldable pub delete_line : List (List ℕ) → Option Line
@@ -55,11 +54,10 @@ abbrev pub counted_by : Direction → List ℕ → Option ℕ → Bool → Line
 counted_by direction key None quiet = refused DeltaFormat quiet
 counted_by direction key (Some delta) quiet = Whole (commands.Count direction key delta quiet)
 
--- a count by a word that may be no number, and its key too long
+-- a count by a word that may be no number, of one that may be no key
 unfoldable pub counted : Direction → List ℕ → List ℕ → Bool → Line
 counted direction key delta quiet =
-    if nat_lt MAX_KEY_LEN (length key) then refused Format quiet
-    else counted_by direction key (number_of 18446744073709551615 delta) quiet
+    if is_key key then counted_by direction key (number_of 18446744073709551615 delta) quiet else refused Format quiet
 
 -- a key and a number to count by, and whether a reply is wanted
 unfoldable pub count_line : Direction → List (List ℕ) → Option Line
@@ -71,10 +69,10 @@ abbrev pub touched_by : List ℕ → Option Lifetime → Bool → Line
 touched_by key None quiet = refused ExpiryFormat quiet
 touched_by key (Some lifetime) quiet = Whole (commands.Touch key lifetime quiet)
 
--- a touch, whose expiry time may be no number, and its key too long
+-- a touch, whose expiry time may be no number, and its word no key
 unfoldable pub touched : List ℕ → List ℕ → Bool → Line
 touched key expiry quiet =
-    if nat_lt MAX_KEY_LEN (length key) then refused Format quiet else touched_by key (lifetime_of expiry) quiet
+    if is_key key then touched_by key (lifetime_of expiry) quiet else refused Format quiet
 
 -- a key and an expiry time, and whether a reply is wanted
 unfoldable pub touch_line : List (List ℕ) → Option Line

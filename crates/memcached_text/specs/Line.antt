@@ -1,13 +1,19 @@
 -- What lines have in common: how one is refused, and how its last word asks for no reply.
-use Rattle.std.specs.Prelude.{ℕ, Bool, List, [], ◌∷◌, length, nat_le, codes, bytes_eq, Option, Some, None}
+use Rattle.std.specs.Prelude.{ℕ, ◌&&◌, Bool, List, [], ◌∷◌, length, nat_le, codes, bytes_eq, Option, Some, None}
 use Rattle.memcached_text.specs.declared.limits.TheConstants.{MAX_KEY_LEN}
 use Rattle.memcached_text.specs.declared.fault.Fault.{Fault}
 use Rattle.memcached_text.specs.declared.line.Line.{Line}
 use Rattle.memcached_text.specs.declared.line.Line.TheVariants.{Refused}
+use Rattle.memcached_text.specs.Lines.{lacks}
 
--- a word that may be a key: one of a line has a byte, and no space or line feed
+-- a word that is no longer than a key may be
+abbrev pub is_short : List ℕ → Bool
+is_short word = nat_le (length word) MAX_KEY_LEN
+
+-- A word that may be a key. A byte 0 would end it for memcached, and for clients in C. One of a line has a byte, and no space or
+-- line feed.
 abbrev pub is_key : List ℕ → Bool
-is_key word = nat_le (length word) MAX_KEY_LEN
+is_key word = is_short word && lacks 0 word
 
 -- a line that is refused, and has no block
 abbrev pub refused : Fault → Bool → Line

@@ -5,8 +5,8 @@ use Rattle.memcached_text.specs.declared.limits.TheConstants.{MAX_TEXT_LEN}
 use Rattle.memcached_text.specs.declared.fault.Fault.{Fault}
 use Rattle.memcached_text.specs.declared.fault.Fault.TheVariants.{Unknown, Format, DeleteUsage, ExpiryFormat, DeltaFormat, BadBlock, TooLarge, NotNumber, NotSupported}
 use Rattle.memcached_text.specs.declared.reply.Reply.{Reply}
-use Rattle.memcached_text.specs.declared.reply.Reply.TheVariants.{Stored, NotStored, Exists, NoRoom, Deleted, NotFound, Touched, End, Version, Done, Noop, LongLine}
-use Rattle.memcached_text.specs.Spelling.{IsKey}
+use Rattle.memcached_text.specs.declared.reply.Reply.TheVariants.{Stored, NotStored, Exists, NoRoom, NoRoomToCount, Deleted, NotFound, Touched, End, Version, Done, Noop, LongLine}
+use Rattle.memcached_text.specs.Lines.{Lacks}
 
 -- the line of a reply
 abbrev pub reply_text : Reply → List ℕ
@@ -14,11 +14,12 @@ reply_text Stored = codes "STORED\r\n"
 reply_text NotStored = codes "NOT_STORED\r\n"
 reply_text Exists = codes "EXISTS\r\n"
 reply_text NoRoom = codes "SERVER_ERROR out of memory storing object\r\n"
+reply_text NoRoomToCount = codes "SERVER_ERROR out of memory\r\n"
 reply_text Deleted = codes "DELETED\r\n"
 reply_text NotFound = codes "NOT_FOUND\r\n"
 reply_text Touched = codes "TOUCHED\r\n"
 reply_text End = codes "END\r\n"
-reply_text Version = codes "VERSION 1.6.0-mica\r\n"
+reply_text Version = codes "VERSION 1.6.18\r\n"
 reply_text Done = codes "OK\r\n"
 reply_text Noop = codes "MN\r\n"
 reply_text LongLine = codes "CLIENT_ERROR line too long\r\n"
@@ -75,7 +76,7 @@ HasUnique _ _ = ⊥
 
 -- a value that may be found, by a get that asks for unique numbers or not
 pub record IsFound (asks : Bool) (found : Found) : Type 0 where
-  pub key : IsKey found.key
+  pub no_space : Lacks 32 found.key
   pub flags : found.flags < 2 ^ 32
   pub value : length found.value ≤ MAX_TEXT_LEN
   pub unique : HasUnique asks found.unique

@@ -45,4 +45,4 @@ verbosity_by (Some level) quiet = Whole (commands.Verbosity quiet)
 -- a level, and whether a reply is wanted
 unfoldable pub verbosity_line : List (List ℕ) → Option Line
 verbosity_line [] = None
-verbosity_line (level ∷ tail) = option_map (verbosity_by (number_of 4294967295 level)) (quiet_tail level tail)
+verbosity_line (level ∷ tail) = option_map (verbosity_by (number_of 18446744073709551615 level)) (quiet_tail level tail)

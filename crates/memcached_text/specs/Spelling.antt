@@ -17,17 +17,18 @@ use Rattle.memcached_text.specs.declared.command.Direction.TheVariants.{Up, Down
 use Rattle.memcached_text.specs.declared.command.Topic.{Topic}
 use Rattle.memcached_text.specs.declared.command.Topic.TheVariants.{Server, NoPart}
 use Rattle.memcached_text.specs.declared.next.Next.TheVariants as nexts
-use Rattle.memcached_text.specs.Lifetimes.{IsLifetime, IsDue}
+use Rattle.memcached_text.specs.Lifetimes.{IsSaid, IsSaidDue}
 use Rattle.memcached_text.specs.Lines.{Lacks}
 use Rattle.memcached_text.specs.Fit.{IsWant}
 use Rattle.memcached_text.specs.Next.{next_of}
 
--- a key that a line can have: some bytes, none a space or a line feed
+-- a key that a line can have: some bytes, none a space, a line feed or a 0
 pub record IsKey (key : List ℕ) : Type 0 where
   pub some : 0 < length key
   pub short : length key ≤ MAX_KEY_LEN
   pub no_space : Lacks 32 key
   pub no_feed : Lacks 10 key
+  pub no_zero : Lacks 0 key
 
 -- the word that asks for no reply
 abbrev pub quiet_words : Bool → List (List ℕ)
@@ -121,19 +122,19 @@ command_text command = joined (command_words command) ++ codes "\r\n" ++ block_t
 -- a get has keys, where it does not also say how long they are to be kept
 abbrev pub HasKeys : Option Lifetime → List (List ℕ) → Type 0
 HasKeys None keys = 0 < length keys
-HasKeys (Some lifetime) keys = IsLifetime lifetime
+HasKeys (Some lifetime) keys = IsSaid lifetime
 
 -- a command that has a text
 abbrev pub IsCommand : Command → Type 0
 IsCommand (Get keys unique lifetime) =
     HasKeys lifetime keys × AllByRecursion IsKey keys × (length (joined (command_words (Get keys unique lifetime))) < MAX_LINE_LEN)
 IsCommand (Store wants key flags lifetime value quiet) =
-    IsWant wants × IsKey key × (flags < 2 ^ 32) × IsLifetime lifetime × (length value ≤ MAX_TEXT_LEN)
+    IsWant wants × IsKey key × (flags < 2 ^ 32) × IsSaid lifetime × (length value ≤ MAX_TEXT_LEN)
 IsCommand (Join side key value quiet) = IsKey key × (length value ≤ MAX_TEXT_LEN)
 IsCommand (Count direction key delta quiet) = IsKey key × (delta < 2 ^ 64)
 IsCommand (Delete key quiet) = IsKey key
-IsCommand (Touch key lifetime quiet) = IsKey key × IsLifetime lifetime
-IsCommand (Flush due quiet) = IsDue due
+IsCommand (Touch key lifetime quiet) = IsKey key × IsSaid lifetime
+IsCommand (Flush due quiet) = IsSaidDue due
 IsCommand _ = ⊤
 
 -- bytes that begin with the text of this command, which has so many bytes

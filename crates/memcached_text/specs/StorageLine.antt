@@ -1,6 +1,6 @@
 -- Lines with a block behind them: set, add, replace, append, prepend, cas, and ms.
-use Rattle.std.specs.Prelude.{ℕ, Bool, false, List, ◌∷◌, length, nat_lt, Option, Some, None, option_map, option_and_then, if◌then◌else◌}
-use Rattle.memcached_text.specs.declared.limits.TheConstants.{MAX_KEY_LEN, MAX_BLOCK_LEN}
+use Rattle.std.specs.Prelude.{ℕ, Bool, false, List, ◌∷◌, Option, Some, None, option_map, option_and_then, if◌then◌else◌}
+use Rattle.memcached_text.specs.declared.limits.TheConstants.{MAX_BLOCK_LEN}
 use Rattle.memcached_text.specs.declared.fault.Fault.TheVariants.{Format, NotSupported}
 use Rattle.memcached_text.specs.declared.command.Command.{Command}
 use Rattle.memcached_text.specs.declared.command.Command.TheVariants as commands
@@ -11,7 +11,7 @@ use Rattle.memcached_text.specs.declared.storage_line.ItemLine.{ItemLine}
 use Rattle.memcached_text.specs.declared.line.Line.{Line}
 use Rattle.memcached_text.specs.declared.line.Line.TheVariants.{Storing}
 use Rattle.memcached_text.specs.Lifetimes.{lifetime_of}
-use Rattle.memcached_text.specs.Line.{refused, refused_with, quiet_tail}
+use Rattle.memcached_text.specs.Line.{is_key, refused, refused_with, quiet_tail}
 use Rattle.memcached_text.specs.Numbers.{number_of}
 
 infixl 10 ◌>>=◌
@@ -22,12 +22,12 @@ value >>= next = option_and_then next value
 abbrev pub block_len : List ℕ → Option ℕ
 block_len word = number_of MAX_BLOCK_LEN word
 
--- the item of these words; none where the key is too long, or another is no number
+-- the item of these words; none where one is no key, or another no number
 unfoldable pub item_of : Verb → List ℕ → List ℕ → List ℕ → Option ItemLine
 item_of verb key flags expiry =
-    if nat_lt MAX_KEY_LEN (length key) then None
-    else (number_of 4294967295 flags >>= λ flags. lifetime_of expiry >>= λ lifetime.
+    if is_key key then (number_of 4294967295 flags >>= λ flags. lifetime_of expiry >>= λ lifetime.
     Some (record { verb = verb; key = key; flags = flags; lifetime = lifetime }))
+    else None
 
 -- the item of these words, to be stored in place of the item with a unique number
 unfoldable pub numbered_item_of : List ℕ → List ℕ → List ℕ → List ℕ → Option ItemLine

@@ -5,7 +5,7 @@
 pub enum Fault {
     /// No such command, or one with too few or too many words.
     Unknown,
-    /// A key that is too long, or a word that is no number where one must stand.
+    /// A key that is too long or has a byte 0, or a word that is no number where one must stand.
     Format,
     /// A delete with words that it cannot have.
     DeleteUsage,

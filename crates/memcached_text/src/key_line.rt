@@ -5,12 +5,11 @@ ghost use Rattle.memcached_text.specs.Line.{refused, is_noreply, quiet_tail};
 ghost use Rattle.memcached_text.specs.KeyLine.{got, get_line, get_touch_line, deleted, delete_line, counted, count_line, touched, touch_line};
 
 use crate::lifetime::lifetime_of;
-use crate::limits::MAX_KEY_LEN;
-use crate::line::{Line, is_noreply, quiet_tail, refused};
+use crate::line::{Line, is_key, is_noreply, quiet_tail, refused};
 use crate::number::number_of;
 use crate::{Command, Direction, Fault, Lifetime, Words};
 
-// Keys, of which one may be too long.
+// Words, of which one may be no key.
 fn got(unique: bool, lifetime: Option<Lifetime>, keys: Words) -> Line
     ensures { result ≡ got unique lifetime keys.entry }
 {
@@ -31,7 +30,7 @@ pub fn get_line(unique: bool, words: Words) -> Option<Line>
 {
     let mut behind = words.again();
     let first = behind.next_word()?;
-    if first.len() > MAX_KEY_LEN || !behind.are_keys() {
+    if !is_key(first) || !behind.are_keys() {
         return Some(refused(Fault::Format, false));
     }
     Some(Line::Whole(Command::Get {
@@ -53,12 +52,12 @@ pub fn get_touch_line(unique: bool, mut words: Words) -> Option<Line>
     })
 }
 
-// A delete of a key, which may be too long.
+// A delete of a word, which may be no key.
 #[tactic(auto, unfolding(crate::specs::KeyLine::deleted))]
 fn deleted(key: &[u8], quiet: bool) -> Line
     ensures { result ≡ deleted key.now quiet }
 {
-    if key.len() > MAX_KEY_LEN {
+    if !is_key(key) {
         return refused(Fault::Format, quiet);
     }
     Line::Whole(Command::Delete {
@@ -96,12 +95,12 @@ pub fn delete_line(mut words: Words) -> Option<Line>
     })
 }
 
-// A count by a word that may be no number, of a key that may be too long.
+// A count by a word that may be no number, of one that may be no key.
 #[tactic(auto, unfolding(crate::specs::KeyLine::counted))]
 fn counted<'a>(direction: Direction, key: &'a [u8], delta: &[u8], quiet: bool) -> Line<'a>
     ensures { result ≡ counted direction key.now delta.now quiet }
 {
-    if key.len() > MAX_KEY_LEN {
+    if !is_key(key) {
         return refused(Fault::Format, quiet);
     }
     match number_of(u64::MAX, delta) {
@@ -126,12 +125,12 @@ pub fn count_line(direction: Direction, mut words: Words) -> Option<Line>
     Some(counted(direction, key, delta, quiet))
 }
 
-// A touch, whose expiry time may be no number, and its key too long.
+// A touch, whose expiry time may be no number, and its word no key.
 #[tactic(auto, unfolding(crate::specs::KeyLine::touched))]
 fn touched<'a>(key: &'a [u8], expiry: &[u8], quiet: bool) -> Line<'a>
     ensures { result ≡ touched key.now expiry.now quiet }
 {
-    if key.len() > MAX_KEY_LEN {
+    if !is_key(key) {
         return refused(Fault::Format, quiet);
     }
     match lifetime_of(expiry) {

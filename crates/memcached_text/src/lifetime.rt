@@ -2,7 +2,7 @@
 ghost use Rattle.std.specs.Prelude.{◌≡◌};
 ghost use Rattle.memcached_text.specs.Lifetimes.{lifetime_at, lifetime_of, due_of};
 
-use crate::number::{number_of, short_number_of};
+use crate::number::number_of;
 
 /// How long an item is to be kept.
 #[derive(Clone, Copy)]
@@ -29,10 +29,19 @@ pub enum Due {
 /// The most seconds that are counted from now on: thirty days. A greater number is a time of day.
 pub const MAX_SECONDS: u32 = 2_592_000;
 
+/// The last second that a word can say, in 2038. A greater number of 32 bits is one below 0: clients in C write -1 so.
+pub const LAST_SAID: u32 = 2_147_483_647;
+
+/// The greatest number that is read as an expiry time. Its last 32 bits count.
+pub const MOST_ABOVE: u64 = 9_223_372_036_854_775_807;
+
 /// The lowest number that is read as an expiry time, without its sign.
 pub const MOST_BELOW: u64 = 9_223_372_036_854_775_808;
 
-/// The lifetime that a number of seconds names: never, from now on, or a time of day.
+/// How many numbers of 32 bits there are.
+const EXPIRIES: u64 = 4_294_967_296;
+
+/// The lifetime that a number of seconds names: never, from now on, a time of day, or none at all.
 pub fn lifetime_at(number: u32) -> Lifetime
     ensures { result ≡ lifetime_at number }
 {
@@ -40,12 +49,14 @@ pub fn lifetime_at(number: u32) -> Lifetime
         Lifetime::Forever
     } else if number <= MAX_SECONDS {
         Lifetime::For(number)
-    } else {
+    } else if number <= LAST_SAID {
         Lifetime::Until(number)
+    } else {
+        Lifetime::Over
     }
 }
 
-// The lifetime that a word says. None where it is no number, or one that is not held.
+// The lifetime that a word says. None where it is no number of 64 bits with a sign.
 #[tactic(auto, unfolding(crate::specs::Lifetimes::lifetime_of))]
 pub fn lifetime_of(word: &[u8]) -> Option<Lifetime>
     ensures { result ≡ lifetime_of word.now }
@@ -57,7 +68,8 @@ pub fn lifetime_of(word: &[u8]) -> Option<Lifetime>
             Lifetime::Over
         });
     }
-    Some(lifetime_at(short_number_of(u32::MAX, word)?))
+    let number = number_of(MOST_ABOVE, word)?;
+    Some(lifetime_at((number % EXPIRIES) as u32))
 }
 
 // A flush that is given a lifetime takes place at its end, or at once where it has none.

@@ -1,7 +1,9 @@
 //! What a line says by itself, and what lines have in common.
 ghost use Rattle.std.specs.Prelude.{◌≡◌};
-ghost use Rattle.memcached_text.specs.Line.{refused, is_noreply, quiet_tail};
+ghost use Rattle.memcached_text.specs.Line.{is_short, is_key, refused, is_noreply, quiet_tail};
 
+use crate::limits::MAX_KEY_LEN;
+use crate::split::lacks_byte;
 use crate::storage_line::ItemLine;
 use crate::{Command, Fault, Words};
 
@@ -23,6 +25,20 @@ pub enum Line<'a> {
         quiet: bool,
         block: Option<u32>,
     },
+}
+
+// Whether a word is no longer than a key may be.
+fn is_short(word: &[u8]) -> bool
+    ensures { result ≡ is_short word.now }
+{
+    word.len() <= MAX_KEY_LEN
+}
+
+// Whether a word may be a key.
+pub fn is_key(word: &[u8]) -> bool
+    ensures { result ≡ is_key word.now }
+{
+    is_short(word) && lacks_byte(word, 0)
 }
 
 // A line that is refused, and has no block.

@@ -8,6 +8,9 @@ use crate::append::append_parts;
 use itoa::{Buffer, write_digits};
 use mica_io::NoMemory;
 
+/// The version of memcached whose commands are here. Clients choose by it what they ask.
+const VERSION_LINE: &[u8] = b"VERSION 1.6.18\r\n";
+
 /// What is replied to a command, but for the values of a get.
 #[derive(Clone, Copy)]
 pub enum Reply {
@@ -18,6 +21,8 @@ pub enum Reply {
     Exists,
     /// There is no room for an item.
     NoRoom,
+    /// There is no room for what a count makes of an item.
+    NoRoomToCount,
     Deleted,
     /// The key is absent.
     NotFound,
@@ -43,11 +48,12 @@ pub fn reply_line(reply: Reply) -> &'static [u8]
         Reply::NotStored => b"NOT_STORED\r\n",
         Reply::Exists => b"EXISTS\r\n",
         Reply::NoRoom => b"SERVER_ERROR out of memory storing object\r\n",
+        Reply::NoRoomToCount => b"SERVER_ERROR out of memory\r\n",
         Reply::Deleted => b"DELETED\r\n",
         Reply::NotFound => b"NOT_FOUND\r\n",
         Reply::Touched => b"TOUCHED\r\n",
         Reply::End => b"END\r\n",
-        Reply::Version => b"VERSION 1.6.0-mica\r\n",
+        Reply::Version => VERSION_LINE,
         Reply::Done => b"OK\r\n",
         Reply::Noop => b"MN\r\n",
         Reply::LongLine => b"CLIENT_ERROR line too long\r\n",

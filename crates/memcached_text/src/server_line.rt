@@ -7,7 +7,7 @@ ghost use Rattle.memcached_text.specs.ServerLine.{flushed, flush_line, is_part, 
 
 use crate::lifetime::{due_of, lifetime_of};
 use crate::line::{Line, is_noreply, quiet_tail, refused};
-use crate::number::short_number_of;
+use crate::number::number_of;
 use crate::{Command, Due, Fault, Topic, Words};
 
 // A flush at the end of a lifetime, which may be no number.
@@ -90,7 +90,7 @@ pub fn verbosity_line<'a>(mut words: Words<'a>) -> Option<Line<'a>>
 {
     let level = words.next_word()?;
     let quiet = quiet_tail(level, words)?;
-    Some(match short_number_of(u32::MAX, level) {
+    Some(match number_of(u64::MAX, level) {
         Some(_) => Line::Whole(Command::Verbosity { quiet }),
         None => refused(Fault::Format, quiet),
     })

@@ -4,28 +4,28 @@ ghost use Rattle.std.specs.Prelude.{◌≡◌, ◌<◌, ◌≤◌, ◌++◌, ◌
 ghost use Rattle.memcached_text.specs.Lines.{Lacks};
 ghost use Rattle.memcached_text.specs.Spelling.{BeginsAs, asking, count_word};
 
-use crate::lifetime::lifetime_at;
+use crate::lifetime::{LAST_SAID, lifetime_at};
 use crate::limits::{MAX_KEY_LEN, MAX_TEXT_LEN};
 use crate::{Command, Direction, Lifetime, Wants};
-use memchr::memchr2;
+use memchr::memchr3;
 
 /// Most keys end within so many bytes, and these are looked through in half the time of more.
 const NEAR_LEN: usize = 32;
 
-// What stands before the first space or line feed, and the text from there on. None where neither is among so many bytes.
+// What stands before the first space, line feed or byte 0, and the text from there on. None where none is among so many bytes.
 #[inline(always)]
 fn part_within(text: &[u8], most: usize) -> Option<(&[u8], &[u8])>
-    ensures { IfSome result (λ parts. (text.now ≡ parts.0.now ++ parts.1.now) × Lacks 32 parts.0.now × Lacks 10 parts.0.now) }
+    ensures { IfSome result (λ parts. (text.now ≡ parts.0.now ++ parts.1.now) × Lacks 32 parts.0.now × Lacks 10 parts.0.now × Lacks 0 parts.0.now) }
 {
     let near = &text[..text.len().min(most)];
-    let end = memchr2(b' ', b'\n', near)?;
+    let end = memchr3(b' ', b'\n', 0, near)?;
     Some(text.split_at(end))
 }
 
 // The same, where a part may have as many bytes as a key and the end of its line.
 #[inline(always)]
 fn first_part(text: &[u8]) -> Option<(&[u8], &[u8])>
-    ensures { IfSome result (λ parts. (text.now ≡ parts.0.now ++ parts.1.now) × Lacks 32 parts.0.now × Lacks 10 parts.0.now) }
+    ensures { IfSome result (λ parts. (text.now ≡ parts.0.now ++ parts.1.now) × Lacks 32 parts.0.now × Lacks 10 parts.0.now × Lacks 0 parts.0.now) }
 {
     match part_within(text, NEAR_LEN) {
         Some(parts) => Some(parts),
@@ -184,7 +184,7 @@ pub fn spelled_set(from: &[u8]) -> Option<SpelledSet>
     let (value_len, end) = leading_number(numbers)?;
     let (quiet, block) = line_end(end)?;
     let value_len = value_len as usize;
-    if !is_key_len(key.len()) || value_len > MAX_TEXT_LEN {
+    if !is_key_len(key.len()) || value_len > MAX_TEXT_LEN || expiry > LAST_SAID {
         return None;
     }
     let (value, more) = block_of(block, value_len)?;

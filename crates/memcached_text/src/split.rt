@@ -1,6 +1,6 @@
 //! Where bytes are parted.
 ghost use Rattle.std.specs.Prelude.{◌≡◌, ◌∷◌, ◌++◌, MatchOption};
-ghost use Rattle.memcached_text.specs.Lines.{Lacks};
+ghost use Rattle.memcached_text.specs.Lines.{Lacks, lacks};
 
 use memchr::memchr;
 
@@ -11,4 +11,14 @@ pub fn split_at_byte(text: &[u8], byte: u8) -> Option<(&[u8], &[u8])>
 {
     let at = memchr(byte, text)?;
     Some((&text[..at], &text[at + 1..]))
+}
+
+// Whether no byte is this one.
+pub fn lacks_byte(text: &[u8], byte: u8) -> bool
+    ensures { result ≡ lacks byte text.now }
+{
+    match split_at_byte(text, byte) {
+        Some(_) => false,
+        None => true,
+    }
 }

@@ -4,8 +4,8 @@ ghost use Rattle.memcached_text.specs.Line.{refused, quiet_tail};
 ghost use Rattle.memcached_text.specs.StorageLine.{block_len, item_of, numbered_item_of, stored, set_line, cas_line, dropped, drop_meta_line, command_of, stale_of};
 
 use crate::lifetime::lifetime_of;
-use crate::limits::{MAX_BLOCK_LEN, MAX_KEY_LEN};
-use crate::line::{Line, quiet_tail, refused};
+use crate::limits::MAX_BLOCK_LEN;
+use crate::line::{Line, is_key, quiet_tail, refused};
 use crate::number::{number_of, short_number_of};
 use crate::{Command, Fault, Lifetime, Side, Text, Wants, Words};
 
@@ -72,7 +72,7 @@ fn block_len(word: &[u8]) -> Option<u32>
 fn item_of<'a>(verb: Verb, key: &'a [u8], flags: &[u8], expiry: &[u8]) -> Option<ItemLine<'a>>
     ensures { result ≡ item_of verb key.now flags.now expiry.now }
 {
-    if key.len() > MAX_KEY_LEN {
+    if !is_key(key) {
         return None;
     }
     let flags = short_number_of(u32::MAX, flags)?;

@@ -2,10 +2,11 @@
 ghost use Rattle.std.specs.Prelude.{◌≡◌, ◌<◌, ◌∷◌, ◌++◌, [], length, MatchOption};
 ghost use Rattle.std.specs.List.{list_all};
 ghost use Rattle.memcached_text.specs.Lines.{Lacks, with_word, words_of};
-ghost use Rattle.memcached_text.specs.Line.{is_key};
+ghost use Rattle.memcached_text.specs.Line.{is_short, is_key};
 
 use crate::limits::MAX_KEY_LEN;
-use crate::split::split_at_byte;
+use crate::line::is_key;
+use crate::split::{lacks_byte, split_at_byte};
 use memchr::memrchr;
 use std::marker::Model;
 
@@ -62,10 +63,10 @@ fn split_at_last_space(text: &[u8]) -> Option<(&[u8], &[u8])>
     Some((&text[..at], &text[at + 1..]))
 }
 
-// Whether each word of the text may be a key. Of so many bytes that a word of them would be too long, one has to be a
+// Whether no word of the text is too long for a key. Of so many bytes that a word of them would be too long, one has to be a
 // space.
-fn are_keys(text: &[u8]) -> bool
-    ensures { result ≡ list_all is_key (words_of text.now) }
+fn are_short(text: &[u8]) -> bool
+    ensures { result ≡ list_all is_short (words_of text.now) }
 {
     let mut rest = text;
     while rest.len() > MAX_KEY_LEN {
@@ -76,6 +77,14 @@ fn are_keys(text: &[u8]) -> bool
         }
     }
     true
+}
+
+// Whether each word of the text may be a key.
+#[tactic(auto, using(crate::proofs::KeyLaws::keys_apart))]
+fn are_keys(text: &[u8]) -> bool
+    ensures { result ≡ list_all is_key (words_of text.now) }
+{
+    lacks_byte(text, 0) && are_short(text)
 }
 
 impl<'a> Words<'a> {
@@ -126,9 +135,10 @@ impl<'a> Words<'a> {
     }
 
     /// Whether each word may be a key.
+    #[tactic(auto, using(crate::proofs::KeyLaws::first_key))]
     pub fn are_keys(&self) -> bool
         ensures { result ≡ list_all is_key self.now }
     {
-        self.found.len() <= MAX_KEY_LEN && are_keys(self.rest)
+        is_key(self.found) && are_keys(self.rest)
     }
 }

@@ -12,4 +12,4 @@ returns c =
     let lacks = lacks_before near c.in_ok-end.end found.before in
     let short : c.in_ok-end.end ≤ c.min.result = omega (arith, found.high, length-take-le c.min.result text (omega arith)) in
     let front = take_within text c.in_ok-end.end c.min.result short ∙ sym c.split_at.ensures.front in
-    (c.split_at.ensures.by_index.0, subst (Lacks 32) front lacks.0, subst (Lacks 10) front lacks.1)
+    (c.split_at.ensures.by_index.0, subst (Lacks 32) front lacks.0, subst (Lacks 10) front lacks.1, subst (Lacks 0) front lacks.2)

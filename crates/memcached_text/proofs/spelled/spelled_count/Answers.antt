@@ -8,7 +8,7 @@ returns c =
     let key = c.in_ok-key.key.now in
     let more = c.in_ok-quiet.more.now in
     let fits = c.is_key_len.ensures c.if-not-is_key_len.false in
-    let is_key : IsKey key = record { some = fits.0; short = fits.1; no_space = c.in_ok-key.ensures.1; no_feed = c.in_ok-key.ensures.2 } in
+    let is_key : IsKey key = record { some = fits.0; short = fits.1; no_space = c.in_ok-key.ensures.1; no_feed = c.in_ok-key.ensures.2; no_zero = c.in_ok-key.ensures.3 } in
     let read : IsCountText c.in_ok-direction.direction from key more c.in_ok-delta.delta c.in_ok-quiet.quiet = record {
       text = c.in_ok-direction.text.now;
       behind_key = c.in_ok-key.numbers.now;

@@ -12,7 +12,7 @@ returns c =
     let value = c.in_ok-value.value.now in
     let more = c.in_ok-value.more.now in
     let fits = c.is_key_len.ensures c.if-not-is_key_len.false in
-    let is_key : IsKey key = record { some = fits.0; short = fits.1; no_space = c.in_ok-key.ensures.1; no_feed = c.in_ok-key.ensures.2 } in
+    let is_key : IsKey key = record { some = fits.0; short = fits.1; no_space = c.in_ok-key.ensures.1; no_feed = c.in_ok-key.ensures.2; no_zero = c.in_ok-key.ensures.3 } in
     let read : IsSetText from key value more c.in_ok-flags.flags c.in_ok-expiry.expiry c.in_ok-value_len.value_len c.in_ok-quiet.quiet = record {
       text = c.in_ok-text.text.now;
       behind_key = c.in_ok-key.numbers.now;
@@ -31,4 +31,4 @@ returns c =
       block_read = c.in_ok-value.ensures.1;
     } in
     subst (λ lifetime. BeginsAs from (Store Whatever key c.in_ok-flags.flags lifetime value c.in_ok-quiet.quiet) (length from - length more)) (sym c.lifetime_at.ensures)
-    (set_begins from key value more c.in_ok-flags.flags c.in_ok-expiry.expiry c.in_ok-value_len.value_len c.in_ok-quiet.quiet read is_key c.in_ok-flags.ensures.0 c.in_ok-expiry.ensures.0 c.in_ok-value.ensures.0 c.if-value_len-gt-MAX_TEXT_LEN.false)
+    (set_begins from key value more c.in_ok-flags.flags c.in_ok-expiry.expiry c.in_ok-value_len.value_len c.in_ok-quiet.quiet read is_key c.in_ok-flags.ensures.0 c.if-expiry-gt-LAST_SAID.false c.in_ok-value.ensures.0 c.if-value_len-gt-MAX_TEXT_LEN.false)

@@ -1,6 +1,6 @@
 use Rattle.std.proofs.Common.{◌≡◌, length}
 use Rattle.memcached_text.proofs.KeyLaws.{keys_in}
-use Rattle.memcached_text.proofs.words.are_keys.Given as goal
+use Rattle.memcached_text.proofs.words.are_short.Given as goal
 
 abbrev pub invariant-loop-rest : goal.invariant-loop-rest
 invariant-loop-rest l = keys_in l.text ≡ keys_in l.rest
