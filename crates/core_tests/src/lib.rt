@@ -1,6 +1,5 @@
-//! The tests of what stands below the server and the commands, with answers that were found by hand or by another
-//! program: words, heaps, datagrams, adapters, traces and reports, both machines, the core and the partitions event by event, and
-//! readers in threads of their own.
+//! The tests of what stands below the servers and is no value: threads, scripted readers, adapters, and fronts that own a partition in
+//! turn. Values are rows of data, in `value_rows`.
 #![tactic(auto)]
 
 #[cfg(test)]
@@ -8,9 +7,9 @@ mod adapters;
 #[cfg(test)]
 mod cache_put;
 #[cfg(test)]
-mod change_rows;
-#[cfg(test)]
 mod changes;
+#[cfg(test)]
+mod fronts;
 #[cfg(test)]
 mod heap;
 #[cfg(test)]
@@ -22,25 +21,9 @@ mod looks;
 #[cfg(test)]
 mod machine;
 #[cfg(test)]
-mod machine_steps;
-#[cfg(test)]
-mod memcached;
-#[cfg(test)]
-mod memcached_differences;
-#[cfg(test)]
-mod memcached_items;
-#[cfg(test)]
-mod memcached_rows;
-#[cfg(test)]
 mod one_spare;
 #[cfg(test)]
-mod packet_faults;
-#[cfg(test)]
-mod packets;
-#[cfg(test)]
 mod partitions;
-#[cfg(test)]
-mod reports;
 #[cfg(test)]
 mod same_as_machine;
 #[cfg(test)]
@@ -48,14 +31,8 @@ mod schedules;
 #[cfg(test)]
 mod scripts;
 #[cfg(test)]
-mod sizes;
-#[cfg(test)]
 mod sweeps;
 #[cfg(test)]
 mod torn_get;
-#[cfg(test)]
-mod traces;
-#[cfg(test)]
-mod words;
 #[cfg(test)]
 mod worn;
