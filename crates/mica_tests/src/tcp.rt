@@ -1,13 +1,14 @@
-//! Ports of TCP connections that fail together.
+//! Ports of TCP connections, and plain sockets as their clients.
 ghost use Rattle.std.specs.Prelude.{◌≡◌, false};
 
-use std::net::{Ipv4Addr, Net as Sockets, TcpStream, UdpSocket};
+use std::io::{Read, Write};
+use std::net::{Ipv4Addr, Net as Sockets, Shutdown, TcpListener, TcpStream};
 use std::process::Abort;
 use std::sync::atomic::{AtomicBool, Ordering};
 use std::test::Fail;
-use std::thread::join;
+use std::thread::{join, sleep};
 use std::time::Duration;
-use stream_io::{Connections, Event, Listeners, TcpConnections, TcpListeners};
+use stream_io::{Broken, Connections, Event, Input, Listeners, TcpConnections, TcpListeners};
 
 /// Connections at the first of some ports that is free, and this port.
 fn new_port<'a, R: Abort + AllocGlobal + Sockets>(
@@ -31,33 +32,170 @@ fn new_port<'a, R: Abort + AllocGlobal + Sockets>(
     panic!(rt; "no port is free");
 }
 
-// A port that waits goes on waiting for as long as none has failed, and reports what comes.
+/// A client that comes, and the number that its connection is under.
+fn joined(
+    rt: &(impl Abort + Sockets<Listener = TcpListener, Stream = TcpStream>),
+    connections: &mut TcpConnections<'_>,
+    port: u16,
+) -> Result<(TcpStream, u32), Fail> {
+    let client = TcpStream::connect(rt, ("127.0.0.1", port))?;
+    client.set_read_timeout(Some(Duration::from_secs(5)))?;
+    for _ in 0..100u32 {
+        if let Ok(Some(Event::Opened(number))) = connections.next() {
+            return Ok((client, number));
+        }
+    }
+    panic!(rt; "no connection came");
+}
+
+/// What the connection under this number gives next, at the reports of it.
+fn input_of(
+    rt: &impl Abort,
+    connections: &mut TcpConnections<'_>,
+    number: u32,
+    out: &mut [u8; 16],
+) -> Result<Input, Broken> {
+    for _ in 0..100u32 {
+        if connections.next() == Ok(Some(Event::Ready(number))) {
+            let input = connections.read(number, out);
+            if input != Ok(Input::Later) {
+                return input;
+            }
+        }
+    }
+    panic!(rt; "nothing came");
+}
+
+/// The client says this, and it comes under the number, and nothing else does.
+fn expect_said(
+    rt: &impl Abort,
+    connections: &mut TcpConnections<'_>,
+    client: &mut TcpStream,
+    number: u32,
+    said: &[u8],
+) -> Result<(), Fail> {
+    client.write_all(said)?;
+    let mut out = [0; 16];
+    let input = input_of(rt, connections, number, &mut out);
+    assert!(rt; input == Ok(Input::All(said.len())) && out.starts_with(said));
+    Ok(())
+}
+
+/// What is written under the number comes to the client, and nothing else did.
+fn expect_heard(
+    rt: &impl Abort,
+    connections: &mut TcpConnections<'_>,
+    client: &mut TcpStream,
+    number: u32,
+    reply: &[u8],
+) -> Result<(), Fail> {
+    assert!(rt; connections.write(number, reply) == Ok(reply.len()));
+    let mut back = [0; 16];
+    let count = client.read(&mut back)?;
+    assert!(rt; &back[..count] == reply);
+    Ok(())
+}
+
+// Each of two clients hears what is sent to it, also once one of them has closed its half, and once the other one is closed.
 #[test]
-fn a_connection_is_reported(rt: HostRuntime) -> Result<(), Fail> {
+fn two_clients_hear_their_own(rt: HostRuntime) -> Result<(), Fail> {
     let has_failed = AtomicBool::new(false);
     let (mut connections, port) = new_port(&rt, &has_failed);
-    let _client = TcpStream::connect(&rt, ("127.0.0.1", port))?;
-    assert!(&rt; matches!(connections.next(), Ok(Some(Event::Opened(_)))));
+    let (mut one, first) = joined(&rt, &mut connections, port)?;
+    let (mut two, second) = joined(&rt, &mut connections, port)?;
+    expect_said(&rt, &mut connections, &mut one, first, b"one")?;
+    expect_said(&rt, &mut connections, &mut two, second, b"second")?;
+    expect_heard(&rt, &mut connections, &mut one, first, b"ONE")?;
+    expect_heard(&rt, &mut connections, &mut two, second, b"THE SECOND")?;
+    one.shutdown(Shutdown::Write)?;
+    let mut out = [0; 16];
+    assert!(&rt; input_of(&rt, &mut connections, first, &mut out) == Ok(Input::Ended));
+    expect_heard(&rt, &mut connections, &mut one, first, b"still")?;
+    connections.close(first);
+    assert!(&rt; one.read(&mut out)? == 0);
+    expect_said(&rt, &mut connections, &mut two, second, b"still here")?;
+    expect_heard(&rt, &mut connections, &mut two, second, b"and there")?;
     assert!(&rt; !has_failed.load(Ordering::Relaxed));
     Ok(())
 }
 
-// A port that waits fails once another has. A socket that nobody sends to lets the wait begin.
+/// Writes bytes that count up to 250 again and again, as far as they are taken, and says how many were.
+fn fill(rt: &impl Abort, connections: &mut TcpConnections<'_>, number: u32) -> u32 {
+    let mut piece = [0; 4_016];
+    for at in 0..4_016usize {
+        piece[at] = (at % 251) as u8;
+    }
+    let mut sent = 0u32;
+    for _ in 0..1_000_000u32 {
+        match connections.write(number, &piece[sent as usize % 251..]) {
+            Ok(0) => return sent,
+            Ok(count) => sent = sent.saturating_add(count as u32),
+            Err(Broken) => panic!(rt; "the connection is broken"),
+        }
+    }
+    panic!(rt; "all was taken");
+}
+
+/// The client hears so many of these bytes.
+fn expect_filled(rt: &impl Abort, client: &mut TcpStream, sent: u32) -> Result<(), Fail> {
+    let mut room = [0; 4_096];
+    let mut heard = 0u32;
+    for _ in 0..1_000_000u32 {
+        if heard == sent {
+            return Ok(());
+        }
+        let count = client.read(&mut room)?;
+        for byte in &room[..count] {
+            assert!(rt; u32::from(*byte) == heard % 251);
+            heard = heard.saturating_add(1);
+        }
+    }
+    panic!(rt; "less came than was taken");
+}
+
+// What is not taken is told, and what was taken comes. A client that hears no more resets its connection, which is told, too.
+#[test]
+fn a_shut_window_and_a_reset_are_told(rt: HostRuntime) -> Result<(), Fail> {
+    let has_failed = AtomicBool::new(false);
+    let (mut connections, port) = new_port(&rt, &has_failed);
+    let (mut one, first) = joined(&rt, &mut connections, port)?;
+    let (mut two, second) = joined(&rt, &mut connections, port)?;
+    let sent = fill(&rt, &mut connections, first);
+    expect_heard(&rt, &mut connections, &mut two, second, b"meanwhile")?;
+    expect_filled(&rt, &mut one, sent)?;
+    expect_heard(&rt, &mut connections, &mut one, first, b"more")?;
+    assert!(&rt; connections.write(second, b"unheard") == Ok(7));
+    sleep(&rt, Duration::from_millis(50));
+    drop(two);
+    let mut out = [0; 16];
+    assert!(&rt; input_of(&rt, &mut connections, second, &mut out) == Err(Broken));
+    expect_said(&rt, &mut connections, &mut one, first, b"still here")
+}
+
+// A port is of its address alone, and of nobody else.
+#[test]
+fn a_port_is_of_one_address(rt: HostRuntime) -> Result<(), Fail> {
+    let has_failed = AtomicBool::new(false);
+    let (_connections, port) = new_port(&rt, &has_failed);
+    assert!(&rt; TcpStream::connect(&rt, ("127.0.0.2", port)).is_err());
+    let mut others = TcpListeners::new(&rt, rt.alloc(), Ipv4Addr::LOCALHOST, 8);
+    assert!(&rt; others.listen(port).is_err());
+    Ok(())
+}
+
+// A port that waits fails once another has.
 #[test]
 fn ports_fail_together(rt: HostRuntime) -> Result<(), Fail> {
     let has_failed = AtomicBool::new(false);
     let (mut connections, _) = new_port(&rt, &has_failed);
-    let clock = UdpSocket::bind(&rt, "127.0.0.1:0")?;
-    clock.set_read_timeout(Some(Duration::from_millis(1_500)))?;
-    let (reported, timed) = join(
+    let (reported, ()) = join(
         &rt,
         || connections.next(),
         || {
-            let timed = clock.recv(&mut [0; 8]);
+            sleep(&rt, Duration::from_millis(1_500));
             has_failed.store(true, Ordering::Relaxed);
-            timed
         },
     );
-    assert!(&rt; reported.is_err() && timed.is_err());
+    assert!(&rt; reported.is_err());
     Ok(())
 }

@@ -2,59 +2,28 @@
 //! this program are files of rows. It prints a line for each run that ends otherwise, and then how many runs there were.
 #![tactic(auto)]
 
-mod outside;
-mod row;
 mod run;
-mod spelling;
 
-use crate::row::{Row, times_of};
 use crate::run::try_row;
 use anyhow::Result;
+use row_parts::rows_of;
 use std::sync::Wait;
 use std::thread::Threads;
 use std::{env, fs};
 
-/// Tries a row as often as it says, and tells how many runs that makes.
-fn try_lines(
-    rt: &(impl AllocGlobal + Print + Threads + Wait + Sync),
-    place: &str,
-    lines: &[&str],
-) -> Result<u32> {
-    let mut runs = 0u32;
-    for turn in 0..times_of(lines) {
-        match Row::read(rt.alloc(), lines, turn)? {
-            Some(row) => runs = runs.saturating_add(try_row(rt, place, &row)?),
-            None => println!(rt; "{place}: no row")?,
-        }
-    }
-    Ok(runs)
-}
-
-/// Tries the rows of a file, which blank lines part. A line that begins with `#` is for the reader alone.
+/// Tries the rows of a file, and tells how many runs they make.
 fn try_file(
     rt: &(impl AllocGlobal + Print + Threads + Wait + Sync),
     name: &str,
     text: &str,
 ) -> Result<u32> {
     let mut runs = 0u32;
-    let mut lines = Vec::new(rt.alloc());
-    let mut number = 0u32;
-    for line in text.lines() {
-        number = number.saturating_add(1);
-        if line.starts_with('#') {
-            continue;
+    for row in &rows_of(rt.alloc(), text)? {
+        if row.is_whole {
+            runs = runs.saturating_add(try_row(rt, name, row)?);
+        } else {
+            println!(rt; "{name}, before {}: no row", row.place)?;
         }
-        if !line.is_empty() {
-            lines.push(line)?;
-        } else if !lines.is_empty() {
-            let place = format!(in rt.alloc(); "{name}, before line {number}")?;
-            runs = runs.saturating_add(try_lines(rt, place.as_str(), lines.as_slice())?);
-            lines.clear();
-        }
-    }
-    if !lines.is_empty() {
-        let place = format!(in rt.alloc(); "{name}, the last row")?;
-        runs = runs.saturating_add(try_lines(rt, place.as_str(), lines.as_slice())?);
     }
     Ok(runs)
 }

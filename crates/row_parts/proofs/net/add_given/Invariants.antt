@@ -1,0 +1,10 @@
+use Rattle.std.proofs.Common.{◌≡◌, true}
+use Rattle.mica_io.specs.PortStates.{takes_datagram}
+use Rattle.mica_io.specs.MemoryPorts.{ports_in}
+use Rattle.row_parts.proofs.net.add_given.Given as goal
+
+abbrev pub invariant-loop : goal.invariant-loop
+invariant-loop l = record {
+  takes : takes_datagram (ports_in l.net.ports.items l.port) ≡ true;
+  binds : l.net.binds ≡ l.initial.net.binds;
+}

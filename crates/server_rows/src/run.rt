@@ -1,0 +1,289 @@
+//! A row's runs of a server that stays up, over memory.
+
+ghost use Rattle.std.specs.Prelude.{◌≡◌, length, IfOk};
+ghost use Rattle.server_words.specs.declared.limits.TheConstants.{MOST_FRONTS};
+
+use crate::overheard::{Overheard, OverheardListeners};
+use anyhow::Result;
+use locked_serve::Left;
+use mica_clock::MemClock;
+use mica_daemon::{MemFiles, Process, Speaker, daemon, free_by};
+use mica_io::{Bytes, MemNet, MemSink, NoMemory};
+use row_parts::{Entry, Row, RowGate, at_least_one, has_sent, is_one_of, net_of};
+use server_words::MOST_FRONTS;
+use std::alloc::Global;
+use std::sync::Wait;
+use std::sync::atomic::AtomicBool;
+use std::thread::Threads;
+use stream_io::{Change, Step};
+
+/// How a run ended, what it wrote, for how many connections there was no memory, and the net, the gate and what was heard that it leaves.
+#[derive(Drop)]
+struct End {
+    status: u32,
+    sink: MemSink,
+    lacked: u64,
+    net: MemNet,
+    gate: RowGate,
+    heard: Vec<Overheard>,
+}
+
+/// A port of connections: how many bytes a read or a write moves, and what happens there.
+#[derive(Drop)]
+struct Port {
+    number: u16,
+    piece: u32,
+    schedule: Vec<Step>,
+}
+
+/// The files and the memory of the row.
+fn files_of(alloc: Global, row: &Row) -> Result<MemFiles, NoMemory> {
+    let mut files = MemFiles::new(alloc);
+    for entry in &row.entries {
+        if entry.is("file") {
+            files.add(
+                alloc,
+                entry.word(1),
+                entry.text(),
+                &[row.number("reads", 1, 0)],
+            )?;
+        } else if entry.is("memory") {
+            files.set_free(entry.long(1));
+        }
+    }
+    Ok(files)
+}
+
+/// The seconds that each clock shows.
+fn seconds_of(alloc: Global, row: &Row) -> Result<Vec<Option<u64>>, NoMemory> {
+    let mut seconds = Vec::new(alloc);
+    for entry in &row.entries {
+        if entry.is("shows") {
+            for _ in 0..entry.number(1) {
+                seconds.push(Some(entry.long(2)))?;
+            }
+        }
+    }
+    Ok(seconds)
+}
+
+/// As many clocks as there may be fronts, each of which shows these seconds.
+fn clocks_of(alloc: Global, seconds: &[Option<u64>]) -> Result<Vec<MemClock<'_>>, NoMemory>
+    ensures { IfOk result (λ clocks. length clocks.items ≡ MOST_FRONTS) }
+{
+    let mut clocks = Vec::with_capacity(alloc, MOST_FRONTS as usize)?;
+    for _ in 0..MOST_FRONTS {
+        clocks.push_reserved(MemClock::new(seconds));
+    }
+    Ok(clocks)
+}
+
+/// All that one client says at a port.
+fn all_of(alloc: Global, client: u32, behind: &[Entry]) -> Result<Bytes, NoMemory> {
+    let mut all = Vec::new(alloc);
+    for entry in behind {
+        if entry.is_place() {
+            break;
+        }
+        if entry.is("says") && entry.number(1) == client {
+            all.extend_from_slice(entry.text())?;
+        }
+    }
+    Ok(all.into())
+}
+
+/// What a client does.
+fn change_of(entry: &Entry) -> Change {
+    let mut change = Change {
+        comes: u32::try_from(entry.text().len()).unwrap_or(0),
+        ..Change::NOTHING
+    };
+    if entry.is("takes") {
+        change.takes = entry.number(2);
+    }
+    change.ends = entry.word(2) == "ends";
+    if entry.word(2) == "breaks" {
+        change.breaks = Some(entry.number(3));
+    }
+    change
+}
+
+/// What clients do at a port comes in this order, each piece alone, and each is reported. A connection is made as its client begins, the first one for
+/// 0, the next for 1.
+fn schedule_of(alloc: Global, window: u32, behind: &[Entry]) -> Result<Vec<Step>, NoMemory> {
+    let mut steps = Vec::new(alloc);
+    let mut count = 0u32;
+    for entry in behind {
+        if entry.is_place() {
+            break;
+        }
+        if entry.is("says") || entry.is("takes") {
+            if entry.number(1) == count {
+                steps.push(Step::Opens(window, all_of(alloc, count, behind)?))?;
+                count = count.saturating_add(1);
+            }
+            steps.push(Step::Reports(entry.number(1), change_of(entry)))?;
+        }
+    }
+    Ok(steps)
+}
+
+/// The ports of connections.
+fn ports_of(alloc: Global, row: &Row) -> Result<Vec<Port>, NoMemory> {
+    let mut ports = Vec::new(alloc);
+    let entries = row.entries.as_slice();
+    for at in 0..entries.len() {
+        let entry = &entries[at];
+        if entry.is("connections") {
+            let is_small = !entry.word(2).is_empty();
+            let (window, piece) = if is_small {
+                (entry.number(2), entry.number(3))
+            } else {
+                (1_000, 1_024)
+            };
+            ports.push(Port {
+                number: entry.port(1),
+                piece: at_least_one(piece),
+                schedule: schedule_of(alloc, window, &entries[at + 1..])?,
+            })?;
+        }
+    }
+    Ok(ports)
+}
+
+/// Listeners at these ports.
+fn listeners_of(alloc: Global, ports: &[Port]) -> Result<OverheardListeners<'_>, NoMemory> {
+    let mut listeners = OverheardListeners::new(alloc)?;
+    for port in ports {
+        let piece = at_least_one(port.piece);
+        listeners.add_port(port.number, port.schedule.as_slice(), piece)?;
+    }
+    Ok(listeners)
+}
+
+/// Runs the words over the outside that the row says.
+fn run(
+    rt: &(impl AllocGlobal + Threads + Wait + Sync),
+    words: &[String],
+    row: &Row,
+) -> Result<End, NoMemory> {
+    let alloc = rt.alloc();
+    let ports = ports_of(alloc, row)?;
+    let seconds = seconds_of(alloc, row)?;
+    let mut listeners = listeners_of(alloc, ports.as_slice())?;
+    let mut net = net_of(alloc, row)?;
+    let gate = RowGate::new(row);
+    let mut speaker = Speaker {
+        sink: MemSink::new(
+            alloc,
+            row.number("sink", 3, 2_000_000),
+            at_least_one(row.number("sink", 1, 5)),
+            &[row.number("sink", 2, 0)],
+        )?,
+        line: String::new(alloc),
+    };
+    let process = Process {
+        rt,
+        alloc,
+        gate: &gate,
+        ended: &AtomicBool::new(false),
+        pid: 1,
+    };
+    let mut left = Left::nothing();
+    let status = daemon(
+        &process,
+        1,
+        words,
+        clocks_of(alloc, seconds.as_slice())?,
+        &mut files_of(alloc, row)?,
+        &mut speaker,
+        &mut net,
+        &mut listeners,
+        &mut left,
+    );
+    Ok(End {
+        status: status as u32,
+        sink: speaker.sink,
+        lacked: left.lacked,
+        net,
+        gate,
+        heard: listeners.into_overheard(),
+    })
+}
+
+/// Whether at a port of connections was heard what must be.
+fn is_heard(end: &End, port: u16, behind: &[Entry]) -> bool {
+    for entry in behind {
+        if entry.is_place() {
+            break;
+        }
+        if entry.is("hears") {
+            return end.heard.iter().any(|one| one.port == port
+                && one.bytes.as_slice() == entry.text());
+        }
+    }
+    true
+}
+
+/// What differs from the row, if anything does.
+fn difference(end: &End, row: &Row) -> Option<&'static str> {
+    let entries = row.entries.as_slice();
+    for at in 0..entries.len() {
+        let entry = &entries[at];
+        let behind = &entries[at + 1..];
+        if entry.is("ends") && end.status != entry.number(1) {
+            return Some("another status");
+        }
+        if entry.is("ends") && !is_one_of(end.sink.taken(), &entries[at..]) {
+            return Some("another text");
+        }
+        if entry.is("connections") && !is_heard(end, entry.port(1), behind) {
+            return Some("other replies");
+        }
+        if entry.is("port") && !has_sent(&end.net, entry.port(1), behind) {
+            return Some("other datagrams");
+        }
+    }
+    if end.lacked != 0 {
+        return Some("no memory for a connection");
+    }
+    if !end.gate.was_called(row) {
+        return Some("other calls of the gate");
+    }
+    None
+}
+
+/// Whether the files of a row that runs nothing tell how many bytes are free.
+fn tells_free(alloc: Global, row: &Row) -> Result<bool, NoMemory> {
+    let told = free_by(alloc, &files_of(alloc, row)?);
+    match row.find("free") {
+        Some(entry) if entry.word(1) == "unknown" => Ok(told.is_none()),
+        Some(entry) => Ok(told == Some(entry.long(1))),
+        None => Ok(true),
+    }
+}
+
+/// Makes the row's runs, and prints a line for each that ends otherwise. Tells how many there are. What it says of free bytes is one.
+pub fn try_row(
+    rt: &(impl AllocGlobal + Print + Threads + Wait + Sync),
+    name: &str,
+    row: &Row,
+) -> Result<u32> {
+    let mut runs = 0u32;
+    if row.find("free").is_some() {
+        runs = 1;
+        if !tells_free(rt.alloc(), row)? {
+            println!(rt; "{name}, before {}: other bytes are free", row.place)?;
+        }
+    }
+    for entry in &row.entries {
+        if entry.is("run") {
+            runs = runs.saturating_add(1);
+            let end = run(rt, entry.behind(), row)?;
+            if let Some(what) = difference(&end, row) {
+                println!(rt; "{name}, before {}: {what} of line {runs}", row.place)?;
+            }
+        }
+    }
+    Ok(runs)
+}
