@@ -8,11 +8,10 @@ mod run;
 
 use crate::run::try_row;
 use anyhow::Result;
-use mica_daemon::{Files, HostFiles};
 use row_parts::rows_of;
 use std::sync::Wait;
 use std::thread::Threads;
-use std::{env, str};
+use std::{env, fs};
 
 /// Tries the rows of a file, and tells how many runs they make.
 fn try_file(
@@ -33,15 +32,9 @@ fn try_file(
 
 fn main(rt: HostRuntime) -> Result<()> {
     let mut runs = 0u32;
-    let mut files = HostFiles::new(&rt);
     for name in env::args(&rt)?.skip(1) {
-        match files.read(rt.alloc(), name.as_str(), 1_000_000) {
-            Ok(bytes) => {
-                let text = str::from_utf8(bytes.as_slice())?;
-                runs = runs.saturating_add(try_file(&rt, name.as_str(), text)?);
-            }
-            Err(_) => println!(rt; "{name}: no file")?,
-        }
+        let text = fs::read_to_string(&rt, name.as_str())?;
+        runs = runs.saturating_add(try_file(&rt, name.as_str(), text.as_str())?);
     }
     println!(rt; "{runs} runs")?;
     Ok(())
