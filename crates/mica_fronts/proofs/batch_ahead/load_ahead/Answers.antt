@@ -1,7 +1,7 @@
 use Rattle.std.proofs.Common.{[], sym, subst, arith}
 use Rattle.batch_packets.specs.Remaining.{Remaining, HasLeft}
 use Rattle.batch_packets.proofs.Taking.{some_left, one_read}
-use Rattle.mica_fronts.proofs.ahead.load_ahead.Goals as goal
+use Rattle.mica_fronts.proofs.batch_ahead.load_ahead.Goals as goal
 
 pub loop-i-init : goal.loop-i-init
 loop-i-init g c = (
