@@ -22,7 +22,7 @@ from listing import new_list
 from prose import move_wrong_bodies, outside_crates, in_comments, write
 from roots import write_crates
 from rust import Tree
-from table import HERE, Table, loud, trouble
+from table import HERE, Table, loud, read_crates, trouble
 
 
 def put_in_place(tree, new, sources):
@@ -77,6 +77,9 @@ def main():
     arguments = [a for a in sys.argv[1:] if a != "--no-fmt"]
     top = Path(arguments[0] if arguments else ".").resolve()
     table = Table(HERE / "table.txt")
+    there = sorted({*table.whole.values(), *table.first.values()} & set(read_crates(top / "crates.txt")))
+    if there:
+        sys.exit(f"{top} has the new names already: {' '.join(there)}")
     tree = Tree(top, table)
     wrong_before = edits_left(tree)
     new, sources = collect(tree)

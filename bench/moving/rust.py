@@ -128,7 +128,8 @@ class RustFile:
             home, module = tree.place(crate, rest[0], rest[1])
             return [self.named(home), rest[0], module, *rest[2:]]
         if not tree.parted(crate):
-            module = tree.table.modules.get((crate, rest[0]), rest[0])
+            through = len(rest) > 1 or first == "crate" and not is_root_item(tree, crate, rest[0])
+            module = tree.table.modules.get((crate, rest[0]), rest[0]) if through else rest[0]
             return [self.named(tree.table.whole.get(crate, crate)), module, *rest[1:]]
         return self.in_parted(crate, rest)
 
@@ -229,6 +230,11 @@ def use_line(indent, visible, path, names):
     head = "".join(segment + "::" for segment in path)
     names = sorted(names)
     return f"{indent}{visible}use {head}{names[0] if len(names) == 1 else '{' + ', '.join(names) + '}'};\n"
+
+
+def is_root_item(tree, crate, name):
+    lib = tree.crates / crate / "src/lib.rt"
+    return lib.exists() and name in root_symbols(lib.read_text())[0]
 
 
 def is_module(tree, crate, name):
