@@ -11,8 +11,8 @@ use crate::header::{
 };
 use crate::item::Item;
 use crate::{BatchFault, Datagram};
-use mica_io::{Bytes, NoMemory};
 use mica_words::key_fits;
+use outside::{Bytes, NoMemory};
 use std::alloc::Global;
 use std::marker::Model;
 

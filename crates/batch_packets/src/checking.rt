@@ -12,8 +12,8 @@ use crate::batch::Want;
 use crate::header::Header;
 use crate::item::{Item, check_datagram, next_item};
 use crate::{BatchFault, Request};
-use mica_io::{Bytes, NoMemory};
 use mica_words::key_fits;
+use outside::{Bytes, NoMemory};
 use std::alloc::Global;
 use std::marker::Model;
 

@@ -1,7 +1,7 @@
 //! Why bytes are no datagram of the kind that was asked for.
 ghost use Rattle.std.specs.Prelude.{◌≡◌};
 
-use mica_io::NoMemory;
+use outside::NoMemory;
 use std::alloc::AllocError;
 use std::error::Error;
 use std::fmt;

@@ -4,8 +4,8 @@ ghost use Rattle.std.specs.Int.{w64, to_le_bytes};
 ghost use Rattle.batch_packets.specs.Datagram.{header_text, header_fault, version_at, count_at, is_version, max_datagram_len, max_value_len};
 
 use crate::BatchFault;
-use mica_io::NoMemory;
 use mica_words::MAX_VALUE_LEN;
+use outside::NoMemory;
 
 /// The bytes of a header.
 pub const HEADER_LEN: usize = 10;

@@ -28,4 +28,4 @@ pub use reply_text::ReplyText;
 pub use status::Status;
 
 /// The text of a batch, or of replies.
-pub type Datagram = mica_io::Bytes;
+pub type Datagram = outside::Bytes;

@@ -6,7 +6,7 @@ ghost use Rattle.batch_packets.specs.Datagram.{is_version, first_fault};
 use crate::header::read_u64;
 use crate::item::{Item, check_datagram, next_item};
 use crate::{BatchFault, Datagram, ReplyText, Status};
-use mica_io::{Bytes, NoMemory};
+use outside::{Bytes, NoMemory};
 use std::alloc::Global;
 use std::marker::Model;
 

@@ -11,7 +11,7 @@ use crate::header::{COUNT_AT, Header, MAX_ITEMS, max_datagram_len, put_header};
 use crate::item::Item;
 use crate::replies::ReplyRef;
 use crate::{Datagram, Status};
-use mica_io::{Bytes, NoMemory};
+use outside::{Bytes, NoMemory};
 use std::alloc::Global;
 use std::marker::Model;
 use std::mem;

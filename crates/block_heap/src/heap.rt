@@ -12,7 +12,7 @@ use crate::block::Block;
 use crate::lists::FreeLists;
 use crate::ranks::rank_of;
 use crate::tagged::TaggedBlocks;
-use mica_io::NoMemory;
+use outside::NoMemory;
 use std::alloc::Global;
 use std::marker::Model;
 

@@ -8,7 +8,7 @@ ghost use Rattle.block_heap.specs.Lists.{list_of, place_in, count_of, IsListed, 
 use crate::links::{Link, join, slot_for};
 use crate::marks::Marks;
 use crate::ranks::LISTS;
-use mica_io::NoMemory;
+use outside::NoMemory;
 use std::alloc::Global;
 use std::marker::Model;
 

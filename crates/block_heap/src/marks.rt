@@ -3,7 +3,7 @@ ghost use Rattle.std.specs.Prelude.{◌≡◌, ◌≢◌, ◌<◌, ◌≤◌, �
 ghost use Rattle.std.specs.Int.{bit_at};
 ghost use Rattle.block_heap.specs.Marks.{mark_at};
 
-use mica_io::NoMemory;
+use outside::NoMemory;
 use std::alloc::Global;
 use std::marker::Model;
 

@@ -8,7 +8,7 @@ ghost use Rattle.block_heap.specs.Tags.{tag_of, size_in, slot_of, IsTagged, Othe
 
 use crate::block::Block;
 use crate::row::TagRow;
-use mica_io::NoMemory;
+use outside::NoMemory;
 use std::alloc::Global;
 use std::marker::Model;
 

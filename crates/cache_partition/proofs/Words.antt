@@ -41,29 +41,29 @@ pub use Rattle.partition_model.specs.declared.write.Op.{Op}
 pub use Rattle.partition_model.specs.declared.write.Op.TheVariants.{Add, Del, Put, Touch}
 pub use Rattle.partition_model.specs.declared.write.Outcome.{Outcome}
 pub use Rattle.partition_model.specs.declared.write.Outcome.TheVariants.{Absent, Deleted, Exists, FullBlock, Stored, Touched, Worn}
-pub use Rattle.epoch_core.proofs.Vocabulary.{AreBytes, Bool, Cache as CacheMode, Cell, Has, HasLiveEntry, IfSome, IsLiveItem, IsMain, Kept, KeyFits}
-pub use Rattle.epoch_core.proofs.Vocabulary.{List, MayGive, Mode, None, Option, Some, Spells, StandsFor, State, Write, [], after, answer_of, ap}
-pub use Rattle.epoch_core.proofs.Vocabulary.{arith, bucket_in, cache_state, cached_in, cases_lt, cell_at, cond, count_by, dite, entry_in, eq-eqb}
-pub use Rattle.epoch_core.proofs.Vocabulary.{eqb-true, false, fnv1a, get_or, header_room, inl, inr, is_some, item_at, item_in, item_size, length}
-pub use Rattle.epoch_core.proofs.Vocabulary.{marked_in, ne_eqb, option_map, options_in, refl, room_in, stamp_in, stamp_of, state_in, state_snoc}
-pub use Rattle.epoch_core.proofs.Vocabulary.{subst, suc, sym, true, value_in, ℕ, ℕ_discrete, ⊎_elim, ◌*◌, ◌++◌, ◌+◌, ◌<◌, ◌^◌, ◌∙◌, ◌∷◌, ◌≡◌, ◌≢◌}
-pub use Rattle.epoch_core.proofs.Vocabulary.{◌≤◌, ◌⊎◌}
-pub use Rattle.epoch_core.proofs.CacheBuckets.{alone, stands_cached}
-pub use Rattle.epoch_core.proofs.EventWords.{entry_puts, entry_puts_other, item_puts_entry}
-pub use Rattle.epoch_core.proofs.Keys.{has_its_key}
-pub use Rattle.epoch_core.proofs.Log.{other_rooms, room_is}
-pub use Rattle.epoch_core.proofs.Machine.{found_record}
-pub use Rattle.epoch_core.proofs.PartitionLaws.{AcceptedWrite, Keeps, accepted_step, ended_gains, item_room, main, main_of, marked, marked_item}
-pub use Rattle.epoch_core.proofs.PartitionLaws.{may_begin, may_end, may_mark, new_stamp, only_key, put_entry, put_item as item_put, put_long, refused_step}
-pub use Rattle.epoch_core.proofs.PartitionLaws.{put_others, put_same, put_stamp, put_words, same_cell, same_or_other, spells_item, spells_on}
-pub use Rattle.epoch_core.proofs.PartitionLaws.{spelt_key, stands_idle, stood, written, written_marked, written_state}
-pub use Rattle.epoch_core.specs.Events.{MayBegin, MayEnd, MayMark}
-pub use Rattle.epoch_core.specs.OwnerStep.{IsOwnerStep}
-pub use Rattle.epoch_core.specs.StandsFor.{IsOffset, SpellsItem}
-pub use Rattle.epoch_core.specs.declared.event.Event.TheVariants.{Begins, Ends, PutsEntry}
-pub use Rattle.epoch_core.specs.declared.shape.Shape.{Shape}
-pub use Rattle.epoch_core.specs.declared.state.OwnerState.{OwnerState}
-pub use Rattle.epoch_core.specs.declared.state.Phase.TheVariants.{Idle}
+pub use Rattle.partition_words.proofs.Vocabulary.{AreBytes, Bool, Cache as CacheMode, Cell, Has, HasLiveEntry, IfSome, IsLiveItem, IsMain, Kept, KeyFits}
+pub use Rattle.partition_words.proofs.Vocabulary.{List, MayGive, Mode, None, Option, Some, Spells, StandsFor, State, Write, [], after, answer_of, ap}
+pub use Rattle.partition_words.proofs.Vocabulary.{arith, bucket_in, cache_state, cached_in, cases_lt, cell_at, cond, count_by, dite, entry_in, eq-eqb}
+pub use Rattle.partition_words.proofs.Vocabulary.{eqb-true, false, fnv1a, get_or, header_room, inl, inr, is_some, item_at, item_in, item_size, length}
+pub use Rattle.partition_words.proofs.Vocabulary.{marked_in, ne_eqb, option_map, options_in, refl, room_in, stamp_in, stamp_of, state_in, state_snoc}
+pub use Rattle.partition_words.proofs.Vocabulary.{subst, suc, sym, true, value_in, ℕ, ℕ_discrete, ⊎_elim, ◌*◌, ◌++◌, ◌+◌, ◌<◌, ◌^◌, ◌∙◌, ◌∷◌, ◌≡◌, ◌≢◌}
+pub use Rattle.partition_words.proofs.Vocabulary.{◌≤◌, ◌⊎◌}
+pub use Rattle.partition_words.proofs.CacheBuckets.{alone, stands_cached}
+pub use Rattle.partition_words.proofs.EventWords.{entry_puts, entry_puts_other, item_puts_entry}
+pub use Rattle.partition_words.proofs.Keys.{has_its_key}
+pub use Rattle.partition_words.proofs.Log.{other_rooms, room_is}
+pub use Rattle.partition_words.proofs.Machine.{found_record}
+pub use Rattle.partition_words.proofs.PartitionLaws.{AcceptedWrite, Keeps, accepted_step, ended_gains, item_room, main, main_of, marked, marked_item}
+pub use Rattle.partition_words.proofs.PartitionLaws.{may_begin, may_end, may_mark, new_stamp, only_key, put_entry, put_item as item_put, put_long, refused_step}
+pub use Rattle.partition_words.proofs.PartitionLaws.{put_others, put_same, put_stamp, put_words, same_cell, same_or_other, spells_item, spells_on}
+pub use Rattle.partition_words.proofs.PartitionLaws.{spelt_key, stands_idle, stood, written, written_marked, written_state}
+pub use Rattle.partition_words.specs.Events.{MayBegin, MayEnd, MayMark}
+pub use Rattle.partition_words.specs.OwnerStep.{IsOwnerStep}
+pub use Rattle.partition_words.specs.StandsFor.{IsOffset, SpellsItem}
+pub use Rattle.partition_words.specs.declared.event.Event.TheVariants.{Begins, Ends, PutsEntry}
+pub use Rattle.partition_words.specs.declared.shape.Shape.{Shape}
+pub use Rattle.partition_words.specs.declared.state.OwnerState.{OwnerState}
+pub use Rattle.partition_words.specs.declared.state.Phase.TheVariants.{Idle}
 pub use Rattle.circular_log.proofs.SpeltItem.{spelt_item}
 pub use Rattle.circular_log.specs.LogItem.{HasItem, IsItem, room_at}
 pub use Rattle.circular_log.specs.LogCarry.{Carries, IsTouchOf, MayCarry}

@@ -5,11 +5,11 @@ use Rattle.partition_model.specs.declared.options.Mode.TheVariants.{Cache}
 use Rattle.partition_model.specs.declared.write.Write.{Write}
 use Rattle.partition_model.specs.History.{stamp_of}
 use Rattle.partition_model.specs.Limits.{is_at_end, last_tail}
-use Rattle.epoch_core.specs.declared.state.OwnerState.{OwnerState}
-use Rattle.epoch_core.specs.declared.state.Phase.TheVariants.{Idle}
-use Rattle.epoch_core.specs.declared.event.Event.TheVariants.{Begins, Marks}
-use Rattle.epoch_core.specs.Events.{after}
-use Rattle.epoch_core.specs.OwnerState.{options_in}
+use Rattle.partition_words.specs.declared.state.OwnerState.{OwnerState}
+use Rattle.partition_words.specs.declared.state.Phase.TheVariants.{Idle}
+use Rattle.partition_words.specs.declared.event.Event.TheVariants.{Begins, Marks}
+use Rattle.partition_words.specs.Events.{after}
+use Rattle.partition_words.specs.OwnerState.{options_in}
 
 -- as many writes were accepted as the partition may bear, or its log has come to its end
 abbrev pub is_worn : OwnerState → Bool

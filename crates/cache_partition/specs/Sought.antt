@@ -7,8 +7,8 @@ use Rattle.partition_model.specs.Cache.{record_of}
 use Rattle.partition_model.specs.CacheStep.{kept_record, new_record, after_append, after_write, reply_of}
 use Rattle.partition_model.specs.Write.{is_accepted}
 use Rattle.partition_model.specs.History.{State, cache_state, store_state}
-use Rattle.epoch_core.specs.declared.state.OwnerState.{OwnerState}
-use Rattle.epoch_core.specs.OwnerState.{stamp_in, options_in, state_in, bucket_in}
+use Rattle.partition_words.specs.declared.state.OwnerState.{OwnerState}
+use Rattle.partition_words.specs.OwnerState.{stamp_in, options_in, state_in, bucket_in}
 use Rattle.cache_partition.specs.declared.seeking.Sought.{Sought}
 use Rattle.lossy_index.specs.Slot.{offset_in, IsSlotOf, HasNoSlot}
 

@@ -8,10 +8,10 @@ ghost use Rattle.partition_model.specs.declared.options.Mode.TheVariants.{Cache}
 ghost use Rattle.partition_model.specs.declared.write.Op.TheVariants.{Add, Touch};
 ghost use Rattle.partition_model.specs.Write.{write_of};
 ghost use Rattle.partition_model.specs.History.{stamp_of, answer_of};
-ghost use Rattle.epoch_core.specs.declared.state.Phase.TheVariants.{Idle};
-ghost use Rattle.epoch_core.specs.Shape.{IsPossibleShape};
-ghost use Rattle.epoch_core.specs.OwnerState.{options_in, as_made};
-ghost use Rattle.epoch_core.specs.OwnerStep.{IsOwnerStep};
+ghost use Rattle.partition_words.specs.declared.state.Phase.TheVariants.{Idle};
+ghost use Rattle.partition_words.specs.Shape.{IsPossibleShape};
+ghost use Rattle.partition_words.specs.OwnerState.{options_in, as_made};
+ghost use Rattle.partition_words.specs.OwnerStep.{IsOwnerStep};
 ghost use Rattle.cache_partition.specs.Gained.{is_worn};
 
 use crate::reading::value_of;
@@ -19,10 +19,10 @@ use crate::removing::remove;
 use crate::seeking::seek;
 use crate::touching::touch;
 use crate::writing::{put, put_at_tail};
-use epoch_core::{LendPartition, LendWords, OwnerWords, Partition};
-use mica_io::NoMemory;
 use mica_words::item_size;
+use outside::NoMemory;
 use partition_model::{Answer, ItemBuf, Op, Outcome, has_room};
+use partition_words::{LendPartition, LendWords, OwnerWords, Partition};
 
 /// A partition over an owner's words, with its stamp and the number of accepted writes at hand.
 #[derive(Drop)]

@@ -4,14 +4,14 @@ ghost use Rattle.mica_words.specs.Item.{KeyFits};
 ghost use Rattle.partition_model.specs.declared.options.Mode.TheVariants.{Cache};
 ghost use Rattle.partition_model.specs.Answer.{IsAnswer};
 ghost use Rattle.partition_model.specs.History.{answer_of};
-ghost use Rattle.epoch_core.specs.declared.state.Phase.TheVariants.{Idle};
-ghost use Rattle.epoch_core.specs.OwnerState.{options_in};
+ghost use Rattle.partition_words.specs.declared.state.Phase.TheVariants.{Idle};
+ghost use Rattle.partition_words.specs.OwnerState.{options_in};
 
 use crate::seeking::bucket_and_hash;
 use circular_log::item_at;
-use epoch_core::{OwnerWords, WordAt};
 use lossy_index::find_hashed;
 use partition_model::{Answer, ItemBuf};
+use partition_words::{OwnerWords, WordAt};
 
 /// Copies the key's value into the buffer.
 pub(crate) fn value_of<W: OwnerWords>(words: &mut W, key: &[u8], out: &mut ItemBuf) -> Answer

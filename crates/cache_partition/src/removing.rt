@@ -4,14 +4,14 @@ ghost use Rattle.mica_words.specs.Item.{KeyFits};
 ghost use Rattle.partition_model.specs.declared.write.Op.TheVariants.{Del};
 ghost use Rattle.partition_model.specs.Write.{write_of};
 ghost use Rattle.partition_model.specs.History.{stamp_of};
-ghost use Rattle.epoch_core.specs.OwnerState.{options_in};
+ghost use Rattle.partition_words.specs.OwnerState.{options_in};
 ghost use Rattle.cache_partition.specs.Gained.{MayWrite, Gains};
 ghost use Rattle.cache_partition.specs.Sought.{had_record};
 
 use crate::seeking::{begin, seek};
-use epoch_core::OwnerWords;
 use lossy_index::clear;
 use partition_model::Op;
+use partition_words::OwnerWords;
 
 /// What a delete gives: the new stamp, and whether the key had a record.
 #[derive(Drop)]

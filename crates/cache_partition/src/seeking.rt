@@ -4,16 +4,16 @@ ghost use Rattle.mica_words.specs.Hash.{fnv1a};
 ghost use Rattle.mica_words.specs.Item.{KeyFits};
 ghost use Rattle.partition_model.specs.Write.{IsWrite, write_of};
 ghost use Rattle.partition_model.specs.History.{stamp_of};
-ghost use Rattle.epoch_core.specs.Shape.{IsMain};
-ghost use Rattle.epoch_core.specs.OwnerState.{options_in, bucket_in};
-ghost use Rattle.epoch_core.specs.Kept.{Kept};
+ghost use Rattle.partition_words.specs.Shape.{IsMain};
+ghost use Rattle.partition_words.specs.OwnerState.{options_in, bucket_in};
+ghost use Rattle.partition_words.specs.Kept.{Kept};
 ghost use Rattle.cache_partition.specs.Gained.{MayWrite, marked_with};
 ghost use Rattle.cache_partition.specs.Sought.{IsSought, IsAcceptable};
 
-use epoch_core::{OwnerWords, WordAt};
 use lossy_index::find_hashed;
 use mica_words::{bucket_of, key_hash};
 use partition_model::Op;
+use partition_words::{OwnerWords, WordAt};
 
 /// A key's hash, its bucket, its slot there if it has one, with the offset in the slot's entry, and the stamp.
 #[derive(Drop)]

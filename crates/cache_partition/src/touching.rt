@@ -4,17 +4,17 @@ ghost use Rattle.mica_words.specs.Item.{KeyFits};
 ghost use Rattle.partition_model.specs.declared.write.Op.TheVariants.{Touch};
 ghost use Rattle.partition_model.specs.Write.{IsWrite, write_of};
 ghost use Rattle.partition_model.specs.History.{stamp_of};
-ghost use Rattle.epoch_core.specs.OwnerState.{options_in};
-ghost use Rattle.epoch_core.specs.Kept.{Kept};
+ghost use Rattle.partition_words.specs.OwnerState.{options_in};
+ghost use Rattle.partition_words.specs.Kept.{Kept};
 ghost use Rattle.cache_partition.specs.Gained.{MayWrite, Gains};
 ghost use Rattle.cache_partition.specs.Sought.{IsSought, had_record};
 
 use crate::seeking::{Sought, begin, seek};
 use circular_log::{carry, size_at};
-use epoch_core::OwnerWords;
 use lossy_index::place;
 use mica_words::{tag_of, tail_of};
 use partition_model::Op;
+use partition_words::OwnerWords;
 
 /// What a touch gives: the new stamp, and whether the key has a record.
 #[derive(Drop)]

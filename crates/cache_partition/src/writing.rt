@@ -4,17 +4,17 @@ ghost use Rattle.mica_words.specs.Item.{KeyFits, ValueFits};
 ghost use Rattle.partition_model.specs.declared.write.Op.TheVariants.{Put};
 ghost use Rattle.partition_model.specs.Write.{GivesValue, IsWrite, write_of};
 ghost use Rattle.partition_model.specs.History.{stamp_of};
-ghost use Rattle.epoch_core.specs.OwnerState.{options_in};
-ghost use Rattle.epoch_core.specs.Kept.{Kept};
+ghost use Rattle.partition_words.specs.OwnerState.{options_in};
+ghost use Rattle.partition_words.specs.Kept.{Kept};
 ghost use Rattle.cache_partition.specs.Gained.{MayWrite, Gains};
 ghost use Rattle.cache_partition.specs.Sought.{AppendsValue, IsSought, IsAcceptable, kept_offset};
 
 use crate::seeking::{Sought, begin, seek};
 use circular_log::{append_hashed, is_live, rewrite};
-use epoch_core::{OwnerWords, WordAt};
 use lossy_index::place;
 use mica_words::{header_room, item_size, tag_of, tail_of};
 use partition_model::Op;
+use partition_words::{OwnerWords, WordAt};
 
 /// Stores the value for the key, and answers the new stamp.
 pub(crate) fn put<W: OwnerWords>(words: &mut W, key: &[u8], value: &[u8]) -> u64

@@ -8,7 +8,7 @@ use Rattle.chained_index.proofs.Words.{subst₂, inr, inl, IsPermutation, IsPerm
 use Rattle.chained_index.proofs.Words.{get_or_append_left, words_after, entries_with, get_or-set_same, get_or-set_other, get_or_push, get_or-take}
 use Rattle.chained_index.proofs.Words.{get_or_past, All-push, All-set, All-take}
 use Rattle.chained_index.proofs.Lists.{at, AllUsed, at-push_other}
-use Rattle.epoch_core.proofs.Differing.{one_place}
+use Rattle.partition_words.proofs.Differing.{one_place}
 use Rattle.chained_index.proofs.Chained.{last_at, step_on, chained, chain_inside, chained_before}
 use Rattle.chained_index.proofs.Changed.{Leaves, spares_differ, spares_are, Entered, none_entered, with_free, entered, kept_buckets, link_here}
 use Rattle.chained_index.proofs.Changed.{link_else, same_entry, relinks, moves, not_free}

@@ -11,7 +11,7 @@ use Rattle.chained_index.proofs.Words.{word_count, entry_puts, entry_puts_other,
 use Rattle.chained_index.proofs.Words.{entries_of, inside, all_differ, same_behind, relinked, last_of, last_in, IsPermutation-refl}
 use Rattle.chained_index.proofs.Words.{IsPermutation-append_comm, IsPermutation-append_right, Event, place_of, entries_at}
 use Rattle.chained_index.proofs.Lists.{at, AllUsed}
-use Rattle.epoch_core.proofs.Differing.{AllDiffer, differ_moved, differ_joined, differ_first, differ_apart, one_place}
+use Rattle.partition_words.proofs.Differing.{AllDiffer, differ_moved, differ_joined, differ_first, differ_apart, one_place}
 use Rattle.chained_index.proofs.Chained.{Chained, chain_on, chain_back, chained}
 use Rattle.chained_index.proofs.Filled.{SameBucket, still_blank, IsFilled, View, entries_are, dense_there}
 use Rattle.chained_index.proofs.Stays.{chain_kept, dense_kept}

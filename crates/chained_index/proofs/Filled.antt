@@ -7,7 +7,7 @@ use Rattle.chained_index.proofs.Words.{entries_of, IsChain, has_bucket, in_chain
 use Rattle.chained_index.proofs.Words.{get_or-flat_map, common_steps, Bool, nat_eq, eq-eqb, ne_eqb, position_or_len, position_or_len_is, all_differ}
 use Rattle.chained_index.proofs.Words.{IsBlank, Spot, place_in_chain, spot_entry, IsUsed}
 use Rattle.chained_index.proofs.Lists.{at, AllUsed, below, place_in, filter_front, filter_used, same_used}
-use Rattle.epoch_core.proofs.Differing.{one_place}
+use Rattle.partition_words.proofs.Differing.{one_place}
 use Rattle.chained_index.proofs.Chained.{chain_is, step_on, Chained, chained}
 
 -- a bucket's link and entries are the same

@@ -1,8 +1,8 @@
 -- What a call on an index makes of the words.
 use Rattle.std.specs.Prelude.{◌≡◌, ◌≢◌, ℕ, List}
-use Rattle.epoch_core.specs.declared.state.OwnerState.{OwnerState}
-use Rattle.epoch_core.specs.Shape.{IsMain}
-use Rattle.epoch_core.specs.OwnerState.{stamp_in, epoch_in, item_in}
+use Rattle.partition_words.specs.declared.state.OwnerState.{OwnerState}
+use Rattle.partition_words.specs.Shape.{IsMain}
+use Rattle.partition_words.specs.OwnerState.{stamp_in, epoch_in, item_in}
 use Rattle.chained_index.specs.ChainEntries.{buckets_of, entries_of}
 
 -- no word but entries and links has changed

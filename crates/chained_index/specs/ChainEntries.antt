@@ -4,11 +4,11 @@ use Rattle.std.specs.List.{position_or_len}
 use Rattle.mica_words.specs.declared.entry.TheConstants.{SLOTS}
 use Rattle.mica_words.specs.Hash.{tag_of}
 use Rattle.mica_words.specs.Entry.{entry_tag, entry_offset}
-use Rattle.epoch_core.specs.declared.state.OwnerState.{OwnerState}
-use Rattle.epoch_core.specs.Layout.{entry_at}
-use Rattle.epoch_core.specs.OwnerState.{entry_in, link_in}
-use Rattle.epoch_core.specs.Chain.{InChain}
-use Rattle.epoch_core.specs.ItemAt.{HasKey}
+use Rattle.partition_words.specs.declared.state.OwnerState.{OwnerState}
+use Rattle.partition_words.specs.Layout.{entry_at}
+use Rattle.partition_words.specs.OwnerState.{entry_in, link_in}
+use Rattle.partition_words.specs.Chain.{InChain}
+use Rattle.partition_words.specs.ItemAt.{HasKey}
 use Rattle.chained_index.specs.declared.index.Spot.{Spot}
 
 -- the first n buckets from b on, each of which the link before it names

@@ -1,7 +1,7 @@
 -- Where a dense chain ends.
 use Rattle.std.specs.Prelude.{◌≡◌, ℕ, suc, ◌+◌, ◌*◌, ◌≤◌, length, slice_index}
 use Rattle.mica_words.specs.declared.entry.TheConstants.{SLOTS}
-use Rattle.epoch_core.specs.declared.state.OwnerState.{OwnerState}
+use Rattle.partition_words.specs.declared.state.OwnerState.{OwnerState}
 use Rattle.chained_index.specs.declared.index.ChainEnd.{ChainEnd}
 use Rattle.chained_index.specs.ChainEntries.{buckets_of, entries_of}
 

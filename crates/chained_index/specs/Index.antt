@@ -1,11 +1,11 @@
 -- What contracts see of a chained index.
 use Rattle.std.specs.Prelude.{◌≡◌, ◌≢◌, ℕ, ◌<◌, ◌%◌, ◌↔◌, List, [], length, Contains, AllPairs}
 use Rattle.mica_words.specs.declared.entry.TheConstants.{SLOTS}
-use Rattle.epoch_core.specs.declared.shape.Shape.{Shape}
-use Rattle.epoch_core.specs.declared.state.OwnerState.{OwnerState}
-use Rattle.epoch_core.specs.Shape.{IsMain}
-use Rattle.epoch_core.specs.OwnerState.{entry_in, link_in}
-use Rattle.epoch_core.specs.Chain.{IsDense, IsFreeSpare}
+use Rattle.partition_words.specs.declared.shape.Shape.{Shape}
+use Rattle.partition_words.specs.declared.state.OwnerState.{OwnerState}
+use Rattle.partition_words.specs.Shape.{IsMain}
+use Rattle.partition_words.specs.OwnerState.{entry_in, link_in}
+use Rattle.partition_words.specs.Chain.{IsDense, IsFreeSpare}
 use Rattle.chained_index.specs.ChainEntries.{entries_of}
 
 -- the shape of its words, and the spare buckets in no chain

@@ -4,19 +4,19 @@ ghost use Rattle.mica_words.specs.declared.entry.TheConstants.{SLOTS};
 ghost use Rattle.mica_words.specs.Entry.{entry_of, entry_tag as entry_tag_of, entry_offset as entry_offset_of};
 ghost use Rattle.mica_words.specs.Hash.{fnv1a};
 ghost use Rattle.mica_words.specs.Item.{KeyFits};
-ghost use Rattle.epoch_core.specs.Shape.{IsPossibleShape, IsMain, IsBucket};
-ghost use Rattle.epoch_core.specs.OwnerState.{as_made, entry_in, marked_in};
-ghost use Rattle.epoch_core.specs.Events.{WhenMarked};
-ghost use Rattle.epoch_core.specs.ItemAt.{HasKey};
-ghost use Rattle.epoch_core.specs.Kept.{Kept};
+ghost use Rattle.partition_words.specs.Shape.{IsPossibleShape, IsMain, IsBucket};
+ghost use Rattle.partition_words.specs.OwnerState.{as_made, entry_in, marked_in};
+ghost use Rattle.partition_words.specs.Events.{WhenMarked};
+ghost use Rattle.partition_words.specs.ItemAt.{HasKey};
+ghost use Rattle.partition_words.specs.Kept.{Kept};
 ghost use Rattle.chained_index.specs.ChainEntries.{entries_of, entries_with, entries_without, IsUsed, IsSpotOf, HasNoSpot};
 ghost use Rattle.chained_index.specs.ChainChange.{ChangesChain};
 ghost use Rattle.chained_index.specs.ChainShape.{EndsIn, EndsAt};
 ghost use Rattle.chained_index.specs.Index.{IsIndexOf, LacksPlace};
 
-use epoch_core::{OwnerWords, Shape, WordAt, holds_key_hashed};
-use mica_io::NoMemory;
 use mica_words::{SLOTS, entry_of, entry_offset, entry_tag, key_hash, tag_of};
+use outside::NoMemory;
+use partition_words::{OwnerWords, Shape, WordAt, holds_key_hashed};
 use std::alloc::Global;
 use std::marker::Model;
 

@@ -19,17 +19,17 @@ use Rattle.partition_model.proofs.CacheKept.{IsRecord}
 use Rattle.partition_model.proofs.CacheLaws.{appended_own, kept_in, touched_is, window_kept}
 use Rattle.partition_model.proofs.Found.{found_has}
 use Rattle.partition_model.proofs.Laid.{found_key}
-use Rattle.epoch_core.specs.declared.event.Event.TheVariants.{PutsWord}
-use Rattle.epoch_core.specs.declared.state.OwnerState.{OwnerState}
-use Rattle.epoch_core.specs.declared.state.Phase.{Phase}
-use Rattle.epoch_core.specs.declared.state.Phase.TheVariants.{Marked}
-use Rattle.epoch_core.specs.Layout.{item_at}
-use Rattle.epoch_core.specs.OwnerState.{item_in, options_in}
-use Rattle.epoch_core.specs.Events.{WhenMarked, MayPutWord, CanPlay, after, plays, puts_from}
-use Rattle.epoch_core.specs.Kept.{PhaseFits, Kept}
-use Rattle.epoch_core.proofs.EventWords.{other}
-use Rattle.epoch_core.proofs.Log.{not_below}
-use Rattle.epoch_core.proofs.Machine.{all_parts}
+use Rattle.partition_words.specs.declared.event.Event.TheVariants.{PutsWord}
+use Rattle.partition_words.specs.declared.state.OwnerState.{OwnerState}
+use Rattle.partition_words.specs.declared.state.Phase.{Phase}
+use Rattle.partition_words.specs.declared.state.Phase.TheVariants.{Marked}
+use Rattle.partition_words.specs.Layout.{item_at}
+use Rattle.partition_words.specs.OwnerState.{item_in, options_in}
+use Rattle.partition_words.specs.Events.{WhenMarked, MayPutWord, CanPlay, after, plays, puts_from}
+use Rattle.partition_words.specs.Kept.{PhaseFits, Kept}
+use Rattle.partition_words.proofs.EventWords.{other}
+use Rattle.partition_words.proofs.Log.{not_below}
+use Rattle.partition_words.proofs.Machine.{all_parts}
 use Rattle.circular_log.specs.LogItem.{IsItem, words_from}
 use Rattle.circular_log.specs.LogWrite.{LeavesItem, with_item}
 use Rattle.circular_log.specs.LogCarry.{Carries, IsTouchOf, StoresBehind}

@@ -14,8 +14,8 @@ use Rattle.mica_words.specs.Packing.{packed, unpacked}
 use Rattle.mica_words.proofs.ItemWords.{header_word, value_word, same_value}
 use Rattle.mica_words.proofs.PackedBytes.{length-words}
 use Rattle.partition_model.specs.Store.{Cell}
-use Rattle.epoch_core.specs.declared.state.OwnerState.{OwnerState}
-use Rattle.epoch_core.specs.OwnerState.{item_in}
+use Rattle.partition_words.specs.declared.state.OwnerState.{OwnerState}
+use Rattle.partition_words.specs.OwnerState.{item_in}
 use Rattle.circular_log.specs.LogItem.{IsItem, words_from}
 
 -- their bytes

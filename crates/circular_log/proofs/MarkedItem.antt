@@ -17,14 +17,14 @@ use Rattle.partition_model.proofs.CacheLaws.{kept_in}
 use Rattle.partition_model.proofs.Found.{found_has}
 use Rattle.partition_model.proofs.Histories.{cache_has_room, last_accepted}
 use Rattle.partition_model.proofs.Laid.{laid_found}
-use Rattle.epoch_core.specs.declared.state.OwnerState.{OwnerState}
-use Rattle.epoch_core.specs.declared.state.Phase.{Phase}
-use Rattle.epoch_core.specs.declared.state.Phase.TheVariants.{Idle, Begun, Marked}
-use Rattle.epoch_core.specs.OwnerState.{options_in}
-use Rattle.epoch_core.specs.Events.{WhenMarked, BelongsTo, CanPlay, puts_from}
-use Rattle.epoch_core.specs.Kept.{PhaseFits, Kept}
-use Rattle.epoch_core.proofs.Machine.{all_parts}
-use Rattle.epoch_core.proofs.Puts.{MayPutWords, can_put}
+use Rattle.partition_words.specs.declared.state.OwnerState.{OwnerState}
+use Rattle.partition_words.specs.declared.state.Phase.{Phase}
+use Rattle.partition_words.specs.declared.state.Phase.TheVariants.{Idle, Begun, Marked}
+use Rattle.partition_words.specs.OwnerState.{options_in}
+use Rattle.partition_words.specs.Events.{WhenMarked, BelongsTo, CanPlay, puts_from}
+use Rattle.partition_words.specs.Kept.{PhaseFits, Kept}
+use Rattle.partition_words.proofs.Machine.{all_parts}
+use Rattle.partition_words.proofs.Puts.{MayPutWords, can_put}
 use Rattle.circular_log.specs.LogWrite.{LeavesItem, written_record}
 
 module _ (o : OwnerState) (s : Kept o) (p room : ℕ) (key value : List ℕ) where

@@ -2,11 +2,11 @@
 use Rattle.std.proofs.Common.{ℕ, List}
 use Rattle.mica_words.specs.Entry.{entry_offset}
 use Rattle.partition_model.specs.Store.{Cell}
-use Rattle.epoch_core.specs.declared.state.OwnerState.{OwnerState}
-use Rattle.epoch_core.specs.Kept.{Kept}
-use Rattle.epoch_core.specs.OwnerState.{options_in}
-use Rattle.epoch_core.specs.StandsFor.{Spells}
-use Rattle.epoch_core.proofs.Machine.{has_fits}
+use Rattle.partition_words.specs.declared.state.OwnerState.{OwnerState}
+use Rattle.partition_words.specs.Kept.{Kept}
+use Rattle.partition_words.specs.OwnerState.{options_in}
+use Rattle.partition_words.specs.StandsFor.{Spells}
+use Rattle.partition_words.proofs.Machine.{has_fits}
 use Rattle.circular_log.specs.LogItem.{IsItem}
 
 pub spelt_item : (o : OwnerState) → Kept o → (c x : ℕ) (key : List ℕ) (cell : Cell) → Spells o c x key cell → IsItem o (entry_offset x) key cell

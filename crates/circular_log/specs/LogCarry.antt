@@ -6,12 +6,12 @@ use Rattle.partition_model.specs.declared.write.Write.{Write}
 use Rattle.partition_model.specs.declared.write.Op.TheVariants.{Touch}
 use Rattle.partition_model.specs.Cache.{Record, record_of}
 use Rattle.partition_model.specs.History.{State, cache_state, store_state, state_of}
-use Rattle.epoch_core.specs.declared.shape.Shape.{Shape}
-use Rattle.epoch_core.specs.declared.state.OwnerState.{OwnerState}
-use Rattle.epoch_core.specs.Layout.{item_at}
-use Rattle.epoch_core.specs.OwnerState.{options_in}
-use Rattle.epoch_core.specs.StandsFor.{SpellsItem}
-use Rattle.epoch_core.specs.Events.{WhenMarked}
+use Rattle.partition_words.specs.declared.shape.Shape.{Shape}
+use Rattle.partition_words.specs.declared.state.OwnerState.{OwnerState}
+use Rattle.partition_words.specs.Layout.{item_at}
+use Rattle.partition_words.specs.OwnerState.{options_in}
+use Rattle.partition_words.specs.StandsFor.{SpellsItem}
+use Rattle.partition_words.specs.Events.{WhenMarked}
 use Rattle.circular_log.specs.LogWrite.{with_item}
 
 -- by the state before it, the write is a touch of a key that has this record at one offset, and the tail is the other

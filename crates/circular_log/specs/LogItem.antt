@@ -4,9 +4,9 @@ use Rattle.mica_words.specs.Item.{KeyFits, ValueFits, item_size}
 use Rattle.mica_words.specs.Packing.{AreBytes}
 use Rattle.mica_words.specs.Header.{header_room}
 use Rattle.partition_model.specs.Store.{Cell}
-use Rattle.epoch_core.specs.declared.state.OwnerState.{OwnerState}
-use Rattle.epoch_core.specs.OwnerState.{item_in}
-use Rattle.epoch_core.specs.StandsFor.{SpellsItem}
+use Rattle.partition_words.specs.declared.state.OwnerState.{OwnerState}
+use Rattle.partition_words.specs.OwnerState.{item_in}
+use Rattle.partition_words.specs.StandsFor.{SpellsItem}
 
 -- the words from the offset on spell this key, value and room, which fit
 pub record IsItem (o : OwnerState) (p : ℕ) (key : List ℕ) (cell : Cell) : Type 0 where

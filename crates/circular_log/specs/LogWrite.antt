@@ -8,10 +8,10 @@ use Rattle.partition_model.specs.Cache.{Record, record_of}
 use Rattle.partition_model.specs.CacheStep.{after_write}
 use Rattle.partition_model.specs.History.{State, cache_state, store_state, state_of}
 use Rattle.partition_model.specs.Store.{Cell}
-use Rattle.epoch_core.specs.declared.state.OwnerState.{OwnerState}
-use Rattle.epoch_core.specs.OwnerState.{options_in}
-use Rattle.epoch_core.specs.StandsFor.{SpellsItem}
-use Rattle.epoch_core.specs.Events.{WhenMarked, plays, puts_from}
+use Rattle.partition_words.specs.declared.state.OwnerState.{OwnerState}
+use Rattle.partition_words.specs.OwnerState.{options_in}
+use Rattle.partition_words.specs.StandsFor.{SpellsItem}
+use Rattle.partition_words.specs.Events.{WhenMarked, plays, puts_from}
 
 -- the record that a write leaves its key, before the log passes and the index displaces
 abbrev pub written_record : Options → State → Write → Option Record

@@ -1,12 +1,12 @@
 //! Items that are carried to the tail.
 ghost use Rattle.std.specs.Prelude.{◌≡◌, ◌+◌, ◌<◌, ◌^◌};
-ghost use Rattle.epoch_core.specs.Events.{CanPlay, plays, puts_from};
-ghost use Rattle.epoch_core.specs.Kept.{Kept};
+ghost use Rattle.partition_words.specs.Events.{CanPlay, plays, puts_from};
+ghost use Rattle.partition_words.specs.Kept.{Kept};
 ghost use Rattle.circular_log.specs.LogItem.{HasItem, IsSizeAt, words_from};
 ghost use Rattle.circular_log.specs.LogCarry.{MayCarry, IsCarried, StoresBehind};
 
-use epoch_core::{OwnerWords, WordAt};
 use mica_words::{header_key_len, header_of, header_value_len, item_size};
+use partition_words::{OwnerWords, WordAt};
 
 /// Writes the item of a touched key at the tail, in a room of its size. Each of its words is loaded before it is
 /// stored, one after another, so where it is written over itself the copy is whole.

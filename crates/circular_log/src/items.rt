@@ -2,13 +2,13 @@
 ghost use Rattle.std.specs.Prelude.{◌≡◌, ◌+◌, ◌<◌, ◌^◌};
 ghost use Rattle.mica_words.specs.Hash.{fnv1a};
 ghost use Rattle.mica_words.specs.Item.{KeyFits, ValueFits, item_size as item_size_of};
-ghost use Rattle.epoch_core.specs.Kept.{Kept};
+ghost use Rattle.partition_words.specs.Kept.{Kept};
 ghost use Rattle.circular_log.specs.LogItem.{HasItem, IsValueAt, room_at, words_from};
 ghost use Rattle.circular_log.specs.LogWrite.{MayAppend, MayRewrite, with_item};
 
-use epoch_core::{OwnerWords, WordAt, rewrite_item, write_item_hashed};
 use mica_words::{header_key_len, header_room, header_value_len, item_size, key_hash};
 use partition_model::ItemBuf;
+use partition_words::{OwnerWords, WordAt, rewrite_item, write_item_hashed};
 
 /// Writes the marked write's item at the offset, in a room of the item's size.
 pub fn append<W: OwnerWords>(words: &mut W, offset: u64, key: &[u8], value: &[u8])

@@ -13,16 +13,16 @@ use Rattle.partition_model.specs.Cache.{Cache, Record, has_key, record_of}
 use Rattle.partition_model.specs.CacheStep as cs
 use Rattle.partition_model.specs.History.{State, cache_state, state_of, stamp_in as stamp_of_state}
 use Rattle.partition_model.specs.Store.{Cell}
-use Rattle.epoch_core.specs.declared.shape.Shape.{Shape}
-use Rattle.epoch_core.specs.declared.state.OwnerState.{OwnerState}
-use Rattle.epoch_core.specs.declared.state.Phase.{Phase}
-use Rattle.epoch_core.specs.Shape.{options_of}
-use Rattle.epoch_core.specs.OwnerState.{stamp_in, entry_in, state_in, bucket_in, marked_in}
-use Rattle.epoch_core.specs.LiveEntry.{IsLiveItem, HasLiveEntry}
-use Rattle.epoch_core.specs.StandsFor.{Has, IsOffset, Spells}
-use Rattle.epoch_core.specs.Events.{MayEnd}
-use Rattle.epoch_core.proofs.CacheBuckets.{alone, stands_cached}
-use Rattle.epoch_core.proofs.Machine.{found_record}
+use Rattle.partition_words.specs.declared.shape.Shape.{Shape}
+use Rattle.partition_words.specs.declared.state.OwnerState.{OwnerState}
+use Rattle.partition_words.specs.declared.state.Phase.{Phase}
+use Rattle.partition_words.specs.Shape.{options_of}
+use Rattle.partition_words.specs.OwnerState.{stamp_in, entry_in, state_in, bucket_in, marked_in}
+use Rattle.partition_words.specs.LiveEntry.{IsLiveItem, HasLiveEntry}
+use Rattle.partition_words.specs.StandsFor.{Has, IsOffset, Spells}
+use Rattle.partition_words.specs.Events.{MayEnd}
+use Rattle.partition_words.proofs.CacheBuckets.{alone, stands_cached}
+use Rattle.partition_words.proofs.Machine.{found_record}
 use Rattle.core_tests.specs.CachePut.{one_bucket, put_of_a}
 use Rattle.core_tests.proofs.Marking.{its_bucket}
 use Rattle.core_tests.proofs.Storing.{cell_of_a, entry_of_a, IsStored}

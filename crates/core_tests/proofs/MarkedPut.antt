@@ -6,12 +6,12 @@ use Rattle.partition_model.specs.declared.options.Mode.{Mode}
 use Rattle.partition_model.specs.declared.options.Mode.TheVariants.{Cache, Store}
 use Rattle.partition_model.specs.Cache as cache
 use Rattle.partition_model.specs.History.{start, state_of}
-use Rattle.epoch_core.specs.declared.shape.Shape.{Shape}
-use Rattle.epoch_core.specs.declared.state.OwnerState.{OwnerState}
-use Rattle.epoch_core.specs.declared.state.Phase.{Phase}
-use Rattle.epoch_core.specs.OwnerState.{options_in}
-use Rattle.epoch_core.specs.Events.{WhenMarked, BelongsTo, MayPutWord, CanPlay, item_events}
-use Rattle.epoch_core.proofs.Puts.{can_put_cached}
+use Rattle.partition_words.specs.declared.shape.Shape.{Shape}
+use Rattle.partition_words.specs.declared.state.OwnerState.{OwnerState}
+use Rattle.partition_words.specs.declared.state.Phase.{Phase}
+use Rattle.partition_words.specs.OwnerState.{options_in}
+use Rattle.partition_words.specs.Events.{WhenMarked, BelongsTo, MayPutWord, CanPlay, item_events}
+use Rattle.partition_words.proofs.Puts.{can_put_cached}
 use Rattle.core_tests.specs.CachePut.{put_of_a, IsMarked}
 
 belongs : (o : OwnerState) (mode : Mode) → mode ≡ Cache → (p : ℕ) → p < 4 → BelongsTo o 0 put_of_a (start mode) p

@@ -9,16 +9,16 @@ use Rattle.partition_model.specs.Cache as cache
 use Rattle.partition_model.specs.CacheStep as cs
 use Rattle.partition_model.specs.History.{History, IsAcceptedAfter, stamp_of}
 use Rattle.partition_model.specs.Write.{IsWrite}
-use Rattle.epoch_core.specs.declared.shape.Shape.{Shape}
-use Rattle.epoch_core.specs.declared.state.OwnerState.{OwnerState}
-use Rattle.epoch_core.specs.declared.state.Phase.TheVariants.{Begun, Marked}
-use Rattle.epoch_core.specs.declared.event.Event.TheVariants.{Begins, Marks}
-use Rattle.epoch_core.specs.Shape.{options_of}
-use Rattle.epoch_core.specs.Layout.{word_count, entry_at}
-use Rattle.epoch_core.specs.OwnerState.{as_made, bucket_in, entry_in}
-use Rattle.epoch_core.specs.Events.{MayMark, after}
-use Rattle.epoch_core.specs.Kept.{Kept}
-use Rattle.epoch_core.proofs.EventWords.{entry_begins, entry_marks}
+use Rattle.partition_words.specs.declared.shape.Shape.{Shape}
+use Rattle.partition_words.specs.declared.state.OwnerState.{OwnerState}
+use Rattle.partition_words.specs.declared.state.Phase.TheVariants.{Begun, Marked}
+use Rattle.partition_words.specs.declared.event.Event.TheVariants.{Begins, Marks}
+use Rattle.partition_words.specs.Shape.{options_of}
+use Rattle.partition_words.specs.Layout.{word_count, entry_at}
+use Rattle.partition_words.specs.OwnerState.{as_made, bucket_in, entry_in}
+use Rattle.partition_words.specs.Events.{MayMark, after}
+use Rattle.partition_words.specs.Kept.{Kept}
+use Rattle.partition_words.proofs.EventWords.{entry_begins, entry_marks}
 use Rattle.core_tests.specs.CachePut.{one_bucket, put_of_a, IsMarked}
 
 byte : (x : ℕ) → x < 256 → AreBytes (x ∷ [])

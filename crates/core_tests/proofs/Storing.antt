@@ -4,20 +4,20 @@ use Rattle.mica_words.specs.Entry.{entry_of}
 use Rattle.mica_words.specs.Spelling.{item_words}
 use Rattle.mica_words.proofs.ItemWords.{length-item_words}
 use Rattle.partition_model.specs.Store.{Cell}
-use Rattle.epoch_core.specs.declared.shape.Shape.{Shape}
-use Rattle.epoch_core.specs.declared.state.OwnerState.{OwnerState}
-use Rattle.epoch_core.specs.declared.state.Phase.{Phase}
-use Rattle.epoch_core.specs.declared.state.Phase.TheVariants.{Marked}
-use Rattle.epoch_core.specs.declared.event.Event.TheVariants.{PutsWord, PutsEntry}
-use Rattle.epoch_core.specs.Layout.{entry_at, item_at}
-use Rattle.epoch_core.specs.OwnerState.{entry_in, item_in}
-use Rattle.epoch_core.specs.Chain.{InChain, IsFreeSpare}
-use Rattle.epoch_core.specs.StandsFor.{SpellsItem}
-use Rattle.epoch_core.specs.Events.{WhenMarked, MayPutEntry, after, plays, item_events}
-use Rattle.epoch_core.specs.Kept.{PhaseFits, Kept}
-use Rattle.epoch_core.proofs.EventWords.{entry_puts, entry_puts_other, entry_puts_word, item_puts_entry}
-use Rattle.epoch_core.proofs.Places.{no_item}
-use Rattle.epoch_core.proofs.Puts.{PutsWords, puts_words}
+use Rattle.partition_words.specs.declared.shape.Shape.{Shape}
+use Rattle.partition_words.specs.declared.state.OwnerState.{OwnerState}
+use Rattle.partition_words.specs.declared.state.Phase.{Phase}
+use Rattle.partition_words.specs.declared.state.Phase.TheVariants.{Marked}
+use Rattle.partition_words.specs.declared.event.Event.TheVariants.{PutsWord, PutsEntry}
+use Rattle.partition_words.specs.Layout.{entry_at, item_at}
+use Rattle.partition_words.specs.OwnerState.{entry_in, item_in}
+use Rattle.partition_words.specs.Chain.{InChain, IsFreeSpare}
+use Rattle.partition_words.specs.StandsFor.{SpellsItem}
+use Rattle.partition_words.specs.Events.{WhenMarked, MayPutEntry, after, plays, item_events}
+use Rattle.partition_words.specs.Kept.{PhaseFits, Kept}
+use Rattle.partition_words.proofs.EventWords.{entry_puts, entry_puts_other, entry_puts_word, item_puts_entry}
+use Rattle.partition_words.proofs.Places.{no_item}
+use Rattle.partition_words.proofs.Puts.{PutsWords, puts_words}
 use Rattle.core_tests.specs.CachePut.{one_bucket, put_of_a, IsMarked}
 
 abbrev pub cell_of_a : Cell

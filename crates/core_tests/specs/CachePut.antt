@@ -4,11 +4,11 @@ use Rattle.partition_model.specs.declared.options.Mode.TheVariants.{Cache}
 use Rattle.partition_model.specs.declared.write.Op.TheVariants.{Put}
 use Rattle.partition_model.specs.declared.write.Write.{Write}
 use Rattle.partition_model.specs.Write.{write_of}
-use Rattle.epoch_core.specs.declared.shape.Shape.{Shape}
-use Rattle.epoch_core.specs.declared.state.OwnerState.{OwnerState}
-use Rattle.epoch_core.specs.declared.state.Phase.TheVariants.{Marked}
-use Rattle.epoch_core.specs.OwnerState.{entry_in}
-use Rattle.epoch_core.specs.Kept.{Kept}
+use Rattle.partition_words.specs.declared.shape.Shape.{Shape}
+use Rattle.partition_words.specs.declared.state.OwnerState.{OwnerState}
+use Rattle.partition_words.specs.declared.state.Phase.TheVariants.{Marked}
+use Rattle.partition_words.specs.OwnerState.{entry_in}
+use Rattle.partition_words.specs.Kept.{Kept}
 
 abbrev pub one_bucket : Shape
 one_bucket = record { mode = Cache; buckets = 1; spares = 0; words = 1024; wear = 68719476736 }

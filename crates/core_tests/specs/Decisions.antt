@@ -2,7 +2,7 @@
 use Rattle.std.specs.Prelude.{ℕ, ◌+◌, ◌*◌, ◌/◌, ◌%◌, ◌==◌, List, [], ◌∷◌, Option, Some, None, length, get_or, if◌then◌else◌}
 use Rattle.partition_model.specs.declared.change.Change.{Change}
 use Rattle.partition_model.specs.declared.change.Change.TheVariants.{Stay, Become, Go}
-use Rattle.mica_fronts.specs.Changing.{Becoming, stays, becomes, goes}
+use Rattle.fronts.specs.Changing.{Becoming, stays, becomes, goes}
 
 -- a decision that is made whatever the key has
 abbrev pub fixed : Change → List ℕ → Becoming

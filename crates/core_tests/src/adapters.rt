@@ -2,7 +2,8 @@
 
 ghost use Rattle.std.specs.Prelude.{◌≡◌, false, IsTrue};
 
-use mica_io::{Source, StdSink, StdSource, read_up_to, write_all};
+use host_outside::{StdSink, StdSource};
+use outside::{Source, read_up_to, write_all};
 use std::alloc::Global;
 use std::io::{self, ErrorKind, Read, Write};
 

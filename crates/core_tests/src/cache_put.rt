@@ -1,12 +1,12 @@
 //! One put in cache mode, event by event.
 
 ghost use Rattle.std.specs.Prelude.{◌≡◌, ◌<◌};
-ghost use Rattle.epoch_core.specs.OwnerState.{as_made};
+ghost use Rattle.partition_words.specs.OwnerState.{as_made};
 ghost use Rattle.core_tests.specs.CachePut.{one_bucket, IsMarked};
 
 use crate::scripts::{Script, Written, stored_words};
-use epoch_core::{OwnerEvent, OwnerWords, PlainWords, Shape, WordAt, holds_key, write_item};
 use partition_model::{Mode, Op, Options, Outcome};
+use partition_words::{OwnerEvent, OwnerWords, PlainWords, Shape, WordAt, holds_key, write_item};
 use std::test::Fail;
 
 const ONE_BUCKET: Shape = Shape {

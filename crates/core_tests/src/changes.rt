@@ -3,9 +3,9 @@ ghost use Rattle.std.specs.Prelude.{◌≡◌, ◌+◌, ◌*◌, ◌<◌, ◌≤
 ghost use Rattle.mica_words.specs.Item.{ValueFits};
 ghost use Rattle.core_tests.specs.Decisions.{count_in as count_of, two_bytes as bytes_of};
 
-use crate::fronts::{KEY, SMALL, Trial, expect_value, open_and_try, write_one};
+use crate::front_pair::{KEY, SMALL, Trial, expect_value, open_and_try, write_one};
 use cache_partition::CachePartition;
-use mica_fronts::{Changes, Decide, Glances, When};
+use fronts::{Changes, Decide, Glances, When};
 use mica_words::{key_fits, value_fits};
 use partition_model::{Change, ItemBuf, Mode, Op, Options, Outcome};
 use partition_table::OwnerSeat;

@@ -4,7 +4,7 @@ ghost use Rattle.partition_model.specs.Write.{IsWrite};
 ghost use Rattle.owner_queue.specs.Messages.{has_end, sender_of};
 ghost use Rattle.owner_queue.specs.JobEnds.{outbox, inbox};
 
-use mica_io::CowBytes;
+use outside::CowBytes;
 use owner_queue::{CowWrite, Job, JobReceiver, JobSender, Message, job_queue};
 use partition_model::Op;
 use std::alloc::Global;

@@ -2,10 +2,10 @@
 ghost use Rattle.std.specs.Prelude.{◌≡◌};
 
 use crate::partitions::write;
-use epoch_core::{LendPartition, Partition, Shape};
 use optimistic_get::{Got, get};
 use partition_model::{ItemBuf, Mode, Op, Options, Outcome};
 use partition_table::{OwnerSeat, Tables, make};
+use partition_words::{LendPartition, Partition, Shape};
 use std::alloc::AllocGlobal;
 use std::process::Abort;
 use std::test::Fail;

@@ -9,7 +9,7 @@ mod cache_put;
 #[cfg(test)]
 mod changes;
 #[cfg(test)]
-mod fronts;
+mod front_pair;
 #[cfg(test)]
 mod heap;
 #[cfg(test)]

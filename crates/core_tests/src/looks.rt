@@ -2,9 +2,9 @@
 ghost use Rattle.std.specs.Prelude.{◌≡◌, ◌+◌, ◌<◌, ◌≤◌};
 
 use crate::changes::{Room, TIMES, count_in, count_up};
-use crate::fronts::{KEY, SMALL, Trial, open_and_try, write_one};
+use crate::front_pair::{KEY, SMALL, Trial, open_and_try, write_one};
 use cache_partition::CachePartition;
-use mica_fronts::{Changes, Decide, Glances, When};
+use fronts::{Changes, Decide, Glances, When};
 use mica_words::key_fits;
 use partition_model::{Answer, Change, ItemBuf, Mode, Op, Options};
 use partition_table::OwnerSeat;
@@ -36,7 +36,7 @@ struct Reads;
 
 impl Decide for Reads {
     ghost use Rattle.std.specs.Prelude.{true};
-    ghost use Rattle.mica_fronts.specs.Changing.{stays};
+    ghost use Rattle.fronts.specs.Changing.{stays};
 
     ghost becoming = { λ _ _ _. stays };
 
@@ -46,7 +46,7 @@ impl Decide for Reads {
         true
     }
 
-    fn only_reads(&self) -> bool {
+    fn only_gets(&self) -> bool {
         true
     }
 

@@ -2,10 +2,10 @@
 
 ghost use Rattle.partition_model.specs.Options.{IsValid};
 
-use mica_io::NoMemory;
 use mica_model::{
     Answer, CacheMachine, ItemBuf, Mode, Op, Options, Outcome, StoreMachine, write_fits,
 };
+use outside::NoMemory;
 use std::alloc::Global;
 
 /// The machine of a mode.

@@ -2,9 +2,9 @@
 ghost use Rattle.std.specs.Prelude.{◌≡◌};
 
 use cache_partition::CachePartition;
-use epoch_core::{Partition, PlainWords, Shape};
 use mica_words::{key_fits, value_fits};
 use partition_model::{Answer, ItemBuf, Mode, Op, Options, Outcome};
+use partition_words::{Partition, PlainWords, Shape};
 use std::alloc::AllocGlobal;
 use std::process::Abort;
 use std::test::Fail;

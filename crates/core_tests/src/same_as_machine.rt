@@ -2,9 +2,9 @@
 
 use crate::machine::Machine;
 use crate::partitions::{read, store_over, write};
-use epoch_core::Partition;
-use mica_io::NoMemory;
+use outside::NoMemory;
 use partition_model::{ItemBuf, Mode, Op, Options, Outcome};
+use partition_words::Partition;
 use std::alloc::Global;
 use std::process::Abort;
 use std::test::Fail;

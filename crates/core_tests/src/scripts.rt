@@ -2,11 +2,12 @@
 
 use crate::machine::Machine;
 use crate::partitions::{cache_over, store_over, write};
-use epoch_core::{Partition, PlainWords, Scripted};
-use mica_io::NoMemory;
 use mica_words::key_fits;
 use optimistic_get::{Got, get};
+use outside::NoMemory;
 use partition_model::{Answer, ItemBuf, Mode, Op, Options, Outcome};
+use partition_words::{Partition, PlainWords};
+use scripted_reader::Scripted;
 use std::alloc::{AllocGlobal, Global};
 use std::process::Abort;
 use std::test::Fail;

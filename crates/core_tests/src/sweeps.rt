@@ -1,13 +1,13 @@
 //! Items that are not there any more give their room back, and in a cache items that are used stay.
 ghost use Rattle.std.specs.Prelude.{◌≡◌, ◌+◌, ◌≤◌};
 
-use crate::fronts::{SMALL, Trial, expect_value, open_and_try, write_one};
+use crate::front_pair::{SMALL, Trial, expect_value, open_and_try, write_one};
 use cache_partition::CachePartition;
+use command_answers::{Noted, Numbering, Sweeper, sweep};
+use fronts::Glances;
 use memcached_commands::Ask;
-use memcached_fronts::{Noted, Numbering, Sweeper, sweep};
 use memcached_text::Lifetime;
-use mica_clock::MemClock;
-use mica_fronts::Glances;
+use memory_outside::MemClock;
 use mica_words::{key_hash, tail_of};
 use partition_model::{Mode, Op, Options, Outcome};
 use partition_table::OwnerSeat;

@@ -1,9 +1,9 @@
 //! Gets of a key whose put happens meanwhile, and gets once no event is left.
 
 use crate::scripts::{Script, Written, seat_of};
-use epoch_core::Scripted;
 use optimistic_get::{Got, get, get_settled};
 use partition_model::{Answer, ItemBuf, Mode, Op, Options, Outcome};
+use scripted_reader::Scripted;
 use std::alloc::AllocGlobal;
 use std::process::Abort;
 use std::test::Fail;

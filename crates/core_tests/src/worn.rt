@@ -2,9 +2,9 @@
 ghost use Rattle.std.specs.Prelude.{◌+◌, ◌<◌, ◌≤◌};
 
 use crate::changes::{CountUp, Room};
-use crate::fronts::{KEY, SMALL, Trial, expect_value, open_and_try, write_one};
+use crate::front_pair::{KEY, SMALL, Trial, expect_value, open_and_try, write_one};
 use cache_partition::CachePartition;
-use mica_fronts::{Changes, Glances};
+use fronts::{Changes, Glances};
 use mica_words::key_fits;
 use partition_model::{Mode, Op, Options, Outcome};
 use partition_table::OwnerSeat;

@@ -6,13 +6,13 @@ use Rattle.partition_model.specs.History.{History}
 use Rattle.mica_trace.specs.declared.line.TraceLine.{TraceLine}
 use Rattle.mica_trace.specs.declared.report.Line.{Line}
 use Rattle.mica_trace.specs.LineReply.{RepliesTo, lines_for}
-use Rattle.epoch_core.specs.OwnerState.{as_made}
-use Rattle.epoch_core.specs.Shape.{shape_of}
+use Rattle.partition_words.specs.OwnerState.{as_made}
+use Rattle.partition_words.specs.Shape.{shape_of}
 use Rattle.line_replies.specs.Replied.{HasReplied}
 use Rattle.exclusive_replay.specs.declared.owner.Owner.{Owner}
 use Rattle.exclusive_replay.specs.Sent.{numbers_in}
 use Rattle.exclusive_replay.specs.LineEnds.{LineBox}
-use Rattle.plain_partition.specs.PlainPartition.{owner_of}
+use Rattle.any_partition.specs.PlainPartition.{owner_of}
 use Rattle.exclusive_replay.specs.Workers.{lines_at}
 use Rattle.exclusive_replay.specs.Run.{HasRun, HaveRun}
 use Rattle.exclusive_replay.proofs.Shares.{share_replied}

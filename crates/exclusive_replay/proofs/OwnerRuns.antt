@@ -11,8 +11,8 @@ use Rattle.mica_trace.specs.declared.line.TraceLine.{TraceLine}
 use Rattle.mica_trace.specs.declared.report.Line.{Line}
 use Rattle.mica_trace.specs.LineReply.{IsReplyAfter, RepliesTo, history_with}
 use Rattle.mica_trace.proofs.Replying.{replies_more}
-use Rattle.epoch_core.specs.declared.state.OwnerState.{OwnerState}
-use Rattle.epoch_core.specs.OwnerState.{options_in}
+use Rattle.partition_words.specs.declared.state.OwnerState.{OwnerState}
+use Rattle.partition_words.specs.OwnerState.{options_in}
 use Rattle.line_replies.specs.Replied.{IsReplied, HasReplied}
 use Rattle.exclusive_replay.specs.declared.queue.Sent.{Sent}
 use Rattle.exclusive_replay.specs.declared.queue.Sent.TheVariants as sent

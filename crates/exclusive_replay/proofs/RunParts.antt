@@ -10,7 +10,7 @@ use Rattle.exclusive_replay.specs.declared.owner.Owner.{Owner}
 use Rattle.exclusive_replay.specs.declared.feeder.Feeder.{Feeder}
 use Rattle.exclusive_replay.specs.Sent.{numbers_in}
 use Rattle.exclusive_replay.specs.LineEnds.{LineBox, line_box}
-use Rattle.plain_partition.specs.PlainPartition.{owner_of}
+use Rattle.any_partition.specs.PlainPartition.{owner_of}
 use Rattle.exclusive_replay.specs.Workers.{IsReadyOwner, OwnerRan, OwnersRan, IsReadyFeeder, HasFed, lines_at, messages_for}
 use Rattle.exclusive_replay.specs.Run.{IsMade, AreMade, HaveRun}
 

@@ -6,9 +6,9 @@ use Rattle.partition_model.specs.History.{History}
 use Rattle.mica_trace.specs.declared.line.TraceLine.{TraceLine}
 use Rattle.mica_trace.specs.declared.report.Line.{Line}
 use Rattle.mica_trace.specs.LineReply.{is_for, lines_for, history_with, RepliesTo}
-use Rattle.epoch_core.specs.declared.state.OwnerState.{OwnerState}
-use Rattle.epoch_core.specs.OwnerState.{options_in, as_made}
-use Rattle.epoch_core.specs.Shape.{shape_of, options_of}
+use Rattle.partition_words.specs.declared.state.OwnerState.{OwnerState}
+use Rattle.partition_words.specs.OwnerState.{options_in, as_made}
+use Rattle.partition_words.specs.Shape.{shape_of, options_of}
 use Rattle.line_replies.specs.Replied.{HasReplied}
 use Rattle.line_replies.proofs.AllLines.{same_reply}
 use Rattle.exclusive_replay.specs.declared.queue.Sent.{Sent}

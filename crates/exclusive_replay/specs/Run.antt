@@ -3,13 +3,13 @@ use Rattle.std.specs.Prelude.{◌≡◌, ℕ, ◌+◌, true, List, [], ◌∷◌
 use Rattle.std.specs.List.{AllZip}
 use Rattle.partition_model.specs.declared.options.Options.{Options}
 use Rattle.mica_trace.specs.declared.line.TraceLine.{TraceLine}
-use Rattle.epoch_core.specs.OwnerState.{as_made}
-use Rattle.epoch_core.specs.Shape.{shape_of}
+use Rattle.partition_words.specs.OwnerState.{as_made}
+use Rattle.partition_words.specs.Shape.{shape_of}
 use Rattle.line_replies.specs.Replied.{HasReplied}
 use Rattle.exclusive_replay.specs.declared.owner.Owner.{Owner}
 use Rattle.exclusive_replay.specs.Sent.{has_end, numbers_in}
 use Rattle.exclusive_replay.specs.LineEnds.{LineBox, line_box}
-use Rattle.plain_partition.specs.PlainPartition.{owner_of}
+use Rattle.any_partition.specs.PlainPartition.{owner_of}
 use Rattle.exclusive_replay.specs.Workers.{IsReadyOwner, lines_at, messages_for}
 
 -- an owner of an empty partition that is ready, and the sender of its queue

@@ -5,7 +5,7 @@ use Rattle.partition_model.specs.declared.options.Options.{Options}
 use Rattle.mica_trace.specs.declared.line.TraceLine.{TraceLine}
 use Rattle.mica_trace.specs.declared.report.Line.{Line}
 use Rattle.mica_trace.specs.LineReply.{is_for}
-use Rattle.epoch_core.specs.declared.state.OwnerState.{OwnerState}
+use Rattle.partition_words.specs.declared.state.OwnerState.{OwnerState}
 use Rattle.line_replies.specs.Replied.{IsReplied, HasReplied}
 use Rattle.exclusive_replay.specs.declared.queue.Sent.{Sent}
 use Rattle.exclusive_replay.specs.declared.queue.Sent.TheVariants as sent
@@ -13,7 +13,7 @@ use Rattle.exclusive_replay.specs.declared.owner.Owner.{Owner}
 use Rattle.exclusive_replay.specs.declared.feeder.Feeder.{Feeder}
 use Rattle.exclusive_replay.specs.Sent.{has_end, numbers_in}
 use Rattle.exclusive_replay.specs.LineEnds.{LineBox, line_box}
-use Rattle.plain_partition.specs.PlainPartition.{owner_of}
+use Rattle.any_partition.specs.PlainPartition.{owner_of}
 
 -- the lines of these numbers
 abbrev pub lines_at : List TraceLine → List ℕ → List TraceLine

@@ -8,9 +8,9 @@ ghost use Rattle.mica_trace.specs.Rounds.{partition_in};
 ghost use Rattle.mica_trace.specs.ExactReport.{ExactReport};
 ghost use Rattle.exclusive_replay.specs.Merged.{AreReplied, TakesNext};
 
-use mica_io::NoMemory;
 use mica_trace::{Line, Report, Trace, TraceLine};
 use mica_words::{key_hash, partition_of};
+use outside::NoMemory;
 use partition_model::Options;
 use std::alloc::Global;
 use std::vec::IntoIter;

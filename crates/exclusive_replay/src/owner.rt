@@ -1,14 +1,14 @@
 //! An owner, which answers the lines that come through its queue.
 ghost use Rattle.std.specs.Prelude.{◌<◌, length, IfOk};
-ghost use Rattle.plain_partition.specs.PlainPartition.{owner_of};
+ghost use Rattle.any_partition.specs.PlainPartition.{owner_of};
 ghost use Rattle.exclusive_replay.specs.Workers.{AnswersLine, IsReadyOwner, OwnerRan};
 
 use crate::queue::{LineReceiver, Sent};
+use any_partition::PlainPartition;
 use line_replies::reply_to;
-use mica_io::{Gate, NoMemory};
 use mica_trace::{Line, Trace};
+use outside::{Gate, NoMemory};
 use partition_model::ItemBuf;
-use plain_partition::PlainPartition;
 use std::alloc::Global;
 use std::sync::Wait;
 

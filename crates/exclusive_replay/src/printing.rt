@@ -1,13 +1,13 @@
 //! An exclusive replay: a trace's exact report, written as a whole.
 ghost use Rattle.std.specs.Prelude.{◌≡◌, ◌≤◌, OnOk, IsErrOf};
-ghost use Rattle.mica_io.specs.Faults.{Rose};
+ghost use Rattle.outside.specs.Faults.{Rose};
 ghost use Rattle.partition_model.specs.Options.{IsValid};
 ghost use Rattle.mica_trace.specs.ExactReport.{ExactReport};
 ghost use Rattle.mica_trace.specs.Printed.{PrintsText, PrintsPart};
 
 use crate::run_exclusive;
-use mica_io::{Failed, Gate, NoMemory, Sink};
 use mica_trace::{Trace, texts_of, write_texts};
+use outside::{Failed, Gate, NoMemory, Sink};
 use partition_model::Options;
 use std::alloc::Global;
 use std::error::Error;

@@ -4,8 +4,8 @@ ghost use Rattle.exclusive_replay.specs.Sent.{MayFollow, has_end};
 ghost use Rattle.exclusive_replay.specs.LineEnds.{line_box};
 
 use crossbeam_channel::{Pass, RuledReceiver, RuledSender, bounded_with};
-use mica_io::NoMemory;
-use ruled_queue::{InOrder, Knows, NewSender, Queued, TakenIn, Terms, Whole, put, take};
+use outside::NoMemory;
+use ruled_queue::{InOrder, NewSender, PassView, Queued, TakenIn, Terms, Whole, put, take};
 use std::alloc::Global;
 use std::marker::{Brand, Model};
 use std::sync::Wait;
@@ -41,8 +41,8 @@ impl Terms<Sent, u64> for Brand {
 /// The one sender. Contracts see its queue, how many lines there are, and what it sent.
 #[derive(Drop)]
 pub(crate) struct LineSender {
-    end: RuledSender<Sent, Knows<Sent, u64>, InOrder>,
-    pass: Pass<Sent, Knows<Sent, u64>>,
+    end: RuledSender<Sent, PassView<Sent, u64>, InOrder>,
+    pass: Pass<Sent, PassView<Sent, u64>>,
 }
 
 impl Model for LineSender {
@@ -64,8 +64,8 @@ impl Model for LineSender {
 /// The one receiver. Contracts see its queue, how many lines there are, and what was taken.
 #[derive(Drop)]
 pub(crate) struct LineReceiver {
-    end: RuledReceiver<Sent, Knows<Sent, u64>, InOrder>,
-    pass: Pass<Sent, Knows<Sent, u64>>,
+    end: RuledReceiver<Sent, PassView<Sent, u64>, InOrder>,
+    pass: Pass<Sent, PassView<Sent, u64>>,
 }
 
 impl Model for LineReceiver {
@@ -131,7 +131,7 @@ fn make<J: Terms<Sent, u64>>(
     ensures sender { IfOk result (λ r. r.0 ≡ line_box r.1.queue lines []) }
     ensures receiver { IfOk result (λ r. r.1 ≡ line_box r.1.queue lines []) }
 {
-    let (from, to, mut pass) = bounded_with::<Sent, Knows<Sent, u64>, InOrder, Global>(
+    let (from, to, mut pass) = bounded_with::<Sent, PassView<Sent, u64>, InOrder, Global>(
         alloc, CAPACITY,
     )?;
     let seat = from.another::<NewSender<J>>(&mut pass);

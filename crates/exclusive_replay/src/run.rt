@@ -11,15 +11,14 @@ use crate::merging::merge;
 use crate::owner::Owner;
 use crate::queue::{LineSender, line_queue};
 use crate::worker::run_workers;
-use mica_io::{Gate, NoMemory};
+use any_partition::PlainPartition;
 use mica_trace::{Line, Report, Trace};
+use outside::{Gate, NoMemory, rehearse};
 use partition_model::{ItemBuf, Options};
-use plain_partition::PlainPartition;
 use std::alloc::Global;
 use std::sync::Wait;
 use std::thread::Threads;
 use std::vec::IntoIter;
-use thread_rehearsal::rehearse;
 
 // One owner for each partition, and the sender of each one's queue.
 fn make_owners(

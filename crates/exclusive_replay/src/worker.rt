@@ -6,8 +6,8 @@ ghost use Rattle.exclusive_replay.specs.Workers.{IsReadyOwner, OwnerRan, OwnersR
 
 use crate::feeder::Feeder;
 use crate::owner::Owner;
-use mica_io::Gate;
 use mica_trace::Trace;
+use outside::Gate;
 use partition_model::Options;
 use std::alloc::Global;
 use std::sync::Wait;

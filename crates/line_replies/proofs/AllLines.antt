@@ -14,9 +14,9 @@ use Rattle.mica_trace.specs.LawfulReport.{Answers}
 use Rattle.mica_trace.specs.RoundReport.{history_in}
 use Rattle.mica_trace.specs.LineReply.{steps_at, history_with, IsReplyAfter}
 use Rattle.mica_trace.proofs.ExactLines.{history_own, history_other, exact_more}
-use Rattle.epoch_core.specs.declared.state.OwnerState.{OwnerState}
-use Rattle.epoch_core.specs.Shape.{shape_of, options_of, spares_in}
-use Rattle.epoch_core.proofs.SameMachine.{same_state}
+use Rattle.partition_words.specs.declared.state.OwnerState.{OwnerState}
+use Rattle.partition_words.specs.Shape.{shape_of, options_of, spares_in}
+use Rattle.partition_words.proofs.SameMachine.{same_state}
 use Rattle.partition_model.proofs.SameMachine as machine
 use Rattle.partition_model.specs.declared.options.Mode.{Mode}
 use Rattle.line_replies.specs.Replied.{IsReplied}

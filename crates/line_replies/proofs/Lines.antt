@@ -14,9 +14,9 @@ use Rattle.mica_trace.specs.declared.report.Line.TheVariants.{Wrote}
 use Rattle.mica_trace.specs.Rounds.{op_of}
 use Rattle.mica_trace.specs.LawfulReport.{IsReplyTo, step_by}
 use Rattle.mica_trace.specs.LineReply.{steps_at}
-use Rattle.epoch_core.specs.declared.state.OwnerState.{OwnerState}
-use Rattle.epoch_core.specs.OwnerState.{options_in}
-use Rattle.epoch_core.specs.OwnerStep.{IsOwnerStep}
+use Rattle.partition_words.specs.declared.state.OwnerState.{OwnerState}
+use Rattle.partition_words.specs.OwnerState.{options_in}
+use Rattle.partition_words.specs.OwnerStep.{IsOwnerStep}
 use Rattle.line_replies.specs.Replied.{IsWriteReply, IsReplied}
 
 -- what an owner gained by a write

@@ -11,10 +11,10 @@ use Rattle.mica_trace.specs.declared.line.TraceLine.{TraceLine}
 use Rattle.mica_trace.specs.declared.report.Line.{Line}
 use Rattle.mica_trace.specs.TraceGrammar.{IsTraceLine}
 use Rattle.mica_trace.specs.Rounds.{partition_in}
-use Rattle.epoch_core.specs.declared.state.OwnerState.{OwnerState}
+use Rattle.partition_words.specs.declared.state.OwnerState.{OwnerState}
 use Rattle.line_replies.specs.Replied.{IsReplied}
-use Rattle.epoch_core.specs.OwnerState.{as_made}
-use Rattle.epoch_core.specs.Shape.{shape_of}
+use Rattle.partition_words.specs.OwnerState.{as_made}
+use Rattle.partition_words.specs.Shape.{shape_of}
 use Rattle.mica_trace.proofs.ExactLines.{none_exact}
 use Rattle.line_replies.specs.Answered.{IsOwnerAfter, AreAnswered}
 use Rattle.line_replies.proofs.AllLines.{answered_more}

@@ -5,8 +5,8 @@ use Rattle.mica_trace.specs.declared.line.TraceLine.{TraceLine}
 use Rattle.mica_trace.specs.declared.report.Line.{Line}
 use Rattle.mica_trace.specs.RoundReport.{history_in}
 use Rattle.mica_trace.specs.ExactReport.{ExactReport}
-use Rattle.epoch_core.specs.declared.state.OwnerState.{OwnerState}
-use Rattle.epoch_core.specs.Shape.{shape_of}
+use Rattle.partition_words.specs.declared.state.OwnerState.{OwnerState}
+use Rattle.partition_words.specs.Shape.{shape_of}
 
 -- the owner of partition p has the history of what is printed
 pub record IsOwnerAfter (options : Options) (lines : List TraceLine) (report : List Line) (p : ℕ) (owner : OwnerState) : Type 0 where

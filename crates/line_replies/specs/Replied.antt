@@ -8,9 +8,9 @@ use Rattle.mica_trace.specs.declared.report.Line.{Line}
 use Rattle.mica_trace.specs.declared.report.Line.TheVariants.{Wrote}
 use Rattle.mica_trace.specs.LawfulReport.{Answers}
 use Rattle.mica_trace.specs.LineReply.{IsReplyAfter, RepliesTo, history_with}
-use Rattle.epoch_core.specs.declared.state.OwnerState.{OwnerState}
-use Rattle.epoch_core.specs.OwnerState.{options_in}
-use Rattle.epoch_core.specs.OwnerStep.{IsOwnerStep}
+use Rattle.partition_words.specs.declared.state.OwnerState.{OwnerState}
+use Rattle.partition_words.specs.OwnerState.{options_in}
+use Rattle.partition_words.specs.OwnerStep.{IsOwnerStep}
 
 -- the line has the machine's answer to the key after the owner's history
 abbrev pub IsAnswered : OwnerState → List ℕ → Line → Type 0

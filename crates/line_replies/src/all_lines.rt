@@ -4,11 +4,11 @@ ghost use Rattle.partition_model.specs.Options.{IsValid};
 ghost use Rattle.line_replies.specs.Answered.{AreAnswered};
 
 use crate::line::reply_to;
-use epoch_core::Partition;
-use mica_io::NoMemory;
 use mica_trace::{Report, Trace};
 use mica_words::{key_hash, partition_of};
+use outside::NoMemory;
 use partition_model::{ItemBuf, Options};
+use partition_words::Partition;
 use std::alloc::Global;
 
 /// The exact report of a trace, each of whose lines its partition answers before the next one.

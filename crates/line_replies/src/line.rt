@@ -5,10 +5,10 @@ ghost use Rattle.partition_model.specs.Write.{HasValueOf, write_of};
 ghost use Rattle.mica_trace.specs.TraceGrammar.{IsTraceLine};
 ghost use Rattle.line_replies.specs.Replied.{IsWriteReply, IsReplied, IsAnswered};
 
-use epoch_core::{Partition, write_to};
-use mica_io::{Bytes, NoMemory};
 use mica_trace::{Line, TraceLine};
+use outside::{Bytes, NoMemory};
 use partition_model::{Answer, ItemBuf, Op};
+use partition_words::{Partition, write_to};
 use std::alloc::Global;
 
 // The report line of a get.

@@ -1,6 +1,6 @@
 -- Which slot gives way, as far as the slots were looked at.
 use Rattle.std.proofs.Common.{◌≡◌, ℕ, ◌<◌, ◌≤◌, Option, Some, None}
-use Rattle.epoch_core.specs.declared.state.OwnerState.{OwnerState}
+use Rattle.partition_words.specs.declared.state.OwnerState.{OwnerState}
 use Rattle.lossy_index.specs.Slot.{offset_in, IsPassed}
 use Rattle.lossy_index.specs.Place.{IsFirst}
 

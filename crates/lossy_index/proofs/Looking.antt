@@ -5,9 +5,9 @@ use Rattle.mica_words.specs.Entry.{entry_tag, entry_offset}
 use Rattle.mica_words.specs.Stamp.{tail_of}
 use Rattle.mica_words.specs.declared.entry.TheConstants.{SLOTS}
 use Rattle.mica_words.proofs.Hashes.{tag_of_hash}
-use Rattle.epoch_core.specs.declared.state.OwnerState.{OwnerState}
-use Rattle.epoch_core.specs.OwnerState.{stamp_in, entry_in}
-use Rattle.epoch_core.specs.ItemAt.{HasKey}
+use Rattle.partition_words.specs.declared.state.OwnerState.{OwnerState}
+use Rattle.partition_words.specs.OwnerState.{stamp_in, entry_in}
+use Rattle.partition_words.specs.ItemAt.{HasKey}
 use Rattle.lossy_index.specs.Slot.{IsSlotOf}
 
 -- what is known before the first slot: the key's tag, the tail, and how many words the log has

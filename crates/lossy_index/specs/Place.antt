@@ -1,7 +1,7 @@
 -- The slot that an entry is placed in.
 use Rattle.std.specs.Prelude.{◌≡◌, ℕ, ◌<◌, ◌≤◌, Option, Some, None}
 use Rattle.mica_words.specs.declared.entry.TheConstants.{SLOTS}
-use Rattle.epoch_core.specs.declared.state.OwnerState.{OwnerState}
+use Rattle.partition_words.specs.declared.state.OwnerState.{OwnerState}
 use Rattle.lossy_index.specs.Slot.{offset_in, IsEmpty, IsPassed}
 
 -- the first slot of a bucket of which it holds

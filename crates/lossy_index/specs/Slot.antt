@@ -4,10 +4,10 @@ use Rattle.mica_words.specs.declared.entry.TheConstants.{SLOTS}
 use Rattle.mica_words.specs.Hash.{tag_of}
 use Rattle.mica_words.specs.Entry.{entry_tag, entry_offset}
 use Rattle.mica_words.specs.Stamp.{tail_of}
-use Rattle.epoch_core.specs.declared.state.OwnerState.{OwnerState}
+use Rattle.partition_words.specs.declared.state.OwnerState.{OwnerState}
 use Rattle.lossy_index.specs.declared.finding.Found.{Found}
-use Rattle.epoch_core.specs.OwnerState.{stamp_in, entry_in}
-use Rattle.epoch_core.specs.ItemAt.{HasKey}
+use Rattle.partition_words.specs.OwnerState.{stamp_in, entry_in}
+use Rattle.partition_words.specs.ItemAt.{HasKey}
 
 -- where the item of the slot's entry begins
 abbrev pub offset_in : OwnerState → ℕ → ℕ → ℕ

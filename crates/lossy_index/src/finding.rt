@@ -2,13 +2,13 @@
 ghost use Rattle.std.specs.Prelude.{◌≡◌, MatchOption};
 ghost use Rattle.mica_words.specs.Hash.{fnv1a};
 ghost use Rattle.mica_words.specs.Item.{KeyFits};
-ghost use Rattle.epoch_core.specs.Shape.{IsMain};
-ghost use Rattle.epoch_core.specs.OwnerState.{stamp_in};
-ghost use Rattle.epoch_core.specs.Kept.{Kept};
+ghost use Rattle.partition_words.specs.Shape.{IsMain};
+ghost use Rattle.partition_words.specs.OwnerState.{stamp_in};
+ghost use Rattle.partition_words.specs.Kept.{Kept};
 ghost use Rattle.lossy_index.specs.Slot.{IsSlotOf, IsFoundAt, HasNoSlot};
 
-use epoch_core::{OwnerWords, WordAt, holds_key_hashed};
 use mica_words::{SLOTS, entry_offset, entry_tag, key_hash, tag_of, tail_of};
+use partition_words::{OwnerWords, WordAt, holds_key_hashed};
 
 /// A key's slot, and the offset in its entry.
 #[derive(Clone, Copy)]

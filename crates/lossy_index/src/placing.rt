@@ -2,15 +2,15 @@
 ghost use Rattle.std.specs.Prelude.{◌≡◌, ◌<◌, ◌≤◌, ◌^◌, IfSome};
 ghost use Rattle.mica_words.specs.declared.entry.TheConstants.{SLOTS};
 ghost use Rattle.mica_words.specs.Entry.{entry_of as entry_word};
-ghost use Rattle.epoch_core.specs.declared.event.Event.TheVariants.{PutsEntry};
-ghost use Rattle.epoch_core.specs.Shape.{IsMain};
-ghost use Rattle.epoch_core.specs.OwnerState.{marked_in};
-ghost use Rattle.epoch_core.specs.Events.{after};
-ghost use Rattle.epoch_core.specs.Kept.{Kept};
+ghost use Rattle.partition_words.specs.declared.event.Event.TheVariants.{PutsEntry};
+ghost use Rattle.partition_words.specs.Shape.{IsMain};
+ghost use Rattle.partition_words.specs.OwnerState.{marked_in};
+ghost use Rattle.partition_words.specs.Events.{after};
+ghost use Rattle.partition_words.specs.Kept.{Kept};
 ghost use Rattle.lossy_index.specs.Place.{GivesWay, TakesSlot};
 
-use epoch_core::{OwnerWords, WordAt};
 use mica_words::{SLOTS, entry_of, entry_offset, tail_of};
+use partition_words::{OwnerWords, WordAt};
 
 /// Stores an entry of the tag and the offset, and answers its slot: `old` where that is given, else the one
 /// that gives way.

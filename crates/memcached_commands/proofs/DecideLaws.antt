@@ -21,7 +21,7 @@ use Rattle.memcached_commands.specs.declared.moment.TheConstants.{LAST_SECOND}
 use Rattle.memcached_text.specs.declared.fault.Fault.TheVariants.{TooLarge}
 use Rattle.memcached_text.specs.declared.reply.Reply.TheVariants.{Stored}
 use Rattle.memcached_text.specs.declared.command.Wants.TheVariants.{Whatever, Absent, Present, Numbered}
-use Rattle.memcached_commands.specs.Changes.{only_reads, without_dead, ends_with_flush, becoming_of, looks}
+use Rattle.memcached_commands.specs.Changes.{only_gets, without_dead, ends_with_flush, becoming_of, looks}
 use Rattle.memcached_commands.specs.declared.ask.Says.{Says}
 use Rattle.memcached_commands.specs.declared.ask.Says.TheVariants.{Line, Refusal, Number}
 use Rattle.memcached_commands.specs.declared.ask.Ask.{Ask}
@@ -256,7 +256,7 @@ flush_ends at goes item some is = goes_no_item item is
 
 pub ends_with_it : EndsWithFlush
 ends_with_it at ask stored item some is =
-    flush_ends at (decide at ask (found_in at stored)).becoming item some (alive_item (only_reads ask) stored (found_in at stored) _ item is)
+    flush_ends at (decide at ask (found_in at stored)).becoming item some (alive_item (only_gets ask) stored (found_in at stored) _ item is)
 
 kept_same : (end : Option ℕ) (item next : Item) → kept_until end item ≡ becomes next → IsSameValue (Some item) next
 kept_same None item next is = goes_no_item next is
@@ -367,7 +367,7 @@ blind (Touch lifetime) is at one other = absurd (true≢false is)
 blind Delete is at one other = absurd (true≢false is)
 
 -- a command that only reads leaves whatever is stored
-pub left : (ask : Ask) → only_reads ask ≡ true → (at : Moment) (stored : Option (List ℕ)) → becoming_of at ask stored ≡ stays
+pub left : (ask : Ask) → only_gets ask ≡ true → (at : Moment) (stored : Option (List ℕ)) → becoming_of at ask stored ≡ stays
 unfolding decide
 left Get is at stored = nothing (found_in at stored)
   where

@@ -4,7 +4,7 @@ use Rattle.memcached_text.specs.declared.item.Item.{Item}
 use Rattle.memcached_text.specs.declared.reply.Reply.{Reply}
 use Rattle.memcached_text.specs.declared.reply.Reply.TheVariants.{End, NoRoom, NoRoomToCount}
 use Rattle.memcached_text.specs.Answer.{Part, value, Last, line, refusal, number, Answer}
-use Rattle.memcached_text.specs.Replies.{Found}
+use Rattle.memcached_text.specs.Replies.{FoundValue}
 use Rattle.memcached_commands.specs.declared.ask.Ask.{Ask}
 use Rattle.memcached_commands.specs.declared.ask.Ask.TheVariants.{Count}
 use Rattle.memcached_commands.specs.declared.ask.Says.{Says}
@@ -16,7 +16,7 @@ no_room (Count direction delta) = NoRoomToCount
 no_room _ = NoRoom
 
 -- what a get tells of the item of a key, with its number where that is asked for
-abbrev pub found_of : Bool → List ℕ → Item → Found
+abbrev pub found_of : Bool → List ℕ → Item → FoundValue
 found_of unique key item = record { key = key; flags = item.flags; value = item.value; unique = if unique then Some item.unique else None }
 
 -- what stands in front of the last line: the item that a get found

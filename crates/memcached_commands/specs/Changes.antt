@@ -12,9 +12,9 @@ use Rattle.memcached_commands.specs.Moments.{ended_by, found_in}
 use Rattle.memcached_commands.specs.Decide.{Becoming, stays, becomes, goes, decide}
 
 -- a get leaves all that it finds, whatever is there of it
-abbrev pub only_reads : Ask → Bool
-only_reads Get = true
-only_reads _ = false
+abbrev pub only_gets : Ask → Bool
+only_gets Get = true
+only_gets _ = false
 
 -- what is stored and not there is not left by a command that may change it
 abbrev pub without_dead : Bool → Option (List ℕ) → Option Item → Becoming → Becoming
@@ -29,7 +29,7 @@ ends_with_flush at goes = goes
 
 -- What a command makes of what is stored.
 abbrev pub becoming_of : Moment → Ask → Option (List ℕ) → Becoming
-becoming_of at ask stored = without_dead (only_reads ask) stored (found_in at stored) (ends_with_flush at (decide at ask (found_in at stored)).becoming)
+becoming_of at ask stored = without_dead (only_gets ask) stored (found_in at stored) (ends_with_flush at (decide at ask (found_in at stored)).becoming)
 
 -- what a call answers for it, and leaves in a buffer: the text of the item that is to be
 abbrev pub IsChange : Becoming → Change → List ℕ → Type 0

@@ -6,7 +6,7 @@ ghost use Rattle.memcached_commands.specs.Answers.{parts_of, last_of, shown_len,
 
 use crate::Says;
 use memcached_text::{Item, Reply, fault_line, put_last_value, put_number, put_value, reply_line};
-use mica_io::NoMemory;
+use outside::NoMemory;
 
 // The unique number of an item, where it is asked for.
 fn number_of(unique: bool, item: &Item) -> Option<u64>

@@ -1,7 +1,7 @@
 //! What becomes of what is stored, by a command.
 ghost use Rattle.std.specs.Prelude.{◌≡◌, ◌≤◌, ℕ, true, false, List, length, Option, option_copied, IfSome};
 ghost use Rattle.memcached_text.specs.declared.limits.TheConstants.{MAX_TEXT_LEN};
-ghost use Rattle.memcached_commands.specs.Changes.{becoming_of, ends_with_flush, IsChange, looks, only_reads};
+ghost use Rattle.memcached_commands.specs.Changes.{becoming_of, ends_with_flush, IsChange, looks, only_gets};
 ghost use Rattle.memcached_commands.specs.Decide.{kept_until, stays, stored, decide};
 ghost use Rattle.memcached_commands.specs.Fit.{IsFitAsk, IsFitStored};
 
@@ -163,8 +163,8 @@ pub fn looks(ask: &Ask) -> bool
 
 /// Whether it leaves all that it finds.
 #[tactic(auto, using(crate::proofs::DecideLaws::left))]
-pub fn only_reads(ask: &Ask) -> bool
-    ensures only { result ≡ only_reads ask.now }
+pub fn only_gets(ask: &Ask) -> bool
+    ensures only { result ≡ only_gets ask.now }
     ensures leaves { result ≡ true → (at : Moment) (stored : Option (List ℕ)) → becoming_of at ask.now stored ≡ stays }
 {
     matches!(ask, Ask::Get)
@@ -179,7 +179,7 @@ pub fn change_stored(at: &Moment, ask: &Ask, stored: Option<&[u8]>, next: &mut I
 {
     let found = found_in(at, stored);
     match change_found(at, ask, found.as_ref(), next) {
-        Change::Stay if stored.is_some() && found.is_none() && !only_reads(ask) => Change::Go,
+        Change::Stay if stored.is_some() && found.is_none() && !only_gets(ask) => Change::Go,
         change => change,
     }
 }

@@ -19,7 +19,7 @@ mod wanted;
 pub use answer::{put_answer, put_part, put_whole};
 pub use ask::{Ask, Says};
 pub use asks::{Asked, Asks, wants_numbers};
-pub use change::{change_stored, looks, only_reads};
+pub use change::{change_stored, looks, only_gets};
 pub use counting::{counted, number_in};
 pub use laws::{counts, fits, in_time, one_value};
 pub use moment::{LAST_SECOND, Moment, end_of, ended_by, found_in, is_there};

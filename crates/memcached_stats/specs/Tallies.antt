@@ -1,6 +1,6 @@
 -- What a front has counted for itself.
 use Rattle.std.specs.Prelude.{ℕ, ◌+◌, ◌*◌, min, List, replicate, slice_get, slice_set, unwrap_or, Option, None, Some}
-use Rattle.mica_io.specs.Faults.{LAST_COUNT}
+use Rattle.outside.specs.Faults.{LAST_COUNT}
 use Rattle.memcached_stats.specs.declared.counter.Counter.{Counter}
 use Rattle.memcached_stats.specs.declared.counter.TheConstants.{COUNTERS}
 use Rattle.memcached_stats.specs.declared.tally.TheConstants.{MOST_NUMBERS}

@@ -9,7 +9,7 @@ use crate::counter::Counter;
 use crate::figures::{About, Counts, Wear};
 use itoa::Buffer;
 use memcached_text::{Reply, reply_line};
-use mica_io::NoMemory;
+use outside::NoMemory;
 use partition_model::MOST_PARTITIONS;
 
 /// A name and its number.

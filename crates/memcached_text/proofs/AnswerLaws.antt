@@ -11,7 +11,7 @@ use Rattle.memcached_text.specs.declared.fault.Fault.TheVariants.{Unknown, Forma
 use Rattle.memcached_text.specs.declared.reply.Reply.{Reply}
 use Rattle.memcached_text.specs.declared.reply.Reply.TheVariants.{Stored, NotStored, Exists, NoRoom, NoRoomToCount, Deleted, NotFound, Touched, End, Version, Done, Noop, LongLine}
 use Rattle.memcached_text.specs.Lines.{Lacks}
-use Rattle.memcached_text.specs.Replies.{reply_text, fault_text, number_text, stat_text, value_text, Found}
+use Rattle.memcached_text.specs.Replies.{reply_text, fault_text, number_text, stat_text, value_text, FoundValue}
 use Rattle.memcached_text.specs.Answer.{Stat, IsStat, Part, value, stat, Last, line, refusal, number, part_text, last_text, IsPart, IsLast, IsOneAnswer}
 use Rattle.memcached_text.proofs.LineLaws.{Lacks_append}
 use Rattle.memcached_text.proofs.NumberLaws.{decimal_lacks, decimal_digits}
@@ -127,7 +127,7 @@ last_is_other (refusal fault) is = fault_is_other fault
 last_is_other (number n) is = number_is_other n is
 
 -- values begin as such, and so does what is counted
-value_begins : (found : Found) (x : List ℕ) → begins (codes "VALUE ") (part_text (value found) ++ x) ≡ true
+value_begins : (found : FoundValue) (x : List ℕ) → begins (codes "VALUE ") (part_text (value found) ++ x) ≡ true
 unfolding value_text
 value_begins found x = refl
 
@@ -135,7 +135,7 @@ stat_begins : (counted : Stat) (x : List ℕ) → begins (codes "STAT ") (part_t
 unfolding stat_text
 stat_begins counted x = refl
 
-value_no_stat : (found : Found) (x : List ℕ) → begins (codes "STAT ") (part_text (value found) ++ x) ≡ false
+value_no_stat : (found : FoundValue) (x : List ℕ) → begins (codes "STAT ") (part_text (value found) ++ x) ≡ false
 unfolding value_text
 value_no_stat found x = refl
 

@@ -7,7 +7,7 @@ use Rattle.std.proofs.lemmas.List.{append_cancel_left}
 use Rattle.std.proofs.lemmas.Fmt.{decimal_injective}
 use Rattle.std.proofs.lemmas.Grind.{common_steps}
 use Rattle.memcached_text.specs.Lines.{Lacks}
-use Rattle.memcached_text.specs.Replies.{unique_text, value_text, Found, found_text, HasUnique, IsFound, IsOneReply}
+use Rattle.memcached_text.specs.Replies.{unique_text, value_text, FoundValue, found_text, HasUnique, IsFound, IsOneReply}
 use Rattle.memcached_text.proofs.NumberLaws.{decimal_lacks}
 
 -- where a byte stands behind parts that lack it, the parts are the same
@@ -30,14 +30,14 @@ one_part a b c d count same =
     let right : b ≡ d = sym (drop-append_seam a b) ∙ ap (drop (length a)) same ∙ ap (λ n. drop n (c ++ d)) count ∙ drop-append_seam c d in
     (left, right)
 
-abbrev text_of : Found → List ℕ
+abbrev text_of : FoundValue → List ℕ
 text_of found = value_text found.key found.flags found.value found.unique
 
 -- what stands behind the length of a value
-abbrev behind_len : Found → List ℕ → List ℕ
+abbrev behind_len : FoundValue → List ℕ → List ℕ
 behind_len found more = unique_text found.unique ++ 13 ∷ 10 ∷ (found.value ++ 13 ∷ 10 ∷ more)
 
-regroup : (found : Found) (more : List ℕ) → text_of found ++ more ≡ codes "VALUE " ++ (found.key ++ 32 ∷ (decimal found.flags ++ 32 ∷ (decimal (length found.value) ++ behind_len found more)))
+regroup : (found : FoundValue) (more : List ℕ) → text_of found ++ more ≡ codes "VALUE " ++ (found.key ++ 32 ∷ (decimal found.flags ++ 32 ∷ (decimal (length found.value) ++ behind_len found more)))
 unfolding value_text
 regroup found more =
     let begin = codes "VALUE " in
@@ -74,7 +74,7 @@ one_end true m n (Some u) (Some v) b d m_is n_is u_is v_is same =
     record { count = parts.0; unique = ap (λ n. Some n) uniques.0; behind = uniques.1 }
 
 -- one value, and what stands behind it
-pub one_value : (asks : Bool) (a b : Found) (x y : List ℕ) → IsFound asks a → IsFound asks b → text_of a ++ x ≡ text_of b ++ y → (a ≡ b) × (x ≡ y)
+pub one_value : (asks : Bool) (a b : FoundValue) (x y : List ℕ) → IsFound asks a → IsFound asks b → text_of a ++ x ≡ text_of b ++ y → (a ≡ b) × (x ≡ y)
 one_value asks a b x y a_is b_is same =
     let whole = sym (regroup a x) ∙ same ∙ regroup b y in
     let inner = append_cancel_left (codes "VALUE ") _ _ whole in
@@ -86,18 +86,18 @@ one_value asks a b x y a_is b_is same =
     let flag : a.flags ≡ b.flags = flags.0 in
     let value : a.value ≡ b.value = values.0 in
     let unique : a.unique ≡ b.unique = ends.unique in
-    let made : List ℕ → ℕ → List ℕ → Option ℕ → Found = λ k f v u. record { key = k; flags = f; value = v; unique = u } in (
+    let made : List ℕ → ℕ → List ℕ → Option ℕ → FoundValue = λ k f v u. record { key = k; flags = f; value = v; unique = u } in (
       ap (λ k. made k a.flags a.value a.unique) key ∙ ap (λ f. made b.key f a.value a.unique) flag ∙ ap (λ v. made b.key b.flags v a.unique) value ∙ ap (made b.key b.flags b.value) unique,
       append_cancel_left (codes "\r\n") x y values.1,
     )
 
 -- the first value, and what stands behind it
-behind_one : (found : Found) (founds : List Found) (more : List ℕ) → found_text (found ∷ founds) ++ more ≡ text_of found ++ (found_text founds ++ more)
+behind_one : (found : FoundValue) (founds : List FoundValue) (more : List ℕ) → found_text (found ∷ founds) ++ more ≡ text_of found ++ (found_text founds ++ more)
 behind_one found founds more =
     ap (λ t. t ++ more) (append_assoc (text_of found) (flat_map text_of founds) (codes "END\r\n")) ∙ append_assoc (text_of found) (found_text founds) more
 
 -- an end is no value
-ends_here : (found : Found) (founds : List Found) (x y : List ℕ) → codes "END\r\n" ++ x ≡ found_text (found ∷ founds) ++ y → ⊥
+ends_here : (found : FoundValue) (founds : List FoundValue) (x y : List ℕ) → codes "END\r\n" ++ x ≡ found_text (found ∷ founds) ++ y → ⊥
 ends_here found founds x y same =
     let whole = same ∙ behind_one found founds y ∙ regroup found (found_text founds ++ y) in
     let head : ◌≡◌ {A = ℕ} 69 86 = ap (λ t. slice_index t 0) whole in

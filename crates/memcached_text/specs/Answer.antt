@@ -4,7 +4,7 @@ use Rattle.std.specs.List.{AllByRecursion}
 use Rattle.memcached_text.specs.declared.fault.Fault.{Fault}
 use Rattle.memcached_text.specs.declared.reply.Reply.{Reply}
 use Rattle.memcached_text.specs.Lines.{Lacks}
-use Rattle.memcached_text.specs.Replies.{reply_text, fault_text, number_text, stat_text, value_text, Found, IsFound}
+use Rattle.memcached_text.specs.Replies.{reply_text, fault_text, number_text, stat_text, value_text, FoundValue, IsFound}
 
 -- something that is counted, with its value
 pub record Stat : Type 0 where
@@ -19,7 +19,7 @@ pub record IsStat (stat : Stat) : Type 0 where
 
 -- what stands in front of the last line: a value that a get found, or something that is counted
 pub data Part : Type 0 where
-  value : Found → Part
+  value : FoundValue → Part
   stat : Stat → Part
 
 -- the last line, which is all of most answers

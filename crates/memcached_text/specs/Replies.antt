@@ -57,14 +57,14 @@ value_text key flags bytes unique =
     ++ codes "\r\n" ++ bytes ++ codes "\r\n"
 
 -- a value that a get found
-pub record Found : Type 0 where
+pub record FoundValue : Type 0 where
   pub key : List ℕ
   pub flags : ℕ
   pub value : List ℕ
   pub unique : Option ℕ
 
 -- the reply to a get: the values that it found, and an end
-abbrev pub found_text : List Found → List ℕ
+abbrev pub found_text : List FoundValue → List ℕ
 found_text founds =
     flat_map (λ found. value_text found.key found.flags found.value found.unique) founds ++ reply_text End
 
@@ -75,7 +75,7 @@ HasUnique false None = ⊤
 HasUnique _ _ = ⊥
 
 -- a value that may be found, by a get that asks for unique numbers or not
-pub record IsFound (asks : Bool) (found : Found) : Type 0 where
+pub record IsFound (asks : Bool) (found : FoundValue) : Type 0 where
   pub no_space : Lacks 32 found.key
   pub flags : found.flags < 2 ^ 32
   pub value : length found.value ≤ MAX_TEXT_LEN
@@ -83,5 +83,5 @@ pub record IsFound (asks : Bool) (found : Found) : Type 0 where
 
 -- a client reads the reply to its get in one way, and finds where it ends
 abbrev pub IsOneReply : Type 0
-IsOneReply = (asks : Bool) (a b : List Found) (x y : List ℕ) → AllByRecursion (IsFound asks) a → AllByRecursion (IsFound asks) b
+IsOneReply = (asks : Bool) (a b : List FoundValue) (x y : List ℕ) → AllByRecursion (IsFound asks) a → AllByRecursion (IsFound asks) b
     → found_text a ++ x ≡ found_text b ++ y → (a ≡ b) × (x ≡ y)

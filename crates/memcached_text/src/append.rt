@@ -1,7 +1,7 @@
 //! Appends parts to a text.
 ghost use Rattle.std.specs.Prelude.{◌≡◌, ◌≤◌, ◌+◌, ◌++◌, length, flat_map, sum_by, OnOk, OnErr};
 
-use mica_io::NoMemory;
+use outside::NoMemory;
 
 // Appends the parts. Where memory runs out, nothing is appended.
 #[inline(always)]

@@ -6,7 +6,7 @@ use crate::Text;
 use crate::append::append_parts;
 use crate::limits::HEADER_LEN;
 use byteorder::{ByteOrder, LittleEndian};
-use mica_io::NoMemory;
+use outside::NoMemory;
 
 /// An item, whose value lies in other bytes.
 #[derive(Drop)]

@@ -6,7 +6,7 @@ ghost use Rattle.memcached_text.specs.Replies.{reply_text, fault_text, value_tex
 use crate::Fault;
 use crate::append::append_parts;
 use itoa::{Buffer, write_digits};
-use mica_io::NoMemory;
+use outside::NoMemory;
 
 /// The version of memcached whose commands are here. Clients choose by it what they ask.
 const VERSION_LINE: &[u8] = b"VERSION 1.6.18\r\n";

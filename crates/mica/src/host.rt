@@ -4,9 +4,10 @@ ghost use Rattle.std.specs.Process.{exit_status};
 ghost use Rattle.mica_cmd.specs.declared.status.Status.{Status};
 ghost use Rattle.mica_cmd.specs.Exit.{exit_number};
 
+use host_outside::{StdSink, StdSource, UdpNet};
 use mica_client::UdpLink;
 use mica_cmd::run_program;
-use mica_io::{FreeGate, StdSink, StdSource, UdpNet};
+use outside::FreeGate;
 use partition_table::Tables;
 use std::net::Net as Sockets;
 use std::process::ExitCode;

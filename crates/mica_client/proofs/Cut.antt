@@ -3,7 +3,7 @@ use Rattle.std.proofs.Common.{◌≡◌, ◌≤◌, ◌<◌, ◌⊎◌, inl, inr
 use Rattle.std.proofs.lemmas.Bool.{cases_lt}
 use Rattle.std.proofs.lemmas.List.{length-take-le, take_all}
 use Rattle.std.specs.List.{flat_map}
-use Rattle.mica_io.specs.Traffic.{Datagram}
+use Rattle.outside.specs.Traffic.{Datagram}
 use Rattle.batch_packets.specs.declared.replies.Replies.{Replies}
 use Rattle.batch_packets.specs.ReplyGrammar.{replies_datagram, reply_text, SpellsReplies}
 use Rattle.batch_packets.specs.Datagram.{version_at, max_datagram_len}

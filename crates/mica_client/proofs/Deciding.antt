@@ -1,6 +1,6 @@
 -- The datagrams that passed decide where an exchange stands, and what it shows.
 use Rattle.std.proofs.Common.{◌≡◌, ◌≢◌, ◌⊎◌, inl, inr, ℕ, Bool, true, false, List, [], ◌∷◌, ◌++◌, map, refl, sym, ap, subst, ◌∙◌, Option, Some, Result, Ok, Err}
-use Rattle.mica_io.specs.Traffic.{Datagram}
+use Rattle.outside.specs.Traffic.{Datagram}
 use Rattle.mica_trace.specs.declared.report.Line.{Line}
 use Rattle.batch_packets.specs.declared.batch.Batch.{Batch}
 use Rattle.batch_packets.specs.declared.replies.Replies.{Replies}

@@ -5,7 +5,7 @@ use Rattle.std.specs.List.{All, AllByRecursion}
 use Rattle.std.proofs.Math.Seq.{drop-append_seam}
 use Rattle.std.proofs.lemmas.List.{take-append-le, drop-append-le, map-append, length-drop, append-nil, take_at, length-append, get_or_append_left}
 use Rattle.std.proofs.lemmas.List.Elements.{recursion_from_All}
-use Rattle.mica_io.specs.Traffic.{Datagram}
+use Rattle.outside.specs.Traffic.{Datagram}
 use Rattle.mica_client.specs.declared.memory_link.Pass.{Pass}
 use Rattle.mica_client.specs.declared.memory_link.Pass.TheVariants.{Sent, Received}
 use Rattle.mica_client.specs.Talk.{Passed, sent, received}

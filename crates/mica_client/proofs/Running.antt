@@ -1,6 +1,6 @@
 -- An exchange goes on by a datagram, and by what follows it.
 use Rattle.std.proofs.Common.{◌≡◌, inl, inr, ℕ, true, false, List, [], ◌∷◌, ◌++◌, refl, sym, ap, subst, ◌∙◌, append_assoc, append-nil, take, IfSome, IfOk, IfErr, Option, Some, None, Result, Ok, Err}
-use Rattle.mica_io.specs.Traffic.{Datagram}
+use Rattle.outside.specs.Traffic.{Datagram}
 use Rattle.batch_packets.specs.declared.batch.Batch.{Batch}
 use Rattle.batch_packets.specs.declared.replies.Replies.{Replies}
 use Rattle.mica_client.specs.declared.fault.AskFault.{AskFault}

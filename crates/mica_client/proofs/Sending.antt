@@ -1,6 +1,6 @@
 -- What was sent in an exchange is what was left of the batches before, but for what is left after.
 use Rattle.std.proofs.Common.{◌≡◌, ℕ, List, [], ◌∷◌, ◌++◌, map, refl, sym, ap, ◌∙◌, append-nil, inl, inr, Result, Ok, Err}
-use Rattle.mica_io.specs.Traffic.{Datagram}
+use Rattle.outside.specs.Traffic.{Datagram}
 use Rattle.mica_client.specs.Talk.{Passed, sent, received, sent_in}
 use Rattle.mica_client.specs.Batches.{Ask}
 use Rattle.mica_trace.specs.declared.report.Line.{Line}

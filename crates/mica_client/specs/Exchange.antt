@@ -1,7 +1,7 @@
 -- The exchange with a server: the batches in order, each sent once, when all tickets of the one before it are answered.
 use Rattle.std.specs.Prelude.{◌≡◌, ◌⊎◌, not, Bool, true, false, ℕ, List, [], ◌∷◌, ◌++◌, map, Option, Some, None, Result, Ok, Err}
 use Rattle.std.specs.List.{list_any}
-use Rattle.mica_io.specs.Traffic.{Datagram}
+use Rattle.outside.specs.Traffic.{Datagram}
 use Rattle.mica_trace.specs.declared.line.TraceLine.{TraceLine}
 use Rattle.mica_trace.specs.declared.report.Line.{Line}
 use Rattle.batch_packets.specs.declared.batch.Request.{Request}

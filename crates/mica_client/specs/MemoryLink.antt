@@ -1,6 +1,6 @@
 -- What a link over memory keeps of the datagrams that passed.
 use Rattle.std.specs.Prelude.{ℕ, ◌+◌, ◌≤◌, List, [], ◌∷◌, ◌++◌, map, slice_range, slice_index_or}
-use Rattle.mica_io.specs.Traffic.{Datagram}
+use Rattle.outside.specs.Traffic.{Datagram}
 use Rattle.mica_client.specs.declared.memory_link.Pass.{Pass}
 use Rattle.mica_client.specs.declared.memory_link.Pass.TheVariants.{Sent, Received}
 use Rattle.mica_client.specs.Talk.{Passed, sent, received, Talk}

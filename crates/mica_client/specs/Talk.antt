@@ -1,6 +1,6 @@
 -- What a link tells: the datagrams that it has left, and those that passed, sent and received in one list.
 use Rattle.std.specs.Prelude.{◌≡◌, ℕ, List, [], ◌∷◌, ◌++◌, take, Option, Some, None, ⊤}
-use Rattle.mica_io.specs.Traffic.{Datagram}
+use Rattle.outside.specs.Traffic.{Datagram}
 
 -- a datagram that was sent to a port, or one that was received, with the count of faults before it
 pub data Passed : Type 0 where

@@ -2,8 +2,8 @@
 ghost use Rattle.std.specs.Prelude.{◌≡◌, ◌<◌, ◌≤◌, length, map, slice_get, slice_set, All, Some, IfOk};
 ghost use Rattle.mica_client.specs.Answers.{unanswered, is_answered, AnswerIsKnown};
 
-use mica_io::NoMemory;
 use mica_trace::{Line, Report, TraceLine};
+use outside::NoMemory;
 use std::alloc::Global;
 use std::marker::Model;
 

@@ -11,9 +11,9 @@ ghost use Rattle.mica_client.specs.Cutting.{share_with, AllHold, IsCutting};
 use crate::AskOptions;
 use crate::request::{Group, request_of};
 use crate::share::Share;
-use mica_io::NoMemory;
 use mica_trace::TraceLine;
 use mica_words::{key_hash, partition_of};
+use outside::NoMemory;
 use std::alloc::Global;
 use std::mem;
 

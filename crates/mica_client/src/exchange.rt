@@ -1,7 +1,7 @@
 //! The exchange with a server: each batch is sent once, and its replies are awaited.
 ghost use Rattle.std.specs.Prelude.{◌≡◌, ◌<◌, ◌≤◌, ◌||◌, true, false, ℕ, None, length, IfOk, IfErr, OnOk, IsErrOf};
 ghost use Rattle.std.specs.List.{AllZip, AllByRecursion};
-ghost use Rattle.mica_io.specs.Faults.{Rose};
+ghost use Rattle.outside.specs.Faults.{Rose};
 ghost use Rattle.mica_trace.specs.LawfulReport.{IsLineFor};
 ghost use Rattle.batch_packets.specs.BatchGrammar.{IsBatch};
 ghost use Rattle.batch_packets.specs.ReplyGrammar.{IsReplies};

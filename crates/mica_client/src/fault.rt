@@ -1,7 +1,7 @@
 //! Why there is no report.
 ghost use Rattle.std.specs.Prelude.{◌≡◌};
 
-use mica_io::{Failed, NoMemory};
+use outside::{Failed, NoMemory};
 use std::error::Error;
 use std::fmt;
 

@@ -1,6 +1,6 @@
 //! What the datagrams of an exchange say: what was sent, that each ticket has one reply, and that they decide the answer.
 ghost use Rattle.std.specs.Prelude.{◌≡◌, ◌≢◌, ◌++◌, ℕ, map, List, Result, Ok, Err};
-ghost use Rattle.mica_io.specs.Traffic.{Datagram};
+ghost use Rattle.outside.specs.Traffic.{Datagram};
 ghost use Rattle.mica_trace.specs.declared.line.TraceLine.{TraceLine};
 ghost use Rattle.mica_trace.specs.declared.report.Line.{Line};
 ghost use Rattle.batch_packets.specs.declared.replies.Reply.{Reply};

@@ -1,10 +1,10 @@
 //! The way from a client to a server.
 ghost use Rattle.std.specs.Prelude.{◌≡◌, ◌<◌, ◌≤◌, ℕ, Bool, true, [], Option, option_map, length, take, is_err, IfOk, IfSome, IfNone, OnOk, OnErr};
-ghost use Rattle.mica_io.specs.Faults.{Rose, faults_after};
-ghost use Rattle.mica_io.specs.Traffic.{EndScript, fails_recv, fails_reply, after_recv, after_reply};
+ghost use Rattle.outside.specs.Faults.{Rose, faults_after};
+ghost use Rattle.outside.specs.Traffic.{EndScript, fails_recv, fails_reply, after_recv, after_reply};
 ghost use Rattle.mica_client.specs.Talk.{Talk, ReceivesNext, sent_one};
 
-use mica_io::Failed;
+use outside::Failed;
 
 /// Where a client's datagrams go to, and replies come from. A call that fails has sent or taken nothing, and raises the count of faults.
 pub trait Link {

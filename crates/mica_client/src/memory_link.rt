@@ -4,7 +4,7 @@ ghost use Rattle.mica_client.specs.Talk.{sent_in};
 ghost use Rattle.mica_client.specs.MemoryLink.{passed_in, LiesWithin, with_datagram};
 
 use crate::Link;
-use mica_io::{Bytes, Failed, NoMemory};
+use outside::{Bytes, Failed, NoMemory};
 use std::alloc::Global;
 
 /// A datagram that passed: where its bytes lie among those that were sent, and its port; or its number among those that were

@@ -8,7 +8,7 @@ ghost use Rattle.mica_client.specs.Batches.{text_len, joins, batches_with};
 
 use crate::request::Group;
 use batch_packets::{HEADER_LEN, MAX_DATAGRAM_LEN_V2, RequestRef};
-use mica_io::NoMemory;
+use outside::NoMemory;
 use std::alloc::Global;
 use std::mem;
 

@@ -3,7 +3,7 @@ ghost use Rattle.std.specs.Prelude.{◌≡◌, ◌≤◌, false, None, length, I
 
 use crate::Link;
 use libc::net as c;
-use mica_io::Failed;
+use outside::Failed;
 use std::io::{self, ErrorKind};
 use std::net::{Net as Sockets, UdpSocket};
 use std::os::fd::AsRawFd;

@@ -1,7 +1,7 @@
 -- How the command `check` keeps its promises.
 use Rattle.std.proofs.Common.{◌≡◌, ◌≢◌, ◌∙◌, ◌⊎◌, inl, inr, ℕ, List, Option, Some, None, Result, Ok, Err, refl, sym, subst}
 use Rattle.std.specs.Prelude.{IfOk, MatchResult}
-use Rattle.mica_io.specs.declared.fault.NoMemory.{NoMemory as OutOfMemory}
+use Rattle.outside.specs.declared.fault.NoMemory.{NoMemory as OutOfMemory}
 use Rattle.mica_trace.specs.declared.line.TraceLine.{TraceLine}
 use Rattle.mica_trace.specs.declared.line.TraceFault.{TraceFault}
 use Rattle.mica_trace.specs.declared.line.TraceFault.TheVariants.{NoMemory as NoRoom}

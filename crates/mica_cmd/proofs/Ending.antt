@@ -2,7 +2,7 @@
 use Rattle.std.proofs.Common.{◌≡◌, ◌⊎◌, ℕ, ◌+◌, false, inl, inr, List, [], Option, Some, None, length, length-append, Err, codes, refl, sym, ap, ◌∙◌, subst, arith}
 use Rattle.std.specs.Prelude.{IfSome}
 use Rattle.std.specs.Io.KnownBytes.{Consumes}
-use Rattle.mica_io.specs.Faults.{Rose}
+use Rattle.outside.specs.Faults.{Rose}
 use Rattle.partition_model.specs.declared.options.Options.{Options}
 use Rattle.mica_trace.specs.declared.line.TraceLine.{TraceLine}
 use Rattle.mica_trace.specs.declared.line.TraceFault.{TraceFault}
@@ -13,9 +13,9 @@ use Rattle.mica_trace.specs.declared.report.Line.{Line}
 use Rattle.mica_trace.specs.Printed.{PrintsText, PrintsPart}
 use Rattle.mica_replay.specs.Replayed.{IsReplayed}
 use Rattle.server_words.specs.declared.ports.PortOptions.{PortOptions}
-use Rattle.mica_fronts.specs.declared.totals.Totals.{Totals}
-use Rattle.mica_fronts.specs.declared.totals.ServeFault.{ServeFault}
-use Rattle.mica_fronts.specs.declared.totals.ServeFault.TheVariants.{Net}
+use Rattle.fronts.specs.declared.totals.Totals.{Totals}
+use Rattle.fronts.specs.declared.totals.ServeFault.{ServeFault}
+use Rattle.fronts.specs.declared.totals.ServeFault.TheVariants.{Net}
 use Rattle.served.specs.Others.{alone}
 use Rattle.served.specs.Served.{empty_origin}
 use Rattle.served.specs.NetRun.{NetFacts, HasServedOnTables, IsCauseOf, KeepsNet}

@@ -1,7 +1,7 @@
 -- How the command `unpack` keeps its promises.
 use Rattle.std.proofs.Common.{◌≡◌, ◌≢◌, ◌⊎◌, inl, inr, ℕ, List, Some, Result, Ok, Err, refl}
 use Rattle.std.specs.Prelude.{IfOk}
-use Rattle.mica_io.specs.declared.fault.NoMemory.{NoMemory as OutOfMemory}
+use Rattle.outside.specs.declared.fault.NoMemory.{NoMemory as OutOfMemory}
 use Rattle.partition_model.specs.declared.options.Options.{Options}
 use Rattle.mica_trace.specs.declared.line.TraceLine.{TraceLine}
 use Rattle.mica_trace.specs.TraceGrammar.{trace_text}

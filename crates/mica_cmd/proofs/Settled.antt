@@ -1,8 +1,8 @@
 -- The status of each command is settled, and a command that found no memory keeps its promises.
 use Rattle.std.proofs.Common.{◌≡◌, ℕ, List, [], Option, Some, None, inl, inr, refl, sym, ap, ◌∙◌, subst, arith}
 use Rattle.std.proofs.KnownBytes.{Consumes-nil, Keeps-refl}
-use Rattle.mica_io.specs.Faults.{Rose}
-use Rattle.mica_io.specs.PortStates.{PortStates}
+use Rattle.outside.specs.Faults.{Rose}
+use Rattle.outside.specs.PortStates.{PortStates}
 use Rattle.partition_model.specs.declared.options.Options.{Options}
 use Rattle.mica_trace.specs.declared.line.TraceLine.{TraceLine}
 use Rattle.server_words.specs.declared.ports.PortOptions.{PortOptions}

@@ -4,7 +4,7 @@ use Rattle.std.specs.Io.KnownBytes.{IsAtEnd}
 use Rattle.partition_table.specs.declared.tables.KeptSeat.{KeptSeat}
 use Rattle.served.specs.NetRun.{NetFacts}
 use Rattle.server_words.specs.Output.{SinkFacts}
-use Rattle.mica_io.specs.declared.source.Source.{Ghosts as SourceTells}
+use Rattle.outside.specs.declared.source.Source.{Ghosts as SourceTells}
 use Rattle.mica_client.specs.Talk.{Talk}
 use Rattle.mica_client.specs.declared.link.Link.{Ghosts as LinkTells}
 

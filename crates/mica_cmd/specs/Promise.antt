@@ -1,7 +1,7 @@
 -- What a run of a command promises, whichever command it is.
 use Rattle.std.specs.Prelude.{◌≡◌, ℕ, ◌⊎◌, List}
 use Rattle.std.specs.Io.KnownBytes.{Appends, Keeps}
-use Rattle.mica_io.specs.Faults.{Rose}
+use Rattle.outside.specs.Faults.{Rose}
 use Rattle.served.specs.NetRun.{NetFacts}
 use Rattle.mica_cmd.specs.declared.status.Status.{Status}
 use Rattle.mica_cmd.specs.declared.status.Status.TheVariants.{NoMemory, WriteFault}

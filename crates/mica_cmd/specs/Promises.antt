@@ -1,6 +1,6 @@
 -- The promises of each command.
 use Rattle.std.specs.Prelude.{◌≡◌, ◌≢◌, ◌⊎◌, ◌||◌, ℕ, List, codes, Option, Some, None, Result, Ok, Err}
-use Rattle.mica_io.specs.Faults.{Rose}
+use Rattle.outside.specs.Faults.{Rose}
 use Rattle.partition_model.specs.declared.options.Options.{Options}
 use Rattle.mica_trace.specs.declared.line.TraceLine.{TraceLine}
 use Rattle.mica_trace.specs.declared.report.Line.{Line}
@@ -23,7 +23,7 @@ use Rattle.store_image.specs.ImageLines.{put_lines}
 use Rattle.store_image.specs.ImageOf.{IsImaged}
 use Rattle.mica_replay.specs.Replayed.{IsReplayed}
 use Rattle.server_words.specs.declared.ports.PortOptions.{PortOptions}
-use Rattle.mica_fronts.specs.declared.totals.Totals.{Totals}
+use Rattle.fronts.specs.declared.totals.Totals.{Totals}
 use Rattle.served.specs.TotalsText.{totals_text}
 use Rattle.served.specs.Others.{alone}
 use Rattle.served.specs.Served.{empty_origin}

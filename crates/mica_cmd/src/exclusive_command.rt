@@ -11,7 +11,7 @@ ghost use Rattle.mica_cmd.specs.Promises.{exclusive_promise};
 use crate::Status;
 use crate::input::read_input;
 use exclusive_replay::{ExclusiveFault, exclusive};
-use mica_io::{Gate, Sink, Source};
+use outside::{Gate, Sink, Source};
 use partition_model::Options;
 use std::alloc::Global;
 use std::sync::Wait;

@@ -11,7 +11,7 @@ ghost use Rattle.mica_cmd.specs.Promises.{gen_promise};
 use crate::Status;
 use crate::output::write_due;
 use mica_commands::{GenOptions, gen_text};
-use mica_io::{NoMemory, Sink};
+use outside::{NoMemory, Sink};
 use std::alloc::Global;
 
 /// Prints the trace that the options generate.

@@ -9,8 +9,8 @@ ghost use Rattle.mica_cmd.specs.Input.{NoneByBytes, NoneByTrace, IsRefusedWith, 
 use crate::Status;
 use crate::output::write_due;
 use mica_commands::MAX_SOURCE_LEN;
-use mica_io::{ReadFault, Sink, Source, read_up_to};
 use mica_trace::{Trace, TraceFault, read_trace};
+use outside::{ReadFault, Sink, Source, read_up_to};
 use std::alloc::Global;
 
 /// The bytes of the source, read to its end. Where they can't be had, what is due is written, and the answer is its status.

@@ -3,7 +3,7 @@ ghost use Rattle.server_words.specs.Output.{sink_facts};
 ghost use Rattle.mica_cmd.specs.Promise.{IsWritten};
 
 use crate::Status;
-use mica_io::{Sink, write_all};
+use outside::{Sink, write_all};
 
 /// Writes the text that is due with a status. Where that fails, the status is `WriteFault` instead.
 pub fn write_due<K: Sink>(sink: &mut K, text: &[u8], status: Status) -> Status

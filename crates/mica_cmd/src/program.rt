@@ -9,8 +9,8 @@ ghost use Rattle.option_words.specs.ProgramWords.{words_of};
 
 use crate::{Status, mica};
 use mica_client::Link;
-use mica_io::{Gate, Net, NoMemory, Sink, Source};
 use option_words::{all_words, behind_name};
+use outside::{Gate, Net, NoMemory, Sink, Source};
 use partition_table::Tables;
 use std::alloc::Global;
 use std::env::Args;

@@ -9,8 +9,8 @@ ghost use Rattle.mica_cmd.specs.Promises.{replay_promise};
 
 use crate::Status;
 use crate::input::read_input;
-use mica_io::{Gate, Sink, Source};
 use mica_replay::{ReplayFault, replay};
+use outside::{Gate, Sink, Source};
 use partition_model::Options;
 use partition_table::Tables;
 use std::alloc::Global;

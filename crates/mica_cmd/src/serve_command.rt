@@ -11,8 +11,8 @@ ghost use Rattle.served.specs.TotalsText.{totals_text};
 
 use crate::Status;
 use crate::output::write_due;
-use mica_io::{Gate, Net, NoMemory, Sink};
 use mica_serve::{PortOptions, ServeFault, Totals, serve};
+use outside::{Gate, Net, NoMemory, Sink};
 use partition_model::Options;
 use partition_table::Tables;
 use served::totals_line;

@@ -20,7 +20,7 @@ use crate::serve_command::serve_command;
 use crate::unpack_command::unpack_command;
 use mica_client::Link;
 use mica_commands::{Command, WordsFault, read_words};
-use mica_io::{Gate, Net, Sink, Source};
+use outside::{Gate, Net, Sink, Source};
 use partition_table::Tables;
 use std::alloc::Global;
 use std::sync::Wait;

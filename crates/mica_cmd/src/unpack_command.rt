@@ -12,7 +12,7 @@ ghost use Rattle.mica_cmd.specs.Promises.{unpack_promise, IsRefusedImage};
 use crate::Status;
 use crate::input::read_source;
 use crate::output::write_due;
-use mica_io::{NoMemory, Sink, Source};
+use outside::{NoMemory, Sink, Source};
 use std::alloc::Global;
 use store_image::{Image, ImageFault, put_image, read_image};
 

@@ -7,7 +7,7 @@ ghost use Rattle.mica_commands.specs.Generator.{drawn_line, drawn_lines, generat
 use crate::GenOptions;
 use crate::draw::{Draw, OpKind, ends_round, next_draw, start};
 use crate::spelling::{put_key, put_value};
-use mica_io::NoMemory;
+use outside::NoMemory;
 use std::alloc::Global;
 
 // Appends the line of an operation. Where memory runs out, a part may stand there.

@@ -8,8 +8,8 @@ ghost use Rattle.mica_commands.specs.Generator.{padded, drawn_key, drawn_line, d
 use crate::GenOptions;
 use crate::draw::{Draw, OpKind, ends_round, next_draw, start};
 use crate::spelling::{put_key, put_value};
-use mica_io::{Bytes, CowBytes, NoMemory};
 use mica_trace::{Trace, TraceLine, TraceOp};
+use outside::{Bytes, CowBytes, NoMemory};
 use std::alloc::Global;
 
 // The key of a number.

@@ -6,7 +6,7 @@ ghost use Rattle.mica_commands.specs.Generator.{padded, drawn_key};
 
 use crate::GenOptions;
 use itoa::Buffer;
-use mica_io::NoMemory;
+use outside::NoMemory;
 
 static ZEROS: [u8; 1_024] = [b'0'; 1_024];
 

@@ -5,9 +5,9 @@ ghost use Rattle.mica_trace.specs.LawfulReport.{LawfulReport};
 ghost use Rattle.mica_commands.specs.Summary.{is_op, is_outcome, has_outcome, ops_in, outcomes_in, stamps_by, last_stamps, number_line, counts_text, stamps_text, summary_text};
 
 use itoa::Buffer;
-use mica_io::NoMemory;
 use mica_trace::{Line, Report, Trace, TraceLine, TraceOp};
 use mica_words::{key_hash, partition_of};
+use outside::NoMemory;
 use partition_model::{Options, Outcome};
 use std::alloc::Global;
 

@@ -2,8 +2,8 @@
 ghost use Rattle.std.specs.Prelude.{◌≡◌, ◌+◌, ◌<◌, ◌≤◌, ◌^◌, length, slice_index, slice_set, replicate, IfOk};
 ghost use Rattle.partition_model.specs.Store.{spares_behind};
 
-use mica_io::NoMemory;
 use mica_words::SLOTS;
+use outside::NoMemory;
 use std::alloc::Global;
 
 // How many keys each main bucket has, and how many spares they need together.

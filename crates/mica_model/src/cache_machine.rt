@@ -14,7 +14,7 @@ ghost use Rattle.partition_model.specs.Write.{HasValueOf, write_of};
 
 use crate::cache_state::CacheState;
 use crate::fates::{Fates, mark_passed};
-use mica_io::{Bytes, NoMemory};
+use outside::{Bytes, NoMemory};
 use partition_model::{Answer, Fate, ItemBuf, Mode, Op, Options, Outcome, Write};
 use std::alloc::Global;
 use std::marker::Model;

@@ -5,8 +5,8 @@ ghost use Rattle.partition_model.specs.Cache.{has_key, is_live as is_live_at};
 ghost use Rattle.partition_model.specs.CacheStep.{is_in_bucket as is_in};
 ghost use Rattle.partition_model.specs.Options.{IsValid};
 
-use mica_io::Bytes;
 use mica_words::{bucket_of, key_hash, tail_of};
+use outside::Bytes;
 use partition_model::Options;
 use std::marker::Model;
 

@@ -11,8 +11,8 @@ ghost use Rattle.partition_model.specs.Options.{IsValid};
 ghost use Rattle.partition_model.specs.Write.{HasValueOf, write_of};
 
 use crate::cache_record::CacheRecord;
-use mica_io::{Bytes, NoMemory};
 use mica_words::{SLOTS, bucket_of, item_size, key_hash, tail_of};
+use outside::{Bytes, NoMemory};
 use partition_model::{Op, Options, Outcome, has_room};
 use std::alloc::Global;
 use std::marker::Model;

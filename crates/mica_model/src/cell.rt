@@ -1,7 +1,7 @@
 //! What the store machine keeps of a key.
 ghost use Rattle.mica_words.specs.Item.{ValueFits};
 
-use mica_io::Bytes;
+use outside::Bytes;
 
 // What a key has: its value, and how many words it may use.
 #[derive(Drop)]

@@ -10,8 +10,8 @@ ghost use Rattle.mica_model.specs.CellTable.{LacksSpare, with_cells, cell_of};
 
 use crate::bucket_keys::BucketKeys;
 use crate::cell::Cell;
-use mica_io::{Bytes, NoMemory};
 use mica_words::{SLOTS, bucket_of, key_hash};
+use outside::{Bytes, NoMemory};
 use std::alloc::Global;
 use std::collections::BTreeMap;
 use std::marker::Model;

@@ -3,7 +3,7 @@ ghost use Rattle.std.specs.Prelude.{◌≡◌, ℕ, List, OnOk, IsSome, IfOk};
 ghost use Rattle.mica_model.specs.CacheFields.{fate_in, marked, marked_passed, no_notes, notes_of};
 
 use crate::cache_record::CacheRecord;
-use mica_io::NoMemory;
+use outside::NoMemory;
 use partition_model::Fate;
 use std::alloc::Global;
 use std::collections::BTreeMap;

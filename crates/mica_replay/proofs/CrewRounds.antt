@@ -1,12 +1,12 @@
 -- A round at a row of free desks: what is handed there, and what comes back.
 use Rattle.std.proofs.Common.{◌≡◌, ℕ, zero, suc, ◌<◌, List, [], ◌∷◌, length, map, replicate, slice_index_or, All, None, refl, ap, arith}
 use Rattle.std.proofs.lemmas.List.Elements.{All-head, All-tail}
-use Rattle.work_desk.specs.declared.rule.Knows.{Knows}
+use Rattle.work_desk.specs.declared.rule.DeskSeatView.{DeskSeatView}
 use Rattle.work_desk.specs.Desk.{giver, told}
 use Rattle.work_desk.specs.Rows.{free_again, all_told, handed, AllHanded, MayHand, Returned}
 
 module _ {T S : Type 0} (terms : S) where
-  abbrev pub free : ℕ → List (Knows T S)
+  abbrev pub free : ℕ → List (DeskSeatView T S)
   free n = replicate n (giver terms None)
 
   pub may_hand : (ready : S → T → Type 0) (ws : List T) → All (ready terms) ws → MayHand ready ws (free (length ws))

@@ -7,9 +7,9 @@ use Rattle.partition_model.specs.declared.write.Write.{Write}
 use Rattle.partition_model.specs.declared.write.Outcome.{Outcome}
 use Rattle.partition_model.specs.History.{stamp_of}
 use Rattle.partition_model.specs.Run.{RunStep, history_of, IsRunFrom}
-use Rattle.epoch_core.specs.declared.state.OwnerState.{OwnerState}
-use Rattle.epoch_core.specs.OwnerState.{options_in}
-use Rattle.epoch_core.specs.OwnerStep.{IsOwnerStep}
+use Rattle.partition_words.specs.declared.state.OwnerState.{OwnerState}
+use Rattle.partition_words.specs.OwnerState.{options_in}
+use Rattle.partition_words.specs.OwnerStep.{IsOwnerStep}
 use Rattle.owner_queue.specs.declared.message.Job.{Job}
 use Rattle.owner_queue.specs.declared.message.Message.{Message}
 use Rattle.owner_queue.specs.declared.message.Message.TheVariants as kind

@@ -14,12 +14,12 @@ use Rattle.mica_trace.specs.declared.report.Line.{Line}
 use Rattle.mica_trace.specs.TraceGrammar.{IsTraceLine}
 use Rattle.mica_trace.specs.Rounds.{is_in_partition, writes_of}
 use Rattle.mica_trace.specs.LawfulReport.{IsLineFor, step_in, steps_of}
-use Rattle.epoch_core.specs.declared.shape.Shape.{Shape}
-use Rattle.epoch_core.specs.declared.state.OwnerState.{OwnerState}
+use Rattle.partition_words.specs.declared.shape.Shape.{Shape}
+use Rattle.partition_words.specs.declared.state.OwnerState.{OwnerState}
 use Rattle.owner_queue.proofs.Runs.{run_as}
-use Rattle.epoch_core.specs.Shape.{shape_of, options_of}
-use Rattle.epoch_core.specs.OwnerState.{as_made}
-use Rattle.epoch_core.specs.declared.reader.ReaderState.{ReaderState}
+use Rattle.partition_words.specs.Shape.{shape_of, options_of}
+use Rattle.partition_words.specs.OwnerState.{as_made}
+use Rattle.partition_words.specs.declared.reader.ReaderState.{ReaderState}
 use Rattle.partition_table.specs.declared.tables.KeptSeat.{KeptSeat}
 use Rattle.mica_trace.specs.RoundReport.{LinePair, EndsRound, IsOneRound, is_get, gets_in, pairs_of, gets_of, line_pairs_in, AnswersRise, history_in, IsRoundReport}
 use Rattle.mica_replay.specs.Between.{HaveWorked}

@@ -17,10 +17,10 @@ use Rattle.mica_trace.specs.declared.report.Line.{Line}
 use Rattle.mica_trace.specs.TraceGrammar.{HasFields, IsTraceLine}
 use Rattle.mica_trace.specs.Rounds.{partition_in, is_in_partition}
 use Rattle.mica_trace.specs.LawfulReport.{IsKindOf, Answers}
-use Rattle.epoch_core.specs.Shape.{shape_of}
+use Rattle.partition_words.specs.Shape.{shape_of}
 use Rattle.optimistic_get.specs.declared.getting.Got.{Got}
 use Rattle.optimistic_get.specs.declared.getting.Got.TheVariants.{Hit, Miss, Again}
-use Rattle.epoch_core.specs.declared.reader.ReaderState.{ReaderState}
+use Rattle.partition_words.specs.declared.reader.ReaderState.{ReaderState}
 use Rattle.mica_trace.specs.RoundReport.{LinePair, line_pairs_in, AnswersRise}
 use Rattle.optimistic_get.specs.Asked.{SeatAnswers, IsRead}
 use Rattle.optimistic_get.proofs.Repeated.{no_answers, seat_further, same_answer}

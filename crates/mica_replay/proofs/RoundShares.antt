@@ -9,9 +9,9 @@ use Rattle.partition_model.specs.declared.write.Write.{Write}
 use Rattle.mica_trace.specs.declared.line.TraceLine.{TraceLine}
 use Rattle.mica_trace.specs.declared.report.Line.{Line}
 use Rattle.mica_trace.specs.Rounds.{writes_of}
-use Rattle.epoch_core.specs.declared.state.OwnerState.{OwnerState}
+use Rattle.partition_words.specs.declared.state.OwnerState.{OwnerState}
 use Rattle.mica_trace.specs.RoundReport.{gets_in}
-use Rattle.epoch_core.specs.Joins.{lent}
+use Rattle.partition_words.specs.Joins.{lent}
 use Rattle.mica_replay.specs.LineNumbers.{lines_at}
 use Rattle.mica_replay.specs.ReaderGets.{HasRead, HaveRead}
 use Rattle.mica_replay.specs.Replies.{Reply, HasWritten}

@@ -6,10 +6,10 @@ use Rattle.std.proofs.lemmas.Option.{slice_get_read, slice_get-map, slice_get_wi
 use Rattle.list_laws.proofs.Places.{popped, element_at, set_cases, set_same}
 use Rattle.atomic_table.specs.Seated.{TableId}
 use Rattle.partition_model.specs.History.{History, IsPrefix}
-use Rattle.epoch_core.specs.declared.state.OwnerState.{OwnerState}
-use Rattle.epoch_core.specs.Kept.{Kept}
-use Rattle.epoch_core.specs.declared.reader.ReaderState.{ReaderState}
-use Rattle.epoch_core.specs.Joins.{met_by}
+use Rattle.partition_words.specs.declared.state.OwnerState.{OwnerState}
+use Rattle.partition_words.specs.Kept.{Kept}
+use Rattle.partition_words.specs.declared.reader.ReaderState.{ReaderState}
+use Rattle.partition_words.specs.Joins.{met_by}
 use Rattle.mica_replay.specs.Lending.{OwnerPart, MeetsSeat}
 
 module _ {X Y : Type 0} (f : X → Y) where

@@ -8,12 +8,12 @@ use Rattle.mica_trace.specs.declared.line.TraceLine.{TraceLine}
 use Rattle.mica_trace.specs.declared.report.Line.{Line}
 use Rattle.mica_trace.specs.Rounds.{writes_of}
 use Rattle.mica_trace.specs.LawfulReport.{LawfulReport}
-use Rattle.epoch_core.specs.declared.state.OwnerState.{OwnerState}
-use Rattle.epoch_core.specs.declared.state.Phase.TheVariants.{Idle}
-use Rattle.epoch_core.specs.Shape.{shape_of}
-use Rattle.epoch_core.specs.declared.reader.ReaderState.{ReaderState}
+use Rattle.partition_words.specs.declared.state.OwnerState.{OwnerState}
+use Rattle.partition_words.specs.declared.state.Phase.TheVariants.{Idle}
+use Rattle.partition_words.specs.Shape.{shape_of}
+use Rattle.partition_words.specs.declared.reader.ReaderState.{ReaderState}
 use Rattle.mica_trace.specs.RoundReport.{gets_in, gets_of, line_pairs_in, AnswersRise, history_in}
-use Rattle.epoch_core.specs.Joins.{lent}
+use Rattle.partition_words.specs.Joins.{lent}
 use Rattle.mica_replay.specs.ReaderGets.{HasRead}
 use Rattle.mica_replay.specs.Replies.{Reply, steps_with, HasWritten}
 use Rattle.mica_replay.specs.Replayed.{gets_to_partition}

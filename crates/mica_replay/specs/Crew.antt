@@ -4,7 +4,7 @@ use Rattle.partition_model.specs.declared.options.Options.{Options}
 use Rattle.partition_model.specs.declared.options.Mode.TheVariants.{Cache}
 use Rattle.mica_trace.specs.declared.line.TraceLine.{TraceLine}
 use Rattle.partition_table.specs.declared.reader.ReaderSeat.{ReaderSeat}
-use Rattle.work_desk.specs.declared.rule.Knows.{Knows}
+use Rattle.work_desk.specs.declared.rule.DeskSeatView.{DeskSeatView}
 use Rattle.work_desk.specs.Desk.{giver, told}
 use Rattle.mica_replay.specs.declared.worker.OwnerWork.{OwnerWork}
 use Rattle.mica_replay.specs.declared.worker.ReaderWork.{ReaderWork}
@@ -18,8 +18,8 @@ no_terms = read_terms [] (record { mode = Cache; partitions = 0; buckets = 0; sp
 
 -- what the desks' sides know
 pub record Desks (P : Type 0) : Type 0 where
-  pub owners : List (Knows (OwnerWork P) (Unit {0}))
-  pub readers : List (Knows (ReaderWork ReaderSeat) ReadTerms)
+  pub owners : List (DeskSeatView (OwnerWork P) (Unit {0}))
+  pub readers : List (DeskSeatView (ReaderWork ReaderSeat) ReadTerms)
 
 module _ {P : Type 0} where
   -- free desks, from the side that hands work over

@@ -1,6 +1,6 @@
 -- What an owner replies to the jobs that it takes.
 use Rattle.std.specs.Prelude.{◌≡◌, ◌+◌, List, ◌++◌, length, map}
-use Rattle.epoch_core.specs.declared.state.OwnerState.{OwnerState}
+use Rattle.partition_words.specs.declared.state.OwnerState.{OwnerState}
 use Rattle.owner_queue.specs.declared.message.Message.{Message}
 use Rattle.owner_queue.specs.JobEnds.{Inbox}
 use Rattle.owner_queue.specs.Worked.{DoneJob, HasWorked}

@@ -2,10 +2,10 @@
 use Rattle.std.specs.Prelude.{◌≡◌, ℕ, ◌+◌, List, length, slice_get, Some}
 use Rattle.atomic_table.specs.Seated.{TableId}
 use Rattle.partition_model.specs.History.{IsPrefix}
-use Rattle.epoch_core.specs.declared.state.OwnerState.{OwnerState}
-use Rattle.epoch_core.specs.declared.reader.ReaderState.{ReaderState}
+use Rattle.partition_words.specs.declared.state.OwnerState.{OwnerState}
+use Rattle.partition_words.specs.declared.reader.ReaderState.{ReaderState}
 use Rattle.mica_replay.specs.declared.worker.OwnerWork.{OwnerWork}
-use Rattle.epoch_core.specs.Joins.{lent}
+use Rattle.partition_words.specs.Joins.{lent}
 use Rattle.mica_replay.specs.Replies.{Replies}
 
 -- an owner's state and table, and its part of a round

@@ -6,7 +6,7 @@ use Rattle.mica_trace.specs.declared.report.Line.{Line}
 use Rattle.mica_trace.specs.Rounds.{is_in_partition, writes_of}
 use Rattle.mica_trace.specs.RoundReport.{is_get}
 use Rattle.mica_trace.specs.LawfulReport.{history_after, LawfulReport}
-use Rattle.epoch_core.specs.Shape.{shape_of}
+use Rattle.partition_words.specs.Shape.{shape_of}
 use Rattle.partition_table.specs.declared.tables.KeptSeat.{KeptSeat}
 
 -- how many gets of the trace are in the partition

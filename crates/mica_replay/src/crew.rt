@@ -7,11 +7,11 @@ ghost use Rattle.mica_replay.specs.Crew.{read_terms, IsCrew, IsDismissed};
 
 use crate::duties::ReadTerms;
 use crate::worker::{OwnerWork, ReaderWork};
-use epoch_core::Partition;
-use mica_io::{Gate, NoMemory};
 use mica_trace::Trace;
+use outside::{Gate, NoMemory};
 use partition_model::Options;
 use partition_table::ReaderSeat;
+use partition_words::Partition;
 use std::alloc::Global;
 use std::marker::{Brand, Model};
 use std::sync::Wait;

@@ -2,7 +2,7 @@
 ghost use Rattle.std.specs.Prelude.{◌≡◌, ◌<◌, ◌-◌, ◌+◌, ◌∷◌, ◌++◌, [], length, slice_get, IfOk, vec_len, vec_capacity};
 ghost use Rattle.mica_replay.specs.Replies.{replies_with};
 
-use mica_io::NoMemory;
+use outside::NoMemory;
 use partition_model::Outcome;
 use std::alloc::Global;
 use std::marker::Model;

@@ -1,9 +1,9 @@
 //! What may be handed to an owner and to a reader of the crew, and what comes back.
 use crate::worker::{OwnerWork, ReaderWork};
-use epoch_core::Partition;
 use mica_trace::TraceLine;
 use partition_model::Options;
 use partition_table::ReaderSeat;
+use partition_words::Partition;
 use std::collections::LinkedList;
 use std::marker::Brand;
 use work_desk::{Terms, Work};

@@ -13,11 +13,11 @@ use crate::feeder::Feeder;
 use crate::queues::{open_queues, take_senders_in};
 use crate::round_jobs::RoundJobs;
 use crate::worker::{OwnerWork, ReaderWork, run_all};
-use epoch_core::LendPartition;
-use mica_io::NoMemory;
 use mica_trace::Trace;
+use outside::NoMemory;
 use partition_model::Options;
 use partition_table::{Note, ReaderSeat};
+use partition_words::LendPartition;
 use std::alloc::Global;
 use std::sync::Wait;
 

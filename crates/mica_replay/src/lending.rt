@@ -3,8 +3,8 @@ ghost use Rattle.std.specs.Prelude.{◌≡◌, ◌<◌, [], map, length, OnOk};
 ghost use Rattle.mica_replay.specs.Lending.{owner_part, lent_part, table_in, HaveMet};
 
 use crate::worker::OwnerWork;
-use epoch_core::LendPartition;
-use mica_io::NoMemory;
+use outside::NoMemory;
+use partition_words::LendPartition;
 
 /// Each owner lends a seat, in order.
 pub(crate) fn lend_all<P: LendPartition>(

@@ -12,10 +12,10 @@ ghost use Rattle.mica_replay.specs.Merged.{AreEnough, HasMerged};
 use crate::done::Done;
 use crate::round_jobs::write_op;
 use crate::worker::{OwnerWork, ReaderWork};
-use epoch_core::{Partition, ReaderWords};
-use mica_io::NoMemory;
 use mica_trace::{Line, Report, TraceLine, TraceOp};
+use outside::NoMemory;
 use partition_model::{Options, Outcome};
+use partition_words::{Partition, ReaderWords};
 use std::alloc::Global;
 use std::vec::IntoIter;
 

@@ -4,9 +4,9 @@ ghost use Rattle.owner_queue.specs.Messages.{has_end};
 ghost use Rattle.mica_replay.specs.JobReplies.{RepliesToJobs};
 
 use crate::done::Done;
-use epoch_core::Partition;
-use mica_io::Gate;
+use outside::Gate;
 use owner_queue::{JobReceiver, Message, apply_write};
+use partition_words::Partition;
 use std::sync::Wait;
 
 /// Takes jobs until the queue's end, and adds the outcome and the stamp of each at the end of `out`. It takes no

@@ -1,12 +1,12 @@
 //! A replay: a trace's report, written as a whole.
 ghost use Rattle.std.specs.Prelude.{◌≡◌, ◌≤◌, [], OnOk, IsErrOf};
-ghost use Rattle.mica_io.specs.Faults.{Rose};
+ghost use Rattle.outside.specs.Faults.{Rose};
 ghost use Rattle.partition_model.specs.Options.{IsValid};
 ghost use Rattle.mica_replay.specs.Printed.{PrintsReport, PrintsPart};
 
 use crate::run_trace;
-use mica_io::{Failed, Gate, NoMemory, Sink};
 use mica_trace::{Trace, texts_of, write_texts};
+use outside::{Failed, Gate, NoMemory, Sink};
 use partition_model::Options;
 use partition_table::Tables;
 use std::alloc::Global;

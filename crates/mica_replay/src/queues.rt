@@ -4,7 +4,7 @@ ghost use Rattle.mica_replay.specs.Queues.{HaveQueues, MayTakeIn, HaveTakenIn};
 
 use crate::done::Done;
 use crate::worker::OwnerWork;
-use mica_io::NoMemory;
+use outside::NoMemory;
 use owner_queue::{JobSender, job_queue};
 use std::alloc::Global;
 use std::mem;

@@ -8,12 +8,12 @@ ghost use Rattle.mica_replay.specs.Answered.{IsNotAgain, line_of};
 ghost use Rattle.mica_replay.specs.LineNumbers.{lines_at, NamesGet};
 ghost use Rattle.mica_replay.specs.ReaderGets.{AreSeatsOf, HaveRead, HaveSeenMore};
 
-use epoch_core::ReaderWords;
-use mica_io::{Bytes, Gate, NoMemory};
 use mica_trace::{Line, Trace};
 use mica_words::{key_hash, partition_of};
 use optimistic_get::{Got, ask_hashed};
+use outside::{Bytes, Gate, NoMemory};
 use partition_model::{ItemBuf, Options};
+use partition_words::ReaderWords;
 use std::alloc::Global;
 use std::marker::Model;
 use std::sync::Wait;

@@ -11,11 +11,11 @@ use crate::feeding::run_fed;
 use crate::lending::{lend_all, meet_all};
 use crate::round_jobs::RoundJobs;
 use crate::worker::{OwnerWork, ReaderWork};
-use epoch_core::LendPartition;
-use mica_io::NoMemory;
 use mica_trace::Trace;
+use outside::NoMemory;
 use partition_model::Options;
 use partition_table::{Note, ReaderSeat};
+use partition_words::LendPartition;
 use std::alloc::Global;
 use std::sync::Wait;
 

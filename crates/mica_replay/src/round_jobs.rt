@@ -6,8 +6,8 @@ ghost use Rattle.mica_replay.specs.Feeds.{writes_for};
 ghost use Rattle.mica_replay.specs.LineNumbers.{write_at, IsWriteOp};
 
 use crate::feeder::Feed;
-use mica_io::NoMemory;
 use mica_trace::{TraceLine, TraceOp};
+use outside::NoMemory;
 use owner_queue::{CowWrite, Job};
 use partition_model::Op;
 use std::alloc::Global;

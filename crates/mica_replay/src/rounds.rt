@@ -13,11 +13,11 @@ use crate::merging::{collect, print_round};
 use crate::round::run_round;
 use crate::sharing::split_round;
 use crate::worker::{OwnerWork, ReaderWork};
-use epoch_core::LendPartition;
-use mica_io::NoMemory;
 use mica_trace::{Report, Trace, TraceLine};
+use outside::NoMemory;
 use partition_model::Options;
 use partition_table::{Note, ReaderSeat};
+use partition_words::LendPartition;
 use std::alloc::Global;
 use std::sync::Wait;
 

@@ -2,9 +2,9 @@
 ghost use Rattle.std.specs.Thread.{IsSync};
 ghost use Rattle.std.specs.Prelude.{None, ◌≡◌, ◌≤◌, ◌+◌, ◌++◌, [], ℕ, Some, All, IfOk, IfSome, OnErr, map, length, slice_get};
 ghost use Rattle.partition_model.specs.Options.{IsValid};
-ghost use Rattle.epoch_core.specs.declared.state.Phase.TheVariants.{Idle};
-ghost use Rattle.epoch_core.specs.Shape.{shape_of};
-ghost use Rattle.epoch_core.specs.OwnerState.{as_made};
+ghost use Rattle.partition_words.specs.declared.state.Phase.TheVariants.{Idle};
+ghost use Rattle.partition_words.specs.Shape.{shape_of};
+ghost use Rattle.partition_words.specs.OwnerState.{as_made};
 ghost use Rattle.mica_replay.specs.Lending.{OwnerPart, owner_part};
 ghost use Rattle.mica_replay.specs.RoundRun.{reader_part, AreMade, AreFree, kept_of};
 ghost use Rattle.partition_model.specs.declared.options.Mode.TheVariants.{Cache, Store};
@@ -17,19 +17,18 @@ use crate::done::Done;
 use crate::duties::ReadTerms;
 use crate::rounds::run_rounds;
 use crate::worker::{OwnerWork, ReaderWork};
+use any_partition::OnTable;
 use cache_partition::CachePartition;
-use epoch_core::{LendPartition, Partition, ReaderWords, Shape};
-use mica_io::{Gate, NoMemory};
 use mica_trace::{Report, Trace};
+use outside::{Gate, NoMemory, rehearse};
 use owner_queue::job_queue;
 use partition_model::{Mode, Options};
 use partition_table::{Note, OwnerSeat, ReaderSeat, Tables, zeros_for};
-use seated_partition::OnTable;
+use partition_words::{LendPartition, Partition, ReaderWords, Shape};
 use std::alloc::Global;
 use std::sync::Wait;
 use std::thread::{Threads, for_each_mut, join, join_mut};
 use store_partition::StorePartition;
-use thread_rehearsal::rehearse;
 use work_desk::Doer;
 
 // The partitions, each made in a thread of its own: None in the place of one for which there was no memory.

@@ -11,11 +11,11 @@ ghost use Rattle.mica_replay.specs.Shares.{HasNoGets, HasGets};
 
 use crate::round_jobs::{RoundJobs, write_of_line};
 use crate::worker::ReaderWork;
-use epoch_core::ReaderWords;
-use mica_io::NoMemory;
 use mica_trace::{Trace, TraceOp};
 use mica_words::{key_hash, partition_of};
+use outside::NoMemory;
 use partition_model::Options;
+use partition_words::ReaderWords;
 use std::alloc::Global;
 
 /// What of a round is shared out, beside the gets that its readers have.

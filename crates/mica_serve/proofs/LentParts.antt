@@ -9,15 +9,15 @@ use Rattle.std.proofs.lemmas.Option.{slice_get_within, same_Some}
 use Rattle.list_laws.proofs.Places.{at_last, element_at, set_cases}
 use Rattle.atomic_table.specs.Seated.{TableId}
 use Rattle.partition_model.specs.declared.options.Options.{Options}
-use Rattle.epoch_core.specs.declared.state.OwnerState.{OwnerState}
-use Rattle.epoch_core.specs.declared.reader.ReaderState.{ReaderState}
-use Rattle.epoch_core.specs.Shape.{shape_of}
-use Rattle.epoch_core.specs.Joins.{lent}
+use Rattle.partition_words.specs.declared.state.OwnerState.{OwnerState}
+use Rattle.partition_words.specs.declared.reader.ReaderState.{ReaderState}
+use Rattle.partition_words.specs.Shape.{shape_of}
+use Rattle.partition_words.specs.Joins.{lent}
 use Rattle.partition_table.specs.Seats.{reader_state, reader_home}
 use Rattle.owner_queue.specs.JobEnds.{Outbox, outbox, Inbox}
 use Rattle.owner_queue.specs.AckEnds.{AckBox, ack_box}
-use Rattle.mica_fronts.specs.declared.queue_front.FrontPart.{FrontPart}
-use Rattle.mica_fronts.specs.QueueFront.{IsNewPart}
+use Rattle.queue_front.specs.declared.queue_front.FrontPart.{FrontPart}
+use Rattle.queue_front.specs.QueueFront.{IsNewPart}
 use Rattle.mica_serve.specs.Hands.{OwnerEnd, IsNewOwner, IsLentBy, AreLent, LendsOneMore}
 use Rattle.served.proofs.Binding.{at_snoc}
 

@@ -9,7 +9,7 @@ use Rattle.list_laws.proofs.Places.{element_at, set_cases}
 use Rattle.partition_table.specs.Seats.{reader_state}
 use Rattle.partition_model.specs.History.{History, IsPrefix}
 use Rattle.owner_queue.specs.Messages.{sent_by, has_end}
-use Rattle.mica_fronts.specs.declared.queue_front.FrontPart.{FrontPart}
+use Rattle.queue_front.specs.declared.queue_front.FrontPart.{FrontPart}
 use Rattle.mica_serve.specs.Hands.{OwnerEnd, MayMeet, HasMet, MeetsPart, MayMeetHand, MeetsHand, MayMeetAll, HaveMetAll, closed_by, closed_at}
 
 -- the owners from a place on took in their parts, and those before it are as they were

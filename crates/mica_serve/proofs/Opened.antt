@@ -5,14 +5,14 @@ use Rattle.std.proofs.lemmas.Option.{slice_get_within, slice_get-map, same_Some}
 use Rattle.std.specs.Prelude.{option_map}
 use Rattle.list_laws.proofs.Places.{at_seam}
 use Rattle.partition_model.specs.declared.options.Options.{Options}
-use Rattle.epoch_core.specs.declared.state.OwnerState.{OwnerState}
-use Rattle.epoch_core.specs.Shape.{shape_of}
-use Rattle.epoch_core.specs.OwnerState.{as_made}
-use Rattle.epoch_core.specs.Joins.{lent}
+use Rattle.partition_words.specs.declared.state.OwnerState.{OwnerState}
+use Rattle.partition_words.specs.Shape.{shape_of}
+use Rattle.partition_words.specs.OwnerState.{as_made}
+use Rattle.partition_words.specs.Joins.{lent}
 use Rattle.owner_queue.specs.JobEnds.{Outbox, outbox, Inbox, inbox}
 use Rattle.owner_queue.specs.AckEnds.{AckBox, ack_box}
-use Rattle.mica_fronts.specs.declared.queue_front.FrontPart.{FrontPart}
-use Rattle.mica_fronts.specs.QueueFront.{QueueView, IsNewPart, queue_view}
+use Rattle.queue_front.specs.declared.queue_front.FrontPart.{FrontPart}
+use Rattle.queue_front.specs.QueueFront.{QueueView, IsNewPart, queue_view}
 use Rattle.mica_serve.specs.Hands.{OwnerEnd, IsLentBy, LendsPart, AreSendersOf, LendsEach, AreLent, LendsOneMore}
 use Rattle.served.proofs.Binding.{at_snoc}
 use Rattle.mica_serve.proofs.LentParts.{LendsTo, lends_none, lends_one, hands_more, new_parts}

@@ -10,15 +10,15 @@ use Rattle.list_laws.proofs.Places.{at_map, element_at, from_map}
 use Rattle.list_laws.proofs.AllElements.{all_places, all_zipped}
 use Rattle.atomic_table.specs.Seated.{TableId}
 use Rattle.partition_model.specs.declared.options.Options.{Options}
-use Rattle.epoch_core.specs.declared.state.OwnerState.{OwnerState}
-use Rattle.epoch_core.specs.declared.state.Phase.TheVariants.{Idle}
+use Rattle.partition_words.specs.declared.state.OwnerState.{OwnerState}
+use Rattle.partition_words.specs.declared.state.Phase.TheVariants.{Idle}
 use Rattle.partition_table.specs.Tabled.{kept_seat_in}
 use Rattle.partition_table.specs.declared.tables.KeptSeat.{KeptSeat}
 use Rattle.owner_queue.specs.JobEnds.{Inbox}
 use Rattle.owner_queue.specs.AckEnds.{AckBox}
 use Rattle.server_words.specs.declared.limits.TheConstants.{MAX_BATCHES}
 use Rattle.server_words.specs.declared.ports.PortOptions.{PortOptions}
-use Rattle.mica_fronts.specs.declared.queue_front.FrontPart.{FrontPart}
+use Rattle.queue_front.specs.declared.queue_front.FrontPart.{FrontPart}
 use Rattle.mica_serve.specs.declared.worker.OwnerTask.{OwnerTask}
 use Rattle.mica_serve.specs.declared.worker.FrontTask.{FrontTask}
 use Rattle.served.specs.Others.{alone}
@@ -26,8 +26,8 @@ use Rattle.served.specs.Served.{empty_origin}
 use Rattle.served.specs.Ends.{EndFacts, AreOpen}
 use Rattle.served.specs.FrontRuns.{RanAll}
 use Rattle.mica_serve.specs.Hands.{OwnerEnd, IsReadyOwner, IsNewOwner, AreFrontsOf, RanOwner, MayMeetAll, HaveMetAll}
-use Rattle.mica_fronts.specs.OwnerWork.{IsNewAckBox}
-use Rattle.mica_fronts.specs.QueueFront.{QueueView}
+use Rattle.queue_front.specs.OwnerWork.{IsNewAckBox}
+use Rattle.queue_front.specs.QueueFront.{QueueView}
 use Rattle.mica_serve.specs.Tasks.{owner_end, IsReadyTask, TaskRan, OwnersRan, IsReadyFront, FrontRan, FrontsRan}
 use Rattle.mica_serve.proofs.TakenIn.{HaveRan, owner_at, may_meet, ran_all}
 

@@ -13,10 +13,10 @@ use Rattle.list_laws.proofs.Places.{at_map, from_map, element_at}
 use Rattle.partition_model.specs.declared.options.Options.{Options}
 use Rattle.partition_model.specs.History.{IsPrefix}
 use Rattle.partition_model.specs.Run.{RunStep, IsRunFrom, history_of}
-use Rattle.epoch_core.specs.declared.state.OwnerState.{OwnerState}
-use Rattle.epoch_core.specs.declared.reader.ReaderState.{ReaderState}
+use Rattle.partition_words.specs.declared.state.OwnerState.{OwnerState}
+use Rattle.partition_words.specs.declared.reader.ReaderState.{ReaderState}
 use Rattle.owner_queue.proofs.Runs.{run_as}
-use Rattle.epoch_core.specs.OwnerState.{options_in}
+use Rattle.partition_words.specs.OwnerState.{options_in}
 use Rattle.partition_table.specs.declared.tables.KeptSeat.{KeptSeat}
 use Rattle.partition_table.specs.Tabled.{kept_seat_in}
 use Rattle.partition_table.specs.Seats.{reader_state, reader_home}
@@ -27,17 +27,17 @@ use Rattle.owner_queue.specs.declared.message.Job.{Job}
 use Rattle.owner_queue.specs.Messages.{sender_of}
 use Rattle.owner_queue.specs.JobEnds.{Outbox, Inbox}
 use Rattle.owner_queue.specs.AckEnds.{AckBox}
-use Rattle.mica_fronts.specs.declared.queue_front.FrontPart.{FrontPart}
+use Rattle.queue_front.specs.declared.queue_front.FrontPart.{FrontPart}
 use Rattle.mica_serve.specs.declared.worker.FrontTask.{FrontTask}
-use Rattle.mica_fronts.specs.QueueStand.{QueueStand}
-use Rattle.mica_fronts.specs.Session.{Told, Session}
-use Rattle.mica_fronts.specs.Placed.{Placed, steps_in, steps_by, history_in}
+use Rattle.queue_front.specs.QueueStand.{QueueStand}
+use Rattle.fronts.specs.Session.{Told, Session}
+use Rattle.fronts.specs.Placed.{Placed, steps_in, steps_by, history_in}
 use Rattle.served.specs.Others.{alone}
 use Rattle.served.specs.Served.{empty_origin}
 use Rattle.served.specs.Beside.{closed_of, total_below, RunsPartitions}
-use Rattle.mica_fronts.specs.QueueFront.{QueueView, IsFrontPart, queue_view, stand_of, told_by, session_or_none, sessions_of, ended_part, step_by, acknowledged_by}
+use Rattle.queue_front.specs.QueueFront.{QueueView, IsFrontPart, queue_view, stand_of, told_by, session_or_none, sessions_of, ended_part, step_by, acknowledged_by}
 use Rattle.owner_queue.specs.Worked.{Acknowledged, DoneJob, jobs_in, job_of}
-use Rattle.mica_fronts.specs.OwnerWork.{placed_in}
+use Rattle.queue_front.specs.OwnerWork.{placed_in}
 use Rattle.served.specs.Ends.{EndFacts}
 use Rattle.served.specs.FrontRuns.{FrontRun, RunsFront, RunFronts, RanAll, IsTakenIn, AreTakenIn, closed_in}
 use Rattle.mica_serve.specs.Hands.{OwnerEnd, IsNewOwner, IsLentBy, AreFrontsOf, RanOwner, MayMeet, HasMet, MayMeetAll, HaveMetAll, closed_by, closed_at, met_after}

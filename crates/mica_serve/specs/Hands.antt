@@ -3,17 +3,17 @@ use Rattle.std.specs.Prelude.{◌≡◌, ◌+◌, ◌<◌, ℕ, true, List, [], 
 use Rattle.atomic_table.specs.Seated.{TableId}
 use Rattle.partition_model.specs.declared.options.Options.{Options}
 use Rattle.partition_model.specs.History.{IsPrefix}
-use Rattle.epoch_core.specs.declared.state.OwnerState.{OwnerState}
-use Rattle.epoch_core.specs.Shape.{shape_of}
-use Rattle.epoch_core.specs.OwnerState.{as_made}
-use Rattle.epoch_core.specs.Joins.{lent}
+use Rattle.partition_words.specs.declared.state.OwnerState.{OwnerState}
+use Rattle.partition_words.specs.Shape.{shape_of}
+use Rattle.partition_words.specs.OwnerState.{as_made}
+use Rattle.partition_words.specs.Joins.{lent}
 use Rattle.partition_table.specs.Seats.{reader_state, reader_home}
 use Rattle.owner_queue.specs.Messages.{sent_by, has_end}
 use Rattle.owner_queue.specs.JobEnds.{Outbox, outbox, Inbox, inbox}
 use Rattle.owner_queue.specs.AckEnds.{AckBox, ack_box, BeginsAcks}
-use Rattle.mica_fronts.specs.declared.queue_front.FrontPart.{FrontPart}
-use Rattle.mica_fronts.specs.QueueFront.{QueueView, queue_view}
-use Rattle.mica_fronts.specs.OwnerWork.{IsNewAckBox, HasAnsweredJobs}
+use Rattle.queue_front.specs.declared.queue_front.FrontPart.{FrontPart}
+use Rattle.queue_front.specs.QueueFront.{QueueView, queue_view}
+use Rattle.queue_front.specs.OwnerWork.{IsNewAckBox, HasAnsweredJobs}
 
 -- of an owner: its state and its table, its end of the queue of jobs, and its end of the queue of answers to each front
 pub record OwnerEnd : Type 0 where

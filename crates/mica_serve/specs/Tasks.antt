@@ -1,19 +1,19 @@
 -- What the workers of a server have to do, and what each makes of it.
 use Rattle.std.specs.Prelude.{◌≡◌, ◌*◌, ◌<◌, ◌≤◌, ℕ, false, List, [], map, length, slice_index_or, Some, IfSome, vec_capacity, Result}
 use Rattle.atomic_table.specs.Seated.{TableId}
-use Rattle.mica_io.specs.Traffic.{new_traffic}
-use Rattle.epoch_core.specs.declared.state.OwnerState.{OwnerState}
-use Rattle.mica_fronts.specs.declared.queue_front.FrontPart.{FrontPart}
+use Rattle.outside.specs.Traffic.{new_traffic}
+use Rattle.partition_words.specs.declared.state.OwnerState.{OwnerState}
+use Rattle.queue_front.specs.declared.queue_front.FrontPart.{FrontPart}
 use Rattle.server_words.specs.declared.limits.TheConstants.{MAX_BATCHES}
-use Rattle.mica_fronts.specs.declared.totals.Totals.{Totals}
-use Rattle.mica_fronts.specs.declared.totals.ServeFault.{ServeFault}
+use Rattle.fronts.specs.declared.totals.Totals.{Totals}
+use Rattle.fronts.specs.declared.totals.ServeFault.{ServeFault}
 use Rattle.mica_serve.specs.declared.worker.OwnerTask.{OwnerTask}
 use Rattle.mica_serve.specs.declared.worker.FrontTask.{FrontTask}
 use Rattle.mica_serve.specs.declared.server.Room.{Room}
 use Rattle.mica_serve.specs.declared.server.Server.{Server}
 use Rattle.server_words.specs.declared.ports.PortOptions.{PortOptions}
 use Rattle.partition_model.specs.declared.options.Options.{Options}
-use Rattle.mica_fronts.specs.QueueFront.{QueueView, IsQueueFront, stand_of, sessions_of, ended_part}
+use Rattle.queue_front.specs.QueueFront.{QueueView, IsQueueFront, stand_of, sessions_of, ended_part}
 use Rattle.served.specs.Ends.{EndFacts}
 use Rattle.served.specs.FrontRuns.{RunsFront}
 use Rattle.mica_serve.specs.Hands.{OwnerEnd, IsReadyOwner, RanOwner, AreFrontsOf}

@@ -4,9 +4,9 @@ ghost use Rattle.mica_serve.specs.Hands.{MayMeet, MeetsPart, MayMeetHand, MeetsH
 ghost use Rattle.mica_serve.specs.Tasks.{owner_end};
 
 use crate::worker::OwnerTask;
-use epoch_core::LendPartition;
-use mica_fronts::FrontPart;
 use partition_table::{Note, ReaderSeat};
+use partition_words::LendPartition;
+use queue_front::FrontPart;
 
 impl<P: LendPartition<Reader = ReaderSeat, Note = Note>> OwnerTask<P> {
     // Takes in the last front's part.

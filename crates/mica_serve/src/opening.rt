@@ -1,20 +1,20 @@
 //! Owners and fronts as made, with their queues and seats, before any of them starts.
 ghost use Rattle.std.specs.Prelude.{◌≡◌, ◌*◌, ◌<◌, ◌≤◌, [], IfOk, OnOk, map, length, vec_len};
 ghost use Rattle.partition_model.specs.Options.{IsValid};
-ghost use Rattle.epoch_core.specs.OwnerState.{as_made};
-ghost use Rattle.epoch_core.specs.Shape.{shape_of};
+ghost use Rattle.partition_words.specs.OwnerState.{as_made};
+ghost use Rattle.partition_words.specs.Shape.{shape_of};
 ghost use Rattle.server_words.specs.PortOptions.{IsValidPorts};
 ghost use Rattle.mica_serve.specs.Hands.{LendsPart, AreSendersOf, LendsEach, AreLent, LendsOneMore, AreFrontsOf};
 ghost use Rattle.mica_serve.specs.Tasks.{owner_end};
 
 use crate::worker::OwnerTask;
-use epoch_core::{LendPartition, Shape};
-use mica_fronts::{FrontPart, QueueFront};
-use mica_io::NoMemory;
+use any_partition::OnTable;
+use outside::NoMemory;
 use owner_queue::{JobSender, ack_queue, job_queue};
 use partition_model::Options;
 use partition_table::{Note, ReaderSeat, zeros_for};
-use seated_partition::OnTable;
+use partition_words::{LendPartition, Shape};
+use queue_front::{FrontPart, QueueFront};
 use server_words::PortOptions;
 use std::alloc::Global;
 

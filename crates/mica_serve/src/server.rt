@@ -1,7 +1,7 @@
 //! All workers of a server, from their room to the last meeting.
 ghost use Rattle.std.specs.Prelude.{◌≡◌, ◌+◌, ◌≤◌, ℕ, IfOk, length, map, slice_get, Some};
 ghost use Rattle.partition_model.specs.Options.{IsValid};
-ghost use Rattle.epoch_core.specs.declared.state.Phase.TheVariants.{Idle};
+ghost use Rattle.partition_words.specs.declared.state.Phase.TheVariants.{Idle};
 ghost use Rattle.partition_table.specs.Tabled.{kept_seat_in};
 ghost use Rattle.partition_table.specs.declared.reader.Note.{Note};
 ghost use Rattle.partition_table.specs.Seats.{note_state, note_home};
@@ -15,18 +15,18 @@ ghost use Rattle.mica_serve.specs.Tasks.{IsRoom, IsServer};
 use crate::meeting::meet_all;
 use crate::opening::open_all;
 use crate::worker::{FrontTask, OwnerTask, pair_up, part_fronts, run_workers};
-use epoch_core::LendPartition;
-use mica_fronts::{FrontPart, QueueFront, ServeFault, Totals};
-use mica_io::{Datagrams, Gate, NoMemory};
+use any_partition::OnTable;
+use fronts::{ServeFault, Totals};
+use outside::{Datagrams, Gate, NoMemory, rehearse};
 use partition_model::Options;
 use partition_table::{Note, ReaderSeat};
-use seated_partition::OnTable;
+use partition_words::LendPartition;
+use queue_front::{FrontPart, QueueFront};
 use server_words::PortOptions;
 use std::alloc::Global;
 use std::mem;
 use std::sync::Wait;
 use std::thread::Threads;
-use thread_rehearsal::rehearse;
 
 /// The room for all workers and for what they come to.
 #[derive(Drop)]

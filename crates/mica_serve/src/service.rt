@@ -12,13 +12,13 @@ ghost use Rattle.served.specs.NetRun.{BindsAndServes, IsCauseOf, KeepsNet, net_f
 
 use crate::server::{Server, run_all};
 use crate::tables::keep_all;
+use any_partition::OnTable;
 use cache_partition::CachePartition;
-use epoch_core::LendPartition;
-use mica_fronts::{ServeFault, Totals};
-use mica_io::{Datagrams, Gate, Net};
+use fronts::{ServeFault, Totals};
+use outside::{Datagrams, Gate, Net};
 use partition_model::{Mode, Options};
 use partition_table::{Note, OwnerSeat, ReaderSeat, Tables};
-use seated_partition::OnTable;
+use partition_words::LendPartition;
 use served::{bind_all, release_all, sum_up};
 use server_words::PortOptions;
 use std::alloc::Global;

@@ -1,12 +1,12 @@
 //! The seats that a server keeps.
 ghost use Rattle.std.specs.Prelude.{◌≡◌, ◌≤◌, ◌+◌, ◌++◌, ℕ, Some, map, length, slice_get};
-ghost use Rattle.epoch_core.specs.declared.state.Phase.TheVariants.{Idle};
+ghost use Rattle.partition_words.specs.declared.state.Phase.TheVariants.{Idle};
 ghost use Rattle.partition_table.specs.Tabled.{kept_seat_in};
 
 use crate::worker::OwnerTask;
-use epoch_core::Partition;
+use any_partition::OnTable;
 use partition_table::Tables;
-use seated_partition::OnTable;
+use partition_words::Partition;
 
 /// Keeps the seats of all owners, in order.
 pub(crate) fn keep_all<P: OnTable + Partition>(owners: Vec<OwnerTask<P>>, tables: &mut Tables)

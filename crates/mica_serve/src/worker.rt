@@ -7,11 +7,13 @@ ghost use Rattle.mica_serve.specs.Hands.{IsReadyOwner, RanOwner};
 ghost use Rattle.mica_serve.specs.Tasks.{owner_end, IsReadyTask, TaskRan, OwnersRan, IsReadyFront, FrontRan, FrontsRan};
 ghost use Rattle.served.specs.Ends.{end_facts};
 
-use epoch_core::LendPartition;
-use mica_fronts::{FrontPart, QueueFront, ServeFault, Totals, serve_end, serve_owner};
-use mica_io::{Datagrams, Gate};
+use datagram_answers::serve_end;
+use fronts::{ServeFault, Totals};
+use outside::{Datagrams, Gate};
 use owner_queue::{AckSender, JobReceiver};
 use partition_table::{Note, ReaderSeat};
+use partition_words::LendPartition;
+use queue_front::{FrontPart, QueueFront, serve_owner};
 use std::alloc::Global;
 use std::sync::Wait;
 use std::thread::{Threads, for_each_mut, join_mut};

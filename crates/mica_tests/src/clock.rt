@@ -1,6 +1,7 @@
 //! The system's clock.
 
-use mica_clock::{Clock, StdClock};
+use host_outside::StdClock;
+use outside::Clock;
 use std::test::Fail;
 use std::thread::sleep;
 use std::time::Duration;

@@ -1,8 +1,9 @@
 //! Single datagrams through a front that owns its partitions.
 
-use mica_fronts::{SoloFront, serve_batch};
-use mica_io::FreeGate;
+use datagram_answers::serve_batch;
+use outside::FreeGate;
 use partition_model::{Mode, Options};
+use queue_front::SoloFront;
 use std::process::Abort;
 use std::sync::Wait;
 use std::test::Fail;

@@ -1,6 +1,7 @@
 //! Ports of TCP connections, and plain sockets as their clients.
 ghost use Rattle.std.specs.Prelude.{◌≡◌, false};
 
+use connections::{Broken, Connections, Event, Input, Listeners};
 use std::io::{Read, Write};
 use std::net::{Ipv4Addr, Net as Sockets, Shutdown, TcpListener, TcpStream};
 use std::process::Abort;
@@ -8,7 +9,7 @@ use std::sync::atomic::{AtomicBool, Ordering};
 use std::test::Fail;
 use std::thread::{join, sleep};
 use std::time::Duration;
-use stream_io::{Broken, Connections, Event, Input, Listeners, TcpConnections, TcpListeners};
+use tcp_connections::{TcpConnections, TcpListeners};
 
 /// Connections at the first of some ports that is free, and this port.
 fn new_port<'a, R: Abort + AllocGlobal + Sockets>(

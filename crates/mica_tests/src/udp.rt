@@ -1,7 +1,8 @@
 //! An end of a UDP socket, and a plain socket as its client.
 ghost use Rattle.std.specs.Prelude.{◌≡◌, false, true};
 
-use mica_io::{Datagrams, Net, UdpEnd, UdpNet};
+use host_outside::{UdpEnd, UdpNet};
+use outside::{Datagrams, Net};
 use std::net::{Net as Sockets, UdpSocket};
 use std::process::Abort;
 use std::sync::atomic::{AtomicBool, Ordering};

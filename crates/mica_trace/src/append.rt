@@ -1,7 +1,7 @@
 //! Appends a line to a text.
 ghost use Rattle.std.specs.Prelude.{◌≡◌, ◌∷◌, ◌++◌, [], flat_map, OnOk, OnErr};
 
-use mica_io::NoMemory;
+use outside::NoMemory;
 
 /// Appends the parts and a line feed. Where memory runs out, nothing is appended.
 pub fn append_line(out: &mut Vec<u8>, parts: &[&[u8]]) -> Result<(), NoMemory>

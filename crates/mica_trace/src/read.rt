@@ -6,8 +6,8 @@ ghost use Rattle.mica_trace.specs.TraceGrammar.{IsKey, IsValue, IsTextOf, IsTrac
 
 use crate::split::{after_word, first_line, split_at_byte};
 use crate::{MAX_LINE_LEN, MAX_LINES, MAX_ROUNDS, Trace, TraceFault, TraceLine, TraceOp};
-use mica_io::CowBytes;
 use mica_words::{key_fits, value_fits};
+use outside::CowBytes;
 use std::alloc::Global;
 
 // The bytes of the shortest line, with its line feed.

@@ -6,7 +6,7 @@ ghost use Rattle.mica_trace.specs.ReportGrammar.{report_line_text, HasOutcome, I
 use crate::append::append_line;
 use crate::read::is_value;
 use itoa::Buffer;
-use mica_io::{Bytes, NoMemory};
+use outside::{Bytes, NoMemory};
 use partition_model::{Op, Outcome};
 use std::alloc::Global;
 use std::marker::Model;

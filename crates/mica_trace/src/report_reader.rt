@@ -8,7 +8,7 @@ use crate::read::is_value;
 use crate::split::{after_word, split_at_byte};
 use crate::{Line, Report};
 use itoa::Buffer;
-use mica_io::{Bytes, NoMemory};
+use outside::{Bytes, NoMemory};
 use partition_model::{Op, Outcome};
 use std::alloc::Global;
 use std::error::Error;

@@ -2,12 +2,12 @@
 ghost use Rattle.std.specs.Prelude.{◌≡◌, ◌≤◌, ◌<◌, ◌*◌, ℕ, length, take, IfSome, IfOk, OnOk, OnErr};
 ghost use Rattle.std.specs.List.{AllByRecursion};
 ghost use Rattle.std.specs.Io.KnownBytes.{Appends};
-ghost use Rattle.mica_io.specs.Faults.{Rose};
+ghost use Rattle.outside.specs.Faults.{Rose};
 ghost use Rattle.mica_trace.specs.ReportGrammar.{report_text, IsReportLine};
 ghost use Rattle.mica_trace.specs.TextParts.{part_of, joined, AreTexts};
 
 use crate::{Line, Report, put_report_line};
-use mica_io::{Bytes, Failed, NoMemory, Sink, write_all};
+use outside::{Bytes, Failed, NoMemory, Sink, write_all};
 use std::alloc::Global;
 use std::sync::Wait;
 use std::thread::{Threads, for_each_mut};

@@ -5,7 +5,7 @@ ghost use Rattle.mica_trace.specs.TraceGrammar.{IsTraceLine, IsWithinLimits, lin
 
 use crate::append::append_line;
 use crate::{Trace, TraceLine, TraceOp};
-use mica_io::NoMemory;
+use outside::NoMemory;
 
 fn put_line(line: &TraceLine, out: &mut Vec<u8>) -> Result<(), NoMemory>
     requires { IsTraceLine line.now }

@@ -2,15 +2,15 @@
 
 ghost use Rattle.std.specs.Prelude.{◌≡◌, ◌≢◌, length, IfOk};
 ghost use Rattle.std.specs.Process.{exit_status};
-ghost use Rattle.mica_daemon.specs.declared.status.DaemonStatus.{DaemonStatus};
-ghost use Rattle.mica_daemon.specs.Numbers.{exit_number};
+ghost use Rattle.daemon.specs.declared.status.DaemonStatus.{DaemonStatus};
+ghost use Rattle.daemon.specs.Numbers.{exit_number};
 ghost use Rattle.server_words.specs.declared.limits.TheConstants.{MOST_FRONTS};
 
 use crate::host_files::HostFiles;
-use locked_serve::Left;
-use mica_clock::StdClock;
-use mica_daemon::{DaemonStatus, Process, Speaker, exit_code, run_daemon};
-use mica_io::{FreeGate, NoMemory, StdSink, UdpNet};
+use daemon::{DaemonStatus, Process, Speaker, exit_code, run_daemon};
+use host_outside::{StdClock, StdSink, UdpNet};
+use locked_server::Left;
+use outside::{FreeGate, NoMemory};
 use server_words::MOST_FRONTS;
 use std::alloc::Global;
 use std::net::{Ipv4Addr, Net as Sockets};
@@ -20,7 +20,7 @@ use std::sync::Wait;
 use std::sync::atomic::AtomicBool;
 use std::thread::Threads;
 use std::{env, io, time};
-use stream_io::TcpListeners;
+use tcp_connections::TcpListeners;
 
 /// As many clocks as there may be fronts.
 fn clocks_of<'a, R: time::Clock>(rt: &'a R, alloc: Global) -> Result<Vec<StdClock<'a, R>>, NoMemory>

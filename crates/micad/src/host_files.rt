@@ -1,8 +1,9 @@
 //! The files of this machine.
 ghost use Rattle.std.specs.Prelude.{◌≡◌};
 
-use mica_daemon::{Files, SystemFiles, free_by};
-use mica_io::{ReadFault, StdSource, read_up_to};
+use daemon::{Files, SystemFiles, free_by};
+use host_outside::StdSource;
+use outside::{ReadFault, read_up_to};
 use std::alloc::Global;
 use std::fs;
 use std::rt::Files as FileSystem;

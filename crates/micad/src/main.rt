@@ -1,5 +1,5 @@
 //! The server for memcached's clients: it answers their commands over TCP, and batches of requests over UDP.
-//! All that it does stands in `mica_daemon`; here it gets the files, the sockets and the standard output of this machine.
+//! All that it does stands in `daemon`; here it gets the files, the sockets and the standard output of this machine.
 #![tactic(auto)]
 
 mod host;

@@ -8,21 +8,21 @@ use Rattle.mica_words.specs.Packing.{AreBytes}
 use Rattle.partition_model.specs.declared.options.Mode.{Mode}
 use Rattle.partition_model.specs.declared.options.Mode.TheVariants.{Cache, Store}
 use Rattle.partition_model.specs.History.{History, IsPrefix, stamp_of, answer_of, writes_to_bucket}
-use Rattle.epoch_core.specs.declared.shape.Shape.{Shape}
-use Rattle.epoch_core.specs.declared.state.Phase.{Phase}
-use Rattle.epoch_core.specs.declared.state.Phase.TheVariants.{Idle}
-use Rattle.epoch_core.specs.declared.state.OwnerState.{OwnerState}
-use Rattle.epoch_core.specs.declared.reading.Plan.{Plan}
-use Rattle.epoch_core.specs.declared.reader.Try.{Try}
-use Rattle.epoch_core.specs.declared.reader.ReaderState.{ReaderState}
-use Rattle.epoch_core.specs.Shape.{options_of, IsMain}
-use Rattle.epoch_core.specs.OwnerState.{epoch_in, begun_in, marked_in}
-use Rattle.epoch_core.specs.Plan.{Rests, owner_found, FindsEpoch, FindsLastEpoch, FindsHistory}
-use Rattle.epoch_core.specs.LiveEntry.{IsLiveItem}
-use Rattle.epoch_core.specs.Failures.{failure}
-use Rattle.epoch_core.specs.ReaderState.{new_try, opened, with_cut, stamped, fails_after, closes, shut}
-use Rattle.epoch_core.specs.Spelt.{Loads, LinksTo, HasLinks, ShowsItem, IsNoEntryOf, by_tag as no_tag, by_stamp as no_stamp, by_item as no_item, SpellsAnswer}
-use Rattle.epoch_core.specs.ReaderKept.{TellsTry, Tells}
+use Rattle.partition_words.specs.declared.shape.Shape.{Shape}
+use Rattle.partition_words.specs.declared.state.Phase.{Phase}
+use Rattle.partition_words.specs.declared.state.Phase.TheVariants.{Idle}
+use Rattle.partition_words.specs.declared.state.OwnerState.{OwnerState}
+use Rattle.partition_words.specs.declared.reading.Plan.{Plan}
+use Rattle.partition_words.specs.declared.reader.Try.{Try}
+use Rattle.partition_words.specs.declared.reader.ReaderState.{ReaderState}
+use Rattle.partition_words.specs.Shape.{options_of, IsMain}
+use Rattle.partition_words.specs.OwnerState.{epoch_in, begun_in, marked_in}
+use Rattle.partition_words.specs.Plan.{Rests, owner_found, FindsEpoch, FindsLastEpoch, FindsHistory}
+use Rattle.partition_words.specs.LiveEntry.{IsLiveItem}
+use Rattle.partition_words.specs.Failures.{failure}
+use Rattle.partition_words.specs.ReaderState.{new_try, opened, with_cut, stamped, fails_after, closes, shut}
+use Rattle.partition_words.specs.Spelt.{Loads, LinksTo, HasLinks, ShowsItem, IsNoEntryOf, by_tag as no_tag, by_stamp as no_stamp, by_item as no_item, SpellsAnswer}
+use Rattle.partition_words.specs.ReaderKept.{TellsTry, Tells}
 use Rattle.optimistic_get.specs.Loading.{most_loads, loads_of, loads_in, TryGoesOn}
 use Rattle.optimistic_get.specs.Search.{IsWeighed, by_tag, by_item, by_best, IsBest, IsSlotSeen, Searches}
 use Rattle.optimistic_get.specs.declared.getting.Got.{Got}

@@ -4,12 +4,12 @@ use Rattle.std.specs.Prelude.{Contains}
 use Rattle.mica_words.specs.declared.entry.TheConstants.{SLOTS}
 use Rattle.mica_words.specs.Item.{largest_item}
 use Rattle.partition_model.specs.declared.options.Mode.TheVariants.{Store}
-use Rattle.epoch_core.specs.declared.shape.Shape.{Shape}
-use Rattle.epoch_core.specs.declared.reader.ReaderState.{ReaderState}
-use Rattle.epoch_core.specs.Layout.{bucket_words, link_at}
-use Rattle.epoch_core.specs.ReaderState.{loaded}
-use Rattle.epoch_core.specs.Spelt.{Loads, HasLoad, LinksTo, HasLinks}
-use Rattle.epoch_core.proofs.Failing.{in_cons, in_none, in_both, in_last}
+use Rattle.partition_words.specs.declared.shape.Shape.{Shape}
+use Rattle.partition_words.specs.declared.reader.ReaderState.{ReaderState}
+use Rattle.partition_words.specs.Layout.{bucket_words, link_at}
+use Rattle.partition_words.specs.ReaderState.{loaded}
+use Rattle.partition_words.specs.Spelt.{Loads, HasLoad, LinksTo, HasLinks}
+use Rattle.partition_words.proofs.Failing.{in_cons, in_none, in_both, in_last}
 use Rattle.optimistic_get.specs.Loading.{loads_in, Keeps, GoesOn}
 use Rattle.optimistic_get.specs.Search.{IsBest, IsSlotWeighed, IsSlotSeen, Scans, ScansFirst, Searches}
 use Rattle.optimistic_get.proofs.Loads.{on_then, on_at_most, on_open, on_keeps, on_shape, load_here}

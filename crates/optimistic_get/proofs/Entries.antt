@@ -8,12 +8,12 @@ use Rattle.mica_words.specs.Entry.{entry_tag, entry_offset}
 use Rattle.mica_words.specs.Item.{largest_item}
 use Rattle.mica_words.proofs.Hashes.{tag_of-range}
 use Rattle.partition_model.specs.declared.options.Mode.TheVariants.{Store}
-use Rattle.epoch_core.specs.declared.shape.Shape.{Shape}
-use Rattle.epoch_core.specs.declared.reader.ReaderState.{ReaderState}
-use Rattle.epoch_core.specs.Layout.{entry_at, item_at}
-use Rattle.epoch_core.specs.ReaderState.{loaded}
-use Rattle.epoch_core.specs.Spelt.{Loads, HasLoad, ShowsOther, by_offset, by_key_len, by_value_len, by_hash, by_key_word, ShowsItem, IsEntryOf}
-use Rattle.epoch_core.proofs.Failing.{in_head}
+use Rattle.partition_words.specs.declared.shape.Shape.{Shape}
+use Rattle.partition_words.specs.declared.reader.ReaderState.{ReaderState}
+use Rattle.partition_words.specs.Layout.{entry_at, item_at}
+use Rattle.partition_words.specs.ReaderState.{loaded}
+use Rattle.partition_words.specs.Spelt.{Loads, HasLoad, ShowsOther, by_offset, by_key_len, by_value_len, by_hash, by_key_word, ShowsItem, IsEntryOf}
+use Rattle.partition_words.proofs.Failing.{in_head}
 use Rattle.optimistic_get.specs.Loading.{loads_in, Keeps, GoesOn}
 use Rattle.optimistic_get.specs.Search.{IsWeighed, by_tag, by_item, by_best, IsBest, IsNoWorse, IsSlotWeighed, IsSlotSeen, Weighs, Scans, ScansFirst}
 use Rattle.optimistic_get.proofs.Loads.{on_then, on_at_most, on_open, on_keeps, on_shape, load_here}

@@ -7,10 +7,10 @@ use Rattle.mica_words.specs.Header.{header_key_len, header_value_len}
 use Rattle.mica_words.specs.Item.{words_for}
 use Rattle.mica_words.specs.Packing.{packed, unpacked}
 use Rattle.mica_words.proofs.PackedBytes.{length-packed}
-use Rattle.epoch_core.specs.declared.reader.ReaderState.{ReaderState}
-use Rattle.epoch_core.specs.Layout.{item_at}
-use Rattle.epoch_core.specs.ReaderState.{loaded}
-use Rattle.epoch_core.specs.Spelt.{HasLoad, ShowsOther, by_key_len, by_value_len, by_hash, by_key_word, ShowsItem}
+use Rattle.partition_words.specs.declared.reader.ReaderState.{ReaderState}
+use Rattle.partition_words.specs.Layout.{item_at}
+use Rattle.partition_words.specs.ReaderState.{loaded}
+use Rattle.partition_words.specs.Spelt.{HasLoad, ShowsOther, by_key_len, by_value_len, by_hash, by_key_word, ShowsItem}
 use Rattle.optimistic_get.specs.Loading.{loads_in, GoesOn, HasLoadedWords, LacksWord, HasKeyOf, HoldsValue}
 use Rattle.optimistic_get.proofs.Loads.{on_none, on_load, on_then, on_open, item_here, item_still, words_still}
 

@@ -4,13 +4,13 @@ use Rattle.std.specs.Prelude.{is_some}
 use Rattle.std.proofs.lemmas.Bool.{cases_lt}
 use Rattle.std.proofs.lemmas.List.{get_or_append_left}
 use Rattle.std.proofs.Math.Seq.{get_or-append_seam, get_or-append_right}
-use Rattle.epoch_core.specs.declared.shape.Shape.{Shape}
-use Rattle.epoch_core.specs.declared.reader.Try.{Try}
-use Rattle.epoch_core.specs.declared.reader.ReaderState.{ReaderState}
-use Rattle.epoch_core.specs.Layout.{item_at}
-use Rattle.epoch_core.specs.ReaderState.{with_load, loaded, loaded_items}
-use Rattle.epoch_core.specs.Spelt.{HasLoad}
-use Rattle.epoch_core.proofs.Failing.{in_left, in_last}
+use Rattle.partition_words.specs.declared.shape.Shape.{Shape}
+use Rattle.partition_words.specs.declared.reader.Try.{Try}
+use Rattle.partition_words.specs.declared.reader.ReaderState.{ReaderState}
+use Rattle.partition_words.specs.Layout.{item_at}
+use Rattle.partition_words.specs.ReaderState.{with_load, loaded, loaded_items}
+use Rattle.partition_words.specs.Spelt.{HasLoad}
+use Rattle.partition_words.proofs.Failing.{in_left, in_last}
 use Rattle.optimistic_get.specs.Loading.{loads_of, loads_in, Keeps, TryGoesOn, GoesOn, HasLoadedWords, LacksWord}
 
 -- a try goes on

@@ -3,11 +3,11 @@ use Rattle.std.proofs.Common.{◌≡◌, ◌≢◌, ℕ, ◌+◌, List, [], ◌+
 use Rattle.partition_model.specs.declared.options.Options.{Options}
 use Rattle.partition_model.specs.History.{History, State, stamp_in, value_in}
 use Rattle.partition_model.specs.Run.{IsAnswerAt}
-use Rattle.epoch_core.specs.declared.shape.Shape.{Shape}
-use Rattle.epoch_core.specs.declared.reader.ReaderState.{ReaderState}
-use Rattle.epoch_core.specs.Shape.{shape_of, options_of}
-use Rattle.epoch_core.proofs.SameMachine.{same_state}
-use Rattle.epoch_core.proofs.Prefixes.{prefix_same, prefix_then}
+use Rattle.partition_words.specs.declared.shape.Shape.{Shape}
+use Rattle.partition_words.specs.declared.reader.ReaderState.{ReaderState}
+use Rattle.partition_words.specs.Shape.{shape_of, options_of}
+use Rattle.partition_words.proofs.SameMachine.{same_state}
+use Rattle.partition_words.proofs.Prefixes.{prefix_same, prefix_then}
 use Rattle.optimistic_get.specs.declared.getting.Got.{Got}
 use Rattle.optimistic_get.specs.declared.getting.Got.TheVariants.{Hit, Miss, Again}
 use Rattle.optimistic_get.specs.Gets.{TriesMade, FailsMore, Answered}

@@ -3,13 +3,13 @@ use Rattle.std.proofs.Common.{◌≡◌, ℕ, true, ◌+◌, ◌*◌, ◌<◌, �
 use Rattle.std.proofs.lemmas.List.{append-nil}
 use Rattle.std.proofs.lemmas.List.Sums.{sum_by-append}
 use Rattle.partition_model.specs.History.{History, writes_to_bucket}
-use Rattle.epoch_core.specs.declared.shape.Shape.{Shape}
-use Rattle.epoch_core.specs.declared.state.Failure.{Failure}
-use Rattle.epoch_core.specs.declared.reader.ReaderState.{ReaderState}
-use Rattle.epoch_core.specs.Shape.{options_of}
-use Rattle.epoch_core.specs.Failures.{failure, IsFailure}
-use Rattle.epoch_core.proofs.Prefixes.{prefix_same, prefix_then}
-use Rattle.epoch_core.proofs.Failing.{in_cons, in_none, in_both}
+use Rattle.partition_words.specs.declared.shape.Shape.{Shape}
+use Rattle.partition_words.specs.declared.state.Failure.{Failure}
+use Rattle.partition_words.specs.declared.reader.ReaderState.{ReaderState}
+use Rattle.partition_words.specs.Shape.{options_of}
+use Rattle.partition_words.specs.Failures.{failure, IsFailure}
+use Rattle.partition_words.proofs.Prefixes.{prefix_same, prefix_then}
+use Rattle.partition_words.proofs.Failing.{in_cons, in_none, in_both}
 use Rattle.optimistic_get.specs.declared.getting.Got.{Got}
 use Rattle.optimistic_get.specs.declared.getting.Got.TheVariants.{Hit, Miss, Again}
 use Rattle.optimistic_get.specs.Loading.{most_loads}

@@ -3,11 +3,11 @@ use Rattle.std.proofs.Common.{◌≡◌, ℕ, List, false, sym, ap, ◌∙◌, s
 use Rattle.partition_model.specs.declared.write.Answer.{Answer}
 use Rattle.partition_model.specs.History.{answer_of}
 use Rattle.partition_model.specs.Answer.{IsAnswer}
-use Rattle.epoch_core.specs.declared.reader.ReaderState.{ReaderState}
-use Rattle.epoch_core.specs.declared.scripted.Scripted.{Scripted}
-use Rattle.epoch_core.specs.Shape.{options_of}
-use Rattle.epoch_core.specs.Script.{HasPlayedOut, book_of}
-use Rattle.epoch_core.proofs.Settling.{at_rest, same_owner, settled_still}
+use Rattle.partition_words.specs.declared.reader.ReaderState.{ReaderState}
+use Rattle.scripted_reader.specs.declared.scripted.Scripted.{Scripted}
+use Rattle.partition_words.specs.Shape.{options_of}
+use Rattle.scripted_reader.specs.Script.{HasPlayedOut, book_of}
+use Rattle.scripted_reader.proofs.Settling.{at_rest, same_owner, settled_still}
 use Rattle.optimistic_get.specs.declared.getting.Got.{Got}
 use Rattle.optimistic_get.specs.Gets.{is_again, TryAnswers}
 use Rattle.optimistic_get.specs.Settled.{SeesAll, TriesAtRest, AnswersPlayed}

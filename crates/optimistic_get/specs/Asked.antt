@@ -2,9 +2,9 @@
 use Rattle.std.specs.Prelude.{[], ◌≡◌, ℕ, ◌+◌, List, ◌++◌, length, Option, Some, None}
 use Rattle.partition_model.specs.History.{IsPrefix}
 use Rattle.partition_model.specs.Run.{IsAnswerAt}
-use Rattle.epoch_core.specs.declared.state.Failure.{Failure}
-use Rattle.epoch_core.specs.declared.reader.ReaderState.{ReaderState}
-use Rattle.epoch_core.specs.Shape.{options_of}
+use Rattle.partition_words.specs.declared.state.Failure.{Failure}
+use Rattle.partition_words.specs.declared.reader.ReaderState.{ReaderState}
+use Rattle.partition_words.specs.Shape.{options_of}
 use Rattle.optimistic_get.specs.declared.getting.Got.{Got}
 use Rattle.optimistic_get.specs.declared.getting.Got.TheVariants.{Hit, Miss, Again}
 

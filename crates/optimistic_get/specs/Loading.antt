@@ -6,11 +6,11 @@ use Rattle.mica_words.specs.Hash.{fnv1a}
 use Rattle.mica_words.specs.Header.{header_key_len, header_value_len}
 use Rattle.mica_words.specs.Item.{words_for, largest_item}
 use Rattle.mica_words.specs.Packing.{packed, unpacked}
-use Rattle.epoch_core.specs.declared.shape.Shape.{Shape}
-use Rattle.epoch_core.specs.declared.reader.Try.{Try}
-use Rattle.epoch_core.specs.declared.reader.ReaderState.{ReaderState}
-use Rattle.epoch_core.specs.Layout.{bucket_words, item_at}
-use Rattle.epoch_core.specs.Spelt.{Loads, HasLoad}
+use Rattle.partition_words.specs.declared.shape.Shape.{Shape}
+use Rattle.partition_words.specs.declared.reader.Try.{Try}
+use Rattle.partition_words.specs.declared.reader.ReaderState.{ReaderState}
+use Rattle.partition_words.specs.Layout.{bucket_words, item_at}
+use Rattle.partition_words.specs.Spelt.{Loads, HasLoad}
 
 -- the loads of one try at most: two epochs and the stamp, and of each bucket of the chain the entries, the link
 -- and an item behind each entry

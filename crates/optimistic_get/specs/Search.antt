@@ -5,10 +5,10 @@ use Rattle.mica_words.specs.Hash.{tag_of}
 use Rattle.mica_words.specs.Entry.{entry_tag, entry_offset}
 use Rattle.mica_words.specs.Item.{largest_item}
 use Rattle.partition_model.specs.declared.options.Mode.TheVariants.{Store}
-use Rattle.epoch_core.specs.declared.shape.Shape.{Shape}
-use Rattle.epoch_core.specs.declared.reader.ReaderState.{ReaderState}
-use Rattle.epoch_core.specs.Layout.{bucket_words, entry_at}
-use Rattle.epoch_core.specs.Spelt.{Loads, HasLoad, HasEmpty, LinksTo, HasLinks, ShowsOther, ShowsItem, IsEntryOf}
+use Rattle.partition_words.specs.declared.shape.Shape.{Shape}
+use Rattle.partition_words.specs.declared.reader.ReaderState.{ReaderState}
+use Rattle.partition_words.specs.Layout.{bucket_words, entry_at}
+use Rattle.partition_words.specs.Spelt.{Loads, HasLoad, HasEmpty, LinksTo, HasLinks, ShowsOther, ShowsItem, IsEntryOf}
 use Rattle.optimistic_get.specs.Loading.{loads_in, GoesOn}
 
 -- What was found of an entry: it has another tag, its item is another key's, or it begins no later than the

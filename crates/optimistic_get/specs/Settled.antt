@@ -3,13 +3,13 @@ use Rattle.std.specs.Prelude.{◌≡◌, ℕ, ◌+◌, ◌<◌, List, false}
 use Rattle.partition_model.specs.declared.write.Answer.{Answer}
 use Rattle.partition_model.specs.History.{answer_of}
 use Rattle.partition_model.specs.Answer.{IsAnswer}
-use Rattle.epoch_core.specs.declared.state.OwnerState.{OwnerState}
-use Rattle.epoch_core.specs.declared.reader.ReaderState.{ReaderState}
-use Rattle.epoch_core.specs.declared.reading.Plan.{Plan}
-use Rattle.epoch_core.specs.declared.scripted.Book.{Book}
-use Rattle.epoch_core.specs.OwnerState.{options_in}
-use Rattle.epoch_core.specs.Plan.{Rests}
-use Rattle.epoch_core.specs.Script.{HasPlayedOut}
+use Rattle.partition_words.specs.declared.state.OwnerState.{OwnerState}
+use Rattle.partition_words.specs.declared.reader.ReaderState.{ReaderState}
+use Rattle.partition_words.specs.declared.reading.Plan.{Plan}
+use Rattle.scripted_reader.specs.declared.scripted.Book.{Book}
+use Rattle.partition_words.specs.OwnerState.{options_in}
+use Rattle.partition_words.specs.Plan.{Rests}
+use Rattle.scripted_reader.specs.Script.{HasPlayedOut}
 use Rattle.optimistic_get.specs.declared.getting.Got.{Got}
 use Rattle.optimistic_get.specs.Gets.{is_again, TriesMade}
 

@@ -5,9 +5,9 @@ ghost use Rattle.mica_words.specs.Item.{KeyFits};
 ghost use Rattle.optimistic_get.specs.Asked.{IsRead};
 
 use crate::getting::{Got, get_hashed};
-use epoch_core::ReaderWords;
 use mica_words::key_hash;
 use partition_model::ItemBuf;
+use partition_words::ReaderWords;
 use std::sync::Wait;
 use std::thread;
 

@@ -6,9 +6,9 @@ ghost use Rattle.optimistic_get.specs.Gets.{AnswersGet};
 
 use crate::trying::try_get;
 use crate::wanted::Wanted;
-use epoch_core::ReaderWords;
 use mica_words::{bucket_of, key_hash, tag_of};
 use partition_model::ItemBuf;
+use partition_words::ReaderWords;
 use std::hint::spin_loop;
 
 /// What a get answers.

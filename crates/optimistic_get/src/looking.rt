@@ -3,13 +3,13 @@ ghost use Rattle.std.specs.Prelude.{◌≡◌, ◌+◌, ◌<◌, ◌≤◌, ◌^
 ghost use Rattle.mica_words.specs.declared.item.TheConstants.{MAX_VALUE_LEN};
 ghost use Rattle.mica_words.specs.Item.{words_for, largest_item};
 ghost use Rattle.mica_words.specs.Packing.{packed};
-ghost use Rattle.epoch_core.specs.Spelt.{ShowsOther, ShowsItem};
+ghost use Rattle.partition_words.specs.Spelt.{ShowsOther, ShowsItem};
 ghost use Rattle.optimistic_get.specs.Loading.{loads_in, GoesOn, HasLoadedWords, LacksWord, HasKeyOf, HoldsValue};
 
 use crate::wanted::Wanted;
-use epoch_core::ReaderWords;
 use mica_words::{MAX_VALUE_LEN, header_key_len, header_value_len, item_size, packed_word};
 use partition_model::{ItemBuf, Mode};
+use partition_words::ReaderWords;
 
 // Whether the words from the offset on are those that the bytes are packed into. It loads up to the first that is not.
 fn holds_packed<R: ReaderWords>(seat: &mut R, offset: u64, bytes: &[u8]) -> bool

@@ -2,15 +2,15 @@
 ghost use Rattle.std.specs.Prelude.{◌≡◌, ℕ, ◌<◌, ◌≤◌, ◌^◌, true, is_some, Some, None, IfSome, MatchBool};
 ghost use Rattle.mica_words.specs.declared.entry.TheConstants.{SLOTS};
 ghost use Rattle.mica_words.specs.Entry.{entry_tag};
-ghost use Rattle.epoch_core.specs.Shape.{IsMain, IsBucket};
+ghost use Rattle.partition_words.specs.Shape.{IsMain, IsBucket};
 ghost use Rattle.partition_model.specs.declared.options.Mode.TheVariants as mode;
 ghost use Rattle.optimistic_get.specs.Search.{Weighs, Scans, ScansFirst, Searches};
 
 use crate::looking::look;
 use crate::wanted::Wanted;
-use epoch_core::ReaderWords;
 use mica_words::{SLOTS, entry_offset, entry_tag};
 use partition_model::{ItemBuf, Mode};
+use partition_words::ReaderWords;
 
 // Whether an item at the offset begins later than the best one.
 fn is_later(best: Option<u64>, offset: u64) -> bool

@@ -1,15 +1,16 @@
 //! The get of a script that has no event left.
 ghost use Rattle.std.specs.Prelude.{◌≡◌};
 ghost use Rattle.mica_words.specs.Item.{KeyFits};
-ghost use Rattle.epoch_core.specs.Script.{HasPlayedOut, book_of};
+ghost use Rattle.scripted_reader.specs.Script.{HasPlayedOut, book_of};
 ghost use Rattle.optimistic_get.specs.Settled.{AnswersPlayed};
 
 use crate::getting::Got;
 use crate::trying::try_get;
 use crate::wanted::Wanted;
-use epoch_core::{ReaderWords, Scripted};
 use mica_words::{bucket_of, key_hash, tag_of};
 use partition_model::{Answer, ItemBuf};
+use partition_words::ReaderWords;
+use scripted_reader::Scripted;
 
 /// The machine's answer after the events that were played, by one try.
 pub fn get_settled(seat: &mut Scripted, key: &[u8], out: &mut ItemBuf) -> Answer

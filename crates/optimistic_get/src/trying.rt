@@ -1,17 +1,17 @@
 //! One try of a get, between two loads of its bucket's epoch.
 ghost use Rattle.std.specs.Prelude.{◌≡◌, ◌<◌, ◌^◌, ◌↔◌, IsTrue, IfSome};
 ghost use Rattle.mica_words.specs.Hash.{bucket_of};
-ghost use Rattle.epoch_core.specs.Shape.{IsMain};
-ghost use Rattle.epoch_core.specs.LiveEntry.{IsLiveItem};
+ghost use Rattle.partition_words.specs.Shape.{IsMain};
+ghost use Rattle.partition_words.specs.LiveEntry.{IsLiveItem};
 ghost use Rattle.optimistic_get.specs.Gets.{Tries};
 ghost use Rattle.optimistic_get.specs.Settled.{TriesAtRest};
 
 use crate::getting::Got;
 use crate::searching::search;
 use crate::wanted::Wanted;
-use epoch_core::{ReaderWords, Shape};
 use mica_words::tail_of;
 use partition_model::{ItemBuf, Mode};
+use partition_words::{ReaderWords, Shape};
 
 // Whether the log has not passed the item by the stamp. In store mode it never does.
 fn is_live(shape: &Shape, offset: u64, stamp: u64) -> bool

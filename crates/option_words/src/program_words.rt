@@ -3,7 +3,7 @@ ghost use Rattle.std.specs.Prelude.{◌≡◌, IfOk, Some, drop, map, string_byt
 ghost use Rattle.std.specs.Vec.Iter.{into_iter_items};
 ghost use Rattle.option_words.specs.ProgramWords.{all_words_of};
 
-use mica_io::NoMemory;
+use outside::NoMemory;
 use std::alloc::Global;
 use std::env::Args;
 use std::io::{self, ErrorKind};

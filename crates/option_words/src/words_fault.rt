@@ -1,6 +1,6 @@
 //! Why words give nothing.
 
-use mica_io::NoMemory;
+use outside::NoMemory;
 use std::error::Error;
 use std::fmt;
 

@@ -7,7 +7,7 @@ use Rattle.std.proofs.lemmas.Option.{slice_get_within, slice_get-get_or}
 use Rattle.std.proofs.Math.ListN.{length-set}
 use Rattle.owner_queue.specs.declared.message.Message.{Message}
 use Rattle.owner_queue.specs.declared.message.Message.TheVariants as kind
-use Rattle.ruled_queue.specs.declared.rule.Knows.{Knows}
+use Rattle.ruled_queue.specs.declared.rule.PassView.{PassView}
 use Rattle.owner_queue.specs.Messages.{sender_of, is_end, sent_by, has_end}
 use Rattle.ruled_queue.specs.Delivery.{receiver}
 use Rattle.owner_queue.specs.JobEnds.{HasFlags}
@@ -45,5 +45,5 @@ flags_end flags taken m s of is l has p lp =
     (same_or_not s p)
 
 -- the flags fit what a pass knows that took one message more
-pub flags_after_end : (flags : List Bool) (u v : Knows Message ℕ) (m : Message) (s : ℕ) → m ≡ kind.End s → s < 16 → u ≡ receiver v.number v.terms (v.taken ++ m ∷ []) → HasFlags flags v.taken → HasFlags (set flags s true) u.taken
-flags_after_end flags u v m s is l e has = subst (λ (t : Knows Message ℕ). HasFlags (set flags s true) t.taken) (sym e) (flags_end flags v.taken m s (ap sender_of is) (ap is_end is) l has)
+pub flags_after_end : (flags : List Bool) (u v : PassView Message ℕ) (m : Message) (s : ℕ) → m ≡ kind.End s → s < 16 → u ≡ receiver v.number v.terms (v.taken ++ m ∷ []) → HasFlags flags v.taken → HasFlags (set flags s true) u.taken
+flags_after_end flags u v m s is l e has = subst (λ (t : PassView Message ℕ). HasFlags (set flags s true) t.taken) (sym e) (flags_end flags v.taken m s (ap sender_of is) (ap is_end is) l has)

@@ -3,8 +3,8 @@ use Rattle.std.proofs.Common.{List, [], ◌∷◌, ◌++◌, ap, ◌∙◌}
 use Rattle.partition_model.specs.declared.options.Options.{Options}
 use Rattle.partition_model.specs.History.{History, stamp_in}
 use Rattle.partition_model.specs.Run.{RunStep, history_of, IsRunFrom}
-use Rattle.epoch_core.specs.Shape.{shape_of, options_of}
-use Rattle.epoch_core.proofs.SameMachine.{same_state, same_may_give}
+use Rattle.partition_words.specs.Shape.{shape_of, options_of}
+use Rattle.partition_words.proofs.SameMachine.{same_state, same_may_give}
 
 -- a run of the shape's machine is one of the options'
 pub run_as : (options : Options) (history : History) (steps : List RunStep) → IsRunFrom (options_of (shape_of options)) history steps → IsRunFrom options history steps

@@ -17,8 +17,8 @@ use Rattle.partition_model.specs.StoreStep as ss
 use Rattle.partition_model.specs.History.{History, State, cache_state, store_state, IsCut, MayGive, Allows, state_of, stamp_of}
 use Rattle.partition_model.specs.ReplyAt.{IsReplyAt}
 use Rattle.partition_model.proofs.Rises.{one_cut}
-use Rattle.epoch_core.specs.Shape.{options_of}
-use Rattle.epoch_core.specs.declared.reader.ReaderState.{ReaderState}
+use Rattle.partition_words.specs.Shape.{options_of}
+use Rattle.partition_words.specs.declared.reader.ReaderState.{ReaderState}
 use Rattle.owner_queue.specs.Acked.{IsAcked}
 
 -- the first number below n at which f is 0, or none

@@ -1,7 +1,7 @@
 -- What contracts see of the ends of a queue of acknowledgements.
 use Rattle.std.specs.Prelude.{◌≡◌, List, ◌++◌}
 use Rattle.atomic_table.specs.Seated.{TableId}
-use Rattle.epoch_core.specs.declared.shape.Shape.{Shape}
+use Rattle.partition_words.specs.declared.shape.Shape.{Shape}
 use Rattle.owner_queue.specs.declared.ack.Ack.{Ack}
 use Rattle.ruled_queue.specs.Ends.{Queue}
 

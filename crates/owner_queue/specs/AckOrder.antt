@@ -2,8 +2,8 @@
 use Rattle.std.specs.Prelude.{◌≡◌, ℕ, ◌<◌, ◌≤◌, true, List, [], All, refl}
 use Rattle.atomic_table.specs.Seated.{TableId}
 use Rattle.partition_model.specs.Write.{is_accepted}
-use Rattle.epoch_core.specs.declared.shape.Shape.{Shape}
-use Rattle.epoch_core.specs.ReaderState.{newcomer}
+use Rattle.partition_words.specs.declared.shape.Shape.{Shape}
+use Rattle.partition_words.specs.ReaderState.{newcomer}
 use Rattle.partition_table.specs.declared.reader.Note.{Note}
 use Rattle.partition_table.specs.declared.rule.View.TheVariants.{Reads}
 use Rattle.partition_table.specs.Rule.{no_shape}

@@ -5,8 +5,8 @@ use Rattle.partition_model.specs.declared.write.Outcome.{Outcome}
 use Rattle.partition_model.specs.Write.{is_accepted}
 use Rattle.partition_model.specs.History.{History, IsPrefix, IsCut}
 use Rattle.partition_model.specs.ReplyAt.{IsReplyAt}
-use Rattle.epoch_core.specs.declared.reader.ReaderState.{ReaderState}
-use Rattle.epoch_core.specs.Shape.{options_of}
+use Rattle.partition_words.specs.declared.reader.ReaderState.{ReaderState}
+use Rattle.partition_words.specs.Shape.{options_of}
 
 -- The note has seen a history that begins with the one of this stamp, whose every write has ended. The reply is the machine's there.
 pub record IsAcked (note : ReaderState) (write : Write) (outcome : Outcome) (stamp : ℕ) : Type 0 where

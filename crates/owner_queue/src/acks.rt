@@ -7,9 +7,9 @@ ghost use Rattle.owner_queue.specs.AckEnds.{ack_box, BeginsAcks};
 
 use crate::ack::Ack;
 use crossbeam_channel::{Pass, RuledReceiver, RuledSender, bounded_with};
-use mica_io::NoMemory;
+use outside::NoMemory;
 use partition_table::{Note, ReaderSeat};
-use ruled_queue::{CAPACITY, InOrder, Knows, NewSender, TakenIn, Terms, Whole, put, take};
+use ruled_queue::{CAPACITY, InOrder, NewSender, PassView, TakenIn, Terms, Whole, put, take};
 use std::alloc::Global;
 use std::marker::{Brand, Model};
 use std::sync::Wait;
@@ -17,8 +17,8 @@ use std::sync::Wait;
 /// The one sender. Contracts see its queue, the table of its notes with its shape, and what it sent.
 #[derive(Drop)]
 pub struct AckSender {
-    end: RuledSender<Ack, Knows<Ack, Note>, InOrder>,
-    pass: Pass<Ack, Knows<Ack, Note>>,
+    end: RuledSender<Ack, PassView<Ack, Note>, InOrder>,
+    pass: Pass<Ack, PassView<Ack, Note>>,
 }
 
 impl Model for AckSender {
@@ -43,8 +43,8 @@ impl Model for AckSender {
 /// The one receiver. Contracts see its queue, the table of its notes with its shape, and what it took.
 #[derive(Drop)]
 pub struct AckReceiver {
-    end: RuledReceiver<Ack, Knows<Ack, Note>, InOrder>,
-    pass: Pass<Ack, Knows<Ack, Note>>,
+    end: RuledReceiver<Ack, PassView<Ack, Note>, InOrder>,
+    pass: Pass<Ack, PassView<Ack, Note>>,
 }
 
 impl Model for AckReceiver {
@@ -113,7 +113,7 @@ fn make<J: Terms<Ack, Note>>(
     ensures sender { IfOk result (λ r. r.0 ≡ ack_box r.1.queue (reader_home _of.now) (reader_state _of.now).shape []) }
     ensures receiver { IfOk result (λ r. r.1 ≡ ack_box r.1.queue (reader_home _of.now) (reader_state _of.now).shape []) }
 {
-    let (from, to, mut pass) = bounded_with::<Ack, Knows<Ack, Note>, InOrder, Global>(
+    let (from, to, mut pass) = bounded_with::<Ack, PassView<Ack, Note>, InOrder, Global>(
         alloc, CAPACITY,
     )?;
     let seat = from.another::<NewSender<J>>(&mut pass);

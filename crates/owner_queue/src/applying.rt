@@ -1,11 +1,11 @@
 //! What an owner does with the write of a job.
 ghost use Rattle.std.specs.Prelude.{◌≡◌};
 ghost use Rattle.partition_model.specs.Write.{IsWrite};
-ghost use Rattle.epoch_core.specs.OwnerStep.{IsOwnerStep};
+ghost use Rattle.partition_words.specs.OwnerStep.{IsOwnerStep};
 
 use crate::cow_write::CowWrite;
-use epoch_core::{Partition, write_to};
 use partition_model::Outcome;
+use partition_words::{Partition, write_to};
 
 /// Does the write in the partition.
 pub fn apply_write<P: Partition>(part: &mut P, write: &CowWrite) -> Outcome

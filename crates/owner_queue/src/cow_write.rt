@@ -1,5 +1,5 @@
 //! A write whose bytes are borrowed or owned.
-use mica_io::CowBytes;
+use outside::CowBytes;
 use partition_model::Op;
 use std::marker::Model;
 

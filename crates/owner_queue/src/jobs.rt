@@ -5,8 +5,8 @@ ghost use Rattle.owner_queue.specs.JobEnds.{outbox, inbox};
 
 use crate::message::{JobTerms, Message, MostJobs};
 use crossbeam_channel::{Pass, RuledReceiver, RuledSender, bounded_with};
-use mica_io::NoMemory;
-use ruled_queue::{CAPACITY, InOrder, Knows, NewSender, TakenIn, Terms, Whole, put, take};
+use outside::NoMemory;
+use ruled_queue::{CAPACITY, InOrder, NewSender, PassView, TakenIn, Terms, Whole, put, take};
 use std::alloc::Global;
 use std::marker::{Brand, Model};
 use std::sync::Wait;
@@ -14,8 +14,8 @@ use std::sync::Wait;
 /// One sender of a queue. Contracts see its queue, its number, how many jobs it may send and what it sent.
 #[derive(Drop)]
 pub struct JobSender<'a> {
-    end: RuledSender<Message<'a>, Knows<Message<'a>, u64>, InOrder>,
-    pass: Pass<Message<'a>, Knows<Message<'a>, u64>>,
+    end: RuledSender<Message<'a>, PassView<Message<'a>, u64>, InOrder>,
+    pass: Pass<Message<'a>, PassView<Message<'a>, u64>>,
 }
 
 impl<'a> Model for JobSender<'a> {
@@ -56,8 +56,8 @@ pub struct JobSenders<'a> {
 /// may send, and the messages that were taken, in order.
 #[derive(Drop)]
 pub struct JobReceiver<'a> {
-    end: RuledReceiver<Message<'a>, Knows<Message<'a>, u64>, InOrder>,
-    pass: Pass<Message<'a>, Knows<Message<'a>, u64>>,
+    end: RuledReceiver<Message<'a>, PassView<Message<'a>, u64>, InOrder>,
+    pass: Pass<Message<'a>, PassView<Message<'a>, u64>>,
     senders: u32,
     // Which senders' ends were taken.
     ended: [bool; 16],
@@ -171,7 +171,7 @@ fn make<'a, J: Terms<Message<'a>, u64>>(
 {
     let (first, end, mut pass) = bounded_with::<
         Message<'a>,
-        Knows<Message<'a>, u64>,
+        PassView<Message<'a>, u64>,
         InOrder,
         Global,
     >(alloc, CAPACITY)?;

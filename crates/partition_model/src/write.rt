@@ -2,8 +2,8 @@
 ghost use Rattle.std.specs.Prelude.{◌≡◌, ◌↔◌, IsTrue};
 ghost use Rattle.partition_model.specs.Write.{IsWrite, is_accepted, write_of};
 
-use mica_io::Bytes;
 use mica_words::{key_fits, value_fits};
+use outside::Bytes;
 
 /// What a write does with its key.
 #[derive(Clone, Copy, PartialEq, Eq)]

@@ -9,7 +9,7 @@ use Rattle.partition_model.specs.declared.options.Mode.TheVariants.{Cache, Store
 use Rattle.partition_model.specs.declared.options.Options.{Options}
 use Rattle.partition_model.specs.declared.options.TheConstants.{MOST_WORDS}
 use Rattle.partition_model.specs.Options.{InRange, IsPossible, IsPowerUpTo}
-use Rattle.epoch_core.specs.Shape.{shape_of}
+use Rattle.partition_words.specs.Shape.{shape_of}
 use Rattle.partition_sizes.specs.declared.sizes.TheConstants.{LEAST_MEMORY, MOST_MEMORY, FEW_PARTITIONS_MEMORY, PROGRAM_BYTES, ITEM_WORDS}
 use Rattle.partition_sizes.specs.Bytes.{partition_bytes, bytes_of}
 use Rattle.partition_sizes.specs.Sizes.{with_sizes, partitions_for, share_of, items_for, buckets_for, spares_for, without_words, words_for, sizes_for}

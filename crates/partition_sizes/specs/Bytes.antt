@@ -3,9 +3,9 @@ use Rattle.std.specs.Prelude.{ℕ, ◌+◌, ◌*◌}
 use Rattle.partition_model.specs.declared.options.Mode.{Mode}
 use Rattle.partition_model.specs.declared.options.Mode.TheVariants.{Cache, Store}
 use Rattle.partition_model.specs.declared.options.Options.{Options}
-use Rattle.epoch_core.specs.declared.shape.Shape.{Shape}
-use Rattle.epoch_core.specs.Shape.{shape_of}
-use Rattle.epoch_core.specs.Layout.{word_count}
+use Rattle.partition_words.specs.declared.shape.Shape.{Shape}
+use Rattle.partition_words.specs.Shape.{shape_of}
+use Rattle.partition_words.specs.Layout.{word_count}
 use Rattle.partition_sizes.specs.declared.bytes.TheConstants.{HEAP_BYTES, LISTS_BYTES, SPARE_BYTES}
 
 -- of a table, whose words have eight bytes

@@ -5,7 +5,7 @@ use Rattle.partition_model.specs.declared.options.Mode.{Mode}
 use Rattle.partition_model.specs.declared.options.Mode.TheVariants.{Cache, Store}
 use Rattle.partition_model.specs.declared.options.Options.{Options}
 use Rattle.partition_model.specs.declared.options.TheConstants.{MOST_WORDS}
-use Rattle.epoch_core.specs.declared.shape.Shape.{Shape}
+use Rattle.partition_words.specs.declared.shape.Shape.{Shape}
 use Rattle.partition_sizes.specs.declared.bytes.TheConstants.{HEAP_BYTES}
 use Rattle.partition_sizes.specs.declared.sizes.TheConstants.{FEW_PARTITIONS_MEMORY, PROGRAM_BYTES, ITEM_WORDS, INDEX_BYTES}
 use Rattle.partition_sizes.specs.declared.sizes.Sizes.{Sizes}

@@ -3,8 +3,8 @@ ghost use Rattle.std.specs.Prelude.{◌≡◌, ◌<◌, ◌≤◌};
 ghost use Rattle.partition_model.specs.declared.options.TheConstants.{MOST_PARTITIONS};
 ghost use Rattle.partition_sizes.specs.Bytes.{beside, table_bytes, partition_bytes, bytes_of, start_bytes};
 
-use epoch_core::Shape;
 use partition_model::{Mode, Options};
+use partition_words::Shape;
 
 /// The bytes that a heap uses beside each of its words: four for the word's tag, and one more for the slots of free blocks.
 /// A slot has 16 bytes, which are reserved and not touched before so many blocks are free at once. So one byte a word is enough

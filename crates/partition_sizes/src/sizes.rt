@@ -4,8 +4,8 @@ ghost use Rattle.partition_model.specs.Options.{InRange};
 ghost use Rattle.partition_sizes.specs.Sizes.{word_bytes, buckets_for, spares_for, sizes_for};
 
 use crate::bytes::{HEAP_BYTES, partition_bytes};
-use epoch_core::Shape;
 use partition_model::{MOST_WORDS, Mode};
+use partition_words::Shape;
 
 /// The least memory that sizes are made for, 64 MiB.
 pub const LEAST_MEMORY: u64 = 67_108_864;

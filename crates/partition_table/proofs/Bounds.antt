@@ -4,19 +4,19 @@ use Rattle.std.proofs.Math.Nat.{mod-lt}
 use Rattle.std.proofs.lemmas.Nat.{pow_pos}
 use Rattle.std.proofs.Math.Logic.{∥∥₁_elim}
 use Rattle.std.proofs.Props.{props}
-use Rattle.epoch_core.specs.declared.shape.Shape.{Shape}
-use Rattle.epoch_core.specs.declared.shape.WordAt.{WordAt}
-use Rattle.epoch_core.specs.declared.shape.WordAt.TheVariants.{Stamp, Epoch, Entry, Link, Item}
-use Rattle.epoch_core.specs.declared.event.Event.{Event}
-use Rattle.epoch_core.specs.declared.state.OwnerState.{OwnerState}
-use Rattle.epoch_core.specs.Shape.{IsMain, is_in_range}
-use Rattle.epoch_core.specs.Layout.{place_at, IsInside, word_count}
-use Rattle.epoch_core.specs.OwnerState.{marked_in}
-use Rattle.epoch_core.specs.Events.{IsAllowed, place_of}
-use Rattle.epoch_core.specs.Kept.{Kept}
-use Rattle.epoch_core.proofs.Shapes.{possible_in_range}
-use Rattle.epoch_core.proofs.Inside.{event_inside}
-use Rattle.epoch_core.proofs.Marked.{ends_main}
+use Rattle.partition_words.specs.declared.shape.Shape.{Shape}
+use Rattle.partition_words.specs.declared.shape.WordAt.{WordAt}
+use Rattle.partition_words.specs.declared.shape.WordAt.TheVariants.{Stamp, Epoch, Entry, Link, Item}
+use Rattle.partition_words.specs.declared.event.Event.{Event}
+use Rattle.partition_words.specs.declared.state.OwnerState.{OwnerState}
+use Rattle.partition_words.specs.Shape.{IsMain, is_in_range}
+use Rattle.partition_words.specs.Layout.{place_at, IsInside, word_count}
+use Rattle.partition_words.specs.OwnerState.{marked_in}
+use Rattle.partition_words.specs.Events.{IsAllowed, place_of}
+use Rattle.partition_words.specs.Kept.{Kept}
+use Rattle.partition_words.proofs.Shapes.{possible_in_range}
+use Rattle.partition_words.proofs.Inside.{event_inside}
+use Rattle.partition_words.proofs.Marked.{ends_main}
 
 -- a word
 pub word_there : (shape : Shape) → is_in_range shape ≡ true → (at : WordAt) → IsInside shape at → place_at shape at < word_count shape

@@ -7,29 +7,29 @@ use Rattle.atomic_table.specs.Table.{State, step, keeps, stepped, opening, Allow
 use Rattle.atomic_table.proofs.Lists.{at_set, at_snoc, set_again, set_else, at_longer}
 use Rattle.std.proofs.Math.Nat.{mod-eq_of_lt}
 use Rattle.partition_model.specs.History.{History, IsPrefix, stamp_of, writes_to_bucket}
-use Rattle.epoch_core.specs.declared.shape.Shape.{Shape}
-use Rattle.epoch_core.specs.declared.event.Event.{Event}
-use Rattle.epoch_core.specs.declared.state.OwnerState.{OwnerState}
-use Rattle.epoch_core.specs.declared.reader.Try.{Try}
-use Rattle.epoch_core.specs.declared.reader.ReaderState.{ReaderState}
-use Rattle.epoch_core.specs.Shape.{options_of, IsPossibleShape, IsMain, IsBucket, IsSpare}
-use Rattle.epoch_core.specs.Layout.{epoch_at, link_at, word_count}
-use Rattle.epoch_core.specs.OwnerState.{as_made, epoch_in}
-use Rattle.epoch_core.specs.Events.{IsAllowed, place_of, word_after, after}
-use Rattle.epoch_core.specs.Kept.{Kept}
-use Rattle.epoch_core.specs.Grows.{Grows}
+use Rattle.partition_words.specs.declared.shape.Shape.{Shape}
+use Rattle.partition_words.specs.declared.event.Event.{Event}
+use Rattle.partition_words.specs.declared.state.OwnerState.{OwnerState}
+use Rattle.partition_words.specs.declared.reader.Try.{Try}
+use Rattle.partition_words.specs.declared.reader.ReaderState.{ReaderState}
+use Rattle.partition_words.specs.Shape.{options_of, IsPossibleShape, IsMain, IsBucket, IsSpare}
+use Rattle.partition_words.specs.Layout.{epoch_at, link_at, word_count}
+use Rattle.partition_words.specs.OwnerState.{as_made, epoch_in}
+use Rattle.partition_words.specs.Events.{IsAllowed, place_of, word_after, after}
+use Rattle.partition_words.specs.Kept.{Kept}
+use Rattle.partition_words.specs.Grows.{Grows}
 use Rattle.std.specs.Prelude.{is_some, if◌then◌else◌, ◌==◌}
-use Rattle.epoch_core.specs.ReaderState.{new_try, opened, loaded, stamped, shut}
-use Rattle.epoch_core.specs.ReaderKept.{MetKept, ReaderKept, Tells}
-use Rattle.epoch_core.specs.Joins.{lent, met_by, known, told}
-use Rattle.epoch_core.proofs.Made.{kept_as_made}
-use Rattle.epoch_core.proofs.Inside.{epoch_small}
-use Rattle.epoch_core.proofs.Keeps.{kept_after}
-use Rattle.epoch_core.proofs.Growing.{grows, reader_grows}
-use Rattle.epoch_core.proofs.Prefixes.{prefix_then}
-use Rattle.epoch_core.proofs.Failing.{in_head, in_tail}
-use Rattle.epoch_core.proofs.LoadKeeps.{least_epoch, opens as opens_keep, loads as loads_keep, stamps as stamps_keep, shuts as shuts_keep, tells}
-use Rattle.epoch_core.proofs.JoinKeeps.{lends, notes, meet_grows, meets, tells_of}
+use Rattle.partition_words.specs.ReaderState.{new_try, opened, loaded, stamped, shut}
+use Rattle.partition_words.specs.ReaderKept.{MetKept, ReaderKept, Tells}
+use Rattle.partition_words.specs.Joins.{lent, met_by, known, told}
+use Rattle.partition_words.proofs.Made.{kept_as_made}
+use Rattle.partition_words.proofs.Inside.{epoch_small}
+use Rattle.partition_words.proofs.Keeps.{kept_after}
+use Rattle.partition_words.proofs.Growing.{grows, reader_grows}
+use Rattle.partition_words.proofs.Prefixes.{prefix_then}
+use Rattle.partition_words.proofs.Failing.{in_head, in_tail}
+use Rattle.partition_words.proofs.LoadKeeps.{least_epoch, opens as opens_keep, loads as loads_keep, stamps as stamps_keep, shuts as shuts_keep, tells}
+use Rattle.partition_words.proofs.JoinKeeps.{lends, notes, meet_grows, meets, tells_of}
 use Rattle.partition_table.specs.declared.rule.View.{View}
 use Rattle.partition_table.specs.declared.rule.View.TheVariants.{Owns, Reads, Spent}
 use Rattle.partition_table.specs.Rule.{Seated, ViewKept, IsLawful, is_owner, owner_in, is_reader, reader_in, view_lent, view_met}

@@ -2,16 +2,16 @@
 use Rattle.std.proofs.Common.{◌≡◌, ℕ, ◌+◌, ◌*◌, ◌≤◌, ap, ◌∙◌, subst, arith}
 use Rattle.std.proofs.lemmas.List.Sums.{sum_by-append}
 use Rattle.partition_model.specs.History.{writes_to_bucket}
-use Rattle.epoch_core.specs.declared.shape.Shape.{Shape}
-use Rattle.epoch_core.specs.declared.state.OwnerState.{OwnerState}
-use Rattle.epoch_core.specs.declared.state.Phase.{Phase}
-use Rattle.epoch_core.specs.declared.state.Phase.TheVariants.{Idle, Begun, Marked}
-use Rattle.epoch_core.specs.declared.reader.ReaderState.{ReaderState}
-use Rattle.epoch_core.specs.Shape.{options_of, IsMain}
-use Rattle.epoch_core.specs.OwnerState.{epoch_in, writes_in, marked_in}
-use Rattle.epoch_core.specs.Kept.{Kept}
-use Rattle.epoch_core.specs.ReaderKept.{ReaderKept}
-use Rattle.epoch_core.proofs.Marked.{bit_le}
+use Rattle.partition_words.specs.declared.shape.Shape.{Shape}
+use Rattle.partition_words.specs.declared.state.OwnerState.{OwnerState}
+use Rattle.partition_words.specs.declared.state.Phase.{Phase}
+use Rattle.partition_words.specs.declared.state.Phase.TheVariants.{Idle, Begun, Marked}
+use Rattle.partition_words.specs.declared.reader.ReaderState.{ReaderState}
+use Rattle.partition_words.specs.Shape.{options_of, IsMain}
+use Rattle.partition_words.specs.OwnerState.{epoch_in, writes_in, marked_in}
+use Rattle.partition_words.specs.Kept.{Kept}
+use Rattle.partition_words.specs.ReaderKept.{ReaderKept}
+use Rattle.partition_words.proofs.Marked.{bit_le}
 
 marked_low : (phase : Phase) (b : ℕ) → marked_in phase b ≤ 1
 marked_low Idle b = omega arith

@@ -1,7 +1,7 @@
 -- The laps of the item words.
 use Rattle.std.specs.Prelude.{◌≡◌, ℕ, ◌+◌, ◌%◌, ◌^◌, ◌<◌, ◌≤◌, Option, IfSome}
-use Rattle.epoch_core.specs.declared.shape.Shape.{Shape}
-use Rattle.epoch_core.specs.Layout.{item_at}
+use Rattle.partition_words.specs.declared.shape.Shape.{Shape}
+use Rattle.partition_words.specs.Layout.{item_at}
 
 -- The offset lies in the lap that begins here.
 pub record BeginsLap (words offset lap : ℕ) : Type 0 where

@@ -3,14 +3,14 @@
 use Rattle.std.specs.Prelude.{◌≡◌, ℕ, ◌+◌, ◌*◌, ◌≤◌, ◌⊎◌, slice_index}
 use Rattle.atomic_table.specs.Table.{Step}
 use Rattle.partition_model.specs.History.{History, IsPrefix, stamp_of, writes_to_bucket}
-use Rattle.epoch_core.specs.declared.event.Event.{Event}
-use Rattle.epoch_core.specs.declared.reader.ReaderState.{ReaderState}
-use Rattle.epoch_core.specs.Shape.{options_of, IsSpare, IsBucket}
-use Rattle.epoch_core.specs.Layout.{epoch_at, link_at}
-use Rattle.epoch_core.specs.Events.{after}
-use Rattle.epoch_core.specs.Kept.{Kept}
-use Rattle.epoch_core.specs.ReaderState.{opened, loaded, stamped, shut}
-use Rattle.epoch_core.specs.ReaderKept.{MetKept, Tells}
+use Rattle.partition_words.specs.declared.event.Event.{Event}
+use Rattle.partition_words.specs.declared.reader.ReaderState.{ReaderState}
+use Rattle.partition_words.specs.Shape.{options_of, IsSpare, IsBucket}
+use Rattle.partition_words.specs.Layout.{epoch_at, link_at}
+use Rattle.partition_words.specs.Events.{after}
+use Rattle.partition_words.specs.Kept.{Kept}
+use Rattle.partition_words.specs.ReaderState.{opened, loaded, stamped, shut}
+use Rattle.partition_words.specs.ReaderKept.{MetKept, Tells}
 use Rattle.partition_table.specs.declared.rule.View.TheVariants.{Owns, Reads}
 use Rattle.partition_table.specs.Rule.{Seated, owner_in, reader_in}
 

@@ -4,14 +4,14 @@ use mathlib.Core.Option.{some}
 use lib.ListN.{get_elem?}
 use Rattle.atomic_table.specs.Table.{State, Me}
 use Rattle.partition_model.specs.declared.options.Mode.TheVariants.{Cache}
-use Rattle.epoch_core.specs.declared.shape.Shape.{Shape}
-use Rattle.epoch_core.specs.declared.state.OwnerState.{OwnerState}
-use Rattle.epoch_core.specs.declared.reader.ReaderState.{ReaderState}
-use Rattle.epoch_core.specs.OwnerState.{as_made}
-use Rattle.epoch_core.specs.Kept.{Kept}
-use Rattle.epoch_core.specs.ReaderState.{newcomer}
-use Rattle.epoch_core.specs.ReaderKept.{ReaderKept}
-use Rattle.epoch_core.specs.Joins.{lent, note_of, met_by, told}
+use Rattle.partition_words.specs.declared.shape.Shape.{Shape}
+use Rattle.partition_words.specs.declared.state.OwnerState.{OwnerState}
+use Rattle.partition_words.specs.declared.reader.ReaderState.{ReaderState}
+use Rattle.partition_words.specs.OwnerState.{as_made}
+use Rattle.partition_words.specs.Kept.{Kept}
+use Rattle.partition_words.specs.ReaderState.{newcomer}
+use Rattle.partition_words.specs.ReaderKept.{ReaderKept}
+use Rattle.partition_words.specs.Joins.{lent, note_of, met_by, told}
 use Rattle.partition_table.specs.declared.rule.View.{View}
 use Rattle.partition_table.specs.declared.rule.View.TheVariants.{Owns, Reads, Spent}
 

@@ -1,7 +1,7 @@
 -- What contracts see of a seat, of a note, and of what a seat has set aside: what it knows, and the table that it is of.
 use Rattle.atomic_table.specs.Seated.{TableId}
-use Rattle.epoch_core.specs.declared.state.OwnerState.{OwnerState}
-use Rattle.epoch_core.specs.declared.reader.ReaderState.{ReaderState}
+use Rattle.partition_words.specs.declared.state.OwnerState.{OwnerState}
+use Rattle.partition_words.specs.declared.reader.ReaderState.{ReaderState}
 use Rattle.partition_table.specs.declared.owner.OwnerSeat.{OwnerSeat}
 use Rattle.partition_table.specs.declared.reader.ReaderSeat.{ReaderSeat}
 use Rattle.partition_table.specs.declared.reader.Note.{Note}

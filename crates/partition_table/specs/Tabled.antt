@@ -1,6 +1,6 @@
 -- What contracts see of the kept seats.
 use Rattle.std.specs.Prelude.{ℕ, zero, suc, List, [], ◌∷◌, ◌++◌, Option, Some, None}
-use Rattle.epoch_core.specs.declared.state.OwnerState.{OwnerState}
+use Rattle.partition_words.specs.declared.state.OwnerState.{OwnerState}
 use Rattle.partition_table.specs.declared.owner.OwnerSeat.{OwnerSeat}
 use Rattle.partition_table.specs.declared.tables.KeptSeat.{KeptSeat}
 use Rattle.partition_table.specs.Seats.{owner_state}

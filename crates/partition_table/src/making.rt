@@ -1,15 +1,15 @@
 //! Making a partition's table.
 ghost use Rattle.std.specs.Prelude.{◌≡◌, IfOk};
-ghost use Rattle.epoch_core.specs.Shape.{IsPossibleShape};
-ghost use Rattle.epoch_core.specs.OwnerState.{as_made};
+ghost use Rattle.partition_words.specs.Shape.{IsPossibleShape};
+ghost use Rattle.partition_words.specs.OwnerState.{as_made};
 ghost use Rattle.partition_table.specs.Seats.{owner_state};
 
 use crate::owner::OwnerSeat;
 use crate::places::Places;
 use crate::rule::PartitionTable;
 use atomic_table::Table;
-use epoch_core::Shape;
-use mica_io::NoMemory;
+use outside::NoMemory;
+use partition_words::Shape;
 use std::alloc::Global;
 use std::sync::Arc;
 

@@ -1,10 +1,10 @@
 //! The one seat that writes.
 ghost use Rattle.std.specs.Prelude.{◌≡◌, ℕ, ◌+◌, true};
 ghost use Rattle.std.specs.Arc.{arc_value};
-ghost use Rattle.epoch_core.specs.Shape.{IsMain, is_in_range};
-ghost use Rattle.epoch_core.specs.Layout.{epoch_at, word_count};
-ghost use Rattle.epoch_core.specs.Events.{IsAllowed, place_of, word_after, after};
-ghost use Rattle.epoch_core.specs.Kept.{Kept};
+ghost use Rattle.partition_words.specs.Shape.{IsMain, is_in_range};
+ghost use Rattle.partition_words.specs.Layout.{epoch_at, word_count};
+ghost use Rattle.partition_words.specs.Events.{IsAllowed, place_of, word_after, after};
+ghost use Rattle.partition_words.specs.Kept.{Kept};
 ghost use Rattle.partition_table.specs.Rule.{is_owner, owner_in};
 
 use crate::places::Places;
@@ -12,9 +12,9 @@ use crate::plays::{Does, Happens, Lends, Meets, TellsWord};
 use crate::reader::{Note, ReaderSeat};
 use crate::rule::{PartitionTable, View};
 use atomic_table::Seat;
-use epoch_core::{LendWords, OwnerEvent, OwnerWords, Shape, WordAt};
-use mica_io::NoMemory;
+use outside::NoMemory;
 use partition_model::Op;
+use partition_words::{LendWords, OwnerEvent, OwnerWords, Shape, WordAt};
 use std::alloc::Global;
 use std::marker::Brand;
 use std::sync::Arc;

@@ -1,9 +1,9 @@
 //! Where words lie, with what was divided last at hand.
 ghost use Rattle.std.specs.Prelude.{◌≡◌, ◌+◌, ◌*◌, ◌%◌, ◌^◌, ◌<◌};
-ghost use Rattle.epoch_core.specs.Layout.{place_at, item_at};
+ghost use Rattle.partition_words.specs.Layout.{place_at, item_at};
 ghost use Rattle.partition_table.specs.Laps.{BeginsLap, BeginsBlock};
 
-use epoch_core::{Shape, WordAt};
+use partition_words::{Shape, WordAt};
 
 /// The places of a shape's words. Item words go round the end of the words: the lap that was asked for last is
 /// kept, so that the words of one item take one division, and none where they lie in that lap.

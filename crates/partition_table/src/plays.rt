@@ -1,6 +1,6 @@
 //! What each kind of step on the table tells its seat.
 ghost use Rattle.partition_table.specs.Rule.{view_lent, view_met};
-ghost use Rattle.epoch_core.specs.declared.event.Event.{Event};
+ghost use Rattle.partition_words.specs.declared.event.Event.{Event};
 ghost use Rattle.partition_table.specs.declared.rule.View.TheVariants.{Reads, Spent};
 ghost use Rattle.partition_table.specs.Plays.{tells_word, happened, opens, looks, follows, stamps, tallies, shuts};
 
@@ -14,7 +14,7 @@ pub(crate) trait Happens {
 }
 
 impl Happens for Brand {
-    ghost use Rattle.epoch_core.specs.declared.event.Event.TheVariants.{Ends};
+    ghost use Rattle.partition_words.specs.declared.event.Event.TheVariants.{Ends};
 
     ghost event = { Ends 0 };
 }

@@ -2,18 +2,18 @@
 ghost use Rattle.std.specs.Prelude.{◌≡◌, ◌+◌, ◌*◌, ◌^◌, ◌<◌, ◌≤◌, true, [], Some, None};
 ghost use Rattle.std.specs.Arc.{arc_value};
 ghost use Rattle.partition_model.specs.History.{IsPrefix, writes_to_bucket};
-ghost use Rattle.epoch_core.specs.declared.reader.Try.{Try};
-ghost use Rattle.epoch_core.specs.Shape.{is_in_range, options_of, IsMain};
-ghost use Rattle.epoch_core.specs.Layout.{word_count, IsInside};
-ghost use Rattle.epoch_core.specs.ReaderState.{stamped, loaded_items};
-ghost use Rattle.epoch_core.specs.Joins.{note_of, told};
+ghost use Rattle.partition_words.specs.declared.reader.Try.{Try};
+ghost use Rattle.partition_words.specs.Shape.{is_in_range, options_of, IsMain};
+ghost use Rattle.partition_words.specs.Layout.{word_count, IsInside};
+ghost use Rattle.partition_words.specs.ReaderState.{stamped, loaded_items};
+ghost use Rattle.partition_words.specs.Joins.{note_of, told};
 ghost use Rattle.partition_table.specs.Rule.{is_reader, reader_in};
 
 use crate::places::Places;
 use crate::plays::{Follows, Lends, Looks, Meets, Opens, Shuts, Stamps, Tallies};
 use crate::rule::{PartitionTable, View};
 use atomic_table::Seat;
-use epoch_core::{ReaderWords, Shape, WordAt};
+use partition_words::{ReaderWords, Shape, WordAt};
 use std::alloc::Global;
 use std::mem;
 use std::sync::Arc;

@@ -1,6 +1,6 @@
 //! What a seat knows, and the rule of a partition's table.
 use atomic_table::{Table, TableRule};
-use epoch_core::{OwnerState, ReaderState, Shape};
+use partition_words::{OwnerState, ReaderState, Shape};
 use std::alloc::Global;
 
 /// What a seat at a partition's table knows. No value of it is made.

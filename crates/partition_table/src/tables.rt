@@ -1,12 +1,12 @@
 //! The owner seats of a run that has ended.
 ghost use Rattle.std.specs.Prelude.{◌≡◌, ◌<◌, ◌+◌, ◌++◌, [], ◌∷◌, length};
-ghost use Rattle.epoch_core.specs.declared.state.Phase.TheVariants.{Idle};
+ghost use Rattle.partition_words.specs.declared.state.Phase.TheVariants.{Idle};
 ghost use Rattle.partition_table.specs.Seats.{owner_state};
 ghost use Rattle.partition_table.specs.Tabled.{kept_seat_of};
 
 use crate::owner::OwnerSeat;
-use epoch_core::Shape;
 use partition_model::Write;
+use partition_words::Shape;
 use std::collections::LinkedList;
 use std::marker::Model;
 

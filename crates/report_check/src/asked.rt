@@ -7,9 +7,9 @@ ghost use Rattle.mica_trace.specs.Rounds.{partition_in};
 ghost use Rattle.report_check.specs.Settling.{AreGetsAmong, StampsRise};
 
 use crate::sharing::OwnLine;
-use mica_io::NoMemory;
 use mica_trace::{Line, TraceLine, TraceOp};
 use mica_words::{key_hash, partition_of};
+use outside::NoMemory;
 use partition_model::Options;
 use std::alloc::Global;
 

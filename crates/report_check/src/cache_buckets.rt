@@ -10,9 +10,9 @@ ghost use Rattle.partition_model.specs.Options.{IsValid};
 ghost use Rattle.partition_model.specs.Write.{HasValueOf, is_accepted, write_of};
 ghost use Rattle.report_check.specs.Machines.{bucket_part, AreBuckets, IsReachable, TakesInBuckets};
 
-use mica_io::NoMemory;
 use mica_model::{Answer, CacheRecord, CacheState, ItemBuf, Mode, Op, Options, Outcome};
 use mica_words::{bucket_of, key_hash};
+use outside::NoMemory;
 use std::alloc::Global;
 
 /// A partition in cache mode. Each bucket has its records by themselves, as they were when it was last met: those that the

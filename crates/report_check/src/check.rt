@@ -13,8 +13,8 @@ use crate::partition::{Judged, judge_partition};
 use crate::rounds::round_ends;
 use crate::settling::earlier;
 use crate::sharing::share_out;
-use mica_io::NoMemory;
 use mica_trace::{Line, MAX_LINES, Report, Trace, TraceLine};
+use outside::NoMemory;
 use partition_model::Options;
 use std::alloc::Global;
 

@@ -6,8 +6,8 @@ ghost use Rattle.report_check.specs.Shared.{AreLinesOf};
 
 use crate::asked::{is_get, printed_stamp};
 use crate::sharing::OwnLine;
-use mica_io::NoMemory;
 use mica_trace::{Line, TraceLine};
+use outside::NoMemory;
 use partition_model::Options;
 use std::alloc::Global;
 

@@ -8,9 +8,9 @@ ghost use Rattle.partition_model.specs.Write.{HasValueOf, write_of};
 ghost use Rattle.report_check.specs.Machines.{options_in, AnswersIn, IsAfter, IsAt, TakesWrite};
 
 use crate::cache_buckets::CacheBuckets;
-use mica_io::NoMemory;
 use mica_model::{Answer, ItemBuf, Mode, Op, Options, Outcome, StoreMachine};
 use mica_trace::Line;
+use outside::NoMemory;
 use std::alloc::Global;
 
 /// The machine of a partition, in either mode.

@@ -16,8 +16,8 @@ use crate::asked::{Asked, gets_among};
 use crate::machine::Machine;
 use crate::settling::{Settling, earlier, judge};
 use crate::sharing::OwnLine;
-use mica_io::NoMemory;
 use mica_trace::{Line, TraceLine};
+use outside::NoMemory;
 use partition_model::{ItemBuf, Options};
 use std::alloc::Global;
 

@@ -2,8 +2,8 @@
 ghost use Rattle.std.specs.Prelude.{◌≡◌, ◌⊎◌, ◌<◌, ◌≤◌, length, IfOk};
 ghost use Rattle.report_check.specs.Moments.{AreRounds, IsRound, StartsRound};
 
-use mica_io::NoMemory;
 use mica_trace::TraceLine;
+use outside::NoMemory;
 use std::alloc::Global;
 
 // The end of the round that begins at the place: behind its sync, or the end of the trace.

@@ -4,8 +4,8 @@ ghost use Rattle.partition_model.specs.Options.{IsValid};
 ghost use Rattle.report_check.specs.Shared.{AreShared};
 
 use crate::asked::{is_get, partition_in};
-use mica_io::NoMemory;
 use mica_trace::TraceLine;
+use outside::NoMemory;
 use partition_model::Options;
 use std::alloc::Global;
 

@@ -2,8 +2,8 @@
 use Rattle.std.proofs.Common.{◌≡◌, ℕ, true, false, cond, List, [], Some, refl, ap, ◌∙◌}
 use Rattle.std.proofs.lemmas.Bool.{eq-eqb}
 use Rattle.std.proofs.lemmas.Option.{same_Some}
-use Rattle.mica_io.specs.Traffic.{EndScript}
-use Rattle.mica_io.specs.PortStates.{Port, PortStates, absent, waiting, out, back, with_port, with_datagram, takes_datagram, is_added}
+use Rattle.outside.specs.Traffic.{EndScript}
+use Rattle.outside.specs.PortStates.{Port, PortStates, absent, waiting, out, back, with_port, with_datagram, takes_datagram, is_added}
 
 at_port : (number : ℕ) (port : Port) (ports : PortStates) → with_port number port ports number ≡ port
 at_port number port ports = ap (λ b. cond b port (ports number)) (eq-eqb number number refl)

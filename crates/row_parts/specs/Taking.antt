@@ -1,6 +1,6 @@
 -- Ports that take datagrams.
 use Rattle.std.specs.Prelude.{◌≡◌, ℕ, true, Option, IfSome}
-use Rattle.mica_io.specs.PortStates.{PortStates, takes_datagram}
+use Rattle.outside.specs.PortStates.{PortStates, takes_datagram}
 
 -- where a net tells of its ports, this one takes datagrams
 abbrev pub TakesDatagrams : ℕ → Option PortStates → Type 0

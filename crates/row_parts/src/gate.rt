@@ -1,7 +1,7 @@
 //! The gate of a row.
 
 use crate::row::Row;
-use mica_io::Gate;
+use outside::Gate;
 use std::hint::spin_loop;
 use std::sync::atomic::{AtomicBool, AtomicU64, Ordering};
 

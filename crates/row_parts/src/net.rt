@@ -5,7 +5,8 @@ ghost use Rattle.row_parts.specs.Taking.{TakesDatagrams};
 
 use crate::entry::{Entry, is_one_of};
 use crate::row::Row;
-use mica_io::{MemNet, Net, NoMemory};
+use memory_outside::MemNet;
+use outside::{Net, NoMemory};
 use std::alloc::Global;
 
 /// Adds a datagram to a port that takes some.

@@ -2,7 +2,7 @@
 
 use crate::entry::Entry;
 use crate::spelling::{Ending, Script, spell};
-use mica_io::NoMemory;
+use outside::NoMemory;
 use std::alloc::Global;
 
 /// What a line may begin with.

@@ -1,7 +1,7 @@
 //! The short forms of texts: `(1024)` for so many letters `x`, `(9 00)` for so many bytes 00, `[7]` for a number that rises by 1 at
 //! each turn, and in letters `\x7f` for a byte. In hexadecimal digits a number has four bytes, the lowest first.
 
-use mica_io::NoMemory;
+use outside::NoMemory;
 use std::alloc::Global;
 
 /// What a text is written in: letters, each line with a line feed at its end, the same with a carriage return before it, or hexadecimal digits.

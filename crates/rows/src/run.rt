@@ -1,9 +1,10 @@
 //! A row's runs of the top call, over memory.
 
 use anyhow::Result;
+use memory_outside::{MemNet, MemSink, MemSource};
 use mica_client::MemLink;
 use mica_cmd::mica;
-use mica_io::{MemNet, MemSink, MemSource, NoMemory};
+use outside::NoMemory;
 use partition_table::Tables;
 use row_parts::{Entry, Row, RowGate, at_least_one, has_sent, is_one_of, net_of};
 use std::alloc::Global;

@@ -8,7 +8,7 @@ use mathlib.Core.Option.{some, some-ne-none}
 use lib.ListN.{get_elem?}
 use Rattle.crossbeam_channel.specs.Fifo.{Pushes, Pops, Forks, Merges, Learns}
 use Rattle.atomic_table.proofs.Lists.{at_set, at_snoc}
-use Rattle.ruled_queue.specs.declared.rule.Knows.{Knows}
+use Rattle.ruled_queue.specs.declared.rule.PassView.{PassView}
 use Rattle.ruled_queue.specs.Delivery.{sender, receiver, newborn, nobody, with_sender, new_sender, told_by, from_sender, MayBeSent, Fits, Delivers, HasSent, HasTaken, IsWhole}
 
 -- whether two numbers are the same
@@ -95,7 +95,7 @@ module _ {T S : Type 0} (sender_of : T → ℕ) (follows : S → List T → T �
   abbrev Of : ℕ → List T → List T
   Of = from_sender sender_of
 
-  abbrev Rule : List T → List (Knows T S) → Type 0
+  abbrev Rule : List T → List (PassView T S) → Type 0
   Rule = Delivers sender_of follows
 
   lawful_nil : (terms : S) → MayBeSent follows terms []
@@ -130,10 +130,10 @@ module _ {T S : Type 0} (sender_of : T → ℕ) (follows : S → List T → T �
   }
 
   -- a sender puts a message at the back that may follow what it sent
-  sends : (n pass : ℕ) (v : Knows T S) (m : T) → v.sends ≡ true → v.takes ≡ false → sender_of m ≡ v.number → follows v.terms v.sent m
+  sends : (n pass : ℕ) (v : PassView T S) (m : T) → v.sends ≡ true → v.takes ≡ false → sender_of m ≡ v.number → follows v.terms v.sent m
       → Pushes Rule n pass v m (HasSent v m)
   sends n pass v m may silent own fitting items views _ h at =
-      let w : Knows T S = sender v.number v.terms (v.sent ++ m ∷ []) in
+      let w : PassView T S = sender v.number v.terms (v.sent ++ m ∷ []) in
       let mine = (h.fits pass v at).as_sender may in
       let sent' : ℕ → List T = and_then sender_of h.sent m in
       let apart : (k : ℕ) → k ≢ pass → (q : ℕ) → h.owner q ≡ k → sender_of m ≢ q = λ k n q o s. n (sym o ∙ (ap h.owner (sym s ∙ own) ∙ mine.owner_is)) in (
@@ -172,9 +172,9 @@ module _ {T S : Type 0} (sender_of : T → ℕ) (follows : S → List T → T �
   next_is : (p : ℕ) (taken items : List T) (m : T) → sender_of m ≡ p → Of p (taken ++ m ∷ items) ≡ Of p taken ++ m ∷ Of p items
   next_is p taken items m e = from_append sender_of p taken (m ∷ items) ∙ ap (λ l. Of p taken ++ l) (from_next sender_of p m items e)
 
-  takes : (pass : ℕ) (v : Knows T S) → v.takes ≡ true → v.sends ≡ false → Pops Rule pass v (HasTaken sender_of follows v)
+  takes : (pass : ℕ) (v : PassView T S) → v.takes ≡ true → v.sends ≡ false → Pops Rule pass v (HasTaken sender_of follows v)
   takes pass v may silent m items views h at =
-      let w : Knows T S = receiver v.number v.terms (v.taken ++ m ∷ []) in
+      let w : PassView T S = receiver v.number v.terms (v.taken ++ m ∷ []) in
       let mine = (h.fits pass v at).as_receiver may in
       let p : ℕ = sender_of m in
       let next : Of p h.taken ++ m ∷ Of p items ≡ h.sent p = sym (next_is p h.taken items m refl) ∙ h.kept p in
@@ -213,13 +213,13 @@ module _ {T S : Type 0} (sender_of : T → ℕ) (follows : S → List T → T �
       )
 
   -- a sender may be added while its number is free. The first one settles the terms
-  forks : (terms : S) (pass : ℕ) (v : Knows T S) → v.takes ≡ true → v.sends ≡ false → (v.number ≡ 0) ⊎ (v.terms ≡ terms)
+  forks : (terms : S) (pass : ℕ) (v : PassView T S) → v.takes ≡ true → v.sends ≡ false → (v.number ≡ 0) ⊎ (v.terms ≡ terms)
       → Forks Rule pass v (with_sender terms v) (new_sender terms v)
   forks terms pass v may silent settled items views h at =
-      let left : Knows T S = with_sender terms v in
-      let right : Knows T S = new_sender terms v in
+      let left : PassView T S = with_sender terms v in
+      let right : PassView T S = new_sender terms v in
       let mine = (h.fits pass v at).as_receiver may in
-      let vs : List (Knows T S) = set views pass left in
+      let vs : List (PassView T S) = set views pass left in
       let new : ℕ = length vs in
       let owner' : ℕ → ℕ = given h.owner v.number new in
       let same_terms : (p : ℕ) → p < v.number → h.terms ≡ terms = λ p below. ⊎_elim (λ (z : v.number ≡ 0). absurd (omega arith)) (λ (s : v.terms ≡ terms). sym mine.terms_are ∙ s) settled in
@@ -256,17 +256,17 @@ module _ {T S : Type 0} (sender_of : T → ℕ) (follows : S → List T → T �
       }
 
   -- a sender that the receiver takes in leaves the others as they are
-  pub merges : (unset : S) (pass : ℕ) (v : Knows T S) (other : ℕ) (w : Knows T S) → v.takes ≡ true → v.sends ≡ false → w.sends ≡ true → Merges Rule pass v other w (told_by v w) (nobody unset)
+  pub merges : (unset : S) (pass : ℕ) (v : PassView T S) (other : ℕ) (w : PassView T S) → v.takes ≡ true → v.sends ≡ false → w.sends ≡ true → Merges Rule pass v other w (told_by v w) (nobody unset)
   merges unset pass v other w may silent ends items views h at two at' =
-      let both : Knows T S = told_by v w in
+      let both : PassView T S = told_by v w in
       let mine = (h.fits pass v at).as_receiver may in
-      let vs : List (Knows T S) = set views pass both in
+      let vs : List (PassView T S) = set views pass both in
       let was : get_elem? views other ≡ some w = ⊎_elim (λ (x : (other ≡ pass) × (both ≡ w)). absurd (two x.0)) (λ (x : (other ≢ pass) × (get_elem? views other ≡ some w)). x.1) (at_set views pass other both w at') in
       let theirs = (h.fits other w was).as_sender ends in
       let owner' : ℕ → ℕ = given h.owner w.number h.reader in
       let to_reader : (p : ℕ) → h.owner p ≡ h.reader → owner' p ≡ h.reader = λ p o.
       ⊎_elim (λ (s : p ≡ w.number). ap owner' s ∙ given_own h.owner w.number h.reader) (λ (n : p ≢ w.number). given_same h.owner w.number h.reader p n ∙ o) (same_or_not p w.number) in
-      let Now : ℕ → Knows T S → Type 0 = λ j u. j ≢ other → Fits h.terms h.reader owner' h.sent h.taken j u in
+      let Now : ℕ → PassView T S → Type 0 = λ j u. j ≢ other → Fits h.terms h.reader owner' h.sent h.taken j u in
       let now : AllAt Now vs = all_set Now views pass both
       (λ _. record {
         as_sender = λ s. absurd (true≢false (sym s));
@@ -298,7 +298,7 @@ module _ {T S : Type 0} (sender_of : T → ℕ) (follows : S → List T → T �
             (λ j u apart e. now j u e apart);
       }
 
-  learns : (pass : ℕ) (v : Knows T S) → v.takes ≡ true → v.hears ≡ true → Learns Rule pass v (IsWhole sender_of follows v)
+  learns : (pass : ℕ) (v : PassView T S) → v.takes ≡ true → v.hears ≡ true → Learns Rule pass v (IsWhole sender_of follows v)
   learns pass v may hears items views h at =
       let mine = (h.fits pass v at).as_receiver may in
       let same : h.sent v.heard ≡ v.sent = sym (mine.heard_sent hears) in (
@@ -308,25 +308,25 @@ module _ {T S : Type 0} (sender_of : T → ℕ) (follows : S → List T → T �
 
   -- The steps above, from what a caller knows of the pass and of the message when the call began.
 
-  pub send_rule : (n pass : ℕ) (u v : Knows T S) (k m : T) → u ≡ v → k ≡ m → v ≡ sender v.number v.terms v.sent → sender_of m ≡ v.number → follows v.terms v.sent m
+  pub send_rule : (n pass : ℕ) (u v : PassView T S) (k m : T) → u ≡ v → k ≡ m → v ≡ sender v.number v.terms v.sent → sender_of m ≡ v.number → follows v.terms v.sent m
       → Pushes Rule n pass u k (HasSent u k) × Learns Rule pass u (λ items. ⊤)
   send_rule n pass u v k m e f is own fitting =
-      subst (λ (y : Knows T S × T). Pushes Rule n pass y.0 y.1 (HasSent y.0 y.1) × Learns Rule pass y.0 (λ items. ⊤)) (λ i. (sym e i, sym f i))
-      (sends n pass v m (ap (λ (y : Knows T S). y.sends) is) (ap (λ (y : Knows T S). y.takes) is) own fitting, λ items views h at. tt)
+      subst (λ (y : PassView T S × T). Pushes Rule n pass y.0 y.1 (HasSent y.0 y.1) × Learns Rule pass y.0 (λ items. ⊤)) (λ i. (sym e i, sym f i))
+      (sends n pass v m (ap (λ (y : PassView T S). y.sends) is) (ap (λ (y : PassView T S). y.takes) is) own fitting, λ items views h at. tt)
 
-  pub take_rule : (pass : ℕ) (u v : Knows T S) → u ≡ v → v.takes ≡ true → v.sends ≡ false → Pops Rule pass u (HasTaken sender_of follows u) × Learns Rule pass u (λ items. ⊤)
+  pub take_rule : (pass : ℕ) (u v : PassView T S) → u ≡ v → v.takes ≡ true → v.sends ≡ false → Pops Rule pass u (HasTaken sender_of follows u) × Learns Rule pass u (λ items. ⊤)
   take_rule pass u v e may silent =
-      subst (λ (y : Knows T S). Pops Rule pass y (HasTaken sender_of follows y) × Learns Rule pass y (λ items. ⊤)) (sym e) (takes pass v may silent, λ items views h at. tt)
+      subst (λ (y : PassView T S). Pops Rule pass y (HasTaken sender_of follows y) × Learns Rule pass y (λ items. ⊤)) (sym e) (takes pass v may silent, λ items views h at. tt)
 
-  pub learn_rule : (pass : ℕ) (u v w : Knows T S) → u ≡ told_by v w → Learns Rule pass u (IsWhole sender_of follows u)
-  learn_rule pass u v w e = subst (λ (y : Knows T S). Learns Rule pass y (IsWhole sender_of follows y)) (sym e) (learns pass (told_by v w) refl refl)
+  pub learn_rule : (pass : ℕ) (u v w : PassView T S) → u ≡ told_by v w → Learns Rule pass u (IsWhole sender_of follows u)
+  learn_rule pass u v w e = subst (λ (y : PassView T S). Learns Rule pass y (IsWhole sender_of follows y)) (sym e) (learns pass (told_by v w) refl refl)
 
-  pub whole_rule : (u v w : Knows T S) (items : List T) → u ≡ told_by v w → IsWhole sender_of follows u items
+  pub whole_rule : (u v w : PassView T S) (items : List T) → u ≡ told_by v w → IsWhole sender_of follows u items
       → (Of w.number (v.taken ++ items) ≡ w.sent) × MayBeSent follows v.terms w.sent
-  whole_rule u v w items e whole = subst (λ (y : Knows T S). IsWhole sender_of follows y items) e whole
+  whole_rule u v w items e whole = subst (λ (y : PassView T S). IsWhole sender_of follows y items) e whole
 
-  pub fork_rule : (terms : S) (pass made : ℕ) (v : Knows T S) → v.takes ≡ true → v.sends ≡ false → v.number ≡ made → (made ≡ 0) ⊎ (v.terms ≡ terms) → Forks Rule pass v (with_sender terms v) (new_sender terms v)
+  pub fork_rule : (terms : S) (pass made : ℕ) (v : PassView T S) → v.takes ≡ true → v.sends ≡ false → v.number ≡ made → (made ≡ 0) ⊎ (v.terms ≡ terms) → Forks Rule pass v (with_sender terms v) (new_sender terms v)
   fork_rule terms pass made v may silent n settled = forks terms pass v may silent (⊎_elim (λ (z : made ≡ 0). inl (n ∙ z)) (λ (s : v.terms ≡ terms). inr s) settled)
 
-  pub first_fork : (unset terms : S) (pass : ℕ) (v : Knows T S) → v ≡ newborn unset → Forks Rule pass v (with_sender terms v) (new_sender terms v)
-  first_fork unset terms pass v is = forks terms pass v (ap (λ (y : Knows T S). y.takes) is) (ap (λ (y : Knows T S). y.sends) is) (inl (ap (λ (y : Knows T S). y.number) is))
+  pub first_fork : (unset terms : S) (pass : ℕ) (v : PassView T S) → v ≡ newborn unset → Forks Rule pass v (with_sender terms v) (new_sender terms v)
+  first_fork unset terms pass v is = forks terms pass v (ap (λ (y : PassView T S). y.takes) is) (ap (λ (y : PassView T S). y.sends) is) (inl (ap (λ (y : PassView T S). y.number) is))

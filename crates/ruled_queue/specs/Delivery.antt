@@ -2,36 +2,36 @@
 use Rattle.std.specs.Prelude.{◌≡◌, ℕ, ◌+◌, ◌<◌, ◌≤◌, ◌==◌, true, false, List, [], ◌∷◌, ◌++◌, filter}
 use mathlib.Core.Option.{some}
 use lib.ListN.{get_elem?}
-use Rattle.ruled_queue.specs.declared.rule.Knows.{Knows}
+use Rattle.ruled_queue.specs.declared.rule.PassView.{PassView}
 
 module _ {T S : Type 0} where
   -- the one pass of a sender
-  abbrev pub sender : ℕ → S → List T → Knows T S
+  abbrev pub sender : ℕ → S → List T → PassView T S
   sender number terms sent = record { sends = true; takes = false; number = number; terms = terms; taken = []; sent = sent; hears = false; heard = 0 }
 
   -- the pass of the receiver, which has so many senders
-  abbrev pub receiver : ℕ → S → List T → Knows T S
+  abbrev pub receiver : ℕ → S → List T → PassView T S
   receiver senders terms taken = record { sends = false; takes = true; number = senders; terms = terms; taken = taken; sent = []; hears = false; heard = 0 }
 
-  abbrev pub newborn : S → Knows T S
+  abbrev pub newborn : S → PassView T S
   newborn unset = receiver 0 unset []
 
-  abbrev pub nobody : S → Knows T S
+  abbrev pub nobody : S → PassView T S
   nobody unset = record { sends = false; takes = false; number = 0; terms = unset; taken = []; sent = []; hears = false; heard = 0 }
 
   -- the receiver once it has one sender more, and that sender
-  abbrev pub with_sender : S → Knows T S → Knows T S
+  abbrev pub with_sender : S → PassView T S → PassView T S
   with_sender terms v = receiver (v.number + 1) terms v.taken
 
-  abbrev pub new_sender : S → Knows T S → Knows T S
+  abbrev pub new_sender : S → PassView T S → PassView T S
   new_sender terms v = sender v.number terms []
 
   -- the receiver v, which knows what the sender w sent in all
-  abbrev pub told_by : Knows T S → Knows T S → Knows T S
+  abbrev pub told_by : PassView T S → PassView T S → PassView T S
   told_by v w = record { sends = false; takes = true; number = v.number; terms = v.terms; taken = v.taken; sent = w.sent; hears = true; heard = w.number }
 
   -- the sender's pass, after it sent a message
-  abbrev pub HasSent : Knows T S → T → Knows T S → Type 0
+  abbrev pub HasSent : PassView T S → T → PassView T S → Type 0
   HasSent v m w = w ≡ sender v.number v.terms (v.sent ++ m ∷ [])
 
 module _ {T : Type 0} (sender_of : T → ℕ) where
@@ -44,7 +44,7 @@ module _ {T S : Type 0} (follows : S → List T → T → Type 0) where
   abbrev pub MayBeSent : S → List T → Type 0
   MayBeSent terms messages = (before later : List T) (m : T) → messages ≡ before ++ m ∷ later → follows terms before m
 
-module _ {T S : Type 0} (terms : S) (reader : ℕ) (owner : ℕ → ℕ) (sent : ℕ → List T) (taken : List T) (pass : ℕ) (v : Knows T S) where
+module _ {T S : Type 0} (terms : S) (reader : ℕ) (owner : ℕ → ℕ) (sent : ℕ → List T) (taken : List T) (pass : ℕ) (v : PassView T S) where
   -- each sender has one pass, which knows what was sent
   pub record FitsSender : Type 0 where
     pub owner_is : owner v.number ≡ pass
@@ -68,7 +68,7 @@ module _ {T S : Type 0} (terms : S) (reader : ℕ) (owner : ℕ → ℕ) (sent :
 
 module _ {T S : Type 0} (sender_of : T → ℕ) (follows : S → List T → T → Type 0) where
   -- The rule. `waiting` are the messages in the queue, oldest first, and `owner` is the pass of each sender.
-  pub record Delivers (waiting : List T) (views : List (Knows T S)) : Type 0 where
+  pub record Delivers (waiting : List T) (views : List (PassView T S)) : Type 0 where
     pub terms : S
     pub reader : ℕ
     pub owner : ℕ → ℕ
@@ -76,12 +76,12 @@ module _ {T S : Type 0} (sender_of : T → ℕ) (follows : S → List T → T �
     pub taken : List T
     pub kept : (p : ℕ) → from_sender sender_of p (taken ++ waiting) ≡ sent p
     pub lawful : (p : ℕ) → MayBeSent follows terms (sent p)
-    pub fits : (pass : ℕ) (v : Knows T S) → get_elem? views pass ≡ some v → Fits terms reader owner sent taken pass v
+    pub fits : (pass : ℕ) (v : PassView T S) → get_elem? views pass ≡ some v → Fits terms reader owner sent taken pass v
 
   -- the receiver's pass, after it took a message
-  abbrev pub HasTaken : Knows T S → T → Knows T S → Type 0
+  abbrev pub HasTaken : PassView T S → T → PassView T S → Type 0
   HasTaken v m w = (w ≡ receiver v.number v.terms (v.taken ++ m ∷ [])) × (sender_of m < v.number) × follows v.terms (from_sender sender_of (sender_of m) v.taken) m
 
   -- what the receiver learns of the sender that it took in
-  abbrev pub IsWhole : Knows T S → List T → Type 0
+  abbrev pub IsWhole : PassView T S → List T → Type 0
   IsWhole v waiting = (from_sender sender_of v.heard (v.taken ++ waiting) ≡ v.sent) × MayBeSent follows v.terms v.sent

@@ -4,7 +4,7 @@ use Rattle.atomic_table.specs.Seated.{TableId}
 use Rattle.atomic_table.specs.declared.badge.Badge.{Badge}
 use Rattle.crossbeam_channel.specs.declared.flavors.array.Key.{Key}
 use Rattle.crossbeam_channel.specs.Claims.{Pass, view}
-use Rattle.ruled_queue.specs.declared.rule.Knows.{Knows}
+use Rattle.ruled_queue.specs.declared.rule.PassView.{PassView}
 
 -- how many messages may wait in a queue
 abbrev pub capacity : ℕ
@@ -16,9 +16,9 @@ Queue T = TableId × Badge (Key T)
 
 module _ {T S : Type 0} where
   -- the queue that a pass is for
-  abbrev pub queue_of : Pass T (Knows T S) → Queue T
+  abbrev pub queue_of : Pass T (PassView T S) → Queue T
   queue_of p = (p.table_id, p.me.0.of)
 
   -- what the holder of a pass knows
-  abbrev pub known : Pass T (Knows T S) → Knows T S
+  abbrev pub known : Pass T (PassView T S) → PassView T S
   known p = view p

@@ -8,4 +8,4 @@ mod moves;
 mod rule;
 
 pub use moves::{CAPACITY, put, take};
-pub use rule::{InOrder, Knows, NewSender, Queued, TakenIn, Terms, Whole};
+pub use rule::{InOrder, NewSender, PassView, Queued, TakenIn, Terms, Whole};

@@ -5,7 +5,7 @@ ghost use Rattle.crossbeam_channel.specs.Ends.{sends_on, receives_on};
 ghost use Rattle.ruled_queue.specs.Delivery.{from_sender, sender, receiver};
 ghost use Rattle.ruled_queue.specs.Ends.{known};
 
-use crate::rule::{InOrder, Knows, Queued, Sends, Takes};
+use crate::rule::{InOrder, PassView, Queued, Sends, Takes};
 use crossbeam_channel::{Pass, RuledReceiver, RuledSender};
 use std::sync::Wait;
 use std::thread;
@@ -17,8 +17,8 @@ pub const CAPACITY: usize = 64;
 pub fn put<S, T: Queued<S>, R: Wait>(
     rt: &R,
     yields: u32,
-    end: &RuledSender<T, Knows<T, S>, InOrder>,
-    pass: &mut Pass<T, Knows<T, S>>,
+    end: &RuledSender<T, PassView<T, S>, InOrder>,
+    pass: &mut Pass<T, PassView<T, S>>,
     message: T,
 )
     requires seat { IsSeatAt (sends_on end.now) pass.old }
@@ -49,8 +49,8 @@ pub fn put<S, T: Queued<S>, R: Wait>(
 pub fn take<S, T: Queued<S>, R: Wait>(
     rt: &R,
     yields: u32,
-    end: &RuledReceiver<T, Knows<T, S>, InOrder>,
-    pass: &mut Pass<T, Knows<T, S>>,
+    end: &RuledReceiver<T, PassView<T, S>, InOrder>,
+    pass: &mut Pass<T, PassView<T, S>>,
 ) -> T
     requires seat { IsSeatAt (receives_on end.now) pass.old }
     requires view { ((known pass.old).takes ≡ true) × ((known pass.old).sends ≡ false) }

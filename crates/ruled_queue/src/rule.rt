@@ -19,7 +19,7 @@ pub trait Queued<S>: Drop {
 
 /// What a pass knows. A sender knows its number and what it sent; the receiver how many senders there are, what
 /// it took, and of one sender that was taken in what that one sent. No value of it is made.
-pub struct Knows<T, S> {
+pub struct PassView<T, S> {
     pub sends: bool,
     pub takes: bool,
     pub number: u64,
@@ -33,7 +33,7 @@ pub struct Knows<T, S> {
 /// What holds of a queue: each sender's messages arrive once and in its order.
 pub struct InOrder;
 
-impl<S, T: Queued<S>> Protocol<T, Knows<T, S>> for InOrder {
+impl<S, T: Queued<S>> Protocol<T, PassView<T, S>> for InOrder {
     ghost use Rattle.ruled_queue.specs.Delivery.{Delivers, newborn};
 
     ghost holds = { Delivers T.sender T.follows };
@@ -49,7 +49,7 @@ pub trait Terms<T, S> {
 // A new sender is cut from the receiver.
 pub struct NewSender<J>(PhantomData<J>);
 
-impl<T, S, J: Terms<T, S>> Split<Knows<T, S>> for NewSender<J> {
+impl<T, S, J: Terms<T, S>> Split<PassView<T, S>> for NewSender<J> {
     ghost use Rattle.ruled_queue.specs.Delivery.{with_sender, new_sender};
 
     ghost left = { λ v. with_sender J.terms v };
@@ -60,7 +60,7 @@ impl<T, S, J: Terms<T, S>> Split<Knows<T, S>> for NewSender<J> {
 // A sender is taken in by the receiver.
 pub struct TakenIn;
 
-impl<S, T: Queued<S>> Join<Knows<T, S>> for TakenIn {
+impl<S, T: Queued<S>> Join<PassView<T, S>> for TakenIn {
     ghost use Rattle.ruled_queue.specs.Delivery.{told_by, nobody};
 
     ghost both = { told_by };
@@ -71,13 +71,13 @@ impl<S, T: Queued<S>> Join<Knows<T, S>> for TakenIn {
 /// What a sender knows once its message is in the queue.
 pub struct Sends;
 
-impl<T, S> Outcome<T, Knows<T, S>> for Sends {
+impl<T, S> Outcome<T, PassView<T, S>> for Sends {
     ghost use Rattle.ruled_queue.specs.Delivery.{HasSent};
 
     ghost then = { HasSent };
 }
 
-impl<T, S> Lesson<T, Knows<T, S>> for Sends {
+impl<T, S> Lesson<T, PassView<T, S>> for Sends {
     ghost use Rattle.std.specs.Prelude.{⊤};
 
     ghost fact = { λ v items. ⊤ };
@@ -86,13 +86,13 @@ impl<T, S> Lesson<T, Knows<T, S>> for Sends {
 /// What the receiver knows once it took a message.
 pub struct Takes;
 
-impl<S, T: Queued<S>> Outcome<T, Knows<T, S>> for Takes {
+impl<S, T: Queued<S>> Outcome<T, PassView<T, S>> for Takes {
     ghost use Rattle.ruled_queue.specs.Delivery.{HasTaken};
 
     ghost then = { HasTaken T.sender T.follows };
 }
 
-impl<T, S> Lesson<T, Knows<T, S>> for Takes {
+impl<T, S> Lesson<T, PassView<T, S>> for Takes {
     ghost use Rattle.std.specs.Prelude.{⊤};
 
     ghost fact = { λ v items. ⊤ };
@@ -101,7 +101,7 @@ impl<T, S> Lesson<T, Knows<T, S>> for Takes {
 // What was taken of the sender that was taken in, and then what waits of it, is what it sent.
 pub struct Whole;
 
-impl<S, T: Queued<S>> Lesson<T, Knows<T, S>> for Whole {
+impl<S, T: Queued<S>> Lesson<T, PassView<T, S>> for Whole {
     ghost use Rattle.ruled_queue.specs.Delivery.{IsWhole};
 
     ghost fact = { IsWhole T.sender T.follows };

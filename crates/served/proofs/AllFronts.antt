@@ -4,10 +4,10 @@ use Rattle.std.proofs.lemmas.List.{length-map}
 use Rattle.list_laws.proofs.Places.{from_map}
 use Rattle.partition_model.specs.declared.options.Options.{Options}
 use Rattle.partition_model.specs.History.{History}
-use Rattle.mica_fronts.specs.Answered.{Answered}
-use Rattle.mica_fronts.specs.Dealing.{Dealing, answered_in}
-use Rattle.mica_fronts.specs.Session.{Sessions}
-use Rattle.mica_fronts.specs.Placed.{Placed}
+use Rattle.fronts.specs.Answered.{Answered}
+use Rattle.datagram_answers.specs.Dealing.{Dealing, answered_in}
+use Rattle.fronts.specs.Session.{Sessions}
+use Rattle.fronts.specs.Placed.{Placed}
 use Rattle.served.specs.Others.{Others, all_answers}
 use Rattle.served.specs.Beside.{AnsweredBeside, AreAnsweredBeside}
 

@@ -7,10 +7,10 @@ use Rattle.std.proofs.lemmas.List.Elements.{All-nil, All-cons, All-weaker, All-f
 use Rattle.partition_model.specs.declared.options.Options.{Options}
 use Rattle.partition_model.specs.History.{IsPrefix, History, stamp_of}
 use Rattle.partition_model.specs.Run.{RunStep, history_of}
-use Rattle.epoch_core.proofs.Prefixes.{prefix_then, prefix_same}
-use Rattle.mica_fronts.specs.Looks.{Look, IsLookAt}
-use Rattle.mica_fronts.specs.Answered.{Answered, wrote, got, changed, kept, is_get, steps_of}
-use Rattle.mica_fronts.specs.Session.{Told, Session, TellsWrite, TellsRead, TellsLook}
+use Rattle.partition_words.proofs.Prefixes.{prefix_then, prefix_same}
+use Rattle.fronts.specs.Looks.{Look, IsLookAt}
+use Rattle.fronts.specs.Answered.{Answered, wrote, got, changed, kept, is_get, steps_of}
+use Rattle.fronts.specs.Session.{Told, Session, TellsWrite, TellsRead, TellsLook}
 use Rattle.served.specs.Served.{ServesGet, ServesKept}
 use Rattle.served.proofs.Among.{StandAmong, stand_after}
 use Rattle.served.proofs.OnePartition.{InOrder}

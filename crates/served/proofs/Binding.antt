@@ -2,10 +2,10 @@
 use Rattle.std.proofs.Common.{◌≡◌, ℕ, zero, suc, ◌+◌, ◌<◌, ◌≤◌, ◌⊎◌, inl, inr, true, false, cond, List, [], ◌∷◌, ◌++◌, length, map, Option, Some, None, refl, sym, ap, ◌∙◌, subst, drop, slice_get, get_or, eqb, eqb-true, arith, length-append}
 use Rattle.std.specs.Prelude.{◌≢◌, IfSome, IfNone, is_some, min, sum_by}
 use Rattle.std.proofs.lemmas.Bool.{eq-eqb, ne_eqb, true≢false, cases_lt}
-use Rattle.mica_io.specs.Traffic.{Traffic, EndScript}
-use Rattle.mica_io.specs.PortStates.{Port, PortStates, out, back, with_port, BindsEnd}
+use Rattle.outside.specs.Traffic.{Traffic, EndScript}
+use Rattle.outside.specs.PortStates.{Port, PortStates, out, back, with_port, BindsEnd}
 use Rattle.served.specs.Ends.{EndFacts, IsNewEnd, AreNewEnds, WaitedAt, BindsEnds, ReleasesEnds, TellAll}
-use Rattle.mica_io.specs.Faults.{Rose, LAST_COUNT}
+use Rattle.outside.specs.Faults.{Rose, LAST_COUNT}
 use Rattle.std.proofs.lemmas.List.{length-map}
 use Rattle.std.proofs.Math.ListN.{drop_of_length-le}
 use Rattle.std.proofs.lemmas.Option.{slice_get_within, get_or_from_slice_get}

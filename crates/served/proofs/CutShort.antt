@@ -2,11 +2,11 @@
 use Rattle.std.proofs.Common.{◌≡◌, ℕ, ◌<◌, ◌⊎◌, inl, inr, Bool, false, List, length, map, sym, ◌∙◌, arith}
 use Rattle.std.specs.List.{All}
 use Rattle.std.proofs.lemmas.Bool.{true≢false}
-use Rattle.mica_io.specs.Traffic.{Traffic}
-use Rattle.mica_io.specs.PortStates.{back}
-use Rattle.mica_fronts.specs.Dealing.{Dealing, IsDealing, due_to}
-use Rattle.mica_fronts.specs.OneEnd.{BeginsAs}
-use Rattle.mica_fronts.proofs.SentReplies.{never_all}
+use Rattle.outside.specs.Traffic.{Traffic}
+use Rattle.outside.specs.PortStates.{back}
+use Rattle.datagram_answers.specs.Dealing.{Dealing, IsDealing, due_to}
+use Rattle.datagram_answers.specs.OneEnd.{BeginsAs}
+use Rattle.datagram_answers.proofs.SentReplies.{never_all}
 use Rattle.served.specs.Served.{IsCutShort}
 
 pub cut_short : (batches : ℕ) (traffic : Traffic) (ended : Bool) (dealings : List Dealing) → All IsDealing dealings

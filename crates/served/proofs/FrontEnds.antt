@@ -2,15 +2,15 @@
 use Rattle.std.proofs.Common.{◌≡◌, ℕ, true, refl, Some, None, Option, sym}
 use Rattle.std.specs.Prelude.{is_some, false, IfOk, OnOk, IsErrOf, Result, Ok, Err, ⊤}
 use Rattle.std.proofs.lemmas.Bool.{true≢false}
-use Rattle.mica_io.specs.Faults.{Rose}
-use Rattle.mica_io.specs.Traffic.{Traffic}
+use Rattle.outside.specs.Faults.{Rose}
+use Rattle.outside.specs.Traffic.{Traffic}
 use Rattle.partition_model.specs.declared.options.Options.{Options}
-use Rattle.mica_fronts.specs.declared.totals.Totals.{Totals}
-use Rattle.mica_fronts.specs.declared.totals.ServeFault.{ServeFault}
-use Rattle.mica_fronts.specs.declared.totals.ServeFault.TheVariants.{Net, NoMemory}
+use Rattle.fronts.specs.declared.totals.Totals.{Totals}
+use Rattle.fronts.specs.declared.totals.ServeFault.{ServeFault}
+use Rattle.fronts.specs.declared.totals.ServeFault.TheVariants.{Net, NoMemory}
 use Rattle.served.specs.Ends.{EndFacts, KeepsEnd}
-use Rattle.mica_fronts.specs.OneEnd.{OnTraffic, ServesEnd, LeavesEnd, WantsAtEnd}
-use Rattle.mica_fronts.specs.Totals.{IsUpTo}
+use Rattle.datagram_answers.specs.OneEnd.{OnTraffic, ServesEnd, LeavesEnd, WantsAtEnd}
+use Rattle.fronts.specs.Totals.{IsUpTo}
 use Rattle.served.specs.FrontRuns.{FrontRun, MeansForFront, RunsFront}
 
 pub runs_front : (options : Options) (batches : ℕ) (run : FrontRun) (b a : EndFacts) → KeepsEnd b a

@@ -8,24 +8,24 @@ use Rattle.std.proofs.lemmas.List.Sums.{sum_by-cons, sum_by-append}
 use Rattle.std.proofs.lemmas.Bool.{true≢false, cases_lt, lt-ltb}
 use Rattle.std.proofs.lemmas.Option.{slice_get_within, slice_get-map, same_Some}
 use Rattle.list_laws.proofs.Places.{element_at, from_map}
-use Rattle.mica_io.specs.Traffic.{Datagram, Traffic}
+use Rattle.outside.specs.Traffic.{Datagram, Traffic}
 use Rattle.partition_model.specs.declared.options.Options.{Options}
 use Rattle.partition_model.specs.History.{History}
 use Rattle.partition_table.specs.declared.tables.KeptSeat.{KeptSeat}
 use Rattle.server_words.specs.declared.limits.TheConstants.{MAX_BATCHES}
-use Rattle.mica_fronts.specs.declared.totals.Totals.{Totals}
-use Rattle.mica_fronts.specs.declared.totals.ServeFault.{ServeFault}
-use Rattle.mica_fronts.specs.declared.totals.ServeFault.TheVariants.{Net, NoMemory}
-use Rattle.mica_fronts.specs.Answered.{Answered, gets_of, count_of_writes}
-use Rattle.mica_fronts.specs.Dealing.{Dealing, turns_in, answered_in}
-use Rattle.mica_fronts.specs.Session.{Sessions, AnswersInOrder}
+use Rattle.fronts.specs.declared.totals.Totals.{Totals}
+use Rattle.fronts.specs.declared.totals.ServeFault.{ServeFault}
+use Rattle.fronts.specs.declared.totals.ServeFault.TheVariants.{Net, NoMemory}
+use Rattle.fronts.specs.Answered.{Answered, gets_of, count_of_writes}
+use Rattle.datagram_answers.specs.Dealing.{Dealing, turns_in, answered_in}
+use Rattle.fronts.specs.Session.{Sessions, AnswersInOrder}
 use Rattle.served.specs.Served.{IsThrough}
-use Rattle.mica_fronts.specs.DealingTotals.{AreTotalsOf, has_no_turns}
+use Rattle.datagram_answers.specs.DealingTotals.{AreTotalsOf, has_no_turns}
 use Rattle.served.specs.Others.{Others, all_answers}
 use Rattle.served.specs.Beside.{AnsweredBeside, RunsPartitions, gets_answered}
-use Rattle.mica_fronts.specs.OneEnd.{OnTraffic, ServesEnd, BeginsEnd}
+use Rattle.datagram_answers.specs.OneEnd.{OnTraffic, ServesEnd, BeginsEnd}
 use Rattle.served.specs.Ends.{EndFacts, KeepsEnd, TellAll, DealsWithEnd, DealsInPartWithEnd, MayStopAtEnd, StopsSome, StopsBeside, MeansForEnds, ServesAll, ServesFronts}
-use Rattle.mica_fronts.specs.Totals.{IsUpTo}
+use Rattle.fronts.specs.Totals.{IsUpTo}
 use Rattle.served.specs.FrontRuns.{FrontRun, MeansForFront, RunsFront, RunFronts, AreTakenIn, closed_in, RanAll, sum_of_totals, ComesTo}
 use Rattle.served.proofs.AllFronts.{all_long, beside_all}
 use Rattle.served.proofs.ServedBeside.{closed_gets}

@@ -11,9 +11,9 @@ use Rattle.owner_queue.specs.declared.message.Job.{Job}
 use Rattle.owner_queue.specs.declared.message.Message.{Message}
 use Rattle.owner_queue.specs.declared.message.Message.TheVariants as message
 use Rattle.owner_queue.specs.Messages.{sent_by}
-use Rattle.mica_fronts.specs.Placed.{steps_by, steps_in}
+use Rattle.fronts.specs.Placed.{steps_by, steps_in}
 use Rattle.owner_queue.specs.Worked.{Acknowledged, DoneJob, jobs_in, job_of, steps_of}
-use Rattle.mica_fronts.specs.OwnerWork.{placed_in, answers_to}
+use Rattle.queue_front.specs.OwnerWork.{placed_in, answers_to}
 use Rattle.served.specs.Beside.{total_below}
 
 -- the steps of a front are those of its answers

@@ -9,9 +9,9 @@ use Rattle.partition_model.specs.History.{History, stamp_of}
 use Rattle.partition_model.specs.Run.{RunStep, history_of, IsRunFrom}
 use Rattle.partition_model.proofs.Rises.{one_cut}
 use Rattle.partition_model.proofs.Runs.{history-append}
-use Rattle.mica_fronts.specs.Looks.{Look, IsLookAt}
-use Rattle.mica_fronts.specs.Answered.{Answered, wrote, got, changed, kept, steps_of}
-use Rattle.mica_fronts.specs.Placed.{Placed, steps_by, steps_in}
+use Rattle.fronts.specs.Looks.{Look, IsLookAt}
+use Rattle.fronts.specs.Answered.{Answered, wrote, got, changed, kept, steps_of}
+use Rattle.fronts.specs.Placed.{Placed, steps_by, steps_in}
 use Rattle.served.specs.Served.{ServesChange, ServesLook}
 use Rattle.served.proofs.Beside.{MadeOfLast, IsOf}
 

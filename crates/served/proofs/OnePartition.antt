@@ -2,8 +2,8 @@
 use Rattle.std.proofs.Common.{◌≡◌, ℕ, Bool, true, false, cond, List, [], ◌∷◌, refl, sym, ◌∙◌, subst, eqb, eqb-true}
 use Rattle.std.proofs.lemmas.Bool.{true≢false, eq-eqb}
 use Rattle.partition_model.specs.declared.options.Options.{Options}
-use Rattle.mica_fronts.specs.Answered.{Answered, partition_in, answers_of}
-use Rattle.mica_fronts.specs.Session.{Session, Sessions, AnswersOne, AnswersInOrder}
+use Rattle.fronts.specs.Answered.{Answered, partition_in, answers_of}
+use Rattle.fronts.specs.Session.{Session, Sessions, AnswersOne, AnswersInOrder}
 
 abbrev pub InOrder : Options → Session → List Answered → Session → Type 0
 InOrder options old [] new = new ≡ old

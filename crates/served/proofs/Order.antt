@@ -9,8 +9,8 @@ use Rattle.partition_model.specs.Write.{is_accepted}
 use Rattle.partition_model.specs.History.{stamp_of}
 use Rattle.partition_model.specs.Run.{RunStep}
 use Rattle.partition_model.proofs.Rises.{prefix_rises}
-use Rattle.mica_fronts.specs.Answered.{Answered, wrote, got, changed, kept, stamp_given, accepts}
-use Rattle.mica_fronts.specs.Session.{Session, Writes, AnswersOne}
+use Rattle.fronts.specs.Answered.{Answered, wrote, got, changed, kept, stamp_given, accepts}
+use Rattle.fronts.specs.Session.{Session, Writes, AnswersOne}
 use Rattle.served.specs.Served.{NoFall}
 use Rattle.served.proofs.OnePartition.{InOrder}
 

@@ -6,7 +6,7 @@ use Rattle.std.proofs.lemmas.Bool.{eq-eqb, ne_eqb, cases_lt}
 use Rattle.mica_words.proofs.Hashes.{partition_of-below}
 use Rattle.partition_model.specs.declared.options.Options.{Options}
 use Rattle.partition_model.specs.Run.{RunStep}
-use Rattle.mica_fronts.specs.Answered.{Answered, key_of, step_in, partition_in, answers_of, steps_of, writes_of, count_of_writes}
+use Rattle.fronts.specs.Answered.{Answered, key_of, step_in, partition_in, answers_of, steps_of, writes_of, count_of_writes}
 use Rattle.served.specs.Beside.{total_below}
 
 pub total_add : (n : ℕ) (f g : ℕ → ℕ) → total_below n (λ p. f p + g p) ≡ total_below n f + total_below n g

@@ -8,19 +8,19 @@ use Rattle.std.proofs.lemmas.Option.{slice_get_within, same_Some}
 use Rattle.std.proofs.lemmas.List.{append-nil, length-map}
 use Rattle.std.proofs.lemmas.List.Sums.{sum-map}
 use Rattle.list_laws.proofs.Places.{element_at, from_map}
-use Rattle.mica_io.specs.Traffic.{Datagram, Traffic, new_traffic}
-use Rattle.mica_io.specs.PortStates.{Port, PortStates, out, back, is_waiting}
+use Rattle.outside.specs.Traffic.{Datagram, Traffic, new_traffic}
+use Rattle.outside.specs.PortStates.{Port, PortStates, out, back, is_waiting}
 use Rattle.partition_model.specs.declared.options.Options.{Options}
 use Rattle.server_words.specs.declared.ports.PortOptions.{PortOptions}
-use Rattle.mica_fronts.specs.declared.totals.Totals.{Totals}
-use Rattle.mica_fronts.specs.Answered.{Answered, answers_of, writes_of, gets_of}
-use Rattle.mica_fronts.specs.Dealing.{Dealing, IsDealing, answered_in, due_to}
+use Rattle.fronts.specs.declared.totals.Totals.{Totals}
+use Rattle.fronts.specs.Answered.{Answered, answers_of, writes_of, gets_of}
+use Rattle.datagram_answers.specs.Dealing.{Dealing, IsDealing, answered_in, due_to}
 use Rattle.partition_model.specs.History.{History, IsHistory}
 use Rattle.partition_table.specs.declared.tables.KeptSeat.{KeptSeat}
 use Rattle.served.specs.Others.{Others, all_answers, HaveAnsweredNothing}
 use Rattle.served.specs.Beside.{ServesOnTables}
 use Rattle.served.specs.Served.{ServesPort, ServesGet, ServesLook, NoFall, LeavesPort, BeginsPorts, IsThrough, IsCutShort, IsStopped, StopsShort}
-use Rattle.mica_io.specs.Faults.{Rose}
+use Rattle.outside.specs.Faults.{Rose}
 use Rattle.served.specs.NetRun.{ReleasesAll}
 use Rattle.served.specs.Ends.{EndFacts, TellAll, AreNewEnds, AreAtPorts, BindsEnds, ReleasesEnds, DealsWithEnd, DealsInPartWithEnd, BeginsEnds, MayStopAtEnd, StopsSome, StopsBeside, ServesAll, KeepsEnd}
 use Rattle.served.proofs.Gathered.{chosen}

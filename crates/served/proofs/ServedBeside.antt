@@ -5,9 +5,9 @@ use Rattle.std.proofs.lemmas.List.{append-nil}
 use Rattle.partition_model.specs.declared.options.Options.{Options}
 use Rattle.partition_model.specs.History.{History}
 use Rattle.partition_model.specs.Run.{RunStep, IsRunFrom}
-use Rattle.mica_fronts.specs.Answered.{Answered, answers_of, writes_of, gets_of}
-use Rattle.mica_fronts.specs.Session.{Told, Sessions}
-use Rattle.mica_fronts.specs.Placed.{Placed, steps_by, steps_in, history_in}
+use Rattle.fronts.specs.Answered.{Answered, answers_of, writes_of, gets_of}
+use Rattle.fronts.specs.Session.{Told, Sessions}
+use Rattle.fronts.specs.Placed.{Placed, steps_by, steps_in, history_in}
 use Rattle.served.specs.Served.{ServesGet, ServesLook, NoFall, AnswersLawfully}
 use Rattle.served.specs.Beside.{closed_of, AnsweredBeside, AreAnsweredBeside, RunsPartitions}
 use Rattle.served.proofs.Order.{order_of}

@@ -1,11 +1,11 @@
 -- A server with its tables is one that served.
 use Rattle.std.proofs.Common.{ℕ, Option, Some, None, List}
-use Rattle.mica_io.specs.PortStates.{PortStates}
+use Rattle.outside.specs.PortStates.{PortStates}
 use Rattle.partition_model.specs.declared.options.Options.{Options}
 use Rattle.partition_model.specs.History.{History}
 use Rattle.partition_table.specs.declared.tables.KeptSeat.{KeptSeat}
 use Rattle.server_words.specs.declared.ports.PortOptions.{PortOptions}
-use Rattle.mica_fronts.specs.declared.totals.Totals.{Totals}
+use Rattle.fronts.specs.declared.totals.Totals.{Totals}
 use Rattle.served.specs.Others.{Others}
 use Rattle.served.specs.Served.{ServesAndCounts}
 use Rattle.served.specs.Beside.{ServesOnTables}

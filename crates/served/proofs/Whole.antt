@@ -3,18 +3,18 @@ use Rattle.std.proofs.Common.{◌≡◌, ℕ, ◌+◌, ◌<◌, ◌≤◌, ◌�
 use Rattle.std.specs.Prelude.{is_some, min, sum_by, Result, Ok, Err, IfSome}
 use Rattle.std.proofs.lemmas.Option.{slice_get_within}
 use Rattle.list_laws.proofs.Places.{element_at}
-use Rattle.mica_io.specs.PortStates.{PortStates, out}
+use Rattle.outside.specs.PortStates.{PortStates, out}
 use Rattle.partition_model.specs.declared.options.Options.{Options}
 use Rattle.server_words.specs.declared.ports.PortOptions.{PortOptions}
-use Rattle.mica_fronts.specs.declared.totals.Totals.{Totals}
+use Rattle.fronts.specs.declared.totals.Totals.{Totals}
 use Rattle.partition_model.specs.History.{History, IsHistory}
 use Rattle.partition_table.specs.declared.tables.KeptSeat.{KeptSeat}
 use Rattle.served.specs.Others.{Others, HaveAnsweredNothing}
 use Rattle.served.specs.Beside.{ServesOnTables}
 use Rattle.served.specs.Served.{BeginsPorts, StopsShort, LeavesUnserved}
-use Rattle.mica_io.specs.Faults.{Rose, LAST_COUNT}
-use Rattle.mica_fronts.specs.declared.totals.ServeFault.{ServeFault}
-use Rattle.mica_fronts.specs.declared.totals.ServeFault.TheVariants.{Net, NoMemory}
+use Rattle.outside.specs.Faults.{Rose, LAST_COUNT}
+use Rattle.fronts.specs.declared.totals.ServeFault.{ServeFault}
+use Rattle.fronts.specs.declared.totals.ServeFault.TheVariants.{Net, NoMemory}
 use Rattle.served.specs.NetRun.{NetFacts, OnPorts, CountsFaults, ReleasesAll, ReleasesNet, KeepsNet, BindsAndServes, FailsToBind, MeansForRun, HasNoFault, HasStopped, IsCauseOnceBound}
 use Rattle.served.specs.Ends.{EndFacts, StopsSome, TellAll, AreNewEnds, BindsEnds, DealsInPartWithEnd, ServesFronts, MeansForEnds, KeepsEnd}
 use Rattle.served.proofs.Binding.{rose_on, rose_before}

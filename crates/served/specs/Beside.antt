@@ -3,18 +3,18 @@ use Rattle.std.specs.Prelude.{false, ◌≡◌, ◌+◌, ◌<◌, ◌≤◌, ℕ
 use Rattle.partition_model.specs.declared.options.Options.{Options}
 use Rattle.partition_model.specs.History.{History, IsHistory, IsPrefix}
 use Rattle.partition_model.specs.Run.{RunStep, IsRunFrom}
-use Rattle.epoch_core.specs.Shape.{shape_of}
+use Rattle.partition_words.specs.Shape.{shape_of}
 use Rattle.partition_table.specs.declared.tables.KeptSeat.{KeptSeat}
 use Rattle.server_words.specs.declared.ports.PortOptions.{PortOptions}
-use Rattle.mica_fronts.specs.declared.totals.Totals.{Totals}
-use Rattle.mica_io.specs.PortStates.{PortStates}
-use Rattle.mica_fronts.specs.Answered.{Answered, gets_of, count_of_writes}
-use Rattle.mica_fronts.specs.Dealing.{Dealing}
-use Rattle.mica_fronts.specs.Session.{Told, Sessions, AnswersInOrder}
-use Rattle.mica_fronts.specs.Placed.{Placed, steps_in, steps_by, history_in}
+use Rattle.fronts.specs.declared.totals.Totals.{Totals}
+use Rattle.outside.specs.PortStates.{PortStates}
+use Rattle.fronts.specs.Answered.{Answered, gets_of, count_of_writes}
+use Rattle.datagram_answers.specs.Dealing.{Dealing}
+use Rattle.fronts.specs.Session.{Told, Sessions, AnswersInOrder}
+use Rattle.fronts.specs.Placed.{Placed, steps_in, steps_by, history_in}
 use Rattle.served.specs.Others.{Others, all_answers}
 use Rattle.served.specs.Served.{Served}
-use Rattle.mica_fronts.specs.DealingTotals.{AreTotalsOf}
+use Rattle.datagram_answers.specs.DealingTotals.{AreTotalsOf}
 
 -- how many tries a session closed
 abbrev pub closed_of : Option Told → ℕ

@@ -1,19 +1,19 @@
 -- The ends behind which the fronts stand, as contracts see them.
 use Rattle.std.specs.Prelude.{◌≡◌, ◌≢◌, ◌+◌, ◌<◌, ◌≤◌, ◌⊎◌, ℕ, Bool, true, false, List, [], take, drop, map, length, slice_get, nat_lt, Option, Some, is_some, IfSome, All, Result, Ok, Err}
-use Rattle.mica_io.specs.Faults.{Rose}
-use Rattle.mica_io.specs.declared.datagrams.Datagrams.{Ghosts as EndTells}
-use Rattle.mica_io.specs.Traffic.{Datagram, Traffic, EndScript, new_traffic}
-use Rattle.mica_io.specs.PortStates.{PortStates, waiting, out, back}
+use Rattle.outside.specs.Faults.{Rose}
+use Rattle.outside.specs.declared.datagrams.Datagrams.{Ghosts as EndTells}
+use Rattle.outside.specs.Traffic.{Datagram, Traffic, EndScript, new_traffic}
+use Rattle.outside.specs.PortStates.{PortStates, waiting, out, back}
 use Rattle.partition_model.specs.declared.options.Options.{Options}
 use Rattle.partition_model.specs.History.{History}
-use Rattle.mica_fronts.specs.declared.totals.Totals.{Totals}
-use Rattle.mica_fronts.specs.declared.totals.ServeFault.{ServeFault}
-use Rattle.mica_fronts.specs.declared.totals.ServeFault.TheVariants.{Net, NoMemory}
+use Rattle.fronts.specs.declared.totals.Totals.{Totals}
+use Rattle.fronts.specs.declared.totals.ServeFault.{ServeFault}
+use Rattle.fronts.specs.declared.totals.ServeFault.TheVariants.{Net, NoMemory}
 use Rattle.partition_table.specs.declared.tables.KeptSeat.{KeptSeat}
-use Rattle.mica_fronts.specs.Dealing.{Dealing, IsDealing, due_to}
-use Rattle.mica_fronts.specs.Placed.{Placed}
-use Rattle.mica_fronts.specs.DealingTotals.{AreTotalsOf}
-use Rattle.mica_fronts.specs.OneEnd.{BeginsEnd, IsShort}
+use Rattle.datagram_answers.specs.Dealing.{Dealing, IsDealing, due_to}
+use Rattle.fronts.specs.Placed.{Placed}
+use Rattle.datagram_answers.specs.DealingTotals.{AreTotalsOf}
+use Rattle.datagram_answers.specs.OneEnd.{BeginsEnd, IsShort}
 use Rattle.served.specs.Others.{Others, all_answers}
 use Rattle.served.specs.Served.{IsThrough}
 use Rattle.served.specs.Beside.{AreAnsweredBeside, RunsPartitions, AreServedTables, HaveShapes}

@@ -1,20 +1,20 @@
 -- What the fronts of a server came to, each beside the others, and what their owners took in of them.
 use Rattle.std.specs.Prelude.{false, ◌≡◌, ◌≢◌, ◌+◌, ◌<◌, ◌≤◌, ◌⊎◌, ⊤, ℕ, true, List, ◌++◌, map, length, slice_get, Some, sum_by, Result, Ok, Err}
-use Rattle.mica_io.specs.Faults.{Rose}
+use Rattle.outside.specs.Faults.{Rose}
 use Rattle.partition_model.specs.declared.options.Options.{Options}
 use Rattle.partition_model.specs.History.{History, IsPrefix}
 use Rattle.partition_model.specs.Run.{RunStep}
 use Rattle.partition_table.specs.declared.tables.KeptSeat.{KeptSeat}
-use Rattle.mica_fronts.specs.declared.totals.Totals.{Totals}
-use Rattle.mica_fronts.specs.declared.totals.ServeFault.{ServeFault}
-use Rattle.mica_fronts.specs.declared.totals.ServeFault.TheVariants.{Net, NoMemory}
-use Rattle.mica_fronts.specs.Session.{Told, Sessions}
-use Rattle.mica_fronts.specs.Placed.{Placed, steps_by, history_in}
+use Rattle.fronts.specs.declared.totals.Totals.{Totals}
+use Rattle.fronts.specs.declared.totals.ServeFault.{ServeFault}
+use Rattle.fronts.specs.declared.totals.ServeFault.TheVariants.{Net, NoMemory}
+use Rattle.fronts.specs.Session.{Told, Sessions}
+use Rattle.fronts.specs.Placed.{Placed, steps_by, history_in}
 use Rattle.served.specs.Others.{Others}
 use Rattle.served.specs.Beside.{closed_of, total_below, IsUntold, AreAnsweredBeside, RunsPartitions, HaveShapes, gets_answered}
 use Rattle.served.specs.Ends.{EndFacts, KeepsEnd}
-use Rattle.mica_fronts.specs.OneEnd.{OnTraffic, ServesEnd, LeavesEnd, WantsAtEnd}
-use Rattle.mica_fronts.specs.Totals.{IsUpTo}
+use Rattle.datagram_answers.specs.OneEnd.{OnTraffic, ServesEnd, LeavesEnd, WantsAtEnd}
+use Rattle.fronts.specs.Totals.{IsUpTo}
 
 -- a front before and after it was served: its answer, its sessions, and how many writes it could still be given
 pub record FrontRun : Type 0 where

@@ -1,14 +1,14 @@
 -- What a net tells before and after a call.
 use Rattle.std.specs.Prelude.{◌≡◌, ◌≢◌, ◌+◌, ◌⊎◌, ℕ, ◌<◌, ◌≤◌, true, List, [], length, slice_get, Option, Some, None, is_some, IfSome, min, sum_by, Result, Ok, Err}
-use Rattle.mica_io.specs.PortStates.{PortStates, out}
-use Rattle.mica_io.specs.declared.net.Net.{Ghosts as NetTells}
-use Rattle.mica_io.specs.Faults.{Rose, LAST_COUNT}
+use Rattle.outside.specs.PortStates.{PortStates, out}
+use Rattle.outside.specs.declared.net.Net.{Ghosts as NetTells}
+use Rattle.outside.specs.Faults.{Rose, LAST_COUNT}
 use Rattle.partition_model.specs.declared.options.Options.{Options}
 use Rattle.partition_model.specs.History.{History, IsHistory}
 use Rattle.server_words.specs.declared.ports.PortOptions.{PortOptions}
-use Rattle.mica_fronts.specs.declared.totals.Totals.{Totals}
-use Rattle.mica_fronts.specs.declared.totals.ServeFault.{ServeFault}
-use Rattle.mica_fronts.specs.declared.totals.ServeFault.TheVariants.{Net, NoMemory}
+use Rattle.fronts.specs.declared.totals.Totals.{Totals}
+use Rattle.fronts.specs.declared.totals.ServeFault.{ServeFault}
+use Rattle.fronts.specs.declared.totals.ServeFault.TheVariants.{Net, NoMemory}
 use Rattle.partition_table.specs.declared.tables.KeptSeat.{KeptSeat}
 use Rattle.served.specs.Others.{Others, HaveAnsweredNothing}
 use Rattle.served.specs.Served.{ServesAndCounts, StopsShort, BeginsPorts, LeavesUnserved}

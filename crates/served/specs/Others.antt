@@ -1,7 +1,7 @@
 -- Fronts of another kind beside those over datagrams. They come first in number.
 use Rattle.std.specs.Prelude.{◌≡◌, ℕ, List, [], ◌++◌, map, slice_get, Some}
-use Rattle.mica_fronts.specs.Answered.{Answered}
-use Rattle.mica_fronts.specs.Dealing.{Dealing, answered_in}
+use Rattle.fronts.specs.Answered.{Answered}
+use Rattle.datagram_answers.specs.Dealing.{Dealing, answered_in}
 
 -- what each of them answered, and that a fault came to one of them
 pub record Others : Type 1 where

@@ -1,18 +1,18 @@
 -- What the fronts of a server received and replied to.
 use Rattle.std.specs.Prelude.{◌≡◌, ◌+◌, ◌<◌, ◌≤◌, ◌⊎◌, ℕ, Bool, true, List, [], ◌∷◌, ◌++◌, ⊤, sum, take, drop, map, length, slice_get, nat_lt, Some, AllPairs, All}
-use Rattle.mica_io.specs.Traffic.{Datagram, Traffic, EndScript}
-use Rattle.mica_io.specs.PortStates.{Port, PortStates, waiting, back, is_waiting}
+use Rattle.outside.specs.Traffic.{Datagram, Traffic, EndScript}
+use Rattle.outside.specs.PortStates.{Port, PortStates, waiting, back, is_waiting}
 use Rattle.partition_model.specs.declared.options.Options.{Options}
 use Rattle.partition_model.specs.History.{History, IsHistory, IsPrefix, stamp_of, answer_of}
 use Rattle.partition_model.specs.Run.{RunStep, IsRunFrom, history_of}
 use Rattle.server_words.specs.declared.ports.PortOptions.{PortOptions}
-use Rattle.mica_fronts.specs.declared.totals.Totals.{Totals}
-use Rattle.mica_fronts.specs.Looks.{Look, IsLookAt}
-use Rattle.mica_fronts.specs.Answered.{Answered, wrote, got, changed, kept, key_of, stamp_given, accepts, answers_of, writes_of, gets_of}
-use Rattle.mica_fronts.specs.Dealing.{Dealing, IsDealing, due_to}
-use Rattle.mica_fronts.specs.Placed.{Placed, steps_by, steps_in, history_in}
-use Rattle.mica_fronts.specs.OneEnd.{BeginsAs}
-use Rattle.mica_fronts.specs.DealingTotals.{AreTotalsOf}
+use Rattle.fronts.specs.declared.totals.Totals.{Totals}
+use Rattle.fronts.specs.Looks.{Look, IsLookAt}
+use Rattle.fronts.specs.Answered.{Answered, wrote, got, changed, kept, key_of, stamp_given, accepts, answers_of, writes_of, gets_of}
+use Rattle.datagram_answers.specs.Dealing.{Dealing, IsDealing, due_to}
+use Rattle.fronts.specs.Placed.{Placed, steps_by, steps_in, history_in}
+use Rattle.datagram_answers.specs.OneEnd.{BeginsAs}
+use Rattle.datagram_answers.specs.DealingTotals.{AreTotalsOf}
 use Rattle.served.specs.Others.{Others, all_answers}
 
 -- One front and its port

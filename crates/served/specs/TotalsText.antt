@@ -1,7 +1,7 @@
 -- How totals are told.
 use Rattle.std.specs.Prelude.{ℕ, List, [], ◌∷◌, ◌++◌, codes}
 use Rattle.std.specs.Fmt.{decimal}
-use Rattle.mica_fronts.specs.declared.totals.Totals.{Totals}
+use Rattle.fronts.specs.declared.totals.Totals.{Totals}
 
 -- the line of what the fronts of a server received
 abbrev pub totals_text : Totals → List ℕ

@@ -1,10 +1,10 @@
 //! The answers of all fronts as one.
 ghost use Rattle.std.specs.Prelude.{◌≡◌, ◌≤◌, ℕ, Some, length, slice_get, Ok};
 ghost use Rattle.server_words.specs.declared.limits.TheConstants.{MAX_BATCHES};
-ghost use Rattle.mica_fronts.specs.Totals.{IsUpTo};
+ghost use Rattle.fronts.specs.Totals.{IsUpTo};
 ghost use Rattle.served.specs.FrontRuns.{SumsUp};
 
-use mica_fronts::{ServeFault, Totals};
+use fronts::{ServeFault, Totals};
 
 /// The sum of the totals, or the fault of a front: out of memory, if any ran out of it.
 pub fn sum_up(answers: &[Result<Totals, ServeFault>]) -> Result<Totals, ServeFault>

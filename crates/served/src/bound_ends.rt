@@ -1,12 +1,12 @@
 //! The ends of ports: bound one after another, and released.
 ghost use Rattle.std.specs.Prelude.{◌≡◌, ◌+◌, ◌<◌, ◌≤◌, ℕ, [], true, map, vec_len, vec_capacity, is_some, IfSome, OnOk, OnErr};
-ghost use Rattle.mica_io.specs.Faults.{Rose};
-ghost use Rattle.mica_io.specs.PortStates.{out};
+ghost use Rattle.outside.specs.Faults.{Rose};
+ghost use Rattle.outside.specs.PortStates.{out};
 ghost use Rattle.server_words.specs.PossiblePorts.{IsPossiblePorts};
 ghost use Rattle.served.specs.Ends.{AreNewEnds, AreAtPorts, BindsEnds, TellAll, end_facts};
 ghost use Rattle.served.specs.NetRun.{OnPorts, ReleasesNet, net_facts};
 
-use mica_io::{Failed, Net};
+use outside::{Failed, Net};
 use server_words::PortOptions;
 
 /// Binds a port for each front, in order, up to the first bind that fails.

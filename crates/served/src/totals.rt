@@ -2,8 +2,8 @@
 ghost use Rattle.std.specs.Prelude.{◌≡◌, string_bytes, IfOk};
 ghost use Rattle.served.specs.TotalsText.{totals_text};
 
-use mica_fronts::Totals;
-use mica_io::NoMemory;
+use fronts::Totals;
+use outside::NoMemory;
 use std::alloc::Global;
 
 /// The line of what the fronts of a server received.

@@ -1,10 +1,11 @@
 //! Ports of connections in memory, and what is heard there, in the order in which it comes to pass.
 ghost use Rattle.std.specs.Prelude.{◌<◌};
 
-use mica_io::{Failed, NoMemory};
+use connections::{Broken, Connections, Event, Input, Listeners, Step};
+use memory_connections::{BoxedConnections, MemListeners};
+use outside::{Failed, NoMemory};
 use std::alloc::Global;
 use std::net::Ipv4Addr;
-use stream_io::{BoxedConnections, Broken, Connections, Event, Input, Listeners, MemListeners, Step};
 
 /// What became of the connections of a port: a line as `0: STORED` for what was sent under the number 0, and `0: closed`.
 #[derive(Drop)]

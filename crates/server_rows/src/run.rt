@@ -5,17 +5,17 @@ ghost use Rattle.server_words.specs.declared.limits.TheConstants.{MOST_FRONTS};
 
 use crate::overheard::{Overheard, OverheardListeners};
 use anyhow::Result;
-use locked_serve::Left;
-use mica_clock::MemClock;
-use mica_daemon::{MemFiles, Process, Speaker, daemon, free_by};
-use mica_io::{Bytes, MemNet, MemSink, NoMemory};
+use connections::{Change, Step};
+use daemon::{MemFiles, Process, Speaker, daemon, free_by};
+use locked_server::Left;
+use memory_outside::{MemClock, MemNet, MemSink};
+use outside::{Bytes, NoMemory};
 use row_parts::{Entry, Row, RowGate, at_least_one, has_sent, is_one_of, net_of};
 use server_words::MOST_FRONTS;
 use std::alloc::Global;
 use std::sync::Wait;
 use std::sync::atomic::AtomicBool;
 use std::thread::Threads;
-use stream_io::{Change, Step};
 
 /// How a run ended, what it wrote, for how many connections there was no memory, and the net, the gate and what was heard that it leaves.
 #[derive(Drop)]

@@ -1,7 +1,7 @@
 -- What a program writes, as contracts see it.
 use Rattle.std.specs.Prelude.{ℕ, ◌<◌, List, [], ◌∷◌, ◌++◌, length, take, Option}
 use Rattle.std.specs.Io.KnownBytes.{Appends}
-use Rattle.mica_io.specs.declared.sink.Sink.{Ghosts as SinkTells}
+use Rattle.outside.specs.declared.sink.Sink.{Ghosts as SinkTells}
 
 -- a sink: the bytes that it took, where it tells them, and its count of faults
 pub record SinkFacts : Type 0 where

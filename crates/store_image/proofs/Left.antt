@@ -21,9 +21,9 @@ use Rattle.mica_trace.specs.declared.report.Line.TheVariants.{Hit}
 use Rattle.mica_trace.specs.TraceGrammar.{IsKey, IsValue, IsTraceLine}
 use Rattle.mica_trace.specs.RoundReport.{history_in}
 use Rattle.mica_trace.proofs.Standing.{answer_stands, stored}
-use Rattle.epoch_core.specs.declared.state.OwnerState.{OwnerState}
-use Rattle.epoch_core.specs.Shape.{shape_of, options_of}
-use Rattle.epoch_core.proofs.SameMachine.{same_state}
+use Rattle.partition_words.specs.declared.state.OwnerState.{OwnerState}
+use Rattle.partition_words.specs.Shape.{shape_of, options_of}
+use Rattle.partition_words.proofs.SameMachine.{same_state}
 use Rattle.line_replies.specs.Answered.{AreAnswered}
 use Rattle.store_image.specs.ImageGrammar.{IsPair, IsImage}
 use Rattle.store_image.specs.PutKeys.{put_keys, has_key, pair_by, pairs_by}

@@ -2,8 +2,8 @@
 use Rattle.std.specs.Prelude.{ℕ, List, slice_get, Option, Some, None, option_and_then}
 use Rattle.mica_words.specs.Hash.{partition_of}
 use Rattle.partition_model.specs.History.{answer_of}
-use Rattle.epoch_core.specs.declared.state.OwnerState.{OwnerState}
-use Rattle.epoch_core.specs.OwnerState.{options_in}
+use Rattle.partition_words.specs.declared.state.OwnerState.{OwnerState}
+use Rattle.partition_words.specs.OwnerState.{options_in}
 
 abbrev pub answer_in : List ℕ → OwnerState → Option (List ℕ)
 answer_in key owner = answer_of (options_in owner) owner.history key

@@ -5,8 +5,8 @@ ghost use Rattle.store_image.specs.ImageLines.{put_line as line_of, put_lines};
 
 use crate::Image;
 use crate::reading::first_pair;
-use mica_io::NoMemory;
 use mica_trace::append_line;
+use outside::NoMemory;
 
 // Appends the line that puts a pair. Where memory runs out, nothing is appended.
 fn put_line(key: &[u8], value: &[u8], out: &mut Vec<u8>) -> Result<(), NoMemory>

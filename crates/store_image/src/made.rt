@@ -16,12 +16,12 @@ ghost use Rattle.store_image.specs.ImageOf.{IsImaged};
 
 use crate::Image;
 use crate::writing::put_pair;
-use epoch_core::{Partition, PlainWords, Shape};
 use line_replies::reply_to_all;
-use mica_io::NoMemory;
 use mica_trace::{Report, Trace, TraceLine, TraceOp};
 use mica_words::{key_hash, partition_of};
+use outside::NoMemory;
 use partition_model::{Answer, ItemBuf, Options};
+use partition_words::{Partition, PlainWords, Shape};
 use std::alloc::Global;
 use store_partition::StorePartition;
 

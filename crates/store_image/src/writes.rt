@@ -5,7 +5,7 @@ ghost use Rattle.store_image.specs.ImageWrites.{put_write, put_writes};
 
 use crate::Image;
 use crate::reading::first_pair;
-use mica_io::{Bytes, NoMemory};
+use outside::{Bytes, NoMemory};
 use partition_model::{Op, Write};
 use std::alloc::Global;
 

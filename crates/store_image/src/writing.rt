@@ -5,7 +5,7 @@ ghost use Rattle.store_image.specs.ImageGrammar.{pair_text, image_text};
 
 use crate::Image;
 use crate::image::{MAGIC, VERSION};
-use mica_io::{Bytes, NoMemory};
+use outside::{Bytes, NoMemory};
 use std::alloc::Global;
 
 // Appends the text of a pair.

@@ -19,7 +19,7 @@ use Rattle.store_partition.proofs.Words.{◌⊎◌}
 use Rattle.chained_index.proofs.Filled.{SameBucket}
 use Rattle.store_partition.proofs.Held.{Held, IsOther, before, m, main_at, may_give, HasBlock, Split, as_cells, as_keys, as_rooms, each, has_cell}
 use Rattle.store_partition.proofs.Held.{once, one_entry, other_bucket, rooms_apart, stood, used}
-use Rattle.epoch_core.proofs.Differing.{AllDiffer, differ_joined, differ_last, differ_moved, one_place}
+use Rattle.partition_words.proofs.Differing.{AllDiffer, differ_joined, differ_last, differ_moved, one_place}
 use Rattle.store_partition.proofs.Lists.{Heap, in_one}
 use Rattle.store_partition.proofs.Cells.{exchanges, one_or_none}
 

@@ -1,7 +1,7 @@
 -- A partition between two writes: what its entries tell of the machine's cells and of the heap's blocks, what they answer to a get, and which
 -- outcomes the machine allows a put or an add.
 use Rattle.std.proofs.lemmas.Grind.{common_steps}
-use Rattle.epoch_core.proofs.Differing.{AllDiffer, differ_apart, differ_moved}
+use Rattle.partition_words.proofs.Differing.{AllDiffer, differ_apart, differ_moved}
 use Rattle.store_partition.proofs.Words.{SLOTS, Add, Allows, Bool, Exists, IsSome, AreBytes, AreParts, Block, Cell, Contains, Contains-append_right, Contains-get_or}
 use Rattle.store_partition.proofs.Words.{Contains-permutation, Has, HasKey, HasNoSpot, Index, IsBlockList, IsBucket, IsMain, IsPermutation}
 use Rattle.store_partition.proofs.Words.{IsPermutation-refl, IsPermutation-sym, IsSpotOf, Kept, List, ListStands, MayGive, None, Option, Outcome}

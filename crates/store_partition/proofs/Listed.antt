@@ -6,7 +6,7 @@ use Rattle.chained_index.proofs.Words.{Spells, RoomsApart, StandsFor, buckets_of
 use Rattle.chained_index.proofs.Words.{Contains-get_or, all_differ, in_chain, has_bucket, has_chain, subst₂}
 pub use Rattle.chained_index.proofs.Lists.{at}
 use Rattle.chained_index.proofs.Lists.{below, place_in}
-use Rattle.epoch_core.proofs.Differing.{one_place}
+use Rattle.partition_words.proofs.Differing.{one_place}
 use Rattle.chained_index.proofs.Chained.{chain_is, Chained}
 use Rattle.chained_index.proofs.Filled.{View, view}
 

@@ -1,6 +1,6 @@
 -- Lists: entries of which each stands once, and the used blocks of a heap.
 use Rattle.std.proofs.lemmas.Grind.{common_steps}
-use Rattle.epoch_core.proofs.Differing.{AllDiffer}
+use Rattle.partition_words.proofs.Differing.{AllDiffer}
 use Rattle.store_partition.proofs.Words.{AddsBlock, Block, Contains, Contains-permutation, Fills, IsBlockList, IsGiven, IsPermutation}
 use Rattle.store_partition.proofs.Words.{IsPermutation-middle, IsPermutation-remove, IsPermutation-swap_remove, IsPermutation-sym}
 use Rattle.store_partition.proofs.Words.{List, [], ap, arith, at, back_fills, drop, get_or_default, length, list_remove, refl, set_split, slice_set}

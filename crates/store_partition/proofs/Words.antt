@@ -1,12 +1,12 @@
 -- The words that the proofs of this crate speak in, passed on once.
-pub use Rattle.epoch_core.proofs.Vocabulary.{All-contains, AreBytes, Bool, CanPlay, Cell, Contains, Contains-append_cases, Has, IsBucket, IsMain}
-pub use Rattle.epoch_core.proofs.Vocabulary.{IsPossibleShape, Kept, KeyFits, List, MayGive, None, Option, RoomsApart, Some, Spells, StandsFor}
-pub use Rattle.epoch_core.proofs.Vocabulary.{WhenMarked, [], after as after_event, answer_of, ap, arith, as_made, bucket_in, bucket_of, cond, dite}
-pub use Rattle.epoch_core.proofs.Vocabulary.{drop, false, fnv1a, get_or_default, header_room, if◌then◌else◌, inl, inr, is_some, item_at, item_events}
-pub use Rattle.epoch_core.proofs.Vocabulary.{item_in, item_size, length, length-append, length-set, link_in, marked_in, not, option_map, options_in}
-pub use Rattle.epoch_core.proofs.Vocabulary.{ValueFits, plays, puts_from, refl, room_in, slice_index, stamp_of, start, state_in, state_snoc, store_state}
-pub use Rattle.epoch_core.proofs.Vocabulary.{stored_in, subst, suc, sym, take, true, value_in, zero, ℕ, ℕ_discrete, ◌%◌, ◌*◌, ◌++◌, ◌+◌, ◌-◌, ◌<◌}
-pub use Rattle.epoch_core.proofs.Vocabulary.{◌^◌, ◌∙◌, ◌∷◌, ◌≡◌, ◌≢◌, ◌≤◌, ◌⊎◌}
+pub use Rattle.partition_words.proofs.Vocabulary.{All-contains, AreBytes, Bool, CanPlay, Cell, Contains, Contains-append_cases, Has, IsBucket, IsMain}
+pub use Rattle.partition_words.proofs.Vocabulary.{IsPossibleShape, Kept, KeyFits, List, MayGive, None, Option, RoomsApart, Some, Spells, StandsFor}
+pub use Rattle.partition_words.proofs.Vocabulary.{WhenMarked, [], after as after_event, answer_of, ap, arith, as_made, bucket_in, bucket_of, cond, dite}
+pub use Rattle.partition_words.proofs.Vocabulary.{drop, false, fnv1a, get_or_default, header_room, if◌then◌else◌, inl, inr, is_some, item_at, item_events}
+pub use Rattle.partition_words.proofs.Vocabulary.{item_in, item_size, length, length-append, length-set, link_in, marked_in, not, option_map, options_in}
+pub use Rattle.partition_words.proofs.Vocabulary.{ValueFits, plays, puts_from, refl, room_in, slice_index, stamp_of, start, state_in, state_snoc, store_state}
+pub use Rattle.partition_words.proofs.Vocabulary.{stored_in, subst, suc, sym, take, true, value_in, zero, ℕ, ℕ_discrete, ◌%◌, ◌*◌, ◌++◌, ◌+◌, ◌-◌, ◌<◌}
+pub use Rattle.partition_words.proofs.Vocabulary.{◌^◌, ◌∙◌, ◌∷◌, ◌≡◌, ◌≢◌, ◌≤◌, ◌⊎◌}
 pub use Rattle.chained_index.proofs.Words.{Cells, ChangesChain, Contains-append_left, Contains-append_right, Contains-get_or, Contains-permutation}
 pub use Rattle.chained_index.proofs.Words.{Decides-eqb, HasKey, HasNoSpot, Index, IsIndexOf, IsPermutation, IsPermutation-refl, IsPermutation-sym}
 pub use Rattle.chained_index.proofs.Words.{IsSpotOf, IsUsed, LacksPlace, bit_same, bucket_at, entry_of, entry_offset, entry_tag, flat_map, keys_in}
@@ -50,28 +50,28 @@ pub use Rattle.partition_model.specs.declared.write.Op.TheVariants.{Add, Del, Pu
 pub use Rattle.partition_model.specs.declared.write.Outcome.{Outcome}
 pub use Rattle.partition_model.specs.declared.write.Outcome.TheVariants.{Absent, Deleted, Exists, FullBlock, FullSpare, Stored, Touched}
 pub use Rattle.partition_model.specs.declared.write.Write.{Write}
-pub use Rattle.epoch_core.proofs.Keeps.{kept_after}
-pub use Rattle.epoch_core.proofs.Keys.{has_its_key}
-pub use Rattle.epoch_core.proofs.Machine.{all_more}
-pub use Rattle.epoch_core.proofs.Made.{kept_as_made}
-pub use Rattle.epoch_core.proofs.Meeting.{dense_on}
-pub use Rattle.epoch_core.proofs.Log.{room_is}
-pub use Rattle.epoch_core.proofs.PartitionLaws.{AcceptedWrite, Keeps, ended_step, item_room, kept_marked, main_of, marked, marked_entry, marked_item}
-pub use Rattle.epoch_core.proofs.PartitionLaws.{marked_link, may_begin, may_mark, new_stamp, only_key, put_entry, put_item, put_link, put_others}
-pub use Rattle.epoch_core.proofs.PartitionLaws.{put_same, put_words, refused_step, room_same, same_cell, same_or_other, spells_item, spells_on}
-pub use Rattle.epoch_core.proofs.PartitionLaws.{spelt_key, stands_idle, worn_step, written, written_state}
-pub use Rattle.epoch_core.proofs.Places.{item_no_epoch}
-pub use Rattle.epoch_core.proofs.Puts.{can_put}
-pub use Rattle.epoch_core.specs.Events.{BelongsTo, MayBegin, MayEnd, MayMark, SparesOthers}
-pub use Rattle.epoch_core.specs.ItemAt.{HasKeyWords}
-pub use Rattle.epoch_core.specs.Joins.{met_by}
-pub use Rattle.epoch_core.specs.OwnerStep.{IsOwnerStep}
-pub use Rattle.epoch_core.specs.StandsFor.{IsOffset, SpellsItem}
-pub use Rattle.epoch_core.specs.declared.event.Event.TheVariants.{Begins, Ends, PutsWord}
-pub use Rattle.epoch_core.specs.declared.shape.Shape.{Shape}
-pub use Rattle.epoch_core.specs.declared.state.Met.{Met}
-pub use Rattle.epoch_core.specs.declared.state.OwnerState.{OwnerState}
-pub use Rattle.epoch_core.specs.declared.state.Phase.TheVariants.{Marked}
+pub use Rattle.partition_words.proofs.Keeps.{kept_after}
+pub use Rattle.partition_words.proofs.Keys.{has_its_key}
+pub use Rattle.partition_words.proofs.Machine.{all_more}
+pub use Rattle.partition_words.proofs.Made.{kept_as_made}
+pub use Rattle.partition_words.proofs.Meeting.{dense_on}
+pub use Rattle.partition_words.proofs.Log.{room_is}
+pub use Rattle.partition_words.proofs.PartitionLaws.{AcceptedWrite, Keeps, ended_step, item_room, kept_marked, main_of, marked, marked_entry, marked_item}
+pub use Rattle.partition_words.proofs.PartitionLaws.{marked_link, may_begin, may_mark, new_stamp, only_key, put_entry, put_item, put_link, put_others}
+pub use Rattle.partition_words.proofs.PartitionLaws.{put_same, put_words, refused_step, room_same, same_cell, same_or_other, spells_item, spells_on}
+pub use Rattle.partition_words.proofs.PartitionLaws.{spelt_key, stands_idle, worn_step, written, written_state}
+pub use Rattle.partition_words.proofs.Places.{item_no_epoch}
+pub use Rattle.partition_words.proofs.Puts.{can_put}
+pub use Rattle.partition_words.specs.Events.{BelongsTo, MayBegin, MayEnd, MayMark, SparesOthers}
+pub use Rattle.partition_words.specs.ItemAt.{HasKeyWords}
+pub use Rattle.partition_words.specs.Joins.{met_by}
+pub use Rattle.partition_words.specs.OwnerStep.{IsOwnerStep}
+pub use Rattle.partition_words.specs.StandsFor.{IsOffset, SpellsItem}
+pub use Rattle.partition_words.specs.declared.event.Event.TheVariants.{Begins, Ends, PutsWord}
+pub use Rattle.partition_words.specs.declared.shape.Shape.{Shape}
+pub use Rattle.partition_words.specs.declared.state.Met.{Met}
+pub use Rattle.partition_words.specs.declared.state.OwnerState.{OwnerState}
+pub use Rattle.partition_words.specs.declared.state.Phase.TheVariants.{Marked}
 pub use Rattle.block_heap.proofs.Counting.{words_parted}
 pub use Rattle.block_heap.proofs.Order.{back_fills, coalesced_once, fills_once, words_of-append, words_of-fills}
 pub use Rattle.block_heap.proofs.UsedBlocks.{AddsBlock, block_within, same_or_apart, taken_apart, taken_within, used_blocks-given, used_blocks-taken}

@@ -6,13 +6,13 @@ use Rattle.partition_model.specs.declared.options.Mode.TheVariants.{Store}
 use Rattle.partition_model.specs.declared.write.Write.{Write}
 use Rattle.partition_model.specs.Store.{Cells, rooms, keys_in}
 use Rattle.partition_model.specs.History.{State, cache_state, store_state}
-use Rattle.epoch_core.specs.declared.state.OwnerState.{OwnerState}
-use Rattle.epoch_core.specs.declared.state.Phase.TheVariants.{Idle}
-use Rattle.epoch_core.specs.declared.event.Event.TheVariants.{Begins, Marks}
-use Rattle.epoch_core.specs.Shape.{IsMain}
-use Rattle.epoch_core.specs.OwnerState.{state_in}
-use Rattle.epoch_core.specs.StandsFor.{room_in}
-use Rattle.epoch_core.specs.Events.{after}
+use Rattle.partition_words.specs.declared.state.OwnerState.{OwnerState}
+use Rattle.partition_words.specs.declared.state.Phase.TheVariants.{Idle}
+use Rattle.partition_words.specs.declared.event.Event.TheVariants.{Begins, Marks}
+use Rattle.partition_words.specs.Shape.{IsMain}
+use Rattle.partition_words.specs.OwnerState.{state_in}
+use Rattle.partition_words.specs.StandsFor.{room_in}
+use Rattle.partition_words.specs.Events.{after}
 use Rattle.block_heap.specs.declared.block.Block.{Block}
 use Rattle.block_heap.specs.Blocks.{used_block, used_blocks, words_of, IsBlockList}
 use Rattle.chained_index.specs.ChainEntries.{entries_of}

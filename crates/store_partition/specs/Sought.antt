@@ -1,7 +1,7 @@
 -- What the index tells of a key before a write.
 use Rattle.std.specs.Prelude.{◌≡◌, ℕ, List, Option, MatchOption}
-use Rattle.epoch_core.specs.declared.state.OwnerState.{OwnerState}
-use Rattle.epoch_core.specs.OwnerState.{bucket_in}
+use Rattle.partition_words.specs.declared.state.OwnerState.{OwnerState}
+use Rattle.partition_words.specs.OwnerState.{bucket_in}
 use Rattle.chained_index.specs.declared.index.Spot.{Spot}
 use Rattle.chained_index.specs.ChainEntries.{IsSpotOf, HasNoSpot}
 

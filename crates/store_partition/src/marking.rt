@@ -1,13 +1,13 @@
 //! The two events that each write begins with.
 ghost use Rattle.std.specs.Prelude.{◌≡◌};
 ghost use Rattle.partition_model.specs.Write.{write_of};
-ghost use Rattle.epoch_core.specs.Events.{MayBegin, MayMark, after};
-ghost use Rattle.epoch_core.specs.declared.event.Event.TheVariants.{Begins};
-ghost use Rattle.epoch_core.specs.Kept.{Kept};
+ghost use Rattle.partition_words.specs.Events.{MayBegin, MayMark, after};
+ghost use Rattle.partition_words.specs.declared.event.Event.TheVariants.{Begins};
+ghost use Rattle.partition_words.specs.Kept.{Kept};
 ghost use Rattle.store_partition.specs.Parts.{marked_in_bucket};
 
-use epoch_core::OwnerWords;
 use partition_model::Op;
+use partition_words::OwnerWords;
 
 /// Begins a write in the bucket, and marks it.
 pub(crate) fn begin_marked<W: OwnerWords>(

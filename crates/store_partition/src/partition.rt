@@ -7,11 +7,11 @@ ghost use Rattle.partition_model.specs.declared.options.Mode.TheVariants.{Store}
 ghost use Rattle.partition_model.specs.declared.write.Op.TheVariants.{Put, Add, Touch, Del};
 ghost use Rattle.partition_model.specs.Write.{GivesValue, write_of};
 ghost use Rattle.partition_model.specs.History.{stamp_of};
-ghost use Rattle.epoch_core.specs.declared.state.Phase.TheVariants.{Idle};
-ghost use Rattle.epoch_core.specs.OwnerState.{options_in, as_made};
-ghost use Rattle.epoch_core.specs.OwnerStep.{IsOwnerStep};
-ghost use Rattle.epoch_core.specs.StandsFor.{room_in};
-ghost use Rattle.epoch_core.specs.Kept.{Kept};
+ghost use Rattle.partition_words.specs.declared.state.Phase.TheVariants.{Idle};
+ghost use Rattle.partition_words.specs.OwnerState.{options_in, as_made};
+ghost use Rattle.partition_words.specs.OwnerStep.{IsOwnerStep};
+ghost use Rattle.partition_words.specs.StandsFor.{room_in};
+ghost use Rattle.partition_words.specs.Kept.{Kept};
 ghost use Rattle.block_heap.specs.Blocks.{NoneFits};
 ghost use Rattle.chained_index.specs.ChainEntries.{spot_entry};
 ghost use Rattle.store_partition.specs.Sought.{IsSought};
@@ -21,12 +21,12 @@ use crate::marking::begin_marked;
 use crate::reading::{Block, block_at, seek, value_of};
 use block_heap::Heap;
 use chained_index::{ChainedIndex, Spot};
-use epoch_core::{
+use mica_words::{item_size, tag_of};
+use outside::NoMemory;
+use partition_model::{Answer, ItemBuf, Op, Outcome};
+use partition_words::{
     LendPartition, LendWords, OwnerWords, Partition, rewrite_item, write_item_hashed,
 };
-use mica_io::NoMemory;
-use mica_words::{item_size, tag_of};
-use partition_model::{Answer, ItemBuf, Op, Outcome};
 use std::alloc::Global;
 
 /// A partition over an owner's words. Its stamp is the number of accepted writes.

@@ -6,10 +6,10 @@ ghost use Rattle.mica_words.specs.Item.{KeyFits};
 ghost use Rattle.mica_words.specs.Entry.{entry_offset as entry_offset_of};
 ghost use Rattle.partition_model.specs.Answer.{IsAnswer};
 ghost use Rattle.partition_model.specs.History.{answer_of};
-ghost use Rattle.epoch_core.specs.Shape.{IsBucket};
-ghost use Rattle.epoch_core.specs.OwnerState.{options_in};
-ghost use Rattle.epoch_core.specs.StandsFor.{room_in};
-ghost use Rattle.epoch_core.specs.Kept.{Kept};
+ghost use Rattle.partition_words.specs.Shape.{IsBucket};
+ghost use Rattle.partition_words.specs.OwnerState.{options_in};
+ghost use Rattle.partition_words.specs.StandsFor.{room_in};
+ghost use Rattle.partition_words.specs.Kept.{Kept};
 ghost use Rattle.chained_index.specs.ChainEntries.{spot_entry};
 ghost use Rattle.chained_index.specs.Index.{IsIndexOf};
 ghost use Rattle.store_partition.specs.Sought.{IsSought};
@@ -18,9 +18,9 @@ ghost use Rattle.store_partition.specs.Parts.{AreParts};
 use block_heap::Heap;
 use chained_index::{ChainedIndex, Spot};
 use circular_log::item_at;
-use epoch_core::{OwnerWords, WordAt};
 use mica_words::{bucket_of, entry_offset, header_room, key_hash};
 use partition_model::{Answer, ItemBuf};
+use partition_words::{OwnerWords, WordAt};
 
 /// A key's hash, its bucket, and the spot of its entry there if it has one.
 #[derive(Drop)]

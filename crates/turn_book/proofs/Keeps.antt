@@ -7,7 +7,7 @@ use lib.ListN.{get_elem?}
 use Rattle.atomic_table.specs.Table.{step, keeps, opening, Allows, Splits, Joins}
 use Rattle.atomic_table.proofs.Lists.{at_set, at_snoc}
 use Rattle.turn_book.specs.declared.rule.Entry.{Entry}
-use Rattle.turn_book.specs.declared.rule.Knows.{Knows}
+use Rattle.turn_book.specs.declared.rule.BookSeatView.{BookSeatView}
 use Rattle.turn_book.specs.Entries.{entry, entries_by}
 use Rattle.turn_book.specs.Rule.{keeper, nobody, new_book, with_taker, new_taker, heard_from, after_entry, taker_after, FitsTaker, FitsKeeper, Fits, AreKept, Seated, learns}
 
@@ -64,14 +64,14 @@ module _ {T : Type 0} where
 
   module _ (owner : ℕ → ℕ) (entries : List (Entry T)) where
     -- a taker's seat is one that the book doesn't have
-    fits_taker : (seat : ℕ) (v : Knows T) → v.keeps ≡ false → (v.takes ≡ true → FitsTaker owner entries seat v) → Fits owner entries seat v
+    fits_taker : (seat : ℕ) (v : BookSeatView T) → v.keeps ≡ false → (v.takes ≡ true → FitsTaker owner entries seat v) → Fits owner entries seat v
     fits_taker seat v away fit = record { as_taker = fit; as_keeper = λ s. unless_on away s }
 
-    fits_keeper : (seat : ℕ) (v : Knows T) → v.takes ≡ false → FitsKeeper owner entries seat v → Fits owner entries seat v
+    fits_keeper : (seat : ℕ) (v : BookSeatView T) → v.takes ≡ false → FitsKeeper owner entries seat v → Fits owner entries seat v
     fits_keeper seat v away fit = record { as_taker = λ s. unless_on away s; as_keeper = λ _. fit }
 
     -- the number of a taker is below those to come
-    is_low : (v : Knows T) (seat other : ℕ) (u : Knows T) → FitsKeeper owner entries seat v → other ≢ seat → FitsTaker owner entries other u → u.number < v.number
+    is_low : (v : BookSeatView T) (seat other : ℕ) (u : BookSeatView T) → FitsKeeper owner entries seat v → other ≢ seat → FitsTaker owner entries other u → u.number < v.number
     is_low v seat other u mine differs theirs =
         ⊎_elim (λ (b : u.number < v.number). b) (λ (far : v.number ≤ u.number). absurd (differs (sym theirs.owner_is ∙ (mine.later_owner u.number far ∙ sym mine.first)))) (cases_lt u.number v.number)
 
@@ -85,12 +85,12 @@ module _ {T : Type 0} where
   }
 
   -- one taker more may be made
-  pub enrolls : (seat : ℕ) (v : Knows T) → v.keeps ≡ true → Splits AreKept seat v (with_taker v) (new_taker v)
+  pub enrolls : (seat : ℕ) (v : BookSeatView T) → v.keeps ≡ true → Splits AreKept seat v (with_taker v) (new_taker v)
   enrolls seat v may s h at =
-      let left : Knows T = with_taker v in
-      let right : Knows T = new_taker v in
+      let left : BookSeatView T = with_taker v in
+      let right : BookSeatView T = new_taker v in
       let mine = (h.fits seat v at).as_keeper may in
-      let vs : List (Knows T) = set s.views seat left in
+      let vs : List (BookSeatView T) = set s.views seat left in
       let new : ℕ = length vs in
       let owner' : ℕ → ℕ = given h.owner v.number new in
       let as_left : Fits owner' h.entries seat left = fits_keeper _ _ seat left refl record {
@@ -114,16 +114,16 @@ module _ {T : Type 0} where
       }
 
   -- a taker that the book takes in leaves the others as they are
-  pub hears : (seat : ℕ) (v : Knows T) (other : ℕ) (w : Knows T) → v.keeps ≡ true → w.takes ≡ true → Joins AreKept seat v other w (heard_from v w) nobody
+  pub hears : (seat : ℕ) (v : BookSeatView T) (other : ℕ) (w : BookSeatView T) → v.keeps ≡ true → w.takes ≡ true → Joins AreKept seat v other w (heard_from v w) nobody
   hears seat v other w may ends s h at two at' =
-      let both : Knows T = heard_from v w in
+      let both : BookSeatView T = heard_from v w in
       let mine = (h.fits seat v at).as_keeper may in
-      let vs : List (Knows T) = set s.views seat both in
+      let vs : List (BookSeatView T) = set s.views seat both in
       let was : get_elem? s.views other ≡ some w = ⊎_elim (λ (x : (other ≡ seat) × (both ≡ w)). absurd (two x.0)) (λ (x : (other ≢ seat) × (get_elem? s.views other ≡ some w)). x.1) (at_set s.views seat other both w at') in
       let theirs = (h.fits other w was).as_taker ends in
       let owner' : ℕ → ℕ = given h.owner w.number 0 in
       let few : w.number < v.number = is_low h.owner h.entries v seat other w mine two theirs in
-      let Now : ℕ → Knows T → Type 0 = λ j u. j ≢ other → Fits owner' h.entries j u in
+      let Now : ℕ → BookSeatView T → Type 0 = λ j u. j ≢ other → Fits owner' h.entries j u in
       let now : AllAt Now vs = all_set Now s.views seat both
       (λ _. fits_keeper _ _ seat both refl record {
         first = mine.first;
@@ -145,14 +145,14 @@ module _ {T : Type 0} where
       }
 
   -- the taker that was heard goes on with one entry more
-  pub enters : (seat : ℕ) (v : Knows T) (what : T) → v.keeps ≡ true → v.hears ≡ true → Splits AreKept seat v (after_entry what v) (taker_after what v)
+  pub enters : (seat : ℕ) (v : BookSeatView T) (what : T) → v.keeps ≡ true → v.hears ≡ true → Splits AreKept seat v (after_entry what v) (taker_after what v)
   enters seat v what may hears s h at =
-      let left : Knows T = after_entry what v in
-      let right : Knows T = taker_after what v in
+      let left : BookSeatView T = after_entry what v in
+      let right : BookSeatView T = taker_after what v in
       let mine = (h.fits seat v at).as_keeper may in
       let heard = mine.heard hears in
       let few = heard.few in
-      let vs : List (Knows T) = set s.views seat left in
+      let vs : List (BookSeatView T) = set s.views seat left in
       let new : ℕ = length vs in
       let owner' : ℕ → ℕ = given h.owner v.heard new in
       let entries' : List (Entry T) = h.entries ++ entry v.heard what ∷ [] in
@@ -180,9 +180,9 @@ module _ {T : Type 0} where
   -- the book forgets whom it heard, and learns that it has all of that one
   pub learn : (slots seat : ℕ) (me : Seated T) → me.0.keeps ≡ true → me.0.hears ≡ true → Allows AreKept slots seat me 0 (λ n. n) (learns (step slots 0 0 0 none) me)
   learn slots seat me may hears s h many at small =
-      let v : Knows T = me.0 in
+      let v : BookSeatView T = me.0 in
       let mine = (h.fits seat v at).as_keeper may in
-      let w : Knows T = keeper v.number v.entries in (
+      let w : BookSeatView T = keeper v.number v.entries in (
         w,
         keeps,
         tt,

@@ -2,7 +2,7 @@
 ghost use Rattle.std.specs.Prelude.{◌≡◌, ◌+◌, ◌≤◌, ◌++◌, ◌∷◌, [], ℕ, IfOk};
 ghost use Rattle.turn_book.specs.Entries.{book_view, taker_view, entries_by, entry};
 
-use crate::rule::{Enrolls, Entered, Enters, Hears, Knows, Law, Learns};
+use crate::rule::{BookRule, BookSeatView, Enrolls, Entered, Enters, Hears, Learns};
 use atomic_table::{Badge, Seat, Table};
 use std::alloc::{AllocError, Global};
 use std::marker::Model;
@@ -11,8 +11,8 @@ use std::mem;
 /// The book. Contracts see which one it is, how many takers it has, and what they entered.
 #[derive(Drop)]
 pub struct TurnBook<T> {
-    table: Table<(), Knows<T>, (), Law, Global>,
-    seat: Seat<(), Knows<T>>,
+    table: Table<(), BookSeatView<T>, (), BookRule, Global>,
+    seat: Seat<(), BookSeatView<T>>,
 }
 
 impl<T> Model for TurnBook<T> {
@@ -31,7 +31,7 @@ impl<T> Model for TurnBook<T> {
 /// The token of a taker, which has no bytes. Contracts see the book that it is of, its number and what it entered.
 #[derive(Drop)]
 pub struct Taker<T> {
-    badge: Badge<Knows<T>>,
+    badge: Badge<BookSeatView<T>>,
 }
 
 impl<T> Model for Taker<T> {
@@ -51,7 +51,11 @@ impl<T> TurnBook<T> {
     pub fn new(alloc: Global) -> Result<TurnBook<T>, AllocError>
         ensures { IfOk result (λ b. b ≡ book_view b.table 0 []) }
     {
-        let (table, seat) = Table::<(), Knows<T>, (), Law, Global>::of_words(alloc, &[0], &())?;
+        let (table, seat) = Table::<(), BookSeatView<T>, (), BookRule, Global>::of_words(
+            alloc,
+            &[0],
+            &(),
+        )?;
         Ok(TurnBook { table, seat })
     }
 

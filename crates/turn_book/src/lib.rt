@@ -9,4 +9,4 @@ mod book;
 mod rule;
 
 pub use book::{Taker, TurnBook};
-pub use rule::{Entered, Entry, Knows, Law};
+pub use rule::{BookRule, BookSeatView, Entered, Entry};

@@ -11,7 +11,7 @@ pub struct Entry<T> {
 
 /// What a seat knows. The book's knows the entries, how many takers there are, and of one that was taken in what that one
 /// entered; a taker's knows its number and what it entered. No value of it is made.
-pub struct Knows<T> {
+pub struct BookSeatView<T> {
     pub keeps: bool,
     pub takes: bool,
     pub number: u64,
@@ -22,9 +22,9 @@ pub struct Knows<T> {
 }
 
 /// The rule.
-pub struct Law;
+pub struct BookRule;
 
-impl<T> TableRule<(), Knows<T>, ()> for Law {
+impl<T> TableRule<(), BookSeatView<T>, ()> for BookRule {
     ghost use Rattle.turn_book.specs.Rule.{AreKept, new_book};
 
     ghost holds = { λ _. AreKept };
@@ -40,7 +40,7 @@ pub trait Entered<T> {
 // One taker more.
 pub(crate) struct Enrolls;
 
-impl<T> Split<Knows<T>> for Enrolls {
+impl<T> Split<BookSeatView<T>> for Enrolls {
     ghost use Rattle.turn_book.specs.Rule.{with_taker, new_taker};
 
     ghost left = { with_taker };
@@ -51,7 +51,7 @@ impl<T> Split<Knows<T>> for Enrolls {
 // A taker is taken in.
 pub(crate) struct Hears;
 
-impl<T> Join<Knows<T>> for Hears {
+impl<T> Join<BookSeatView<T>> for Hears {
     ghost use Rattle.turn_book.specs.Rule.{heard_from, nobody};
 
     ghost both = { heard_from };
@@ -62,7 +62,7 @@ impl<T> Join<Knows<T>> for Hears {
 // The taker that was taken in is let go, with one entry more.
 pub(crate) struct Enters<K>(PhantomData<K>);
 
-impl<T, K: Entered<T>> Split<Knows<T>> for Enters<K> {
+impl<T, K: Entered<T>> Split<BookSeatView<T>> for Enters<K> {
     ghost use Rattle.turn_book.specs.Rule.{after_entry, taker_after};
 
     ghost left = { after_entry K.what };
@@ -73,7 +73,7 @@ impl<T, K: Entered<T>> Split<Knows<T>> for Enters<K> {
 // What the book learns of the taker that was taken in.
 pub(crate) struct Learns;
 
-impl<T> Play<(), Knows<T>> for Learns {
+impl<T> Play<(), BookSeatView<T>> for Learns {
     ghost use Rattle.turn_book.specs.Rule.{learns};
 
     ghost then = { learns };

@@ -8,7 +8,7 @@ use crate::packets;
 use crate::sizes::{report, sizes, start, trace};
 use crate::text::{first_word, say, text_of};
 use crate::words::{functions, hash, packed};
-use mica_io::NoMemory;
+use outside::NoMemory;
 use std::alloc::Global;
 
 /// What comes of a row: its first word names its kind, and the others are that kind's.

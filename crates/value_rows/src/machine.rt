@@ -3,10 +3,10 @@
 ghost use Rattle.partition_model.specs.Options.{IsValid};
 
 use crate::text::{first_word, op_of, options_of, outcome_name, say};
-use mica_io::NoMemory;
 use mica_model::{
     Answer, CacheMachine, Fate, ItemBuf, Mode, Op, Options, Outcome, StoreMachine, write_fits,
 };
+use outside::NoMemory;
 use std::alloc::Global;
 
 /// The machine of a mode.

@@ -10,7 +10,7 @@ use batch_packets::{
     Batch, BatchFault, BatchRef, Replies, Reply, RequestRef, Status, Want, is_reply, is_version,
     read_batch, read_replies, write_batch, write_replies,
 };
-use mica_io::{Bytes, NoMemory};
+use outside::{Bytes, NoMemory};
 use std::alloc::Global;
 
 fn fault_name(fault: BatchFault) -> &'static str {

@@ -1,7 +1,7 @@
 //! A row, as the lines of a file give it.
 
 use crate::spelling::add_text;
-use mica_io::NoMemory;
+use outside::NoMemory;
 use std::alloc::Global;
 
 /// What is computed, of what, and what comes of it; and the number of the last line that was read.

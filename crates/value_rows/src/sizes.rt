@@ -5,8 +5,8 @@ ghost use Rattle.std.specs.List.{AllByRecursion};
 ghost use Rattle.mica_trace.specs.ReportGrammar.{IsPrintable};
 
 use crate::text::{first_word, mode_of, number, options_of, say};
-use mica_io::NoMemory;
 use mica_trace::{Report, ReportFault, put_report_line, put_trace, read_report, read_trace};
+use outside::NoMemory;
 use partition_model::{Mode, Options};
 use partition_sizes::{LEAST_MEMORY, MOST_MEMORY, bytes_of, sizes_for, start_bytes};
 use std::alloc::Global;

@@ -1,7 +1,7 @@
 //! How the lines of a row spell bytes: letters as they are, and short forms in braces.
 
 use crate::text::{hex_number, say};
-use mica_io::NoMemory;
+use outside::NoMemory;
 use std::alloc::Global;
 
 /// A letter, or two digits that are hexadecimal.

@@ -1,6 +1,6 @@
 //! Words and numbers of texts, and the names of outcomes.
 
-use mica_io::NoMemory;
+use outside::NoMemory;
 use partition_model::{Mode, Op, Options, Outcome};
 
 /// Adds a text.

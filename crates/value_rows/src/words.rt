@@ -1,12 +1,12 @@
 //! Hashes, entries, headers, packed bytes, classes and sizes.
 
 use crate::text::{number, say};
-use mica_io::NoMemory;
 use mica_words::{
     MAX_KEY_LEN, MAX_VALUE_LEN, bucket_of, entry_of, entry_offset, entry_tag, header_key_len,
     header_of, header_room, header_value_len, item_size, key_fits, key_hash, pack, partition_of,
     tag_of, tail_of, unpack, value_fits,
 };
+use outside::NoMemory;
 use partition_model::has_room;
 use size_classes::class_of;
 use std::alloc::Global;

@@ -3,38 +3,38 @@ use Rattle.std.specs.Prelude.{◌≡◌, ℕ, zero, suc, ◌⊎◌, List, [], �
 use mathlib.Core.Option.{Option as Home, some, none}
 use Rattle.atomic_table.specs.Table.{State}
 use Rattle.atomic_table.specs.Seated.{TableId}
-use Rattle.work_desk.specs.declared.rule.Knows.{Knows}
+use Rattle.work_desk.specs.declared.rule.DeskSeatView.{DeskSeatView}
 use Rattle.work_desk.specs.declared.rule.Stage.{Stage}
 use Rattle.work_desk.specs.declared.rule.Stage.TheVariants.{New, Open, Gives, Told, Does, Dismissed}
 
 module _ {T S : Type 0} where
   -- who hands work over: what was handed and not taken back
-  abbrev pub giver : S → Option T → Knows T S
+  abbrev pub giver : S → Option T → DeskSeatView T S
   giver terms work = record { stage = Gives; terms = terms; work = work }
 
   -- who does it: what is in hand
-  abbrev pub doer : S → Option T → Knows T S
+  abbrev pub doer : S → Option T → DeskSeatView T S
   doer terms work = record { stage = Does; terms = terms; work = work }
 
   -- who handed work over, and has told that there is no more
-  abbrev pub told : S → Knows T S
+  abbrev pub told : S → DeskSeatView T S
   told terms = record { stage = Told; terms = terms; work = None }
 
   -- who did it, and has found that there is no more
-  abbrev pub dismissed : S → Knows T S
+  abbrev pub dismissed : S → DeskSeatView T S
   dismissed terms = record { stage = Dismissed; terms = terms; work = None }
 
   -- a side at work, or behind the end with nothing in hand
-  abbrev pub IsSide : Stage → Stage → Knows T S → Type 0
+  abbrev pub IsSide : Stage → Stage → DeskSeatView T S → Type 0
   IsSide works ended side = (side.stage ≡ works) ⊎ ((side.stage ≡ ended) × (side.work ≡ None))
 
-  abbrev pub new : S → Knows T S
+  abbrev pub new : S → DeskSeatView T S
   new unset = record { stage = New; terms = unset; work = None }
 
-  abbrev pub open_desk : S → Knows T S
+  abbrev pub open_desk : S → DeskSeatView T S
   open_desk unset = record { stage = Open; terms = unset; work = None }
 
-  abbrev pub desk : ℕ → Home (Option T) → List (Knows T S) → State (Option T) (Knows T S)
+  abbrev pub desk : ℕ → Home (Option T) → List (DeskSeatView T S) → State (Option T) (DeskSeatView T S)
   desk word home views = record { words = word ∷ []; homes = home ∷ []; views = views }
 
   module _ (ready : S → T → Type 0) (done : S → T → T → Type 0) where
@@ -47,7 +47,7 @@ module _ {T S : Type 0} where
         ⊎ ((word ≡ 0) × ((u : T) × (home ≡ some (Some u)) × done terms t u))
 
     -- a desk with its two sides
-    pub record Runs (s : State (Option T) (Knows T S)) : Type 0 where
+    pub record Runs (s : State (Option T) (DeskSeatView T S)) : Type 0 where
       pub word : ℕ
       pub home : Home (Option T)
       pub terms : S
@@ -57,14 +57,14 @@ module _ {T S : Type 0} where
       pub stands : Stands terms word home handed in_hand
 
   -- a desk whose end was told. Who did the work has found it, or not yet
-  pub record Ended (s : State (Option T) (Knows T S)) : Type 0 where
+  pub record Ended (s : State (Option T) (DeskSeatView T S)) : Type 0 where
     pub terms : S
-    pub other : Knows T S
+    pub other : DeskSeatView T S
     pub is : s ≡ desk 2 none (told terms ∷ other ∷ [])
     pub knows : (other ≡ doer terms None) ⊎ (other ≡ dismissed terms)
 
   -- the rule
-  abbrev pub IsLawful : S → (S → T → Type 0) → (S → T → T → Type 0) → State (Option T) (Knows T S) → Type 0
+  abbrev pub IsLawful : S → (S → T → Type 0) → (S → T → T → Type 0) → State (Option T) (DeskSeatView T S) → Type 0
   IsLawful unset ready done s = (s ≡ desk 0 (some None) (new unset ∷ [])) ⊎ ((s ≡ desk 0 none (open_desk unset ∷ [])) ⊎ (Runs ready done s ⊎ Ended s))
 
 module _ {T : Type 0} where

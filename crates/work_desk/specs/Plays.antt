@@ -1,11 +1,11 @@
 -- What each kind of step at a desk tells.
 use Rattle.std.specs.Prelude.{◌≡◌, ◌≢◌, ℕ, List, [], ◌∷◌, Option, Some, None, IfSome}
 use Rattle.atomic_table.specs.Table.{Me, Step}
-use Rattle.work_desk.specs.declared.rule.Knows.{Knows}
+use Rattle.work_desk.specs.declared.rule.DeskSeatView.{DeskSeatView}
 use Rattle.work_desk.specs.Desk.{giver, told, doer, dismissed, open_desk}
 
 abbrev pub Seated : Type 0 → Type 0 → Type 0
-Seated T S = Me (Option T) (Knows T S)
+Seated T S = Me (Option T) (DeskSeatView T S)
 
 module _ {T : Type 0} where
   abbrev pub slot_in : List (ℕ × Option T) → Option T

@@ -9,5 +9,5 @@ mod rule;
 mod sides;
 
 pub use rows::{end_all, hand_all, make_desks, take_all_back};
-pub use rule::{Knows, Law, Settles, Stage, Terms, Work};
+pub use rule::{DeskRule, DeskSeatView, Settles, Stage, Terms, Work};
 pub use sides::{Doer, Giver, make_desk};

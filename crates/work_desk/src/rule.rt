@@ -31,7 +31,7 @@ pub enum Stage {
 }
 
 /// What a seat knows: what it handed and has not taken back, or what it has in hand. No value of it is made.
-pub struct Knows<T, S> {
+pub struct DeskSeatView<T, S> {
     pub stage: Stage,
     pub terms: S,
     pub work: Option<T>,
@@ -47,9 +47,9 @@ impl Terms<()> for Brand {
 }
 
 /// What holds of a desk: a worker gets exactly the work that was handed to it.
-pub struct Law;
+pub struct DeskRule;
 
-impl<S, T: Work<S>> TableRule<Option<T>, Knows<T, S>, ()> for Law {
+impl<S, T: Work<S>> TableRule<Option<T>, DeskSeatView<T, S>, ()> for DeskRule {
     ghost use Rattle.work_desk.specs.Desk.{IsLawful, new};
 
     ghost holds = { λ _. IsLawful T.unset T.ready T.done };
@@ -60,7 +60,7 @@ impl<S, T: Work<S>> TableRule<Option<T>, Knows<T, S>, ()> for Law {
 // The two sides of a desk.
 pub struct Settles<J>(PhantomData<J>);
 
-impl<T, S, J: Terms<S>> Split<Knows<T, S>> for Settles<J> {
+impl<T, S, J: Terms<S>> Split<DeskSeatView<T, S>> for Settles<J> {
     ghost use Rattle.std.specs.Prelude.{None};
     ghost use Rattle.work_desk.specs.Desk.{giver, doer};
 
@@ -71,7 +71,7 @@ impl<T, S, J: Terms<S>> Split<Knows<T, S>> for Settles<J> {
 
 pub(crate) struct Opens;
 
-impl<T, S> Play<Option<T>, Knows<T, S>> for Opens {
+impl<T, S> Play<Option<T>, DeskSeatView<T, S>> for Opens {
     ghost use Rattle.work_desk.specs.Plays.{opens};
 
     ghost then = { opens };
@@ -79,7 +79,7 @@ impl<T, S> Play<Option<T>, Knows<T, S>> for Opens {
 
 pub(crate) struct Hands;
 
-impl<T, S> Play<Option<T>, Knows<T, S>> for Hands {
+impl<T, S> Play<Option<T>, DeskSeatView<T, S>> for Hands {
     ghost use Rattle.work_desk.specs.Plays.{hands};
 
     ghost then = { hands };
@@ -87,7 +87,7 @@ impl<T, S> Play<Option<T>, Knows<T, S>> for Hands {
 
 pub(crate) struct Looks;
 
-impl<S, T: Work<S>> Play<Option<T>, Knows<T, S>> for Looks {
+impl<S, T: Work<S>> Play<Option<T>, DeskSeatView<T, S>> for Looks {
     ghost use Rattle.work_desk.specs.Plays.{looks};
 
     ghost then = { looks T.ready };
@@ -95,7 +95,7 @@ impl<S, T: Work<S>> Play<Option<T>, Knows<T, S>> for Looks {
 
 pub(crate) struct GivesBack;
 
-impl<T, S> Play<Option<T>, Knows<T, S>> for GivesBack {
+impl<T, S> Play<Option<T>, DeskSeatView<T, S>> for GivesBack {
     ghost use Rattle.work_desk.specs.Plays.{gives_back};
 
     ghost then = { gives_back };
@@ -103,7 +103,7 @@ impl<T, S> Play<Option<T>, Knows<T, S>> for GivesBack {
 
 pub(crate) struct Awaits;
 
-impl<S, T: Work<S>> Play<Option<T>, Knows<T, S>> for Awaits {
+impl<S, T: Work<S>> Play<Option<T>, DeskSeatView<T, S>> for Awaits {
     ghost use Rattle.work_desk.specs.Plays.{awaits};
 
     ghost then = { awaits T.done };
@@ -111,7 +111,7 @@ impl<S, T: Work<S>> Play<Option<T>, Knows<T, S>> for Awaits {
 
 pub(crate) struct Ends;
 
-impl<T, S> Play<Option<T>, Knows<T, S>> for Ends {
+impl<T, S> Play<Option<T>, DeskSeatView<T, S>> for Ends {
     ghost use Rattle.work_desk.specs.Plays.{ends};
 
     ghost then = { ends };

@@ -2,7 +2,9 @@
 ghost use Rattle.std.specs.Prelude.{◌≡◌, ◌≢◌, Some, None, IfOk, IfSome, IsNone};
 ghost use Rattle.work_desk.specs.Desk.{giver, told, doer, dismissed};
 
-use crate::rule::{Awaits, Ends, GivesBack, Hands, Knows, Law, Looks, Opens, Settles, Terms, Work};
+use crate::rule::{
+    Awaits, DeskRule, DeskSeatView, Ends, GivesBack, Hands, Looks, Opens, Settles, Terms, Work,
+};
 use atomic_table::{Seat, Table};
 use std::alloc::{AllocError, Global};
 use std::marker::Model;
@@ -18,18 +20,18 @@ const END: u64 = 2;
 /// The side that hands work over. Contracts see the terms, and what was handed and not taken back.
 #[derive(Drop)]
 pub struct Giver<T: Work<S>, S> {
-    table: Arc<Table<Option<T>, Knows<T, S>, (), Law, Global>, Global>,
-    seat: Seat<Option<T>, Knows<T, S>>,
+    table: Arc<Table<Option<T>, DeskSeatView<T, S>, (), DeskRule, Global>, Global>,
+    seat: Seat<Option<T>, DeskSeatView<T, S>>,
 }
 
 impl<T: Work<S>, S> Model for Giver<T, S> {
     ghost use Rattle.std.specs.Prelude.{◌≡◌, true, is_none};
     ghost use Rattle.std.specs.Arc.{arc_value};
-    ghost use Rattle.work_desk.specs.declared.rule.Knows.{Knows};
+    ghost use Rattle.work_desk.specs.declared.rule.DeskSeatView.{DeskSeatView};
     ghost use Rattle.work_desk.specs.declared.rule.Stage.TheVariants.{Gives, Told};
     ghost use Rattle.work_desk.specs.Desk.{has_slot, IsAtDesk, IsSide};
 
-    ghost Value = { Knows T S };
+    ghost Value = { DeskSeatView T S };
 
     ghost view = { λ g. g.seat.me.0 };
 
@@ -40,18 +42,18 @@ impl<T: Work<S>, S> Model for Giver<T, S> {
 /// The side that does the work. Contracts see the terms, and what is in hand.
 #[derive(Drop)]
 pub struct Doer<T: Work<S>, S> {
-    table: Arc<Table<Option<T>, Knows<T, S>, (), Law, Global>, Global>,
-    seat: Seat<Option<T>, Knows<T, S>>,
+    table: Arc<Table<Option<T>, DeskSeatView<T, S>, (), DeskRule, Global>, Global>,
+    seat: Seat<Option<T>, DeskSeatView<T, S>>,
 }
 
 impl<T: Work<S>, S> Model for Doer<T, S> {
     ghost use Rattle.std.specs.Prelude.{◌≡◌, true, is_some};
     ghost use Rattle.std.specs.Arc.{arc_value};
-    ghost use Rattle.work_desk.specs.declared.rule.Knows.{Knows};
+    ghost use Rattle.work_desk.specs.declared.rule.DeskSeatView.{DeskSeatView};
     ghost use Rattle.work_desk.specs.declared.rule.Stage.TheVariants.{Does, Dismissed};
     ghost use Rattle.work_desk.specs.Desk.{has_slot, IsAtDesk, IsSide};
 
-    ghost Value = { Knows T S };
+    ghost Value = { DeskSeatView T S };
 
     ghost view = { λ d. d.seat.me.0 };
 
@@ -66,7 +68,7 @@ pub fn make_desk<J: Terms<S>, S, T: Work<S>>(
     ensures giver { IfOk result (λ r. r.0 ≡ giver J.terms None) }
     ensures doer { IfOk result (λ r. r.1 ≡ doer J.terms None) }
 {
-    let (table, mut seat) = Table::<Option<T>, Knows<T, S>, (), Law, Global>::vacant(
+    let (table, mut seat) = Table::<Option<T>, DeskSeatView<T, S>, (), DeskRule, Global>::vacant(
         alloc,
         &[IDLE],
         1,

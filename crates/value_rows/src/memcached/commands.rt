@@ -2,7 +2,7 @@
 
 use crate::text::say;
 use memcached_text::{Command, Next, Reply, fault_line, next_command, reply_line};
-use mica_io::NoMemory;
+use outside::NoMemory;
 use std::alloc::Global;
 
 /// A connection as a front keeps it: what waits, how much of what comes is dropped, and what was answered.

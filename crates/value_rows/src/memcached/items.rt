@@ -4,13 +4,13 @@ ghost use Rattle.memcached_text.specs.Fit.{IsFitNext};
 ghost use Rattle.memcached_commands.specs.Fit.{IsFitAsk, IsFitStored};
 
 use crate::text::{number, text_of};
+use fronts::{Flush, Flushes};
 use memcached_commands::{
     Ask, Asked, Asks, Moment, change_stored, found_in, put_answer, says_of, wants_numbers,
 };
 use memcached_text::{Command, Due, Next, Reply, fault_line, next_command, read_item, reply_line};
-use mica_fronts::{Flush, Flushes};
-use mica_io::NoMemory;
 use mica_trace::split_at_byte;
+use outside::NoMemory;
 use partition_model::{Change, ItemBuf};
 use std::alloc::Global;
 
@@ -19,7 +19,7 @@ const START: u64 = 2_000_000_000;
 
 /// What is stored under the key, and when it is asked for.
 #[derive(Drop)]
-struct Place {
+struct ItemPlace {
     at: Moment,
     flushes: Flushes,
     is_stored: bool,
@@ -57,13 +57,13 @@ fn flush_at(asked: u64, due: Due) -> Flush {
     }
 }
 
-impl Place {
-    fn new(alloc: Global, stored: &[u8]) -> Result<Place, NoMemory> {
+impl ItemPlace {
+    fn new(alloc: Global, stored: &[u8]) -> Result<ItemPlace, NoMemory> {
         let mut item = ItemBuf::new(alloc)?;
         if stored.len() <= 8192 {
             item.set(stored);
         }
-        Ok(Place {
+        Ok(ItemPlace {
             at: Moment {
                 second: START,
                 flushed: 0,
@@ -161,7 +161,7 @@ fn put_line(quiet: bool, line: &[u8], into: &mut Vec<u8>) -> Result<(), NoMemory
 
 /// What is answered to a client's commands, where this is stored before. A line `wait 9` lets nine seconds pass, and is repeated.
 pub fn items(alloc: Global, stored: &str, text: &[u8], into: &mut Vec<u8>) -> Result<(), NoMemory> {
-    let mut place = Place::new(alloc, stored.as_bytes())?;
+    let mut place = ItemPlace::new(alloc, stored.as_bytes())?;
     let mut rest = text;
     for _ in 0..text.len() {
         if let Some((line, tail)) = split_at_byte(rest, b'\n')

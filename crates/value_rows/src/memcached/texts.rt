@@ -2,7 +2,7 @@
 
 use crate::text::say;
 use memcached_text::{Item, put_item, put_number, put_stat, put_value, read_item};
-use mica_io::NoMemory;
+use outside::NoMemory;
 use std::alloc::Global;
 
 /// Replies to `get k`, `gets k`, `incr k 1`, and a line of `stats`.

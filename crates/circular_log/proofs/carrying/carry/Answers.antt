@@ -2,9 +2,9 @@ use Rattle.std.proofs.Common.{◌≡◌, ◌+◌, ◌-◌, ap, sym, ◌∙◌, s
 use Rattle.mica_words.specs.Item.{item_size}
 use Rattle.mica_words.proofs.Sizes.{item_size-most}
 use Rattle.partition_model.specs.Cache.{Record}
-use Rattle.epoch_core.specs.declared.state.OwnerState.{OwnerState}
-use Rattle.epoch_core.specs.Kept.{Kept}
-use Rattle.epoch_core.specs.Events.{CanPlay, MayPutWord, plays, puts_from}
+use Rattle.partition_words.specs.declared.state.OwnerState.{OwnerState}
+use Rattle.partition_words.specs.Kept.{Kept}
+use Rattle.partition_words.specs.Events.{CanPlay, MayPutWord, plays, puts_from}
 use Rattle.circular_log.specs.LogItem.{words_from}
 use Rattle.circular_log.specs.LogCarry.{Carries, StoresBehind}
 use Rattle.circular_log.proofs.CarriedItem as carried

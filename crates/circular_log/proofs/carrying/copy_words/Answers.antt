@@ -1,10 +1,10 @@
 use Rattle.std.proofs.Common.{rules}
 use Rattle.std.proofs.Common.{◌≡◌, ℕ, ◌+◌, ◌<◌, List, ◌∷◌, ap, sym, ◌∙◌, subst, arith, drop}
 use Rattle.std.proofs.lemmas.List.{drop_all}
-use Rattle.epoch_core.specs.declared.event.Event.TheVariants.{PutsWord}
-use Rattle.epoch_core.specs.declared.state.OwnerState.{OwnerState}
-use Rattle.epoch_core.specs.Events.{MayPutWord, plays, puts_from}
-use Rattle.epoch_core.proofs.Puts.{next_put}
+use Rattle.partition_words.specs.declared.event.Event.TheVariants.{PutsWord}
+use Rattle.partition_words.specs.declared.state.OwnerState.{OwnerState}
+use Rattle.partition_words.specs.Events.{MayPutWord, plays, puts_from}
+use Rattle.partition_words.proofs.Puts.{next_put}
 use Rattle.circular_log.specs.LogItem.{words_from}
 use Rattle.circular_log.proofs.LoadedValue.{length-words_from, word_from}
 use Rattle.circular_log.proofs.carrying.copy_words.Given.{Over}

@@ -1,7 +1,7 @@
 use Rattle.std.proofs.Common.{◌≡◌, ℕ, ◌+◌, ◌≤◌, ◌<◌, drop}
-use Rattle.epoch_core.specs.Events.{CanPlay, plays, puts_from}
-use Rattle.epoch_core.specs.Kept.{Kept}
-use Rattle.epoch_core.specs.OwnerState.{item_in}
+use Rattle.partition_words.specs.Events.{CanPlay, plays, puts_from}
+use Rattle.partition_words.specs.Kept.{Kept}
+use Rattle.partition_words.specs.OwnerState.{item_in}
 use Rattle.circular_log.specs.LogItem.{words_from}
 use Rattle.circular_log.proofs.carrying.copy_words.Given as goal
 

@@ -1,5 +1,5 @@
 use Rattle.std.proofs.Common.{◌≡◌, length, take}
-use Rattle.epoch_core.specs.Kept.{Kept}
+use Rattle.partition_words.specs.Kept.{Kept}
 use Rattle.circular_log.specs.LogItem.{words_from}
 use Rattle.circular_log.proofs.items.eight_words.Given as goal
 

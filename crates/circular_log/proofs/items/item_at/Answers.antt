@@ -1,8 +1,8 @@
 use Rattle.std.proofs.Common.{rules}
 use Rattle.std.proofs.Common.{◌≡◌, ◌+◌, ◌*◌, List, ℕ, refl, ap, ◌∙◌, ◌++◌, arith, length, flat_map}
 use Rattle.std.specs.Int.{w64, to_le_bytes}
-use Rattle.epoch_core.specs.declared.state.OwnerState.{OwnerState}
-use Rattle.epoch_core.specs.OwnerState.{item_in}
+use Rattle.partition_words.specs.declared.state.OwnerState.{OwnerState}
+use Rattle.partition_words.specs.OwnerState.{item_in}
 use Rattle.mica_words.specs.Item.{words_for}
 use Rattle.circular_log.specs.LogItem.{words_from}
 use Rattle.circular_log.proofs.LoadedValue.{bytes_from, bytes_more, bytes_then, length-bytes_from, key_len_is, value_len_is, value_is}

@@ -1,6 +1,6 @@
 use Rattle.std.proofs.Common.{◌≡◌, ◌≤◌, ◌*◌}
 use Rattle.mica_words.specs.declared.item.TheConstants.{MAX_VALUE_LEN}
-use Rattle.epoch_core.specs.Kept.{Kept}
+use Rattle.partition_words.specs.Kept.{Kept}
 use Rattle.circular_log.proofs.LoadedValue.{bytes_from}
 use Rattle.circular_log.proofs.items.item_at.Given as goal
 

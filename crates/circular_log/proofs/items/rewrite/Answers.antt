@@ -1,6 +1,6 @@
 use Rattle.std.proofs.Common.{rules}
 use Rattle.std.proofs.Common.{subst, sym}
-use Rattle.epoch_core.specs.declared.state.OwnerState.{OwnerState}
+use Rattle.partition_words.specs.declared.state.OwnerState.{OwnerState}
 use Rattle.circular_log.specs.LogWrite.{MayRewrite}
 use Rattle.circular_log.proofs.InPlace.{key_there}
 use Rattle.circular_log.proofs.MarkedItem.{can_store}

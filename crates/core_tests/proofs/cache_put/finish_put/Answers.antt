@@ -1,5 +1,5 @@
 use Rattle.std.proofs.Common.{ap, ◌∙◌}
-use Rattle.epoch_core.specs.declared.state.OwnerState.{OwnerState}
+use Rattle.partition_words.specs.declared.state.OwnerState.{OwnerState}
 use Rattle.core_tests.proofs.MarkedPut.{can_put_item}
 use Rattle.core_tests.proofs.Storing.{may_put_entry, stored}
 use Rattle.core_tests.proofs.Ending.{may_end}

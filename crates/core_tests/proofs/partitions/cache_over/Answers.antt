@@ -1,6 +1,6 @@
 use Rattle.std.proofs.Common.{sym, ap, ◌∙◌}
-use Rattle.epoch_core.specs.declared.state.OwnerState.{OwnerState}
-use Rattle.epoch_core.specs.OwnerState.{as_made}
+use Rattle.partition_words.specs.declared.state.OwnerState.{OwnerState}
+use Rattle.partition_words.specs.OwnerState.{as_made}
 use Rattle.core_tests.proofs.partitions.cache_over.Goals as goal
 
 pub new-requires-2-clause-made : goal.new-requires-2-clause-made

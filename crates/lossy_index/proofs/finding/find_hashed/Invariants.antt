@@ -1,5 +1,5 @@
 use Rattle.std.proofs.Common.{◌≡◌, ℕ, ◌<◌}
-use Rattle.epoch_core.specs.Kept.{Kept}
+use Rattle.partition_words.specs.Kept.{Kept}
 use Rattle.lossy_index.specs.Slot.{IsSlotOf}
 use Rattle.lossy_index.proofs.Looking.{Seeks}
 use Rattle.lossy_index.proofs.finding.find_hashed.Given as goal

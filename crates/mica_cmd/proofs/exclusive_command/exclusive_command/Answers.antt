@@ -1,5 +1,5 @@
 use Rattle.std.proofs.Common.{◌∙◌, Err, refl, ap, subst}
-use Rattle.mica_io.specs.Faults.{Rose}
+use Rattle.outside.specs.Faults.{Rose}
 use Rattle.mica_trace.specs.ExactReport.{ExactReport}
 use Rattle.mica_trace.specs.Printed.{PrintsText, PrintsPart}
 use Rattle.server_words.specs.Output.{sink_facts}

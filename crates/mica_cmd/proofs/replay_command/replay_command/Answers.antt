@@ -1,6 +1,6 @@
 use Rattle.std.proofs.Common.{◌∙◌, inl, Err, refl, sym, ap, subst}
 use Rattle.mica_replay.specs.Printed.{PrintsReport, PrintsPart}
-use Rattle.mica_io.specs.Faults.{Rose}
+use Rattle.outside.specs.Faults.{Rose}
 use Rattle.server_words.specs.Output.{sink_facts}
 use Rattle.mica_cmd.specs.Promises.{replay_promise}
 use Rattle.mica_cmd.proofs.Keeping.{unwritten_promise}

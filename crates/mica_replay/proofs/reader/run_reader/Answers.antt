@@ -5,7 +5,7 @@ use Rattle.mica_words.proofs.Hashes.{partition_of_hash}
 use Rattle.mica_words.specs.Item.{KeyFits}
 use Rattle.mica_trace.specs.declared.line.TraceLine.{TraceLine}
 use Rattle.mica_trace.specs.Rounds.{partition_in}
-use Rattle.epoch_core.specs.declared.reader.ReaderState.{ReaderState}
+use Rattle.partition_words.specs.declared.reader.ReaderState.{ReaderState}
 use Rattle.mica_replay.specs.LineNumbers.{lines_at}
 use Rattle.mica_replay.specs.ReaderGets.{HaveRead}
 use Rattle.mica_replay.proofs.ReaderSteps.{reads_none, number_within, IsGetOf, get_of, seat_at, seen_at, homes_at, read_at, reads_seen, read_goes}

@@ -2,9 +2,9 @@ use Rattle.std.proofs.Common.{rules, append-nil, ◌≡◌, ℕ, suc, ◌+◌, �
 use Rattle.std.specs.Option.{option_to_list}
 use Rattle.std.specs.Vec.Iter.{into_iter_items}
 use Rattle.std.proofs.lemmas.List.{length_push, nil_from_length}
-use Rattle.epoch_core.specs.declared.state.Phase.TheVariants.{Idle}
+use Rattle.partition_words.specs.declared.state.Phase.TheVariants.{Idle}
 use Rattle.mica_replay.specs.declared.worker.OwnerWork.{OwnerWork}
-use Rattle.epoch_core.specs.declared.state.OwnerState.{OwnerState}
+use Rattle.partition_words.specs.declared.state.OwnerState.{OwnerState}
 use Rattle.partition_table.specs.declared.tables.KeptSeat.{KeptSeat}
 use Rattle.partition_table.specs.Tabled.{kept_seat_in}
 use Rattle.mica_replay.specs.Lending.{OwnerPart, owner_part}

@@ -1,6 +1,6 @@
 use Rattle.std.proofs.Common.{◌≡◌, ◌≤◌, ◌+◌, ◌++◌, ℕ, Some, map, length, slice_get}
 use Rattle.std.specs.Vec.Iter.{into_iter_items, into_iter_len}
-use Rattle.epoch_core.specs.declared.state.Phase.TheVariants.{Idle}
+use Rattle.partition_words.specs.declared.state.Phase.TheVariants.{Idle}
 use Rattle.mica_replay.specs.Lending.{OwnerPart, owner_part}
 use Rattle.mica_replay.specs.RoundRun.{kept_of}
 use Rattle.mica_replay.proofs.run.keep_all.Given as goal

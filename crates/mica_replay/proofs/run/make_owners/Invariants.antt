@@ -1,7 +1,7 @@
 use Rattle.std.proofs.Common.{◌≡◌, ℕ, ◌+◌, Some, All, IfSome, map, length, slice_get}
 use Rattle.std.specs.Vec.Iter.{into_iter_items}
-use Rattle.epoch_core.specs.Shape.{shape_of}
-use Rattle.epoch_core.specs.OwnerState.{as_made}
+use Rattle.partition_words.specs.Shape.{shape_of}
+use Rattle.partition_words.specs.OwnerState.{as_made}
 use Rattle.mica_replay.specs.Lending.{OwnerPart, owner_part}
 use Rattle.mica_replay.proofs.run.make_owners.Given as goal
 

@@ -5,7 +5,7 @@ use Rattle.std.proofs.lemmas.List.{length-map, map-set, take_all}
 use Rattle.std.proofs.lemmas.Option.{slice_get_within, slice_get_read, slice_get-map}
 use Rattle.list_laws.proofs.Places.{popped}
 use Rattle.mica_serve.specs.declared.worker.OwnerTask.{OwnerTask}
-use Rattle.mica_fronts.specs.declared.queue_front.FrontPart.{FrontPart}
+use Rattle.queue_front.specs.declared.queue_front.FrontPart.{FrontPart}
 use Rattle.mica_serve.specs.Hands.{OwnerEnd, MayMeet}
 use Rattle.mica_serve.specs.Tasks.{owner_end}
 use Rattle.mica_serve.proofs.Meetings.{PartsMetFrom, parts_none, parts_one, parts_all, part_may}

@@ -4,9 +4,9 @@ use Rattle.std.proofs.lemmas.List.{length-map, length_push}
 use Rattle.std.proofs.lemmas.Option.{slice_get_within}
 use Rattle.mica_serve.specs.declared.worker.OwnerTask.{OwnerTask}
 use Rattle.mica_serve.specs.Hands.{AreLent}
-use Rattle.mica_fronts.specs.QueueFront.{QueueView, queue_view}
+use Rattle.queue_front.specs.QueueFront.{QueueView, queue_view}
 use Rattle.mica_serve.specs.Tasks.{owner_end}
-use Rattle.mica_fronts.specs.declared.queue_front.FrontPart.{FrontPart}
+use Rattle.queue_front.specs.declared.queue_front.FrontPart.{FrontPart}
 use Rattle.served.proofs.MadeOf.{nil_of}
 use Rattle.mica_serve.proofs.Opened.{rows, parts_of, next_long, next_new, next_lent, fronts_pushed}
 use Rattle.mica_serve.proofs.opening.open_all.Goals as goal

@@ -1,6 +1,6 @@
 use Rattle.std.proofs.Common.{◌≡◌, ◌*◌, ◌++◌, ℕ, Some, length, map, slice_get}
 use Rattle.std.specs.Vec.Iter.{into_iter_items}
-use Rattle.mica_fronts.specs.QueueFront.{QueueView, queue_view}
+use Rattle.queue_front.specs.QueueFront.{QueueView, queue_view}
 use Rattle.mica_serve.specs.Hands.{AreLent}
 use Rattle.mica_serve.specs.Tasks.{owner_end}
 use Rattle.mica_serve.proofs.opening.open_all.Given as goal

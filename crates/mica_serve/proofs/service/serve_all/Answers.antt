@@ -5,13 +5,13 @@ use Rattle.std.proofs.lemmas.Result.{err_from_is_err_and}
 use Rattle.partition_table.specs.declared.tables.KeptSeat.{KeptSeat}
 use Rattle.partition_table.specs.Tabled.{kept_seat_in}
 use Rattle.server_words.specs.declared.limits.TheConstants.{MAX_BATCHES}
-use Rattle.mica_fronts.specs.declared.totals.Totals.{Totals}
-use Rattle.mica_fronts.specs.declared.totals.ServeFault.{ServeFault}
+use Rattle.fronts.specs.declared.totals.Totals.{Totals}
+use Rattle.fronts.specs.declared.totals.ServeFault.{ServeFault}
 use Rattle.mica_serve.specs.declared.worker.OwnerTask.{OwnerTask}
 use Rattle.served.specs.Others.{alone}
 use Rattle.served.specs.Served.{empty_origin}
 use Rattle.served.specs.Ends.{EndFacts, ServesFronts, end_facts}
-use Rattle.mica_fronts.specs.Totals.{IsUpTo}
+use Rattle.fronts.specs.Totals.{IsUpTo}
 use Rattle.served.specs.FrontRuns.{SumsUp}
 use Rattle.served.proofs.Gathered.{all_ran, few_answers, small_answers}
 use Rattle.served.proofs.SumsUp.{sums_beside}

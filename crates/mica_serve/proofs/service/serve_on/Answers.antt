@@ -1,7 +1,7 @@
 use Rattle.std.proofs.Common.{rules, ◌≡◌, ◌+◌, ◌<◌, ℕ, length, vec_len, map, Some, ◌∙◌, subst}
 use Rattle.std.specs.Prelude.{IfSome}
 use Rattle.std.proofs.lemmas.List.{length-map}
-use Rattle.mica_io.specs.PortStates.{out}
+use Rattle.outside.specs.PortStates.{out}
 use Rattle.served.specs.Others.{alone}
 use Rattle.served.specs.Served.{empty_origin}
 use Rattle.served.specs.Ends.{EndFacts, end_facts}

@@ -2,8 +2,8 @@ use Rattle.std.proofs.Common.{◌≡◌, ℕ, suc, ◌+◌, ◌≤◌, ◌++◌,
 use Rattle.std.specs.Option.{option_to_list}
 use Rattle.std.specs.Vec.Iter.{into_iter_items}
 use Rattle.std.proofs.lemmas.List.{length_push}
-use Rattle.epoch_core.specs.declared.state.Phase.TheVariants.{Idle}
-use Rattle.epoch_core.specs.declared.state.OwnerState.{OwnerState}
+use Rattle.partition_words.specs.declared.state.Phase.TheVariants.{Idle}
+use Rattle.partition_words.specs.declared.state.OwnerState.{OwnerState}
 use Rattle.partition_table.specs.declared.tables.KeptSeat.{KeptSeat}
 use Rattle.partition_table.specs.Tabled.{kept_seat_in}
 use Rattle.mica_serve.specs.declared.worker.OwnerTask.{OwnerTask}

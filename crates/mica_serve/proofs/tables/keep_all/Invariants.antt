@@ -1,6 +1,6 @@
 use Rattle.std.proofs.Common.{◌≡◌, ◌≤◌, ◌+◌, ◌++◌, ℕ, Some, map, length, slice_get}
 use Rattle.std.specs.Vec.Iter.{into_iter_items, into_iter_len}
-use Rattle.epoch_core.specs.declared.state.Phase.TheVariants.{Idle}
+use Rattle.partition_words.specs.declared.state.Phase.TheVariants.{Idle}
 use Rattle.partition_table.specs.Tabled.{kept_seat_in}
 use Rattle.mica_serve.specs.declared.worker.OwnerTask.{OwnerTask}
 use Rattle.mica_serve.proofs.tables.keep_all.Given as goal

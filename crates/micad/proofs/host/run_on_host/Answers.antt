@@ -1,6 +1,6 @@
 use Rattle.std.proofs.Common.{◌≡◌}
-use Rattle.mica_daemon.specs.declared.status.DaemonStatus.TheVariants.{NoMemory}
-use Rattle.mica_daemon.proofs.Exiting.{never_zero, not_zero}
+use Rattle.daemon.specs.declared.status.DaemonStatus.TheVariants.{NoMemory}
+use Rattle.daemon.proofs.Exiting.{never_zero, not_zero}
 use Rattle.micad.proofs.host.run_on_host.Goals as goal
 
 pub returns-in_default : goal.returns-in_default

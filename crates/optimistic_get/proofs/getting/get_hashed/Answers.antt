@@ -2,8 +2,8 @@ use Rattle.std.proofs.Common.{◌≡◌, ◌+◌, ◌<◌, ℕ, false, rules, sy
 use Rattle.std.proofs.lemmas.Nat.{pow_pos}
 use Rattle.mica_words.specs.Hash.{hash_bucket, bucket_of}
 use Rattle.mica_words.proofs.Hashes.{bucket_of_hash, bucket_of-below}
-use Rattle.epoch_core.specs.declared.shape.Shape.{Shape}
-use Rattle.epoch_core.specs.Shape.{IsMain}
+use Rattle.partition_words.specs.declared.shape.Shape.{Shape}
+use Rattle.partition_words.specs.Shape.{IsMain}
 use Rattle.optimistic_get.specs.Gets.{is_again, AnswersGet}
 use Rattle.optimistic_get.proofs.Repeating.{failing_none, fails_again, answers_after}
 use Rattle.optimistic_get.proofs.getting.get_hashed.Goals as goal

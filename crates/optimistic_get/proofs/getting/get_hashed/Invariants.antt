@@ -1,6 +1,6 @@
 use Rattle.std.proofs.Common.{◌≡◌, ℕ, ◌+◌}
 use Rattle.mica_words.specs.Hash.{bucket_of}
-use Rattle.epoch_core.specs.Shape.{IsMain}
+use Rattle.partition_words.specs.Shape.{IsMain}
 use Rattle.optimistic_get.proofs.Repeating.{Failing}
 use Rattle.optimistic_get.proofs.getting.get_hashed.Given as goal
 

@@ -1,5 +1,5 @@
 use Rattle.std.proofs.Common.{◌∙◌, sym, ap}
-use Rattle.epoch_core.specs.declared.shape.Shape.{Shape}
+use Rattle.partition_words.specs.declared.shape.Shape.{Shape}
 use Rattle.optimistic_get.proofs.Chains.{searched_one}
 use Rattle.optimistic_get.proofs.searching.search.Goals as goal
 

@@ -1,6 +1,6 @@
 use Rattle.std.proofs.Common.{◌≡◌, sym, ◌∙◌, subst, arith, inl, inr}
-use Rattle.epoch_core.specs.declared.shape.Shape.{Shape}
-use Rattle.epoch_core.specs.Shape.{IsSpare}
+use Rattle.partition_words.specs.declared.shape.Shape.{Shape}
+use Rattle.partition_words.specs.Shape.{IsSpare}
 use Rattle.optimistic_get.proofs.Loads.{on_shape}
 use Rattle.optimistic_get.proofs.Entries.{none_of, some_no_none}
 use Rattle.optimistic_get.proofs.Chains.{walks_first, searched, walks_more, searched_all}

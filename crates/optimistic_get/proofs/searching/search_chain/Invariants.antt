@@ -1,6 +1,6 @@
 use Rattle.std.proofs.Common.{◌≡◌, ◌<◌, ◌^◌}
 use Rattle.std.specs.Prelude.{IfSome}
-use Rattle.epoch_core.specs.Shape.{IsBucket}
+use Rattle.partition_words.specs.Shape.{IsBucket}
 use Rattle.optimistic_get.proofs.Chains.{Walks}
 use Rattle.optimistic_get.proofs.searching.search_chain.Given as goal
 

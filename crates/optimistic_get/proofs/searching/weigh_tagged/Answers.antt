@@ -3,7 +3,7 @@ use Rattle.mica_words.specs.Hash.{hash_tag, tag_of}
 use Rattle.mica_words.specs.Entry.{entry_offset}
 use Rattle.mica_words.specs.Item.{largest_item}
 use Rattle.mica_words.proofs.Hashes.{tag_of_hash}
-use Rattle.epoch_core.specs.Spelt.{ShowsOther, ShowsItem}
+use Rattle.partition_words.specs.Spelt.{ShowsOther, ShowsItem}
 use Rattle.optimistic_get.specs.Loading.{loads_in}
 use Rattle.optimistic_get.specs.Search.{by_item, by_best, Weighs}
 use Rattle.optimistic_get.proofs.Loads.{on_none}

@@ -2,8 +2,8 @@ use Rattle.std.proofs.Common.{◌≡◌, ℕ, Some, None, refl, sym, ap, ◌∙�
 use Rattle.mica_words.specs.Hash.{hash_bucket, bucket_of}
 use Rattle.mica_words.proofs.Hashes.{bucket_of_hash}
 use Rattle.partition_model.specs.declared.write.Answer.TheVariants.{Hit, Miss}
-use Rattle.epoch_core.specs.declared.shape.Shape.{Shape}
-use Rattle.epoch_core.specs.Script.{book_of}
+use Rattle.partition_words.specs.declared.shape.Shape.{Shape}
+use Rattle.scripted_reader.specs.Script.{book_of}
 use Rattle.optimistic_get.specs.Gets.{is_again}
 use Rattle.optimistic_get.proofs.Resting.{never_again, answers_played}
 use Rattle.optimistic_get.proofs.settled.get_settled.Goals as goal

@@ -1,10 +1,10 @@
 use Rattle.std.proofs.Common.{◌≡◌, ◌%◌, ℕ, Option, Some, refl, sym, ◌∙◌, subst, arith}
 use Rattle.std.specs.Prelude.{IfSome}
 use Rattle.mica_words.specs.Packing.{AreBytes}
-use Rattle.epoch_core.specs.declared.shape.Shape.{Shape}
-use Rattle.epoch_core.specs.declared.reading.Plan.{Plan}
-use Rattle.epoch_core.specs.Plan.{FindsLastEpoch, FindsHistory}
-use Rattle.epoch_core.specs.LiveEntry.{IsLiveItem}
+use Rattle.partition_words.specs.declared.shape.Shape.{Shape}
+use Rattle.partition_words.specs.declared.reading.Plan.{Plan}
+use Rattle.partition_words.specs.Plan.{FindsLastEpoch, FindsHistory}
+use Rattle.partition_words.specs.LiveEntry.{IsLiveItem}
 use Rattle.optimistic_get.specs.declared.getting.Got.TheVariants.{Hit, Miss, Again}
 use Rattle.optimistic_get.proofs.Answering.{hits, misses, odd_rests, moved_rests, sees_rest}
 use Rattle.optimistic_get.proofs.trying.try_get.Goals as goal

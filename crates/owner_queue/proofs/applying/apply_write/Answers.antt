@@ -1,7 +1,7 @@
 use Rattle.std.proofs.Common.{◌≡◌, ◌∙◌, subst}
 use Rattle.partition_model.specs.declared.write.Write.{Write}
 use Rattle.partition_model.specs.Write.{write_of}
-use Rattle.epoch_core.specs.OwnerStep.{IsOwnerStep}
+use Rattle.partition_words.specs.OwnerStep.{IsOwnerStep}
 use Rattle.owner_queue.proofs.applying.apply_write.Goals as goal
 
 pub returns-clause-step : goal.returns-clause-step

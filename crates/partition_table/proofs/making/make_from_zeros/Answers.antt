@@ -1,10 +1,10 @@
 use Rattle.std.proofs.Common.{◌≡◌, true, sym, subst}
-use Rattle.epoch_core.specs.declared.shape.Shape.{Shape}
-use Rattle.epoch_core.specs.Shape.{is_in_range}
-use Rattle.epoch_core.specs.Kept.{Kept}
+use Rattle.partition_words.specs.declared.shape.Shape.{Shape}
+use Rattle.partition_words.specs.Shape.{is_in_range}
+use Rattle.partition_words.specs.Kept.{Kept}
 use Rattle.partition_table.specs.Rule.{Seated, owner_in}
-use Rattle.epoch_core.proofs.Shapes.{in_range_possible}
-use Rattle.epoch_core.proofs.Made.{kept_as_made}
+use Rattle.partition_words.proofs.Shapes.{in_range_possible}
+use Rattle.partition_words.proofs.Made.{kept_as_made}
 use Rattle.partition_table.proofs.Steps.{starts}
 use Rattle.partition_table.proofs.making.make_from_zeros.Goals as goal
 

@@ -1,6 +1,6 @@
 use Rattle.std.proofs.Common.{◌≡◌, true}
-use Rattle.mica_io.specs.PortStates.{takes_datagram}
-use Rattle.mica_io.specs.MemoryPorts.{ports_in}
+use Rattle.outside.specs.PortStates.{takes_datagram}
+use Rattle.memory_outside.specs.MemoryPorts.{ports_in}
 use Rattle.row_parts.proofs.net.add_peer.Given as goal
 
 abbrev pub invariant-loop-given : goal.invariant-loop-given

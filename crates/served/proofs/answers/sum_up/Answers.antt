@@ -1,8 +1,8 @@
 use Rattle.std.proofs.Common.{◌≡◌, ◌+◌, ◌<◌, ℕ, Bool, true, false, length, get_or, sym, ap, ◌∙◌, subst, arith}
 use Rattle.std.specs.Prelude.{Ok, Err}
-use Rattle.mica_fronts.specs.declared.totals.Totals.{Totals}
-use Rattle.mica_fronts.specs.declared.totals.ServeFault.TheVariants.{Net}
-use Rattle.mica_fronts.specs.Totals.{none_counted}
+use Rattle.fronts.specs.declared.totals.Totals.{Totals}
+use Rattle.fronts.specs.declared.totals.ServeFault.TheVariants.{Net}
+use Rattle.fronts.specs.Totals.{none_counted}
 use Rattle.served.proofs.SumsUp.{SumsTo, answer_at, sums_none, sums_one, sums_failed, sums_all, sums_fault}
 use Rattle.served.proofs.answers.sum_up.Goals as goal
 use Rattle.served.proofs.answers.sum_up.Goals.{in-Ok, in-Err-Net}

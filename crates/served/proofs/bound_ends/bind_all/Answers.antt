@@ -1,7 +1,7 @@
 use Rattle.std.proofs.Common.{rules, ◌≡◌, ◌+◌, ◌++◌, ◌∷◌, [], ℕ, List, length, vec_len, map, refl, sym, ap, ◌∙◌, subst, arith}
 use Rattle.std.specs.Prelude.{is_some, IfSome}
 use Rattle.std.proofs.lemmas.List.{length-map, map-append}
-use Rattle.mica_io.specs.PortStates.{BindsEnd}
+use Rattle.outside.specs.PortStates.{BindsEnd}
 use Rattle.served.specs.Ends.{EndFacts, AreNewEnds, BindsEnds, end_facts}
 use Rattle.served.specs.NetRun.{OnPorts}
 use Rattle.served.proofs.Binding.{new_more, bound_more, when_some, first_kept}

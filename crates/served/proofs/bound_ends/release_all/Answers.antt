@@ -6,8 +6,8 @@ use Rattle.std.proofs.lemmas.List.{length-map}
 use Rattle.std.proofs.lemmas.Option.{slice_get-map, slice_get_within}
 use Rattle.std.proofs.lemmas.Bool.{cases_lt}
 use Rattle.list_laws.proofs.Places.{from_map, popped}
-use Rattle.mica_io.specs.Faults.{Rose, LAST_COUNT}
-use Rattle.mica_io.specs.PortStates.{out}
+use Rattle.outside.specs.Faults.{Rose, LAST_COUNT}
+use Rattle.outside.specs.PortStates.{out}
 use Rattle.served.specs.Ends.{EndFacts, end_facts}
 use Rattle.served.specs.NetRun.{OnPorts}
 use Rattle.served.proofs.Binding.{Releasing, releasing_none, still_out, tells_at, released_more, all_told, counts_none, counts_more, when_some, rose_on, rose_before}

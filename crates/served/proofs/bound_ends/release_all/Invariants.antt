@@ -1,6 +1,6 @@
 use Rattle.std.proofs.Common.{◌≡◌, ◌≤◌, ◌<◌, ℕ, true, map, length, take, drop, ◌+◌, slice_get, Some}
 use Rattle.std.specs.Prelude.{is_some, min, sum_by}
-use Rattle.mica_io.specs.Faults.{Rose, LAST_COUNT}
+use Rattle.outside.specs.Faults.{Rose, LAST_COUNT}
 use Rattle.served.specs.NetRun.{OnPorts}
 use Rattle.served.specs.Ends.{end_facts}
 use Rattle.served.proofs.Binding.{Releasing}

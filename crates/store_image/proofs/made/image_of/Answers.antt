@@ -4,7 +4,7 @@ use Rattle.std.specs.List.{AllByRecursion}
 use Rattle.std.proofs.lemmas.List.{length-map}
 use Rattle.mica_trace.specs.declared.line.TraceLine.{TraceLine}
 use Rattle.mica_trace.specs.TraceGrammar.{IsKey, IsTraceLine}
-use Rattle.epoch_core.specs.Seats.{diary_of}
+use Rattle.partition_words.specs.Seats.{diary_of}
 use Rattle.store_image.specs.PutKeys.{put_keys, has_key, pairs_by}
 use Rattle.store_image.specs.Answers.{value_at}
 use Rattle.store_image.specs.ImageOf.{HasPairsOf}

@@ -1,8 +1,8 @@
 use Rattle.std.proofs.Common.{◌≡◌, ◌∙◌, ap, arith}
 use Rattle.std.proofs.lemmas.List.Elements.{All-push}
-use Rattle.epoch_core.specs.OwnerState.{as_made}
-use Rattle.epoch_core.specs.Shape.{shape_of}
-use Rattle.epoch_core.specs.Seats.{diary_of}
+use Rattle.partition_words.specs.OwnerState.{as_made}
+use Rattle.partition_words.specs.Shape.{shape_of}
+use Rattle.partition_words.specs.Seats.{diary_of}
 use Rattle.line_replies.proofs.Parts.{none_answered}
 use Rattle.store_image.proofs.made.make_parts.Goals as goal
 

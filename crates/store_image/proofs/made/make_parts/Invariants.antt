@@ -1,8 +1,8 @@
 use Rattle.std.proofs.Common.{◌≡◌, vec_len}
 use Rattle.std.specs.List.{All}
-use Rattle.epoch_core.specs.Shape.{shape_of}
-use Rattle.epoch_core.specs.OwnerState.{as_made}
-use Rattle.epoch_core.specs.Seats.{diary_of}
+use Rattle.partition_words.specs.Shape.{shape_of}
+use Rattle.partition_words.specs.OwnerState.{as_made}
+use Rattle.partition_words.specs.Seats.{diary_of}
 use Rattle.store_image.proofs.made.make_parts.Given as goal
 
 abbrev pub invariant-loop : goal.invariant-loop

@@ -1,7 +1,7 @@
 use Rattle.std.proofs.Common.{◌≡◌, ℕ, ◌∷◌, ◌++◌, [], length, slice_get, slice_set, None, Some, refl, sym, ap, ◌∙◌, subst, arith}
 use Rattle.std.specs.Option.{option_to_list}
 use Rattle.std.proofs.lemmas.Option.{slice_get_read, slice_get_within}
-use Rattle.work_desk.specs.declared.rule.Knows.{Knows}
+use Rattle.work_desk.specs.declared.rule.DeskSeatView.{DeskSeatView}
 use Rattle.work_desk.specs.Desk.{giver}
 use Rattle.work_desk.specs.Rows.{MayHand, handed}
 use Rattle.work_desk.proofs.Steps.{some_is}
@@ -51,7 +51,7 @@ loop-work-preserved g c =
     let here : length c.pop.new.self.items ≡ c.len-at.result = sym (at_end g z) in
     let new : giver at.at.terms (Some c.in-Some.work) ≡ c.hand.new.self = sym (c.hand.ensures ∙ (λ i. giver (at_last g z i).terms (Some c.in-Some.work))) in
     record {
-      may = subst (λ (y : ℕ × Knows g.row.T.Denot g.row.S.Denot). MayHand g.T.Work.ready c.pop.new.self.items (slice_set c.loop-work.givers.items y.0 y.1)) (λ i. (here i, new i)) at.left;
+      may = subst (λ (y : ℕ × DeskSeatView g.row.T.Denot g.row.S.Denot). MayHand g.T.Work.ready c.pop.new.self.items (slice_set c.loop-work.givers.items y.0 y.1)) (λ i. (here i, new i)) at.left;
       same = sym (λ i. handed c.pop.new.self.items (slice_set c.loop-work.givers.items (here i) (new i))) ∙ at.same ∙ ap (λ l. handed l c.loop-work.givers.items) (sym (items_are g z)) ∙ c.loop-work.invariant.same;
       room = c.pop.ensures.capacity ∙ c.loop-work.invariant.room;
     }

@@ -1,7 +1,7 @@
 use Rattle.std.proofs.Common.{◌≡◌, ℕ, ◌+◌, ◌<◌, List, length, slice_get, slice_set, None, IfSome, refl, sym, ap, ◌∙◌, subst, arith}
 use Rattle.std.proofs.lemmas.List.{length_push}
 use Rattle.std.proofs.lemmas.Option.{slice_get_read}
-use Rattle.work_desk.specs.declared.rule.Knows.{Knows}
+use Rattle.work_desk.specs.declared.rule.DeskSeatView.{DeskSeatView}
 use Rattle.work_desk.specs.Desk.{giver}
 use Rattle.work_desk.specs.Rows.{free_again}
 use Rattle.work_desk.proofs.Steps.{some_is}
@@ -35,7 +35,7 @@ loop-p-preserved g c =
     let new : free_again at.at ≡ c.take_back-work.new.self = sym (c.take_back-work.ensures.idle ∙ (λ i. giver (at_next g z i).terms None)) in
     let did : IfSome at.at.work (λ t. g.T.Work.done at.at.terms t work) = subst (λ k. IfSome k.work (λ t. g.T.Work.done k.terms t work)) (at_next g z) c.take_back-work.ensures.done in
     record {
-      taken = subst (λ (y : ℕ × Knows g.row.T.Denot g.row.S.Denot × List g.row.T.Denot). TakenTo g.T.Work.done c.args.givers.now.items (slice_set c.loop-p.givers.items y.0 y.1) y.2)
+      taken = subst (λ (y : ℕ × DeskSeatView g.row.T.Denot g.row.S.Denot × List g.row.T.Denot). TakenTo g.T.Work.done c.args.givers.now.items (slice_set c.loop-p.givers.items y.0 y.1) y.2)
           (λ i. (c.loop-p.invariant.many i, new i, sym c.push_reserved.ensures.items i)) (at.goes work did);
       many = ap length c.push_reserved.ensures.items ∙ length_push c.loop-p.works.items work ∙ ap (λ n. n + 1) c.loop-p.invariant.many;
       room = c.push_reserved.ensures.capacity ∙ c.loop-p.invariant.room;

@@ -6,7 +6,7 @@ use Rattle.exclusive_replay.specs.declared.queue.Sent.TheVariants as sent
 use Rattle.exclusive_replay.specs.LineEnds.{LineBox}
 use Rattle.exclusive_replay.specs.Workers.{lines_at}
 use Rattle.exclusive_replay.specs.Sent.{has_end, numbers_in}
-use Rattle.plain_partition.specs.PlainPartition.{owner_of}
+use Rattle.any_partition.specs.PlainPartition.{owner_of}
 use Rattle.exclusive_replay.proofs.OwnerRuns.{if_some, if_ok, started, taken_more, unended, ended, lines_ended, answers_more}
 use Rattle.exclusive_replay.proofs.owner.Owner.run.Goals as goal
 

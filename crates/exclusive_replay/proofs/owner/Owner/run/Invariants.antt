@@ -2,7 +2,7 @@ use Rattle.std.proofs.Common.{◌≡◌, false, length, IfSome}
 use Rattle.line_replies.specs.Replied.{HasReplied}
 use Rattle.exclusive_replay.specs.Sent.{has_end, numbers_in}
 use Rattle.exclusive_replay.specs.LineEnds.{line_box}
-use Rattle.plain_partition.specs.PlainPartition.{owner_of}
+use Rattle.any_partition.specs.PlainPartition.{owner_of}
 use Rattle.exclusive_replay.specs.Workers.{lines_at}
 use Rattle.exclusive_replay.proofs.owner.Owner.run.Given as goal
 

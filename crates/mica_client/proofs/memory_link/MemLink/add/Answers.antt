@@ -1,5 +1,5 @@
 use Rattle.std.proofs.Common.{rules, ◌≡◌, ◌∙◌, ◌∷◌, ◌++◌, [], List, drop, ap, Some, arith}
-use Rattle.mica_io.specs.Traffic.{Datagram}
+use Rattle.outside.specs.Traffic.{Datagram}
 use Rattle.mica_client.specs.declared.memory_link.Pass.{Pass}
 use Rattle.mica_client.specs.Talk.{Passed, Talk}
 use Rattle.mica_client.specs.MemoryLink.{passed_in}

@@ -1,5 +1,5 @@
 use Rattle.std.proofs.Common.{sym, ◌∙◌}
-use Rattle.mica_fronts.specs.QueueFront.{sessions_of}
+use Rattle.queue_front.specs.QueueFront.{sessions_of}
 use Rattle.served.specs.Ends.{EndFacts, end_facts}
 use Rattle.served.proofs.FrontEnds.{runs_front, tells_still}
 use Rattle.mica_serve.proofs.worker.FrontTask.run.Goals as goal

@@ -1,5 +1,5 @@
 use Rattle.std.proofs.Common.{[], ◌∷◌, ◌++◌, refl, sym, ap, ◌∙◌}
-use Rattle.epoch_core.specs.declared.reader.ReaderState.{ReaderState}
+use Rattle.partition_words.specs.declared.reader.ReaderState.{ReaderState}
 use Rattle.owner_queue.specs.AckEnds.{AckBox, ack_box}
 use Rattle.mica_serve.proofs.worker.OwnerTask.lend.Goals as goal
 

@@ -4,7 +4,7 @@ use Rattle.std.proofs.lemmas.List.{length_push}
 use Rattle.std.proofs.lemmas.Option.{same_Some}
 use Rattle.list_laws.proofs.Places.{at_last}
 use Rattle.partition_model.specs.History.{History, IsPrefix}
-use Rattle.epoch_core.specs.declared.state.OwnerState.{OwnerState}
+use Rattle.partition_words.specs.declared.state.OwnerState.{OwnerState}
 use Rattle.partition_table.specs.Seats.{reader_state}
 use Rattle.owner_queue.specs.AckEnds.{AckBox, BeginsAcks}
 use Rattle.owner_queue.specs.Messages.{sent_by, has_end}

@@ -1,8 +1,8 @@
 use Rattle.std.proofs.Common.{rules, sym, ap, ◌∙◌, subst}
-use Rattle.epoch_core.specs.declared.shape.Shape.{Shape}
-use Rattle.epoch_core.specs.declared.shape.WordAt.TheVariants.{Epoch}
-use Rattle.epoch_core.specs.Shape.{IsMain}
-use Rattle.epoch_core.specs.Events.{place_of}
+use Rattle.partition_words.specs.declared.shape.Shape.{Shape}
+use Rattle.partition_words.specs.declared.shape.WordAt.TheVariants.{Epoch}
+use Rattle.partition_words.specs.Shape.{IsMain}
+use Rattle.partition_words.specs.Events.{place_of}
 use Rattle.partition_table.proofs.Steps.{adds_at}
 use Rattle.partition_table.proofs.Bounds.{word_inside}
 use Rattle.partition_table.proofs.owner.OwnerSeat.add_as.Goals as goal

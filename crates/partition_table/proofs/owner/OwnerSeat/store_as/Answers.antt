@@ -1,6 +1,6 @@
 use Rattle.std.proofs.Common.{rules, sym, ap, ◌∙◌}
-use Rattle.epoch_core.specs.declared.shape.Shape.{Shape}
-use Rattle.epoch_core.specs.Events.{place_of}
+use Rattle.partition_words.specs.declared.shape.Shape.{Shape}
+use Rattle.partition_words.specs.Events.{place_of}
 use Rattle.partition_table.specs.Rule.{owner_in}
 use Rattle.partition_table.proofs.Steps.{stores_at}
 use Rattle.partition_table.proofs.Bounds.{event_there}

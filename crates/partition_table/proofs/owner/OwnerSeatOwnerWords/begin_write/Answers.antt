@@ -1,6 +1,6 @@
 use Rattle.std.proofs.Common.{subst}
-use Rattle.epoch_core.specs.declared.shape.Shape.{Shape}
-use Rattle.epoch_core.specs.Shape.{IsMain}
+use Rattle.partition_words.specs.declared.shape.Shape.{Shape}
+use Rattle.partition_words.specs.Shape.{IsMain}
 use Rattle.partition_table.proofs.owner.OwnerSeatOwnerWords.begin_write.Goals as goal
 
 pub add_as-requires-clause-main : goal.add_as-requires-clause-main

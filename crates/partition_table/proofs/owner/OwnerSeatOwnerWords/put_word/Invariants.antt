@@ -1,5 +1,5 @@
 use Rattle.partition_model.specs.Write.{write_of}
-use Rattle.epoch_core.specs.Diary.{event_of}
+use Rattle.partition_words.specs.Diary.{event_of}
 use Rattle.partition_table.proofs.owner.OwnerSeatOwnerWords.put_word.Given as goal
 
 abbrev pub ghosts-store_as : goal.ghosts-store_as

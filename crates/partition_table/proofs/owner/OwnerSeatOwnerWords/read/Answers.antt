@@ -1,6 +1,6 @@
 use Rattle.std.proofs.Common.{rules, subst}
-use Rattle.epoch_core.specs.declared.shape.Shape.{Shape}
-use Rattle.epoch_core.specs.Layout.{IsInside}
+use Rattle.partition_words.specs.declared.shape.Shape.{Shape}
+use Rattle.partition_words.specs.Layout.{IsInside}
 use Rattle.partition_table.proofs.Steps.{reads}
 use Rattle.partition_table.proofs.Bounds.{word_inside}
 use Rattle.partition_table.proofs.owner.OwnerSeatOwnerWords.read.Goals as goal

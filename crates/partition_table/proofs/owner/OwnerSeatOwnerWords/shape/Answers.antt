@@ -1,4 +1,4 @@
-use Rattle.epoch_core.proofs.Shapes.{possible_in_range}
+use Rattle.partition_words.proofs.Shapes.{possible_in_range}
 use Rattle.partition_table.proofs.owner.OwnerSeatOwnerWords.shape.Goals as goal
 
 pub returns-clause-valid : goal.returns-clause-valid

@@ -1,9 +1,9 @@
 use Rattle.std.proofs.Common.{ℕ, ◌+◌, sym, ap, ◌∙◌, rules}
-use Rattle.epoch_core.specs.declared.shape.Shape.{Shape}
-use Rattle.epoch_core.specs.declared.shape.WordAt.TheVariants.{Item}
-use Rattle.epoch_core.specs.Layout.{item_at}
-use Rattle.epoch_core.specs.ReaderState.{loaded}
-use Rattle.epoch_core.proofs.Blocks.{block_more}
+use Rattle.partition_words.specs.declared.shape.Shape.{Shape}
+use Rattle.partition_words.specs.declared.shape.WordAt.TheVariants.{Item}
+use Rattle.partition_words.specs.Layout.{item_at}
+use Rattle.partition_words.specs.ReaderState.{loaded}
+use Rattle.partition_words.proofs.Blocks.{block_more}
 use Rattle.partition_table.specs.Rule.{Seated, reader_in}
 use Rattle.partition_table.specs.Seats.{reader_state}
 use Rattle.partition_table.proofs.Steps.{loads_at}

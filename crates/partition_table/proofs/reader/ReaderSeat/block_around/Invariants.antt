@@ -1,5 +1,5 @@
 use Rattle.std.proofs.Common.{◌≡◌, length, take}
-use Rattle.epoch_core.specs.ReaderState.{loaded_items}
+use Rattle.partition_words.specs.ReaderState.{loaded_items}
 use Rattle.partition_table.specs.Seats.{reader_state, reader_home}
 use Rattle.partition_table.proofs.reader.ReaderSeat.block_around.Given as goal
 

@@ -1,7 +1,7 @@
 use Rattle.std.proofs.Common.{ℕ, ◌<◌, sym, rules, subst}
-use Rattle.epoch_core.specs.declared.shape.Shape.{Shape}
-use Rattle.epoch_core.specs.declared.shape.WordAt.TheVariants.{Epoch}
-use Rattle.epoch_core.specs.Shape.{IsMain}
+use Rattle.partition_words.specs.declared.shape.Shape.{Shape}
+use Rattle.partition_words.specs.declared.shape.WordAt.TheVariants.{Epoch}
+use Rattle.partition_words.specs.Shape.{IsMain}
 use Rattle.partition_table.proofs.Steps.{tallies_here}
 use Rattle.partition_table.proofs.Bounds.{word_inside, first_main}
 use Rattle.partition_table.proofs.reader.ReaderSeat.epoch_of_first.Goals as goal

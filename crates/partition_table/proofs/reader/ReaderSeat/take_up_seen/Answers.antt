@@ -1,5 +1,5 @@
 use Rattle.std.proofs.Common.{ap, ◌∙◌, rules}
-use Rattle.epoch_core.specs.Joins.{told}
+use Rattle.partition_words.specs.Joins.{told}
 use Rattle.partition_table.specs.Rule.{Seated, reader_in}
 use Rattle.partition_table.proofs.Steps.{reader_joins, met_reads}
 use Rattle.partition_table.proofs.reader.ReaderSeat.take_up_seen.Goals as goal

@@ -1,8 +1,8 @@
 use Rattle.std.proofs.Common.{rules, ◌≡◌, true, sym, ap, ◌∙◌, subst}
-use Rattle.epoch_core.specs.declared.shape.Shape.{Shape}
-use Rattle.epoch_core.specs.declared.shape.WordAt.TheVariants.{Epoch}
-use Rattle.epoch_core.specs.Shape.{IsMain, is_in_range}
-use Rattle.epoch_core.specs.Layout.{word_count}
+use Rattle.partition_words.specs.declared.shape.Shape.{Shape}
+use Rattle.partition_words.specs.declared.shape.WordAt.TheVariants.{Epoch}
+use Rattle.partition_words.specs.Shape.{IsMain, is_in_range}
+use Rattle.partition_words.specs.Layout.{word_count}
 use Rattle.partition_table.specs.Rule.{Seated, is_reader, reader_in}
 use Rattle.partition_table.proofs.Steps.{opens_here, opened_tries}
 use Rattle.partition_table.proofs.Bounds.{word_inside}

@@ -1,5 +1,5 @@
 use Rattle.std.proofs.Common.{rules}
-use Rattle.epoch_core.specs.declared.shape.WordAt.TheVariants.{Item}
+use Rattle.partition_words.specs.declared.shape.WordAt.TheVariants.{Item}
 use Rattle.partition_table.proofs.Steps.{loads_at}
 use Rattle.partition_table.proofs.Bounds.{word_inside}
 use Rattle.partition_table.proofs.reader.ReaderSeatReaderWords.item_word.Goals as goal

@@ -1,5 +1,5 @@
 use Rattle.std.proofs.Common.{rules}
-use Rattle.epoch_core.specs.declared.shape.WordAt.TheVariants.{Epoch}
+use Rattle.partition_words.specs.declared.shape.WordAt.TheVariants.{Epoch}
 use Rattle.partition_table.specs.Rule.{reader_in}
 use Rattle.partition_table.proofs.Steps.{shuts_here, try_main}
 use Rattle.partition_table.proofs.Bounds.{word_inside}

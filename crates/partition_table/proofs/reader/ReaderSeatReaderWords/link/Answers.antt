@@ -1,7 +1,7 @@
 use Rattle.std.proofs.Common.{rules, subst}
-use Rattle.epoch_core.specs.declared.shape.Shape.{Shape}
-use Rattle.epoch_core.specs.declared.shape.WordAt.TheVariants.{Link}
-use Rattle.epoch_core.specs.Layout.{IsInside}
+use Rattle.partition_words.specs.declared.shape.Shape.{Shape}
+use Rattle.partition_words.specs.declared.shape.WordAt.TheVariants.{Link}
+use Rattle.partition_words.specs.Layout.{IsInside}
 use Rattle.partition_table.proofs.Steps.{follows_at}
 use Rattle.partition_table.proofs.Bounds.{word_inside}
 use Rattle.partition_table.proofs.reader.ReaderSeatReaderWords.link.Goals as goal

@@ -1,5 +1,5 @@
 use Rattle.std.proofs.Common.{rules}
-use Rattle.epoch_core.specs.declared.shape.WordAt.TheVariants.{Stamp}
+use Rattle.partition_words.specs.declared.shape.WordAt.TheVariants.{Stamp}
 use Rattle.partition_table.proofs.Steps.{stamps_here}
 use Rattle.partition_table.proofs.Bounds.{word_inside}
 use Rattle.partition_table.proofs.reader.ReaderSeatReaderWords.stamp.Goals as goal

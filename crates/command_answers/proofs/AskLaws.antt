@@ -1,0 +1,104 @@
+-- Answers to asks, one after another.
+use Rattle.std.proofs.Common.{◌≡◌, ◌<◌, ◌≤◌, ◌==◌, ℕ, Bool, true, false, true≢false, cond, List, [], ◌∷◌, ◌++◌, length, drop, Option, Some, None, refl, sym, ap, ◌∙◌, subst, arith, append_assoc}
+use Rattle.std.specs.Prelude.{MatchOption}
+use Rattle.std.proofs.Math.Dec.{eqb-suc-zero}
+use Rattle.std.proofs.Math.Seq.{drop-nil}
+use Rattle.std.proofs.lemmas.List.{append-nil}
+use Rattle.std.proofs.lemmas.List.Elements.{filter_map-append}
+use Rattle.std.specs.List.{cons_option}
+use Rattle.outside.specs.Seconds.{ClockView, once_read}
+use Rattle.partition_model.specs.declared.options.Options.{Options}
+use Rattle.memcached_text.specs.Answer.{last_text}
+use Rattle.memcached_text.specs.declared.next.Next.{Next}
+use Rattle.memcached_commands.specs.declared.asks.Asked.{Asked}
+use Rattle.memcached_commands.specs.Answers.{last_of, unless_quiet}
+use Rattle.fronts.specs.Answered.{Answered}
+use Rattle.command_answers.specs.Seconds.{second_in, seconds_of, ToldFrom}
+use Rattle.command_answers.specs.AskAnswers.{AnswersAsks, said_of, shown_text, asks_text}
+use Rattle.command_answers.specs.Exchange.{is_quiet, flush_text}
+use Rattle.command_answers.specs.Going.{ask_text}
+
+-- Seconds
+
+pub told_then : (told between tells : ClockView) (one two : List ℕ) → ToldFrom told one between → ToldFrom between two tells → ToldFrom told (one ++ two) tells
+told_then told between tells [] two first then = subst (λ t. ToldFrom t two tells) first then
+told_then told between tells (second ∷ one) two first then = (first.0, told_then (once_read second told) between tells one two first.1 then)
+
+pub one_second : (options : Options) (a : Answered) (second : ℕ) → second_in options a ≡ Some second → seconds_of options (a ∷ []) ≡ second ∷ []
+one_second options a second is = ap (λ o. cons_option o []) is
+
+-- the seconds of some answers and of others behind them
+pub seconds_then : (options : Options) (told between tells : ClockView) (one two : List Answered) → ToldFrom told (seconds_of options one) between → ToldFrom between (seconds_of options two) tells
+    → ToldFrom told (seconds_of options (one ++ two)) tells
+seconds_then options told between tells one two first then =
+    subst (λ s. ToldFrom told s tells) (sym (filter_map-append (second_in options) one two)) (told_then told between tells (seconds_of options one) (seconds_of options two) first then)
+
+-- one more second was told
+pub tells_more : (options : Options) (told between tells : ClockView) (answers : List Answered) (a : Answered) (second : ℕ) → ToldFrom told (seconds_of options answers) between
+    → ToldFrom between (second ∷ []) tells → second_in options a ≡ Some second → ToldFrom told (seconds_of options (answers ++ a ∷ [])) tells
+tells_more options told between tells answers a second before read is =
+    seconds_then options told between tells answers (a ∷ []) before (subst (λ s. ToldFrom between s tells) (sym (one_second options a second is)) read)
+
+module _ (base : ℕ) where
+  -- Answers
+
+  pub more_answers : (asks : List Asked) (one two : List Answered) → AnswersAsks base asks one → AnswersAsks base (drop (length one) asks) two
+      → AnswersAsks base asks (one ++ two)
+  more_answers asks [] two first then = then
+  more_answers [] (a ∷ one) two first then = first
+  more_answers (asked ∷ asks) (a ∷ one) two first then = (first.0, more_answers asks one two first.1 then)
+
+  pub few_answers : (asks : List Asked) (answers : List Answered) → AnswersAsks base asks answers → length answers ≤ length asks
+  few_answers asks [] is = omega arith
+  few_answers [] (a ∷ answers) is = absurd is
+  few_answers (asked ∷ asks) (a ∷ answers) is = let few = few_answers asks answers is.1 in omega (arith, few)
+
+  -- Texts
+
+  no_text : (unique : Bool) (answers : List Answered) → asks_text base unique [] answers ≡ []
+  no_text unique [] = refl
+  no_text unique (a ∷ answers) = refl
+
+  pub more_text : (unique : Bool) (asks : List Asked) (one two : List Answered)
+      → asks_text base unique asks (one ++ two) ≡ asks_text base unique asks one ++ asks_text base unique (drop (length one) asks) two
+  more_text unique asks [] two = refl
+  more_text unique [] (a ∷ one) two = sym (no_text unique two)
+  more_text unique (asked ∷ []) (a ∷ one) two =
+      let here = shown_text unique asked.key (said_of base asked a) ++ last_text (last_of (said_of base asked a)) in
+      sym (ap (λ asks. here ++ asks_text base unique asks two) (drop-nil (length one)) ∙ ap (λ text. here ++ text) (no_text unique two) ∙ append-nil here)
+  more_text unique (asked ∷ next ∷ asks) (a ∷ one) two =
+      ap (λ text. shown_text unique asked.key (said_of base asked a) ++ text) (more_text unique (next ∷ asks) one two)
+      ∙ sym (append_assoc (shown_text unique asked.key (said_of base asked a)) (asks_text base unique (next ∷ asks) one) (asks_text base unique (drop (length one) (next ∷ asks)) two))
+
+  pub one_text : (quiet unique : Bool) (asked : Asked) (asks : List Asked) (a : Answered)
+      → ask_text quiet unique (length asks == 0) asked.key (said_of base asked a) ≡ unless_quiet quiet (asks_text base unique (asked ∷ asks) (a ∷ []))
+  one_text true unique asked asks a = refl
+  one_text false unique asked [] a = refl
+  one_text false unique asked (next ∷ asks) a =
+      ap (λ t. shown_text unique asked.key (said_of base asked a) ++ cond t (last_text (last_of (said_of base asked a))) []) (eqb-suc-zero (length asks))
+
+pub quiet_none : (quiet : Bool) → unless_quiet quiet [] ≡ []
+quiet_none true = refl
+quiet_none false = refl
+
+-- nothing is due of a flush before it was answered
+pub none_flushed_yet : (next : Next) (t : Bool) → cond t [] (unless_quiet (is_quiet next) (flush_text t [])) ≡ []
+none_flushed_yet next true = refl
+none_flushed_yet next false = quiet_none (is_quiet next)
+
+pub quiet_both : (quiet : Bool) (one two : List ℕ) → unless_quiet quiet (one ++ two) ≡ unless_quiet quiet one ++ unless_quiet quiet two
+quiet_both true one two = refl
+quiet_both false one two = refl
+
+-- what is left once one was taken
+pub left_of : (old new : List Asked) (taken : Option Asked) → MatchOption taken ((old ≡ []) × (new ≡ [])) (λ asked. old ≡ asked ∷ new) → new ≡ drop 1 old
+left_of old new None is = is.1 ∙ ap (drop 1) (sym is.0)
+left_of old new (Some asked) is = ap (drop 1) (sym is)
+
+pub none_left : (asks : List Asked) → (length asks == 0) ≡ true → asks ≡ []
+none_left [] is = refl
+none_left (asked ∷ asks) is = absurd (true≢false (sym is ∙ eqb-suc-zero (length asks)))
+
+pub some_left : (asks : List Asked) → (length asks == 0) ≡ false → 0 < length asks
+some_left [] is = absurd (true≢false is)
+some_left (asked ∷ asks) is = omega arith

@@ -1,0 +1,42 @@
+-- Asks that are answered one after another.
+use Rattle.std.proofs.Common.{◌≡◌, ◌==◌, ◌+◌, ℕ, Bool, List, [], ◌∷◌, ◌++◌, length, drop, refl, sym, ap, ◌∙◌, subst, append_assoc, length-append}
+use Rattle.std.proofs.lemmas.List.Elements.{filter_map-append}
+use Rattle.outside.specs.Seconds.{ClockView}
+use Rattle.partition_model.specs.declared.options.Options.{Options}
+use Rattle.memcached_commands.specs.declared.asks.Asked.{Asked}
+use Rattle.memcached_commands.specs.Answers.{unless_quiet}
+use Rattle.fronts.specs.Answered.{Answered, step_in, steps_of, count_of_writes}
+use Rattle.fronts.specs.Session.{Sessions}
+use Rattle.fronts.proofs.InOrder.{answers_append}
+use Rattle.command_answers.specs.AskAnswers.{AnswersAsks, said_of, asks_text}
+use Rattle.command_answers.specs.Going.{AnswersAt, AnswersFirst, ask_text}
+use Rattle.command_answers.specs.Seconds.{ToldFrom}
+use Rattle.command_answers.proofs.AskLaws.{tells_more, more_answers, more_text, one_text, quiet_both}
+
+pub none_yet : (options : Options) (is_alone : Bool) (base : ℕ) (asks : List Asked) (old : Sessions) (told : ClockView) → AnswersFirst options is_alone base asks old told old told []
+none_yet options is_alone base asks old told = record { in_order = λ q. refl; seconds = refl; to_asks = tt }
+
+module _ {options : Options} {is_alone : Bool} {base : ℕ} {asks : List Asked} {old between new : Sessions} {told then tells : ClockView} {answers : List Answered} {asked : Asked} {left : List Asked} where
+  pub one_more : (a : Answered) → AnswersFirst options is_alone base asks old told between then answers → drop (length answers) asks ≡ asked ∷ left
+      → ToldFrom then (tells.last ∷ []) tells → AnswersAt options is_alone base tells.last between asked new a → AnswersFirst options is_alone base asks old told new tells (answers ++ a ∷ [])
+  one_more a first left_is read at = record {
+    in_order = answers_append options is_alone answers (a ∷ []) old between new first.in_order (new, at.one, λ q. refl);
+    seconds = tells_more options told then tells answers a tells.last first.seconds read at.at;
+    to_asks = more_answers base asks answers (a ∷ []) first.to_asks (subst (λ l. AnswersAsks base l (a ∷ [])) (sym left_is) (at.to_ask, tt));
+  }
+
+-- and the text that is due to one more
+pub text_more : (base : ℕ) (quiet unique : Bool) (asks left : List Asked) (answers : List Answered) (asked : Asked) (a : Answered) (before here after : List ℕ)
+    → drop (length answers) asks ≡ asked ∷ left → here ≡ before ++ unless_quiet quiet (asks_text base unique asks answers)
+    → after ≡ here ++ ask_text quiet unique (length left == 0) asked.key (said_of base asked a)
+    → after ≡ before ++ unless_quiet quiet (asks_text base unique asks (answers ++ a ∷ []))
+text_more base quiet unique asks left answers asked a before here after left_is first then =
+    let so_far = unless_quiet quiet (asks_text base unique asks answers) in
+    then ∙ ap (λ text. text ++ ask_text quiet unique (length left == 0) asked.key (said_of base asked a)) first
+    ∙ append_assoc before so_far (ask_text quiet unique (length left == 0) asked.key (said_of base asked a)) ∙ ap (λ text. before ++ text)
+    (ap (λ text. so_far ++ text) (one_text base quiet unique asked left a ∙ ap (λ l. unless_quiet quiet (asks_text base unique l (a ∷ []))) (sym left_is))
+    ∙ sym (quiet_both quiet (asks_text base unique asks answers) (asks_text base unique (drop (length answers) asks) (a ∷ []))) ∙ ap (unless_quiet quiet) (sym (more_text base unique asks answers (a ∷ []))))
+
+-- how many writes are among one answer more
+pub writes_more : (answers : List Answered) (a : Answered) → count_of_writes (answers ++ a ∷ []) ≡ count_of_writes answers + count_of_writes (a ∷ [])
+writes_more answers a = ap length (filter_map-append step_in answers (a ∷ [])) ∙ length-append (steps_of answers) (steps_of (a ∷ []))

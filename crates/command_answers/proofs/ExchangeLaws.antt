@@ -1,0 +1,305 @@
+-- An exchange goes on.
+use Rattle.std.proofs.Common.{◌≡◌, ◌<◌, ◌≤◌, ◌+◌, ◌-◌, ◌==◌, ◌⊎◌, inl, inr, ℕ, Bool, true, false, true≢false, cond, ltb, List, [], ◌∷◌, ◌++◌, length, drop, refl, sym, ap, ◌∙◌, subst, arith}
+use Rattle.std.proofs.lemmas.List.{append-nil, length-drop, nil_from_length}
+use Rattle.std.proofs.lemmas.Bool.{eqb-true, eq-eqb, ne_eqb, ltb-true, ltb-false}
+use Rattle.outside.specs.Seconds.{ClockView}
+use Rattle.partition_model.specs.declared.options.Options.{Options}
+use Rattle.memcached_text.specs.declared.command.Command.{Command}
+use Rattle.memcached_text.specs.declared.command.Command.TheVariants as commands
+use Rattle.memcached_text.specs.declared.command.Topic.TheVariants.{Server, NoPart}
+use Rattle.memcached_text.specs.declared.next.Next.{Next}
+use Rattle.memcached_text.specs.declared.next.Next.TheVariants as nexts
+use Rattle.memcached_text.specs.Fit.{IsFit, IsFitNext}
+use Rattle.memcached_text.specs.Lifetimes.{IsDue}
+use Rattle.memcached_commands.specs.declared.asks.Asked.{Asked}
+use Rattle.memcached_commands.specs.Asks.{asks_in, asks_of}
+use Rattle.memcached_commands.specs.Answers.{unless_quiet}
+use Rattle.fronts.specs.Answered.{Answered}
+use Rattle.memcached_stats.specs.Stats.{Told, stats_text}
+use Rattle.memcached_stats.proofs.Untold.{untold}
+use Rattle.command_answers.specs.AskAnswers.{AnswersAsks, asks_text}
+use Rattle.command_answers.specs.FlushAnswers.{FlushesFrom, flush_at}
+use Rattle.command_answers.specs.Exchange.{Exchange, AnswersBy, AnswersNext, asks_stats, is_flush_all, flush_due, count_of_answers, is_answered, is_quiet, wants_numbers, plain_text, keyed_text, flush_text, text_by, due_to, due_before, IsOpenAt, longer}
+use Rattle.fronts.specs.Session.{Sessions, AnswersInOrder}
+use Rattle.command_answers.specs.declared.answer.Limits.{Limits}
+use Rattle.command_answers.specs.declared.answer.Progress.{Progress}
+use Rattle.command_answers.specs.Seconds.{seconds_of, ToldFrom}
+use Rattle.command_answers.specs.Going.{StandsAt, AnswersFirst, RepliesFirst, GoesOn, Replies}
+use Rattle.command_answers.proofs.AskLaws.{none_flushed_yet, more_answers, few_answers, more_text, quiet_both}
+
+not_all : (n m : ℕ) → n ≤ m → (n == m) ≡ false → n < m
+not_all n m few is = go (ltb n m) refl
+  where
+    go : (t : Bool) → ltb n m ≡ t → n < m
+    go true less = ltb-true n m less
+    go false less = let high = ltb-false n m less in absurd (true≢false (sym (eq-eqb n m (omega (arith, few, high))) ∙ is))
+
+-- some of what is asked is still to be answered
+pub is_below : (next : Next) (done : ℕ) → IsOpenAt next done → 0 < length (asks_in next) → done < length (asks_in next)
+is_below next done stands some =
+    elim stands as (λ _. done < length (asks_in next)) [ inl none ↦ omega (arith, none, some) | inr less ↦ less ]
+
+module _ (options : Options) (base : ℕ) (next : Next) (done : ℕ) where
+  -- Asks of keys
+
+  keyed_is : (told : Told) (asks : List Asked) (answers : List Answered) → 0 < length asks
+      → keyed_text options.partitions base told next asks answers ≡ asks_text base (wants_numbers next) asks answers
+  keyed_is told [] answers some = absurd (omega (arith, some))
+  keyed_is told (asked ∷ asks) answers some = refl
+
+  text_is : (told : Told) (answers : List Answered) → is_flush_all next ≡ false → 0 < length (asks_in next)
+      → text_by options base told next answers ≡ asks_text base (wants_numbers next) (asks_in next) answers
+  text_is told answers keyed some =
+      ap (λ t. cond t (flush_text (length answers == options.partitions) answers) (keyed_text options.partitions base told next (asks_in next) answers)) keyed
+      ∙ keyed_is told (asks_in next) answers some
+
+  module _ (told : Told) (answers : List Answered) (keyed : is_flush_all next ≡ false) where
+    pub asks_go_on : AnswersAsks base (drop done (asks_in next)) answers → (e : Exchange) → StandsAt options base next done e
+        → AnswersNext options base e.next (e.answers ++ answers)
+    asks_go_on is e at =
+        let here : AnswersNext options base next e.answers = subst (λ n. AnswersNext options base n e.answers) at.next_is at.answers in
+        let first : AnswersAsks base (asks_in next) e.answers = subst (λ t. AnswersBy t options base (flush_due next) (asks_in next) e.answers) keyed here in
+        let then : AnswersAsks base (drop (length e.answers) (asks_in next)) answers = subst (λ n. AnswersAsks base (drop n (asks_in next)) answers) (sym at.count) is in
+        subst (λ n. AnswersNext options base n (e.answers ++ answers)) (sym at.next_is)
+        (subst (λ t. AnswersBy t options base (flush_due next) (asks_in next) (e.answers ++ answers)) (sym keyed) (more_answers base (asks_in next) e.answers answers first then))
+
+    pub asks_are_due : IsOpenAt next done → 0 < length (asks_in next) → (e : Exchange) → StandsAt options base next done e
+        → due_to options base (longer e answers told)
+        ≡ due_before options base e ++ unless_quiet (is_quiet next) (asks_text base (wants_numbers next) (drop done (asks_in next)) answers)
+    asks_are_due stands some e at =
+        let quiet = is_quiet next in
+        let unique = wants_numbers next in
+        let less = is_below next done stands some in
+        let not_yet : is_answered options e ≡ false =
+        ap (λ n. length e.answers == count_of_answers options n) at.next_is ∙ ap (λ t. length e.answers == cond t options.partitions (length (asks_in next))) keyed
+        ∙ ne_eqb (length e.answers) (length (asks_in next)) (λ all. absurd (omega (arith, less, at.count, all))) in
+        let before : due_before options base e ≡ unless_quiet quiet (asks_text base unique (asks_in next) e.answers) =
+        ap (λ t. cond t [] (due_to options base e)) not_yet ∙ ap (λ n. unless_quiet (is_quiet n) (text_by options base e.told n e.answers)) at.next_is
+        ∙ ap (unless_quiet quiet) (text_is e.told e.answers keyed some) in
+        let after : due_to options base (longer e answers told) ≡ unless_quiet quiet (asks_text base unique (asks_in next) (e.answers ++ answers)) =
+        ap (λ n. unless_quiet (is_quiet n) (text_by options base told n (e.answers ++ answers))) at.next_is ∙ ap (unless_quiet quiet) (text_is told (e.answers ++ answers) keyed some) in
+        after ∙ ap (unless_quiet quiet) (more_text base unique (asks_in next) e.answers answers) ∙ quiet_both quiet (asks_text base unique (asks_in next) e.answers) (asks_text base unique (drop (length e.answers) (asks_in next)) answers)
+        ∙ ap (λ n. unless_quiet quiet (asks_text base unique (asks_in next) e.answers) ++ unless_quiet quiet (asks_text base unique (drop n (asks_in next)) answers)) at.count
+        ∙ ap (λ text. text ++ unless_quiet quiet (asks_text base unique (drop done (asks_in next)) answers)) (sym before)
+
+  -- Nothing is asked
+
+  pub nothing_more : (e : Exchange) → StandsAt options base next done e → AnswersNext options base e.next (e.answers ++ [])
+  nothing_more e at = subst (AnswersNext options base e.next) (sym (append-nil e.answers)) at.answers
+
+  pub plain_is_due : (told : Told) → is_flush_all next ≡ false → asks_in next ≡ [] → done ≡ 0 → (e : Exchange) → StandsAt options base next done e
+      → due_to options base (longer e [] told) ≡ due_before options base e ++ unless_quiet (is_quiet next) (plain_text options.partitions told next)
+  plain_is_due told keyed none first e at =
+      let whole : is_answered options e ≡ true =
+      ap (λ n. length e.answers == count_of_answers options n) at.next_is ∙ ap (λ t. length e.answers == cond t options.partitions (length (asks_in next))) keyed
+      ∙ ap (λ asks. length e.answers == length asks) none ∙ ap (λ n. n == 0) (at.count ∙ first) in
+      let text : text_by options base told next (e.answers ++ []) ≡ plain_text options.partitions told next =
+      ap (λ t. cond t (flush_text (length (e.answers ++ []) == options.partitions) (e.answers ++ [])) (keyed_text options.partitions base told next (asks_in next) (e.answers ++ []))) keyed
+      ∙ ap (λ asks. keyed_text options.partitions base told next asks (e.answers ++ [])) none in
+      ap (λ n. unless_quiet (is_quiet n) (text_by options base told n (e.answers ++ []))) at.next_is ∙ ap (unless_quiet (is_quiet next)) text
+      ∙ ap (λ t. cond t [] (due_to options base e) ++ unless_quiet (is_quiet next) (plain_text options.partitions told next)) (sym whole)
+
+-- Flushes
+
+-- a flush asks nothing of keys
+pub no_asks : (next : Next) → is_flush_all next ≡ true → asks_in next ≡ []
+no_asks (nexts.Command command len) is = go command is
+  where
+    go : (command : Command) → is_flush_all (nexts.Command command len) ≡ true → asks_of command ≡ []
+    go (commands.Get keys unique lifetime) is = absurd (true≢false (sym is))
+    go (commands.Store wants key flags lifetime value quiet) is = absurd (true≢false (sym is))
+    go (commands.Join side key value quiet) is = absurd (true≢false (sym is))
+    go (commands.Count direction key delta quiet) is = absurd (true≢false (sym is))
+    go (commands.Delete key quiet) is = absurd (true≢false (sym is))
+    go (commands.Touch key lifetime quiet) is = absurd (true≢false (sym is))
+    go (commands.Flush due quiet) is = refl
+    go (commands.Stats topic) is = refl
+    go commands.Version is = refl
+    go (commands.Verbosity quiet) is = refl
+    go commands.Noop is = refl
+    go commands.Quit is = refl
+no_asks (nexts.Refused fault stale quiet len) is = absurd (true≢false (sym is))
+no_asks nexts.More is = refl
+no_asks nexts.LongLine is = refl
+
+-- the second of a flush is one that a word may say
+pub fit_due : (next : Next) → IsFitNext next → IsDue (flush_due next)
+fit_due (nexts.Command command len) fit = go command fit
+  where
+    go : (command : Command) → IsFit command → IsDue (flush_due (nexts.Command command len))
+    go (commands.Get keys unique lifetime) fit = tt
+    go (commands.Store wants key flags lifetime value quiet) fit = tt
+    go (commands.Join side key value quiet) fit = tt
+    go (commands.Count direction key delta quiet) fit = tt
+    go (commands.Delete key quiet) fit = tt
+    go (commands.Touch key lifetime quiet) fit = tt
+    go (commands.Flush due quiet) fit = fit
+    go (commands.Stats topic) fit = tt
+    go commands.Version fit = tt
+    go (commands.Verbosity quiet) fit = tt
+    go commands.Noop fit = tt
+    go commands.Quit fit = tt
+fit_due (nexts.Refused fault stale quiet len) fit = tt
+fit_due nexts.More fit = tt
+fit_due nexts.LongLine fit = tt
+
+-- how many bytes are due before a flush, and after it
+module _ (options : Options) (base : ℕ) (next : Next) (flushes : is_flush_all next ≡ true) (e : Exchange) (at : StandsAt options base next 0 e) (told : Told) (answers : List Answered) where
+  empty : e.answers ≡ []
+  empty = nil_from_length e.answers at.count
+
+  pub flush_goes_on : ((second : ℕ) × FlushesFrom options (flush_at second (flush_due next)) 0 answers) → AnswersNext options base e.next (e.answers ++ answers)
+  flush_goes_on is =
+      subst (λ given. AnswersNext options base e.next (given ++ answers)) (sym empty)
+      (subst (λ n. AnswersNext options base n answers) (sym at.next_is) (subst (λ t. AnswersBy t options base (flush_due next) (asks_in next) answers) (sym flushes) is))
+
+  pub flush_is_due : length answers ≡ options.partitions → due_to options base (longer e answers told) ≡ due_before options base e ++ unless_quiet (is_quiet next) (flush_text true answers)
+  flush_is_due many =
+      let quiet = is_quiet next in
+      let text : (t : Told) (given : List Answered) → text_by options base t next given ≡ flush_text (length given == options.partitions) given =
+      λ t given. ap (λ is. cond is (flush_text (length given == options.partitions) given) (keyed_text options.partitions base t next (asks_in next) given)) flushes in
+      let after : due_to options base (longer e answers told) ≡ unless_quiet quiet (flush_text true answers) =
+      ap (λ n. unless_quiet (is_quiet n) (text_by options base told n (e.answers ++ answers))) at.next_is
+      ∙ ap (λ given. unless_quiet quiet (text_by options base told next (given ++ answers))) empty
+      ∙ ap (unless_quiet quiet) (text told answers ∙ ap (λ t. flush_text t answers) (eq-eqb (length answers) options.partitions many)) in
+      let before : due_before options base e ≡ [] =
+      ap (λ n. cond (length e.answers == count_of_answers options n) [] (unless_quiet (is_quiet n) (text_by options base e.told n e.answers))) at.next_is
+      ∙ ap (λ given. cond (length given == count_of_answers options next) [] (unless_quiet quiet (text_by options base e.told next given))) empty
+      ∙ ap (λ t. cond (0 == cond t options.partitions (length (asks_in next))) [] (unless_quiet quiet (text_by options base e.told next []))) flushes
+      ∙ ap (λ text. cond (0 == options.partitions) [] (unless_quiet quiet text)) (text e.told []) ∙ none_flushed_yet next (0 == options.partitions) in
+      after ∙ ap (λ text. text ++ unless_quiet quiet (flush_text true answers)) (sym before)
+
+-- What the server tells of itself
+
+-- what is due where that is asked: nothing is asked of keys
+pub record AsksStats (next : Next) : Type 0 where
+  pub keyed : is_flush_all next ≡ false
+  pub none : asks_in next ≡ []
+  pub due : (partitions : ℕ) (told : Told) → unless_quiet (is_quiet next) (plain_text partitions told next) ≡ stats_text partitions told
+
+pub of_stats : (next : Next) → asks_stats next ≡ true → AsksStats next
+of_stats (nexts.Command (commands.Stats Server) len) is = record { keyed = refl; none = refl; due = λ partitions told. refl }
+of_stats (nexts.Command (commands.Stats NoPart) len) is = absurd (true≢false (sym is))
+of_stats (nexts.Command (commands.Get keys unique lifetime) len) is = absurd (true≢false (sym is))
+of_stats (nexts.Command (commands.Store wants key flags lifetime value quiet) len) is = absurd (true≢false (sym is))
+of_stats (nexts.Command (commands.Join side key value quiet) len) is = absurd (true≢false (sym is))
+of_stats (nexts.Command (commands.Count direction key delta quiet) len) is = absurd (true≢false (sym is))
+of_stats (nexts.Command (commands.Delete key quiet) len) is = absurd (true≢false (sym is))
+of_stats (nexts.Command (commands.Touch key lifetime quiet) len) is = absurd (true≢false (sym is))
+of_stats (nexts.Command (commands.Flush due quiet) len) is = absurd (true≢false (sym is))
+of_stats (nexts.Command commands.Version len) is = absurd (true≢false (sym is))
+of_stats (nexts.Command (commands.Verbosity quiet) len) is = absurd (true≢false (sym is))
+of_stats (nexts.Command commands.Noop len) is = absurd (true≢false (sym is))
+of_stats (nexts.Command commands.Quit len) is = absurd (true≢false (sym is))
+of_stats (nexts.Refused fault stale quiet len) is = absurd (true≢false (sym is))
+of_stats nexts.More is = absurd (true≢false (sym is))
+of_stats nexts.LongLine is = absurd (true≢false (sym is))
+
+-- What one call makes
+
+-- nothing was answered before, where nothing is asked of keys
+pub at_first : (next : Next) (done : ℕ) → IsOpenAt next done → asks_in next ≡ [] → done ≡ 0
+at_first next done stands none =
+    elim stands as (λ _. done ≡ 0) [ inl first ↦ first | inr less ↦ let many : length (asks_in next) ≡ 0 = ap length none in absurd (omega (arith, less, many)) ]
+
+module _ (options : Options) (is_alone : Bool) (base : ℕ) (next : Next) (done : ℕ) (stands : IsOpenAt next done) (old new : Sessions) (told tells : ClockView) where
+  -- A flush
+
+  module _ (flushes : is_flush_all next ≡ true) (answers : List Answered) (is : (second : ℕ) × FlushesFrom options (flush_at second (flush_due next)) 0 answers) where
+    first : done ≡ 0
+    first = at_first next done stands (no_asks next flushes)
+
+    here : (e : Exchange) → StandsAt options base next done e → StandsAt options base next 0 e
+    here e at = subst (λ n. StandsAt options base next n e) first at
+
+    pub flush_goes : AnswersInOrder options is_alone old answers new → ToldFrom told (seconds_of options answers) tells → GoesOn options is_alone base next done old told new tells answers
+    flush_goes in_order seconds = record {
+      in_order = in_order;
+      seconds = seconds;
+      next_ones = λ e at. flush_goes_on options base next flushes e (here e at) untold answers is;
+    }
+
+    pub flush_replies : (limits : Limits) (before after : List ℕ) (progress : Progress) → length answers ≡ options.partitions
+        → progress ≡ record { done = options.partitions; is_whole = true } → after ≡ before ++ unless_quiet (is_quiet next) (flush_text true answers)
+        → Replies options base next done limits answers before after progress
+    flush_replies limits before after progress many is_all text = record {
+      text = unless_quiet (is_quiet next) (flush_text true answers);
+      told = untold;
+      appended = text;
+      due = λ e at. flush_is_due options base next flushes e (here e at) untold answers many;
+      count = let done_is = ap (λ (p : Progress). p.done) is_all in omega (arith, done_is, many, first);
+      whole =
+          ap (λ (p : Progress). p.is_whole) is_all
+          ∙ sym (ap (λ t. progress.done == cond t options.partitions (length (asks_in next))) flushes ∙ eq-eqb progress.done options.partitions (ap (λ (p : Progress). p.done) is_all));
+      stops = λ part. absurd (true≢false (sym (ap (λ (p : Progress). p.is_whole) is_all) ∙ part));
+    }
+
+  -- What asks nothing
+
+  module _ (keyed : is_flush_all next ≡ false) (none : asks_in next ≡ []) where
+    pub plain_goes : GoesOn options is_alone base next done old told old told []
+    plain_goes = record { in_order = λ q. refl; seconds = refl; next_ones = nothing_more options base next done }
+
+    pub plain_replies : (said : Told) (limits : Limits) (before after : List ℕ) → after ≡ before ++ unless_quiet (is_quiet next) (plain_text options.partitions said next)
+        → Replies options base next done limits [] before after (record { done = done; is_whole = true })
+    plain_replies said limits before after text =
+        let first = at_first next done stands none in record {
+          text = unless_quiet (is_quiet next) (plain_text options.partitions said next);
+          told = said;
+          appended = text;
+          due = plain_is_due options base next done said keyed none first;
+          count = omega arith;
+          whole = sym (ap (λ t. done == cond t options.partitions (length (asks_in next))) keyed ∙ eq-eqb done (length (asks_in next)) (first ∙ sym (ap length none)));
+          stops = λ part. absurd (true≢false part);
+        }
+
+  -- Asks of keys
+
+  module _ (keyed : is_flush_all next ≡ false) (answers : List Answered) where
+    pub asks_go : AnswersFirst options is_alone base (drop done (asks_in next)) old told new tells answers → GoesOn options is_alone base next done old told new tells answers
+    asks_go first = record {
+      in_order = first.in_order;
+      seconds = first.seconds;
+      next_ones = asks_go_on options base next done untold answers keyed first.to_asks;
+    }
+
+    -- whether nothing is left, and whether as many were answered as were asked
+    same_end : (count : ℕ) → done + count ≤ length (asks_in next)
+        → (length (drop count (drop done (asks_in next))) == 0) ≡ (done + count == length (asks_in next))
+    same_end count few = go (done + count == length (asks_in next)) refl
+      where
+        lens : length (drop count (drop done (asks_in next))) ≡ length (asks_in next) - done - count
+        lens = length-drop count (drop done (asks_in next)) ∙ ap (λ n. n - count) (length-drop done (asks_in next))
+
+        go : (t : Bool) → (done + count == length (asks_in next)) ≡ t → (length (drop count (drop done (asks_in next))) == 0) ≡ (done + count == length (asks_in next))
+        go true is =
+            let all = eqb-true (done + count) (length (asks_in next)) is in
+            eq-eqb (length (drop count (drop done (asks_in next)))) 0 (omega (arith, lens, all)) ∙ sym is
+        go false is =
+            ne_eqb (length (drop count (drop done (asks_in next)))) 0 (λ none. absurd (true≢false (sym (eq-eqb (done + count) (length (asks_in next)) (omega (arith, lens, none, few))) ∙ is)))
+            ∙ sym is
+
+    pub asks_reply : (limits : Limits) (before after : List ℕ) (count : ℕ) (left : List Asked) → 0 < length (asks_in next)
+        → AnswersAsks base (drop done (asks_in next)) answers
+        → RepliesFirst base (is_quiet next) (wants_numbers next) (drop done (asks_in next)) limits answers before after count left
+        → Replies options base next done limits answers before after (record { done = done + count; is_whole = length left == 0 })
+    asks_reply limits before after count left some to_asks r =
+        let less = is_below next done stands some in
+        let few = few_answers base (drop done (asks_in next)) answers to_asks in
+        let len = length-drop done (asks_in next) in
+        let fits : done + count ≤ length (asks_in next) = let many = r.many in omega (arith, few, len, less, many) in
+        let end : (length left == 0) ≡ (done + count == length (asks_in next)) = ap (λ l. length l == 0) r.left_is ∙ same_end count fits in record {
+          text = unless_quiet (is_quiet next) (asks_text base (wants_numbers next) (drop done (asks_in next)) answers);
+          told = untold;
+          appended = r.text;
+          due = asks_are_due options base next done untold answers keyed stands some;
+          count = ap (λ n. done + n) r.many;
+          whole = end ∙ sym (ap (λ t. done + count == cond t options.partitions (length (asks_in next))) keyed);
+          stops = λ part. (
+            inr (not_all (done + count) (length (asks_in next)) fits (sym end ∙ part)),
+            elim r.stops as (λ _. (length answers ≡ limits.asks) ⊎ (limits.bytes ≤ length after)) [
+              | inl none ↦ absurd (true≢false (sym (ap (λ l. length l == 0) none) ∙ part))
+              | inr why ↦ elim why as (λ _. (length answers ≡ limits.asks) ⊎ (limits.bytes ≤ length after)) [ inl all ↦ inl (sym r.many ∙ all) | inr full ↦ inr full ]
+            ],
+          );
+        }

@@ -1,0 +1,160 @@
+-- Partitions that are flushed one after another.
+use Rattle.std.proofs.Common.{◌≡◌, ◌<◌, ◌≤◌, ◌+◌, ◌*◌, ◌%◌, ◌^◌, ◌&&◌, ◌==◌, ℕ, suc, Bool, true, false, cond, List, [], ◌∷◌, ◌++◌, length, drop, nat_lt, Option, Some, None, option_to_list, refl, sym, ap, ◌∙◌, subst, arith, append_assoc, length-append}
+use Rattle.std.specs.Prelude.{bit_xor, if◌then◌else◌}
+use Rattle.std.specs.Int.{w64, to_le_bytes, from_le_bytes}
+use Rattle.std.specs.List.{list_all, cons_option}
+use Rattle.std.proofs.Math.Bool.{and-true}
+use Rattle.std.proofs.Math.Dec.{eqb-suc-zero}
+use Rattle.std.proofs.lemmas.Bool.{le-ltb}
+use Rattle.std.proofs.lemmas.Nat.{from_le_bytes-to_le_bytes_8}
+use Rattle.std.proofs.lemmas.List.Folds.{list_all-append}
+use Rattle.std.proofs.lemmas.List.Sums.{fold-append}
+use Rattle.outside.specs.Seconds.{ClockView}
+use Rattle.mica_words.specs.Hash.{fnv1a, hash_partition, hash_bucket, partition_of, bucket_of}
+use Rattle.mica_words.proofs.Hashes.{partition_of_hash, bucket_of_hash}
+use Rattle.partition_model.specs.declared.options.Options.{Options}
+use Rattle.partition_model.specs.declared.write.Outcome.{Outcome}
+use Rattle.partition_model.specs.declared.write.Op.TheVariants.{Del}
+use Rattle.partition_model.specs.Write.{write_of, is_accepted}
+use Rattle.partition_model.specs.Run.{RunStep}
+use Rattle.fronts.specs.Answered.{Answered, wrote, got, changed, kept, accepts, count_of_writes}
+use Rattle.fronts.specs.declared.flushes.TheConstants.{FLUSH_LEN}
+use Rattle.fronts.specs.declared.flushes.Flush.{Flush}
+use Rattle.fronts.specs.Flushes.{begins_with_feed, flush_in}
+use Rattle.fronts.specs.Session.{Sessions, Answers, AnswersInOrder, ChangesOnly, Writes}
+use Rattle.fronts.proofs.InOrder.{answers_append}
+use Rattle.command_answers.specs.Seconds.{second_asked, second_in, seconds_of, ToldFrom}
+use Rattle.memcached_text.specs.declared.lifetime.Due.{Due}
+use Rattle.command_answers.specs.FlushAnswers.{FlushesOne, FlushesFrom, flush_at}
+
+-- so many partitions were flushed, and each took it or not
+pub record Flushed (options : Options) (flush : Flush) (is_alone : Bool) (old new : Sessions) (count : ℕ) (took : Bool) : Type 0 where
+  pub answers : List Answered
+  pub in_order : AnswersInOrder options is_alone old answers new
+  pub flushes : FlushesFrom options flush 0 answers
+  pub many : length answers ≡ count
+  pub took_all : took ≡ list_all accepts answers
+
+pub none_flushed : (options : Options) (flush : Flush) (is_alone : Bool) (old : Sessions) → Flushed options flush is_alone old old 0 true
+none_flushed options flush is_alone old = record { answers = []; in_order = λ q. refl; flushes = tt; many = refl; took_all = refl }
+
+flushes_then : (options : Options) (flush : Flush) (partition count : ℕ) (answers : List Answered) (a : Answered) → FlushesFrom options flush partition answers
+    → length answers ≡ count → FlushesOne options flush (partition + count) a → FlushesFrom options flush partition (answers ++ a ∷ [])
+flushes_then options flush partition count [] a first many one = (subst (λ (p : ℕ). FlushesOne options flush p a) (omega (arith, many)) one, tt)
+flushes_then options flush partition count (x ∷ answers) a first many one = (
+  first.0,
+  flushes_then options flush (suc partition) (length answers) answers a first.1 refl (subst (λ (p : ℕ). FlushesOne options flush p a) (omega (arith, many)) one),
+)
+
+module _ (options : Options) (flush : Flush) (is_alone : Bool) (old between new : Sessions) (count : ℕ) (took : Bool) where
+  pub flushed_more : (a : Answered) → Flushed options flush is_alone old between count took → FlushesOne options flush count a → Answers options is_alone between a new
+      → Flushed options flush is_alone old new (count + 1) (took && accepts a)
+  flushed_more a so_far one here =
+      let zero : count ≡ 0 + count = omega arith in record {
+        answers = so_far.answers ++ a ∷ [];
+        in_order = answers_append options is_alone so_far.answers (a ∷ []) old between new so_far.in_order (new, here, λ q. refl);
+        flushes = flushes_then options flush 0 count so_far.answers a so_far.flushes so_far.many (subst (λ (n : ℕ). FlushesOne options flush n a) zero one);
+        many = length-append so_far.answers (a ∷ []) ∙ ap (λ n. n + 1) so_far.many;
+        took_all =
+            ap (λ t. t && accepts a) so_far.took_all ∙ ap (λ t. list_all accepts so_far.answers && t) (sym (and-true (accepts a)))
+            ∙ sym (list_all-append accepts so_far.answers (a ∷ []));
+      }
+
+-- Seconds
+
+module _ (options : Options) (flush : Flush) where
+  -- that of the first partition, and of another
+  one_asked : (partition : ℕ) (a : Answered) → FlushesOne options flush partition a → second_in options a ≡ (if partition == 0 then second_asked flush else None)
+  one_asked partition (wrote step) is = (λ i. cond (is.0 i && (is.2 i == 0)) (second_asked (is.1 i)) None)
+  one_asked partition (got key stamp value) is = absurd is
+  one_asked partition (changed step look) is = absurd is
+  one_asked partition (kept key stamp look) is = absurd is
+
+  -- no other partition than the first tells one
+  none_told : (partition : ℕ) (answers : List Answered) → FlushesFrom options flush (suc partition) answers → seconds_of options answers ≡ []
+  none_told partition [] is = refl
+  none_told partition (a ∷ answers) is =
+      let none = one_asked (suc partition) a is.0 ∙ ap (λ t. cond t (second_asked flush) None) (eqb-suc-zero partition) in
+      (λ i. cons_option (none i) (none_told (suc partition) answers is.1 i))
+
+  one_told : (second : Option ℕ) → cons_option second [] ≡ option_to_list second
+  one_told None = refl
+  one_told (Some second) = refl
+
+  pub flush_told : (answers : List Answered) → 0 < length answers → FlushesFrom options flush 0 answers → seconds_of options answers ≡ option_to_list (second_asked flush)
+  flush_told [] some is = absurd (omega (arith, some))
+  flush_told (a ∷ answers) some is = (λ i. cons_option (one_asked 0 a is.0 i) (none_told 0 answers is.1 i)) ∙ one_told (second_asked flush)
+
+-- the first partition tells the second at which all are asked, where there are any
+pub all_told : (options : Options) (flush : Flush) (answers : List Answered) (told tells : ClockView) (partitions : ℕ) (due : Due) → length answers ≡ partitions
+    → FlushesFrom options flush 0 answers → (0 < partitions → (second : ℕ) × (flush ≡ flush_at second due)) → (partitions ≡ 0 → tells ≡ told)
+    → ToldFrom told (option_to_list (second_asked flush)) tells
+    → ToldFrom told (seconds_of options answers) tells × ((second : ℕ) × FlushesFrom options (flush_at second due) 0 answers)
+all_told options flush [] told tells partitions due many is asked none at = (none (sym many), (0, tt))
+all_told options flush (a ∷ answers) told tells partitions due many is asked none at =
+    let here = asked (omega (arith, many)) in (
+      subst (λ s. ToldFrom told s tells) (sym (flush_told options flush (a ∷ answers) (omega arith) is)) at,
+      (here.0, subst (λ f. FlushesFrom options f 0 (a ∷ answers)) here.1 is),
+    )
+
+-- Writes
+
+-- each flush is a write
+pub all_writes : (options : Options) (flush : Flush) (partition : ℕ) (answers : List Answered) → FlushesFrom options flush partition answers → count_of_writes answers ≡ length answers
+all_writes options flush partition [] is = refl
+all_writes options flush partition (wrote step ∷ answers) is = ap suc (all_writes options flush (suc partition) answers is.1)
+all_writes options flush partition (got key stamp value ∷ answers) is = absurd is.0
+all_writes options flush partition (changed step look ∷ answers) is = absurd is.0
+all_writes options flush partition (kept key stamp look ∷ answers) is = absurd is.0
+
+-- so no more was given to the front than the flushes
+pub flushes_few : {options : Options} {flush : Flush} {is_alone : Bool} {old new : Sessions} {count : ℕ} {took : Bool} (left left_after : ℕ) (f : Flushed options flush is_alone old new count took)
+    → left ≤ left_after + count → left ≤ left_after + count_of_writes f.answers
+flushes_few {options} {flush} left left_after f few = omega (arith, few, f.many, all_writes options flush 0 f.answers f.flushes)
+
+-- Keys
+
+-- what a key of a flush says
+pub key_says : (due asked : ℕ) (rest : List ℕ) → due < 2 ^ 64 → asked < 2 ^ 64
+    → flush_in (10 ∷ to_le_bytes w64 due ++ to_le_bytes w64 asked ++ rest) ≡ record { due = due; asked = asked }
+unfolding flush_in
+key_says due asked rest due_low asked_low =
+    let key : List ℕ = 10 ∷ to_le_bytes w64 due ++ to_le_bytes w64 asked ++ rest in
+    let at : from_le_bytes w64 (drop 1 key) ≡ due = from_le_bytes-to_le_bytes_8 due due_low in
+    let from : from_le_bytes w64 (drop 9 key) ≡ asked = from_le_bytes-to_le_bytes_8 asked asked_low in
+    let long : nat_lt (length key) FLUSH_LEN ≡ false = le-ltb _ _ (omega arith) in
+    rw (long, at, from) refl
+
+-- of a key that is made piece by piece
+pub made_key : (none feed with_due with_both with_number key number end : List ℕ) (due asked : ℕ) → due < 2 ^ 64 → asked < 2 ^ 64 → none ≡ [] → feed ≡ none ++ 10 ∷ []
+    → with_due ≡ feed ++ to_le_bytes w64 due → with_both ≡ with_due ++ to_le_bytes w64 asked → with_number ≡ with_both ++ number → key ≡ with_number ++ end
+    → flush_in key ≡ record { due = due; asked = asked }
+made_key none feed with_due with_both with_number key number end due asked due_low asked_low none_is feed_is due_is both_is number_is key_is =
+    ap flush_in (key_is ∙ ap (λ n. n ++ end) number_is ∙ append_assoc with_both number end ∙ ap (λ b. b ++ (number ++ end))
+    (both_is ∙ ap (λ d. d ++ to_le_bytes w64 asked) (due_is ∙ ap (λ f. f ++ to_le_bytes w64 due) (feed_is ∙ ap (λ n. n ++ 10 ∷ []) none_is))))
+    ∙ key_says due asked (number ++ end) due_low asked_low
+
+-- the hash of a key with one byte more
+pub hash_more : (key : List ℕ) (byte : ℕ) → fnv1a (key ++ byte ∷ []) ≡ bit_xor (fnv1a key) byte * 1099511628211 % 2 ^ 64
+unfolding fnv1a
+hash_more key byte = fold-append (λ hash byte. bit_xor hash byte * 1099511628211 % 2 ^ 64) 14695981039346656037 key (byte ∷ [])
+
+-- a key that two bytes more lead to its partition and bucket
+pub sought : (key : List ℕ) (byte last whole partitions buckets partition : ℕ) → whole ≡ fnv1a ((key ++ byte ∷ []) ++ last ∷ []) → hash_partition whole partitions ≡ partition
+    → hash_bucket whole buckets ≡ 0 → (partition_of (key ++ byte ∷ last ∷ []) partitions ≡ partition) × (bucket_of (key ++ byte ∷ last ∷ []) buckets ≡ 0)
+sought key byte last whole partitions buckets partition is in_partition in_bucket =
+    let hash : fnv1a (key ++ byte ∷ last ∷ []) ≡ whole = sym (is ∙ ap fnv1a (append_assoc key (byte ∷ []) (last ∷ []))) in (
+      partition_of_hash (key ++ byte ∷ last ∷ []) partitions ∙ ap (λ h. hash_partition h partitions) hash ∙ in_partition,
+      bucket_of_hash (key ++ byte ∷ last ∷ []) buckets ∙ ap (λ h. hash_bucket h buckets) hash ∙ in_bucket,
+    )
+
+-- the write of a partition's flush
+pub one_flush : (options : Options) (flush : Flush) (is_alone : Bool) (old new : Sessions) (partition : ℕ) (key : List ℕ) (outcome : Outcome) (stamp : ℕ) → begins_with_feed key ≡ true
+    → flush_in key ≡ flush → partition_of key options.partitions ≡ partition → bucket_of key options.buckets ≡ 0
+    → Writes options is_alone (old (partition_of key options.partitions)) (record { write = write_of Del key []; outcome = outcome; stamp = stamp })
+    (new (partition_of key options.partitions))
+    → ChangesOnly (partition_of key options.partitions) old new
+    → (answered : Answered) × FlushesOne options flush partition answered × Answers options is_alone old answered new × (is_accepted outcome ≡ accepts answered)
+one_flush options flush is_alone old new partition key outcome stamp feed says at first written others =
+    let step : RunStep = record { write = write_of Del key []; outcome = outcome; stamp = stamp } in
+    (wrote step, ((λ i. (first i == 0) && true && feed i), says, at), record { one = written; others = others }, refl)

@@ -1,0 +1,61 @@
+use Rattle.std.proofs.Common.{◌≡◌, ◌∷◌, ◌++◌, ℕ, List, [], length, sym, ap, ◌∙◌, subst, arith}
+use Rattle.std.specs.Prelude.{option_copied}
+use Rattle.std.proofs.lemmas.Result.{on_ok_weaker}
+use Rattle.outside.specs.Seconds.{ClockView}
+use Rattle.mica_words.specs.Hash.{partition_of}
+use Rattle.memcached_commands.specs.declared.asks.Asked.{Asked}
+use Rattle.memcached_commands.specs.Changes.{looks}
+use Rattle.memcached_decisions.specs.Numbered.{Order, becoming_by, says_by}
+use Rattle.fronts.specs.Changing.{ComesTo}
+use Rattle.fronts.specs.Session.{ChangesOnly}
+use Rattle.command_answers.specs.AskAnswers.{order_of, said_of}
+use Rattle.memcached_stats.specs.Counted.{counter_of}
+use Rattle.memcached_stats.specs.Tallies.{counted}
+use Rattle.command_answers.specs.Counting.{noted_if}
+use Rattle.command_answers.specs.Going.{AnswersAt, ask_text}
+use Rattle.command_answers.specs.Seconds.{ToldFrom}
+use Rattle.command_answers.proofs.Looking.{IsAnsweredBy, answered_by}
+use Rattle.command_answers.proofs.ask.answer_ask.Goals as goal
+
+pub returns-clause-read : goal.returns-clause-read
+returns-clause-read g c =
+    let view = g.C.Clock.view in
+    let one = c.second-second.ensures in
+    subst (λ (s : ℕ). ToldFrom (view c.args.clock.now) (s ∷ []) (view c.second-second.new.self)) (sym (ap (λ (v : ClockView). v.last) one.once)) (one.told, one.once)
+
+pub returns-clause-answered : goal.returns-clause-answered
+returns-clause-answered g c =
+    let F = g.F.Front in
+    let options = F.options c.args.front.now in
+    let old = F.sessions c.args.front.now in
+    let new = F.sessions c.change-changed.new.self in
+    let asked : Asked = c.args.asked.now in
+    let second = c.second-second.result in
+    let changed = c.change-changed.result in
+    let buffer = c.change-changed.new.found in
+    let order = c.new-order.result in
+    let comes : ComesTo options F.is_alone second asked.key (looks asked.ask) (becoming_by (order_of c.args.base asked)) (old (partition_of asked.key options.partitions)) changed buffer
+    (new (partition_of asked.key options.partitions)) =
+    subst (λ (o : Order). ComesTo options F.is_alone second asked.key (looks o.ask) (becoming_by o) (old (partition_of asked.key options.partitions)) changed buffer
+    (new (partition_of asked.key options.partitions))) c.new-order.ensures
+    (subst (λ (k : List ℕ). ComesTo options F.is_alone second k (looks order.ask) (becoming_by order) (old (partition_of k options.partitions)) changed buffer
+    (new (partition_of k options.partitions))) c.bytes-key.ensures c.change-changed.ensures.changed) in
+    let others = subst (λ (k : List ℕ). ChangesOnly (partition_of k options.partitions) old new) c.bytes-key.ensures c.change-changed.ensures.others in
+    let by : IsAnsweredBy options F.is_alone c.args.base second asked old new changed buffer =
+    answered_by options F.is_alone c.args.base second asked old new changed buffer comes others in
+    let at = subst (λ (s : ℕ). AnswersAt options F.is_alone c.args.base s old asked new by.answered) (sym (ap (λ (v : ClockView). v.last) c.second-second.ensures.once)) by.at in
+    let says : c.says-says.result ≡ said_of c.args.base asked by.answered =
+    c.says-says.ensures.said ∙ ap (λ (o : Order). says_by o changed.when (option_copied c.value_found-stored.result) changed.outcome) c.new-order.ensures
+    ∙ ap (λ v. says_by (order_of c.args.base asked) changed.when v changed.outcome) c.value_found-stored.ensures ∙ by.said in (
+      by.answered,
+      at,
+      on_ok_weaker c.put_said.result (λ text.
+          text ∙ (λ i. c.args.out.now.items ++ ask_text c.args.style.quiet c.args.style.unique c.args.is_last (c.bytes-key.ensures i) (says i))) c.put_said.ensures.ok,
+      (let left = c.change-changed.ensures.left in omega (arith, left, by.count)),
+      c.note_write.ensures ∙ (λ i. noted_if c.args.partitions (c.bytes-key.ensures i) changed.when changed.outcome changed.stamp
+          ((c.count.ensures ∙ ap (λ k. counted k c.args.buffers.now.tally) (c.counter_of.ensures ∙ ap (counter_of asked.ask) says)) i))
+          ∙ by.noted c.args.partitions (counted (counter_of asked.ask (said_of c.args.base asked by.answered)) c.args.buffers.now.tally),
+    )
+
+pub returns-clause-short : goal.returns-clause-short
+returns-clause-short g c = omega (arith, c.put_said.ensures.short, ap length c.bytes-key.ensures, c.requires.fit.0.1, c.says-says.ensures.short)

@@ -1,0 +1,22 @@
+use Rattle.std.proofs.Common.{true, ℕ, subst}
+use Rattle.mica_words.specs.Hash.{partition_of}
+use Rattle.memcached_decisions.specs.Over.{sweeping}
+use Rattle.fronts.specs.Changing.{ComesTo}
+use Rattle.command_answers.proofs.Sweeping.{one_swept}
+use Rattle.command_answers.proofs.sweeper.sweep_key.Goals as goal
+
+pub returns-clause-swept : goal.returns-clause-swept
+returns-clause-swept g c =
+    let F = g.F.Front in
+    let options = F.options c.args.front.now in
+    let old = F.sessions c.args.front.now in
+    let new = F.sessions c.change.new.self in
+    let left = F.left c.args.front.now in
+    let left_after = F.left c.change.new.self in
+    let told = g.C.Clock.view c.args.clock.now in
+    let key = c.args.key.now in
+    let p = partition_of key options.partitions in
+    let second = c.second-second.result in
+    let comes = subst (λ (base : ℕ). ComesTo options F.is_alone second key true (sweeping base) (old p) c.change.result c.change.new.found (new p)) c.new-order.ensures c.change.ensures.changed in
+    one_swept options F.is_alone c.args.base old new left left_after told (g.C.Clock.view c.second-second.new.self) second key c.change.result c.change.new.found
+    (c.second-second.ensures.told, c.second-second.ensures.once) comes c.change.ensures.others c.change.ensures.left

@@ -1,0 +1,45 @@
+-- What is answered to what a command asks of its keys.
+use Rattle.std.specs.Prelude.{◌≡◌, ⊤, ℕ, Bool, List, [], ◌∷◌, ◌++◌, flat_map, Some, None}
+use Rattle.memcached_text.specs.Answer.{part_text, last_text}
+use Rattle.memcached_commands.specs.declared.asks.Asked.{Asked}
+use Rattle.memcached_commands.specs.declared.ask.Says.{Says}
+use Rattle.memcached_commands.specs.declared.ask.Says.TheVariants.{Nothing}
+use Rattle.memcached_commands.specs.Answers.{parts_of, last_of}
+use Rattle.memcached_decisions.specs.Numbered.{Order, becoming_by, says_by}
+use Rattle.fronts.specs.Answered.{Answered, changed, kept}
+use Rattle.fronts.specs.Changing.{write_by}
+
+-- what is asked, where the first value that a partition accepts has this unique number
+abbrev pub order_of : ℕ → Asked → Order
+order_of base asked = record { ask = asked.ask; base = base }
+
+-- The key was looked at, and what is decided of what was found there and then is the write that followed at once; or it is none.
+abbrev pub AnswersAsk : ℕ → Asked → Answered → Type 0
+AnswersAsk base asked (changed step look) = write_by (becoming_by (order_of base asked)) asked.key look ≡ Some step.write
+AnswersAsk base asked (kept key stamp look) = (key ≡ asked.key) × (write_by (becoming_by (order_of base asked)) asked.key look ≡ None)
+AnswersAsk base asked _ = ⊥
+
+-- These are answers to the first of what is asked, in order.
+abbrev pub AnswersAsks : ℕ → List Asked → List Answered → Type 0
+AnswersAsks base asks [] = ⊤
+AnswersAsks base [] (answered ∷ later) = ⊥
+AnswersAsks base (asked ∷ asks) (answered ∷ later) = AnswersAsk base asked answered × AnswersAsks base asks later
+
+-- what is said of an answer: what is decided of what was found, unless the write of that was refused
+abbrev pub said_of : ℕ → Asked → Answered → Says
+said_of base asked (changed step look) = says_by (order_of base asked) look.when look.value (Some step.outcome)
+said_of base asked (kept key stamp look) = says_by (order_of base asked) look.when look.value None
+said_of base asked _ = Nothing
+
+-- the item that was found, where it is shown, with its unique number where that is wanted
+abbrev pub shown_text : Bool → List ℕ → Says → List ℕ
+shown_text unique key says = flat_map part_text (parts_of unique key says)
+
+-- The text that is due to what was answered of this: each item that is shown, and behind the last answer the last line.
+abbrev pub asks_text : ℕ → Bool → List Asked → List Answered → List ℕ
+asks_text base unique asks [] = []
+asks_text base unique [] (answered ∷ later) = []
+asks_text base unique (asked ∷ []) (answered ∷ later) =
+    shown_text unique asked.key (said_of base asked answered) ++ last_text (last_of (said_of base asked answered))
+asks_text base unique (asked ∷ next ∷ asks) (answered ∷ later) =
+    shown_text unique asked.key (said_of base asked answered) ++ asks_text base unique (next ∷ asks) later

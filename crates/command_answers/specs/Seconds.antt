@@ -1,0 +1,30 @@
+-- The seconds at which answers were made.
+use Rattle.std.specs.Prelude.{◌≡◌, ◌==◌, ◌&&◌, ℕ, List, [], ◌∷◌, nat_lt, Option, Some, None, if◌then◌else◌}
+use Rattle.std.specs.List.{filter_map}
+use Rattle.outside.specs.Seconds.{ClockView, IsReading, once_read}
+use Rattle.mica_words.specs.Hash.{partition_of}
+use Rattle.partition_model.specs.declared.options.Options.{Options}
+use Rattle.fronts.specs.declared.flushes.Flush.{Flush}
+use Rattle.fronts.specs.Answered.{Answered, wrote, got, changed, kept}
+use Rattle.fronts.specs.Flushes.{is_flush, flush_in}
+
+-- the second at which a flush was asked for; one at once is asked for at none
+abbrev pub second_asked : Flush → Option ℕ
+second_asked flush = if nat_lt 0 flush.due then Some flush.asked else None
+
+-- that of a flush, which its first partition tells for all; and that of a look
+abbrev pub second_in : Options → Answered → Option ℕ
+second_in options (wrote step) =
+    if is_flush options.buckets step.write && (partition_of step.write.key options.partitions == 0) then second_asked (flush_in step.write.key) else None
+second_in options (got key stamp value) = None
+second_in options (changed step look) = Some look.when.second
+second_in options (kept key stamp look) = Some look.when.second
+
+-- the seconds of all answers that have one, in order
+abbrev pub seconds_of : Options → List Answered → List ℕ
+seconds_of options answers = filter_map (second_in options) answers
+
+-- The readings of a clock gave these seconds, one after another, and no others.
+abbrev pub ToldFrom : ClockView → List ℕ → ClockView → Type 0
+ToldFrom before [] after = after ≡ before
+ToldFrom before (second ∷ later) after = IsReading before second × ToldFrom (once_read second before) later after

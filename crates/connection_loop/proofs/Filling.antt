@@ -1,0 +1,37 @@
+-- What lies in the room after a read behind what was kept.
+use Rattle.std.proofs.Common.{◌≡◌, ◌⊎◌, inl, inr, ℕ, ◌+◌, ◌≤◌, List, ◌++◌, length, take, drop, sym, ap, ◌∙◌, subst}
+use Rattle.std.specs.Prelude.{Ok}
+use Rattle.std.proofs.Math.Seq.{take-add}
+use Rattle.std.proofs.lemmas.List.{take_at, drop_at, drop-take, take-append-le}
+use Rattle.connections.specs.declared.connections.Input.{Input}
+use Rattle.connections.specs.declared.connections.Input.TheVariants.{Bytes, All}
+use Rattle.connections.specs.Calls.{FitsRoom}
+use Rattle.connection_loop.specs.Traffic.{bytes_read}
+
+-- a read gave so many bytes, all that came or not
+pub some_read : (out : List ℕ) (room : ℕ) (input : Input) (count : ℕ) → (input ≡ Bytes count) ⊎ (input ≡ All count) → FitsRoom room input
+    → (count ≤ room) × (bytes_read out (Ok input) ≡ take count out)
+some_read out room input count is fits = elim is as (λ _. (count ≤ room) × (bytes_read out (Ok input) ≡ take count out)) [
+  | inl some ↦ ((subst (FitsRoom room) some fits).1, ap (λ (i : Input). bytes_read out (Ok i)) some)
+  | inr all ↦ ((subst (FitsRoom room) all fits).1, ap (λ (i : Input). bytes_read out (Ok i)) all)
+]
+
+-- the room, which begins with a copy of what was kept
+room_is : (kept copied after out behind : List ℕ) (had : ℕ) → copied ≡ kept → had ≡ length kept → take had (copied ++ after) ++ (out ++ behind) ≡ kept ++ (out ++ behind)
+room_is kept copied after out behind had copy many = ap (λ k. take had (k ++ after) ++ (out ++ behind)) copy ∙ ap (λ k. k ++ (out ++ behind)) (take_at kept after had (sym many))
+
+-- what was kept stands in front
+pub filled_kept : (kept copied after out behind : List ℕ) (had count : ℕ) → copied ≡ kept → had ≡ length kept
+    → take (had + count) (take had (copied ++ after) ++ (out ++ behind)) ≡ kept ++ drop (length kept) (take (had + count) (take had (copied ++ after) ++ (out ++ behind)))
+filled_kept kept copied after out behind had count copy many =
+    let room = take had (copied ++ after) ++ (out ++ behind) in
+    take-add had count room ∙ ap (λ k. k ++ take count (drop had room)) (ap (take had) (room_is kept copied after out behind had copy many) ∙ take_at kept (out ++ behind) had (sym many))
+    ∙ ap (λ t. kept ++ t) (sym (drop-take had count room)) ∙ ap (λ n. kept ++ drop n (take (had + count) room)) many
+
+-- and what was read behind it
+pub filled_read : (kept copied after out behind : List ℕ) (had count : ℕ) → copied ≡ kept → had ≡ length kept → count ≤ length out
+    → take count out ≡ drop (length kept) (take (had + count) (take had (copied ++ after) ++ (out ++ behind)))
+filled_read kept copied after out behind had count copy many fits =
+    let room = take had (copied ++ after) ++ (out ++ behind) in
+    sym (ap (λ n. drop n (take (had + count) room)) (sym many) ∙ drop-take had count room
+    ∙ ap (take count) (ap (drop had) (room_is kept copied after out behind had copy many) ∙ drop_at kept (out ++ behind) had (sym many)) ∙ take-append-le count out behind fits)

@@ -1,0 +1,29 @@
+use Rattle.std.proofs.Common.{[], sym, subst}
+use Rattle.connections.specs.declared.connections.Event.{Event}
+use Rattle.connection_loop.specs.Open.{OnLogs}
+use Rattle.connection_loop.specs.Standing.{StandsOn}
+use Rattle.connection_loop.proofs.Going.{these_none}
+use Rattle.connection_loop.proofs.serve.serve_event.Goals as goal
+
+pub returns-in-Opened-clause-serves : goal.returns-in-Opened-clause-serves
+returns-in-Opened-clause-serves g c =
+    let log = g.C.Connections.log in
+    let options = g.F.Front.options c.args.front.now in
+    let base = c.args.numbering.base in (
+      [],
+      these_none options g.F.Front.is_alone (g.F.Front.sessions c.args.front.now) (g.F.Front.left c.args.front.now) (g.K.Clock.view c.args.clock.now),
+      subst (λ (e : Event). OnLogs (StandsOn options base e c.args.clients.now.held.items c.take_in.result [] c.take_in.new.clients.held.items) (log c.args.connections.now) (log c.take_in.new.connections))
+          (sym c.in-Opened.is) (c.take_in.ensures.serves options base),
+    )
+
+pub returns-in-Ready-clause-serves : goal.returns-in-Ready-clause-serves
+returns-in-Ready-clause-serves g c =
+    let log = g.C.Connections.log in
+    let options = g.F.Front.options c.args.front.now in
+    let base = c.args.numbering.base in
+    let r = c.visit_held.ensures.serves in (
+      r.0,
+      r.1,
+      subst (λ (e : Event). OnLogs (StandsOn options base e c.args.clients.now.held.items c.visit_held.result r.0 c.visit_held.new.clients.held.items) (log c.args.connections.now) (log c.visit_held.new.connections))
+          (sym c.in-Ready.is) r.2,
+    )

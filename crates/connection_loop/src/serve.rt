@@ -1,0 +1,234 @@
+//! One front behind its port.
+ghost use Rattle.std.specs.Prelude.{◌≡◌, ◌<◌, ◌≤◌, ℕ, false, [], length, is_some, IfOk, IfSome, IsErrOf, OnOk, vec_len};
+ghost use Rattle.partition_model.specs.declared.options.Options.{Options};
+ghost use Rattle.outside.specs.Faults.{Rose};
+ghost use Rattle.connections.specs.Log.{LastFailed};
+ghost use Rattle.memcached_text.specs.declared.limits.TheConstants.{MAX_WAITING_LEN};
+ghost use Rattle.connection_loop.specs.declared.desk.TheConstants.{MOST_UNSENT};
+ghost use Rattle.connection_loop.specs.Calls.{LeavesPort, MovesFront};
+ghost use Rattle.connection_loop.specs.Clients.{AreOpen};
+ghost use Rattle.connection_loop.specs.Going.{GoesBy};
+ghost use Rattle.connection_loop.specs.Open.{IsOpen, IsOpened, OnLogs};
+ghost use Rattle.connection_loop.specs.Paid.{MayAnswer};
+ghost use Rattle.connection_loop.specs.Serving.{IsFinished, ServesFromNone};
+ghost use Rattle.connection_loop.specs.Standing.{GoesByGiven, StandsOn};
+
+use crate::answer::most_writes;
+use crate::calls::{ask_again, close};
+use crate::client::Client;
+use crate::clients::Clients;
+use crate::desk::Desk;
+use crate::visit::After;
+use crate::visits::visit_on;
+use command_answers::{Numbering, Sweeper, sweep};
+use connections::{Connections, Event};
+use fronts::{CountsWrites, Glances, ServeFault};
+use memcached_stats::{Board, Counter, Tally};
+use outside::{Clock, NoMemory};
+use std::alloc::Global;
+use std::sync::Wait;
+use std::thread::Threads;
+
+/// Visits the connection under a number, where one is held. Says for how many there was no memory, one at most.
+#[tactic(auto, using(crate::proofs::Going::by_none))]
+fn visit_held<R: Threads + Wait + Sync, F: CountsWrites, K: Clock, C: Connections>(
+    rt: &R,
+    alloc: Global,
+    front: &mut F,
+    clock: &mut K,
+    numbering: Numbering,
+    connections: &mut C,
+    number: u32,
+    clients: &mut Clients,
+    desk: &mut Desk,
+) -> u64
+    requires room { vec_len desk.old.room ≡ MAX_WAITING_LEN }
+    requires clients { AreOpen clients.old.held.items (C.log connections.old) }
+    requires partitions { numbering.partitions ≡ (F.options front.old).partitions }
+    requires left { MayAnswer numbering.partitions (F.left front.old) }
+    ensures room { vec_len desk.new.room ≡ MAX_WAITING_LEN }
+    ensures clients { AreOpen clients.new.held.items (C.log connections.new) }
+    ensures port { LeavesPort C.log C.has_ended C.faults C.port connections.old connections.new }
+    ensures front { MovesFront F.options F.number F.stands F.is_alone F.sessions F.left K.view front.old clock.old front.new clock.new }
+    ensures serves { GoesByGiven (F.options front.old) F.is_alone (F.sessions front.old) (F.left front.old) (K.view clock.old) (F.sessions front.new) (F.left front.new) (K.view clock.new)
+        (λ given. OnLogs (StandsOn (F.options front.old) numbering.base (Event.Ready number) clients.old.held.items result given clients.new.held.items) (C.log connections.old) (C.log connections.new)) }
+{
+    let Some(mut client) = clients.take(number) else {
+        return 0;
+    };
+    let asks = client.asks;
+    let visited = visit_on(
+        rt,
+        alloc,
+        front,
+        clock,
+        numbering,
+        connections,
+        number,
+        &mut client,
+        desk,
+    );
+    let after = match visited {
+        Ok(after) => after,
+        Err(NoMemory) => {
+            close(connections, number, asks);
+            return 1;
+        }
+    };
+    match after {
+        After::Waits => {
+            clients.put(number, client);
+            0
+        }
+        After::Again => {
+            ask_again(connections, number, client.asks);
+            client.asks -= 1;
+            clients.put(number, client);
+            0
+        }
+        After::Over => {
+            desk.buffers.tally.raise(Counter::Closed, 1);
+            close(connections, number, asks);
+            0
+        }
+    }
+}
+
+/// Counts what was reported, and for how many connections there was no memory, which are closed.
+fn count_event(event: Event, lacked: u64, tally: &mut Tally) {
+    match event {
+        Event::Opened(_) => {
+            tally.raise(Counter::Opened, 1);
+            tally.raise(Counter::Rejected, lacked);
+        }
+        Event::Ready(_) => tally.raise(Counter::Lacked, lacked),
+    }
+    tally.raise(Counter::Closed, lacked);
+}
+
+/// Holds a new connection. Where there is no memory for it, it is closed. Says for how many there was none.
+fn take_in<C: Connections>(connections: &mut C, number: u32, clients: &mut Clients) -> u64
+    requires clients { AreOpen clients.old.held.items (C.log connections.old) }
+    requires open { IfSome (C.log connections.old) (IsOpen number 0) }
+    ensures clients { AreOpen clients.new.held.items (C.log connections.new) }
+    ensures port { LeavesPort C.log C.has_ended C.faults C.port connections.old connections.new }
+    ensures serves { (options : Options) (base : ℕ)
+        → OnLogs (StandsOn options base (Event.Opened number) clients.old.held.items result [] clients.new.held.items) (C.log connections.old) (C.log connections.new) }
+{
+    match clients.make_room(number) {
+        Ok(()) => {
+            clients.put(number, Client::new());
+            0
+        }
+        Err(NoMemory) => {
+            let _gone = clients.take(number);
+            close(connections, number, 0);
+            1
+        }
+    }
+}
+
+/// Serves what is reported. Says for how many connections there was no memory.
+#[tactic(auto, using(crate::proofs::Going::by_none))]
+fn serve_event<R: Threads + Wait + Sync, F: CountsWrites, K: Clock, C: Connections>(
+    rt: &R,
+    alloc: Global,
+    front: &mut F,
+    clock: &mut K,
+    numbering: Numbering,
+    connections: &mut C,
+    event: Event,
+    clients: &mut Clients,
+    desk: &mut Desk,
+) -> u64
+    requires room { vec_len desk.old.room ≡ MAX_WAITING_LEN }
+    requires clients { AreOpen clients.old.held.items (C.log connections.old) }
+    requires event { IfSome (C.log connections.old) (IsOpened event) }
+    requires partitions { numbering.partitions ≡ (F.options front.old).partitions }
+    requires left { MayAnswer numbering.partitions (F.left front.old) }
+    ensures room { vec_len desk.new.room ≡ MAX_WAITING_LEN }
+    ensures clients { AreOpen clients.new.held.items (C.log connections.new) }
+    ensures port { LeavesPort C.log C.has_ended C.faults C.port connections.old connections.new }
+    ensures front { MovesFront F.options F.number F.stands F.is_alone F.sessions F.left K.view front.old clock.old front.new clock.new }
+    ensures serves { GoesByGiven (F.options front.old) F.is_alone (F.sessions front.old) (F.left front.old) (K.view clock.old) (F.sessions front.new) (F.left front.new) (K.view clock.new)
+        (λ given. OnLogs (StandsOn (F.options front.old) numbering.base event clients.old.held.items result given clients.new.held.items) (C.log connections.old) (C.log connections.new)) }
+{
+    match event {
+        Event::Opened(number) => take_in(connections, number, clients),
+        Event::Ready(number) => visit_held(
+            rt,
+            alloc,
+            front,
+            clock,
+            numbering,
+            connections,
+            number,
+            clients,
+            desk,
+        ),
+    }
+}
+
+/// Serves the connections of a port, to its end, or until the front may be given fewer writes than one command may need. A connection that there is no memory for is closed,
+/// and `lacked` counts it. For one report a connection is read twice at most, and few of its commands are answered. What the front counts is shown in this place of the board. After each report it sweeps a few places of the partitions, and touches old items that were used.
+#[tactic(auto, using(crate::proofs::Going::by_none))]
+pub fn serve_connections<R: Threads + Wait + Sync, F: Glances, K: Clock, C: Connections>(
+    rt: &R,
+    alloc: Global,
+    front: &mut F,
+    clock: &mut K,
+    numbering: Numbering,
+    board: &Board,
+    place: u32,
+    connections: &mut C,
+    lacked: &mut u64,
+) -> Result<(), ServeFault>
+    requires open { C.has_ended connections.old ≡ false }
+    requires partitions { numbering.partitions ≡ (F.options front.old).partitions }
+    ensures goes { GoesBy (F.options front.old) F.is_alone (F.sessions front.old) (F.left front.old) (K.view clock.old) (F.sessions front.new) (F.left front.new) (K.view clock.new) }
+    ensures serves { OnLogs (ServesFromNone (F.options front.old) F.is_alone numbering.base MOST_UNSENT
+        (record { sessions = F.sessions front.old; left = F.left front.old; clock = K.view clock.old; lacked = lacked.old; has_ended = C.has_ended connections.old })
+        (record { sessions = F.sessions front.new; left = F.left front.new; clock = K.view clock.new; lacked = lacked.new; has_ended = C.has_ended connections.new }))
+        (C.log connections.old) (C.log connections.new) }
+    ensures ends { OnOk result (IsFinished (F.options front.new) (C.has_ended connections.new) (F.left front.new)) }
+    ensures cause { IsErrOf result ServeFault.Net → Rose (C.faults connections.old) (C.faults connections.new) }
+    ensures last_failed { IsErrOf result ServeFault.Net → IfSome (C.log connections.new) LastFailed }
+    ensures none_served { IsErrOf result ServeFault.NoMemory → (front.new ≡ front.old) × (connections.new ≡ connections.old) }
+    ensures never_fall { C.faults connections.old ≤ C.faults connections.new }
+    ensures told { is_some (C.log connections.new) ≡ is_some (C.log connections.old) }
+    ensures port { C.port connections.new ≡ C.port connections.old }
+    ensures options { F.options front.new ≡ F.options front.old }
+    ensures number { F.number front.new ≡ F.number front.old }
+    ensures stands { F.stands front.new ≡ F.stands front.old }
+{
+    let mut desk = Desk::new(alloc, board, place)?;
+    let mut sweeper = Sweeper::new(alloc, numbering.partitions)?;
+    let mut clients = Clients::new(alloc);
+    let least = most_writes(numbering);
+    for _ in rt.forever() {
+        if front.writes_left() < least {
+            break;
+        }
+        let Some(event) = connections.next()? else {
+            break;
+        };
+        let count = serve_event(
+            rt,
+            alloc,
+            front,
+            clock,
+            numbering,
+            connections,
+            event,
+            &mut clients,
+            &mut desk,
+        );
+        *lacked = lacked.saturating_add(count);
+        count_event(event, count, &mut desk.buffers.tally);
+        desk.buffers.show();
+        let most = front.writes_left();
+        let noted = &mut desk.buffers.noted;
+        sweep(rt, front, clock, numbering, most, noted, &mut sweeper);
+    }
+    Ok(())
+}

@@ -1,0 +1,5 @@
+pub mod Connection
+pub mod State
+pub mod Log
+pub mod Calls
+pub mod PortLogs

@@ -1,0 +1,10 @@
+use Rattle.std.proofs.Common.{refl}
+use Rattle.std.proofs.KnownBytes.{Keeps-refl}
+use Rattle.daemon.proofs.Announced.{unwritten}
+use Rattle.daemon.proofs.top.daemon.Goals as goal
+
+pub returns-in-Err-NoMemory : goal.returns-in-Err-NoMemory
+returns-in-Err-NoMemory g c = unwritten _ _ _ _ _ _ _ (refl, Keeps-refl (g.K.Sink.taken c.args.speaker.now.sink)) (record { ports = refl; tables = refl; lacked = refl })
+
+pub returns-then-not-has_memory : goal.returns-then-not-has_memory
+returns-then-not-has_memory g c = unwritten _ _ _ _ _ _ _ (refl, Keeps-refl (g.K.Sink.taken c.args.speaker.now.sink)) (record { ports = refl; tables = refl; lacked = refl })

@@ -1,0 +1,15 @@
+-- The number that the process of a server that stays up ends with.
+use Rattle.std.specs.Prelude.{ℕ}
+use Rattle.daemon.specs.declared.status.DaemonStatus.{DaemonStatus}
+use Rattle.daemon.specs.declared.status.DaemonStatus.TheVariants.{Usage, NoMemory, TraceLong, ReadFault, WriteFault, NetFault, ImageRefused, UsedUp}
+
+-- of a status; none is 0
+abbrev pub exit_number : DaemonStatus → ℕ
+exit_number Usage = 1
+exit_number NoMemory = 2
+exit_number TraceLong = 4
+exit_number ReadFault = 5
+exit_number WriteFault = 6
+exit_number NetFault = 7
+exit_number ImageRefused = 12
+exit_number UsedUp = 13

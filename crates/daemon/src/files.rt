@@ -1,0 +1,39 @@
+//! Files, by their names.
+ghost use Rattle.std.specs.Prelude.{◌≡◌, ◌<◌, ◌≤◌, ℕ, List, Option, Some, option_map, length, vec_len, IfOk, IfSome, IsErrOf};
+ghost use Rattle.outside.specs.Faults.{Rose, faults_after};
+ghost use Rattle.daemon.specs.Files.{ReadScript, is_next_failing, after_read, has_failed, Foretells};
+
+use outside::ReadFault;
+use std::alloc::Global;
+
+/// What reads files by their names.
+pub trait Files {
+    /// The bytes of the file of a name, where they are told.
+    ghost file: { Self → List ℕ → Option (List ℕ) };
+
+    /// The count of faults.
+    ghost faults: { Self → ℕ };
+
+    /// Whether there is a file of a name and which reads of it fail, where it is told.
+    ghost script: { Self → List ℕ → Option ReadScript };
+
+    /// How many bytes of memory are free, where it is told.
+    ghost free: { Self → Option ℕ };
+
+    /// How many bytes of memory are free, or `None` where that is not known.
+    fn free_memory(&self, alloc: Global) -> Option<u64>
+        ensures { IfSome (free self.now) (λ told. result ≡ Some told) };
+
+    /// All bytes of the file of this name. A file that can't be opened is a read that failed.
+    fn read(&mut self, alloc: Global, name: &str, limit: usize) -> Result<Vec<u8>, ReadFault>
+        requires small { limit < 4294967296 }
+        ensures all { IfOk result (λ bytes. IfSome (file self.old name.now) (λ told. bytes.items ≡ told)) }
+        ensures within { IfOk result (λ bytes. vec_len bytes ≤ limit) }
+        ensures long { IsErrOf result ReadFault.Long → IfSome (file self.old name.now) (λ told. limit < length told) }
+        ensures cause { IsErrOf result ReadFault.Failed → Rose (faults self.old) (faults self.new) }
+        ensures never_fall { faults self.old ≤ faults self.new }
+        ensures foretold { IfSome (script self.old name.now) (λ s. Foretells (is_next_failing s) result) }
+        ensures counted { IfSome (script self.old name.now) (λ _. faults self.new ≡ faults_after (has_failed result) (faults self.old)) }
+        ensures same_free { free self.new ≡ free self.old }
+        ensures moves_on { (other : List ℕ) → script self.new other ≡ option_map after_read (script self.old other) };
+}

@@ -1,0 +1,27 @@
+//! The headline of a server, as it follows from the contract of `daemon`.
+ghost use Rattle.std.specs.Prelude.{◌≡◌, ◌≤◌, ◌⊎◌, ℕ, List, Some, length};
+ghost use Rattle.outside.specs.Seconds.{ClockView};
+ghost use Rattle.served.specs.NetRun.{OnPorts};
+ghost use Rattle.daemon_words.specs.DaemonWords.{Service, daemon_of};
+ghost use Rattle.daemon.specs.Files.{FilesFacts};
+ghost use Rattle.daemon.specs.Daemon.{DaemonOutside, KeepsUp};
+ghost use Rattle.daemon.specs.Headline.{ServesLawfully, StopsLawfully, NamesPort};
+
+use crate::DaemonStatus;
+
+/// Words that give a service, a clock for each of its fronts over connections, and `daemon`'s contract with the status `UsedUp`: where the net tells its ports, the
+/// service was carried out.
+pub fn headline()
+    ensures { (words : List (List ℕ)) (service : Service) (clocks : List ClockView) (base : ℕ) (before after : FilesFacts) (old new : DaemonOutside)
+        → daemon_of words ≡ Some service → service.streams.ports.fronts ≤ length clocks
+        → KeepsUp (daemon_of words) clocks base before after old new DaemonStatus.UsedUp
+        → OnPorts (ServesLawfully service base before old new) old.ports.net.ports new.ports.net.ports }
+{}
+
+/// The same with the status `NetFault`: a port was not had, or the service was carried out until a fault of the net stopped it.
+pub fn headline_at_fault()
+    ensures { (words : List (List ℕ)) (service : Service) (clocks : List ClockView) (base : ℕ) (before after : FilesFacts) (old new : DaemonOutside)
+        → daemon_of words ≡ Some service → service.streams.ports.fronts ≤ length clocks
+        → KeepsUp (daemon_of words) clocks base before after old new DaemonStatus.NetFault
+        → NamesPort old new ⊎ OnPorts (StopsLawfully service base before old new) old.ports.net.ports new.ports.net.ports }
+{}

@@ -1,0 +1,91 @@
+//! The whole program: its words, the second at which it starts, and the number that it ends with.
+ghost use Rattle.std.specs.Prelude.{◌≡◌, ◌≤◌, [], length, map, string_bytes};
+ghost use Rattle.std.specs.Process.{exit_status};
+ghost use Rattle.locked_server.specs.Causes.{ports_at};
+ghost use Rattle.server_words.specs.declared.limits.TheConstants.{MOST_FRONTS};
+ghost use Rattle.server_words.specs.Output.{sink_facts};
+ghost use Rattle.option_words.specs.ProgramWords.{words_of};
+ghost use Rattle.daemon.specs.Numbers.{exit_number};
+ghost use Rattle.daemon.specs.Files.{files_facts};
+ghost use Rattle.daemon.specs.Daemon.{daemon_outside};
+ghost use Rattle.daemon.specs.Exit.{first_number, BeginsAbove, DaemonExits};
+
+use crate::{DaemonStatus, Files, Process, Speaker, daemon};
+use connections::Listeners;
+use locked_server::Left;
+use option_words::{all_words, behind_name};
+use outside::{Clock, Gate, Net, NoMemory, Sink};
+use std::env::Args;
+use std::io;
+use std::process::ExitCode;
+use std::sync::Wait;
+use std::thread::Threads;
+
+// Unique numbers of values begin at this many for each second of the clock: a server that starts later begins above the numbers of one before it,
+// as long as each second has no more writes than this.
+const NUMBERS_OF_A_SECOND: u64 = 1 << 24;
+
+// The first unique number of a value where the server starts in this second.
+fn first_number(second: u64) -> u64
+    ensures { result ≡ first_number second }
+{
+    second.min(1 << 39) * NUMBERS_OF_A_SECOND
+}
+
+/// Unique numbers from before a restart are below those of after it.
+pub fn begins_above()
+    ensures { BeginsAbove }
+{}
+
+/// The number of a status.
+pub fn exit_code(status: DaemonStatus) -> ExitCode
+    ensures { exit_status result ≡ exit_number status }
+{
+    ExitCode::from(status as u8)
+}
+
+/// Runs the server that the program's words give, which are `env::args(&rt)` in `main`, and ends with the number of its status. The clock says in which second it
+/// starts; each front of connections takes one of `clocks`. Only an `rt` that may start threads, as in `main`, serves.
+pub fn run_daemon<
+    W: Threads + Wait + Sync,
+    F: Files,
+    K: Sink + Drop,
+    N: Net,
+    L: Listeners,
+    C: Clock + Drop + Send,
+    G: Gate,
+>(
+    process: &Process<W, G>,
+    args: io::Result<Args>,
+    clock: &mut C,
+    clocks: Vec<C>,
+    files: &mut F,
+    speaker: &mut Speaker<K>,
+    net: &mut N,
+    listeners: &mut L,
+    left: &mut Left,
+) -> ExitCode
+    requires net { N.binds net.old ≡ 0 }
+    requires clocks { MOST_FRONTS ≤ length clocks.items }
+    requires tables { left.old.tables ≡ [] }
+    requires uncounted { left.old.lacked ≡ 0 }
+    ensures { DaemonExits (words_of string_bytes args) (C.view clock.old) (C.view clock.new) (map C.view clocks.items) (files_facts F.file F.free F.faults files.old) (files_facts F.file F.free F.faults files.new)
+        (daemon_outside (sink_facts K.Sink speaker.old.sink) (ports_at N.Net L.Listeners net.old listeners.old) left.old.tables left.old.lacked)
+        (daemon_outside (sink_facts K.Sink speaker.new.sink) (ports_at N.Net L.Listeners net.new listeners.new) left.new.tables left.new.lacked) (exit_status result) }
+{
+    let base = first_number(clock.second());
+    match all_words(process.alloc, args) {
+        Ok(words) => exit_code(daemon(
+            process,
+            base,
+            behind_name(words.as_slice()),
+            clocks,
+            files,
+            speaker,
+            net,
+            listeners,
+            left,
+        )),
+        Err(NoMemory) => exit_code(DaemonStatus::NoMemory),
+    }
+}

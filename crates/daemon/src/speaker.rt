@@ -1,0 +1,84 @@
+//! The sink of a server that stays up, with the line that it is to write once it has its ports.
+ghost use Rattle.std.specs.Prelude.{◌≡◌, ◌+◌, ◌≤◌, string_bytes, IfOk};
+ghost use Rattle.server_words.specs.PossiblePorts.{IsPossiblePorts};
+ghost use Rattle.server_words.specs.StreamPorts.{IsPossibleStreams};
+ghost use Rattle.daemon.specs.Daemon.{range_text, ready_text, unbound_text};
+
+use connections::Connections;
+use locked_server::{Announce, Untold};
+use outside::{Datagrams, NoMemory, Sink, write_all};
+use server_words::{PortOptions, StreamPorts};
+use std::alloc::Global;
+
+/// A sink, and the line that says that the ports are had.
+#[derive(Drop)]
+pub struct Speaker<K> {
+    pub sink: K,
+    pub line: String,
+}
+
+impl<K: Sink + Drop> Announce for Speaker<K> {
+    ghost use Rattle.std.specs.Prelude.{string_bytes};
+    ghost use Rattle.server_words.specs.Output.{sink_facts};
+    ghost use Rattle.daemon.specs.Daemon.{Says, FailsToSay};
+
+    ghost says = { λ _ _ a b. Says (string_bytes a.line) (sink_facts K.Sink a.sink) (sink_facts K.Sink b.sink) };
+
+    ghost fails = { λ _ _ a b. FailsToSay (string_bytes a.line) (sink_facts K.Sink a.sink) (sink_facts K.Sink b.sink) };
+
+    fn ready<D: Datagrams, C: Connections>(
+        &mut self,
+        _ports: &PortOptions,
+        _streams: &StreamPorts,
+        _ends: &[D],
+        _connections: &[C],
+    ) -> Result<(), Untold> {
+        match write_all(&mut self.sink, self.line.as_bytes()) {
+            Ok(()) => Ok(()),
+            Err(_) => Err(Untold),
+        }
+    }
+}
+
+// The first port of so many and the last one, behind what they are of, where there are any.
+fn range_text(alloc: Global, before: &str, first: u16, count: u32) -> Result<String, NoMemory>
+    requires { first + count ≤ 65536 }
+    ensures { IfOk result (λ text. string_bytes text ≡ range_text before.now first count) }
+{
+    if count == 0 {
+        return Ok(String::new(alloc));
+    }
+    let last = u32::from(first) + count - 1;
+    match format!(in alloc; "{before}{first} to {last}") {
+        Ok(text) => Ok(text),
+        Err(_) => Err(NoMemory),
+    }
+}
+
+/// The line that says that the ports are had: the first one and the last one of each kind.
+pub(crate) fn ready_line(
+    alloc: Global,
+    ports: &PortOptions,
+    streams: &StreamPorts,
+) -> Result<String, NoMemory>
+    requires ports { IsPossiblePorts ports.now }
+    requires streams { IsPossibleStreams streams.now }
+    ensures { IfOk result (λ line. string_bytes line ≡ ready_text ports.now streams.now) }
+{
+    let datagrams = range_text(alloc, " ", ports.port, ports.fronts)?;
+    let connections = range_text(alloc, " memcached ", streams.port, streams.fronts)?;
+    match format!(in alloc; "ready{datagrams}{connections}\n") {
+        Ok(line) => Ok(line),
+        Err(_) => Err(NoMemory),
+    }
+}
+
+/// The line that names a port which was not had.
+pub(crate) fn unbound_line(alloc: Global, port: u16) -> Result<String, NoMemory>
+    ensures { IfOk result (λ line. string_bytes line ≡ unbound_text port) }
+{
+    match format!(in alloc; "port {port} not bound\n") {
+        Ok(line) => Ok(line),
+        Err(_) => Err(NoMemory),
+    }
+}

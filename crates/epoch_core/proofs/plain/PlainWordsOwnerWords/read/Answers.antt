@@ -1,6 +1,0 @@
-use Rattle.std.proofs.Common.{rules}
-use Rattle.epoch_core.proofs.DiaryKeeps.{knows_at}
-use Rattle.epoch_core.proofs.plain.PlainWordsOwnerWords.read.Goals as goal
-
-pub load-requires : goal.load-requires
-load-requires c = (search rules, search rules, knows_at _ _ c.args.self.now.seat.me _)

@@ -1,5 +1,0 @@
-use Rattle.epoch_core.specs.declared.scripted.Look.TheVariants.{LastEpoch}
-use Rattle.epoch_core.proofs.scripted.ScriptedReaderWords.last_epoch.Given as goal
-
-abbrev pub ghosts-load : goal.ghosts-load
-ghosts-load a = record { look = LastEpoch a.bucket }

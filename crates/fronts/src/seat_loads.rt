@@ -1,0 +1,146 @@
+//! Loads by a reader's seat outside its gets: ahead of them, so that what they will look at is at hand, and of what stands in an index.
+ghost use Rattle.std.specs.Prelude.{◌≡◌, ◌≤◌, ◌<◌, ◌^◌, true, length, IfSome};
+ghost use Rattle.mica_words.specs.declared.item.TheConstants.{MAX_KEY_LEN};
+ghost use Rattle.mica_words.specs.Item.{KeyFits};
+ghost use Rattle.partition_model.specs.declared.options.TheConstants.{MOST_PARTITIONS};
+
+use crate::glancing::Glimpse;
+use mica_words::{
+    MAX_KEY_LEN, SLOTS, bucket_of, entry_offset, entry_tag, header_key_len, header_value_len,
+    key_hash, tag_of, tail_of,
+};
+use partition_model::{ItemBuf, Mode, Options};
+use partition_table::ReaderSeat;
+use partition_words::{ReaderWords, Shape, WordAt};
+
+/// What is in use of tables of as many words, 16 MiB, is mostly in the caches: there a load ahead costs more than it gains.
+const CACHED_WORDS: usize = 1 << 21;
+
+/// A cache line has so many words.
+const LINE_WORDS: u32 = 8;
+
+/// The last word of an item with a key of 16 bytes and a value of 64, of which a client of memcached's stores 80.
+const LAST_WORD: u64 = 13;
+
+/// Whether the tables of all partitions together are larger than the caches.
+pub fn are_large(options: &Options) -> bool
+    requires { options.now.partitions ≤ MOST_PARTITIONS }
+{
+    let shape = Shape::of(options);
+    options.partitions as usize * shape.word_count() > CACHED_WORDS
+}
+
+/// Loads the lines of the bucket of this hash.
+pub fn load_bucket(seat: &ReaderSeat, hash: u64) {
+    let bucket = bucket_of(hash, seat.shape().buckets);
+    seat.peek(WordAt::Epoch(bucket));
+    seat.peek(WordAt::Entry(bucket, LINE_WORDS - 1));
+    seat.peek(WordAt::Entry(bucket, SLOTS - 1));
+}
+
+/// The first entry of this hash's bucket with its tag; 0 where none has it.
+pub fn entry_of(seat: &ReaderSeat, hash: u64) -> u64 {
+    let bucket = bucket_of(hash, seat.shape().buckets);
+    let tag = tag_of(hash);
+    for slot in 0..SLOTS {
+        let entry = seat.peek(WordAt::Entry(bucket, slot));
+        if entry_tag(entry) == tag {
+            return entry;
+        }
+    }
+    0
+}
+
+/// Loads the lines of the item of an entry, of a longer one the first.
+pub fn load_item(seat: &ReaderSeat, entry: u64) {
+    let offset = entry_offset(entry);
+    seat.peek(WordAt::Item(offset));
+    seat.peek(WordAt::Item(offset + u64::from(LINE_WORDS)));
+    seat.peek(WordAt::Item(offset + LAST_WORD));
+}
+
+/// So many bytes of a value are loaded at a glance.
+const HEAD_LEN: usize = 16;
+
+// Loads so many bytes of an item.
+fn load_bytes(seat: &ReaderSeat, offset: u64, len: usize, out: &mut ItemBuf)
+    requires offset { offset < 2 ^ 63 }
+    requires len { len ≤ MAX_KEY_LEN }
+    ensures { length out.new ≡ len }
+{
+    out.clear();
+    for at in 0..len.div_ceil(8) {
+        let word = seat.peek(WordAt::Item(offset + at as u64));
+        out.push_word(word);
+    }
+    out.truncate(len);
+}
+
+// Loads the key of an item, and tells its header; none where no item stands.
+fn load_key(seat: &ReaderSeat, offset: u64, key: &mut ItemBuf) -> Option<u64>
+    requires offset { offset < 2 ^ 48 }
+    ensures key { IfSome result (λ _. KeyFits key.new) }
+{
+    let header = seat.peek(WordAt::Item(offset));
+    let key_len = header_key_len(header) as usize;
+    if key_len == 0 || key_len > MAX_KEY_LEN {
+        return None;
+    }
+    load_bytes(seat, offset + 2, key_len, key);
+    Some(header)
+}
+
+// Loads the key of an item, and the first bytes of its value.
+fn glance_at(seat: &ReaderSeat, offset: u64, key: &mut ItemBuf, head: &mut ItemBuf) -> Glimpse
+    requires offset { offset < 2 ^ 48 }
+    ensures key { result ≡ Glimpse.Item → KeyFits key.new }
+{
+    let Some(header) = load_key(seat, offset, key) else {
+        return Glimpse::Nothing;
+    };
+    let value_at = offset + 2 + key.value().len().div_ceil(8) as u64;
+    let head_len = (header_value_len(header) as usize).min(HEAD_LEN);
+    load_bytes(seat, value_at, head_len, head);
+    Glimpse::Item
+}
+
+/// Loads what stands at a place of the index. In cache mode there are no places.
+pub fn glance(seat: &ReaderSeat, place: u64, key: &mut ItemBuf, head: &mut ItemBuf) -> Glimpse
+    ensures key { result ≡ Glimpse.Item → KeyFits key.new }
+{
+    let shape = seat.shape();
+    let buckets = u64::from(shape.buckets) + u64::from(shape.spares);
+    let bucket = place / u64::from(SLOTS);
+    if !matches!(shape.mode, Mode::Store) || bucket >= buckets {
+        return Glimpse::Beyond;
+    }
+    let slot = (place % u64::from(SLOTS)) as u32;
+    let entry = seat.peek(WordAt::Entry(bucket as u32, slot));
+    if entry == 0 {
+        return Glimpse::Nothing;
+    }
+    glance_at(seat, entry_offset(entry), key, head)
+}
+
+// Whether more than half of the log was written behind an item at the offset.
+fn is_old(words: u32, tail: u64, offset: u64) -> bool {
+    tail.saturating_sub(offset) > u64::from(words / 2)
+}
+
+/// Loads the key of an item with this hash, if it is behind the half of a log whose stamp was this.
+pub fn glance_old(seat: &ReaderSeat, stamp: u64, hash: u64, key: &mut ItemBuf) -> bool
+    ensures key { result ≡ true → KeyFits key.new }
+{
+    let shape = seat.shape();
+    let bucket = bucket_of(hash, shape.buckets);
+    let (tag, tail) = (tag_of(hash), tail_of(stamp));
+    for slot in 0..SLOTS {
+        let entry = seat.peek(WordAt::Entry(bucket, slot));
+        let offset = entry_offset(entry);
+        if entry != 0 && entry_tag(entry) == tag && is_old(shape.words, tail, offset) {
+            let header = load_key(seat, offset, key);
+            return header.is_some() && key_hash(key.value()) == hash;
+        }
+    }
+    false
+}

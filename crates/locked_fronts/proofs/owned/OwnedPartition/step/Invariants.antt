@@ -1,6 +1,0 @@
-use Rattle.partition_model.specs.Write.{write_of}
-use Rattle.locked_fronts.specs.Owned.{step_of}
-use Rattle.locked_fronts.proofs.owned.OwnedPartition.step.Given as goal
-
-abbrev pub ghosts-enter : goal.ghosts-enter
-ghosts-enter g a = record { what = step_of (write_of a._op a._key.now a._value.now) a._outcome a._stamp }

@@ -1,5 +1,0 @@
-use Rattle.locked_serve.proofs.Faults.{FaultTo}
-use Rattle.locked_serve.proofs.answers.fault_of.Given as goal
-
-abbrev pub invariant-loop-answer : goal.invariant-loop-answer
-invariant-loop-answer l = FaultTo l.answer-index l.streams l.failed

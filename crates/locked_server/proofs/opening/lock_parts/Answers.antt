@@ -1,0 +1,47 @@
+use Rattle.std.proofs.Common.{ℕ, suc, length, map, slice_get, sym, ap, ◌∙◌, subst, arith}
+use Rattle.std.specs.Vec.Iter.{into_iter_items}
+use Rattle.std.proofs.lemmas.List.{length-map, length_push}
+use Rattle.locked_server.specs.declared.opening.FilledPart.{FilledPart}
+use Rattle.locked_server.specs.Opening.{FilledView, IsPlanned, filled_view}
+use Rattle.locked_server.proofs.Lending.{new_desk, first_planned}
+use Rattle.locked_server.proofs.opening.lock_parts.Given as given
+use Rattle.locked_server.proofs.opening.lock_parts.Goals as goal
+
+abbrev view : (g : given.Over) → FilledPart g.row.P.Denot → FilledView
+view g f = filled_view g.P.Partition.owner g.P.Partition.home f
+
+pub loop-filled-init : goal.loop-filled-init
+loop-filled-init g c =
+    let all = c.into_iter-filled-iterator.ensures.into_iter_gives.0 in
+    record {
+      many = omega (arith, ap length all, ap length c.in_ok-locks.ensures.items);
+      number = sym (ap length c.in_ok-locks.ensures.items);
+      each = λ p filled at. subst (λ (q : ℕ). IsPlanned g.J.ServerPlan.plan g.J.ServerPlan.plan.fronts q filled) (omega arith)
+          (c.requires.of.each p filled (ap (λ l. slice_get (map (view g) l) p) (sym all) ∙ at));
+    }
+
+pub new-requires-clause-filled : goal.new-requires-clause-filled
+new-requires-clause-filled g c =
+    new_desk g.J.ServerPlan.plan c.loop-filled.number (view g c.in-Some.filled)
+    (first_planned g.J.ServerPlan.plan c.loop-filled.number (map (view g) (into_iter_items c.loop-filled.filled-iterator)) (map (view g) (into_iter_items c.next.new.self)) (view g c.in-Some.filled)
+    (ap (map (view g)) c.in-Some.ensures.steps.0) c.loop-filled.invariant.each)
+
+pub new-requires-clause-flushes : goal.new-requires-clause-flushes
+new-requires-clause-flushes g c =
+    (first_planned g.J.ServerPlan.plan c.loop-filled.number (map (view g) (into_iter_items c.loop-filled.filled-iterator)) (map (view g) (into_iter_items c.next.new.self)) (view g c.in-Some.filled)
+    (ap (map (view g)) c.in-Some.ensures.steps.0) c.loop-filled.invariant.each).flushes
+
+pub overflow_add-number : goal.overflow_add-number
+overflow_add-number g c =
+    omega (arith, c.loop-filled.invariant.many, c.loop-filled.invariant.number, ap length c.in-Some.ensures.steps.0, c.requires.of.many, length-map c.args.parts.items (view g), c.requires.few)
+
+pub loop-filled-preserved : goal.loop-filled-preserved
+loop-filled-preserved g c =
+    let head = c.in-Some.ensures.steps.0 in
+    let pushed = c.in_ok-push.ensures.items in
+    record {
+      many = omega (arith, c.loop-filled.invariant.many, ap length head, ap length pushed, length_push c.loop-filled.locks.items _);
+      number = omega (arith, c.loop-filled.invariant.number, ap length pushed, length_push c.loop-filled.locks.items _);
+      each = λ p filled at. subst (λ (q : ℕ). IsPlanned g.J.ServerPlan.plan g.J.ServerPlan.plan.fronts q filled) (omega arith)
+          (c.loop-filled.invariant.each (suc p) filled (ap (λ l. slice_get (map (view g) l) (suc p)) head ∙ at));
+    }

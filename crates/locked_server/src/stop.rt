@@ -1,0 +1,101 @@
+//! Why a server stopped short.
+ghost use Rattle.std.specs.Prelude.{◌≡◌};
+
+use crate::filling::OpenFault;
+use fronts::ServeFault;
+use outside::NoMemory;
+use std::alloc::AllocError;
+use std::error::Error;
+use std::fmt;
+
+/// Why a server did not come to totals.
+#[derive(Clone, Copy, Debug)]
+pub enum Stop {
+    /// A write that was to fill its partition was refused. No port was bound.
+    Refused,
+    /// This port could not be bound, or not be listened at. Nothing was received.
+    Unbound(u16),
+    /// The ports were bound, and what was to be told then could not be told. Nothing was received.
+    Unannounced,
+    Fault(ServeFault),
+}
+
+/// What was to be told could not be told.
+#[derive(Clone, Copy, Debug)]
+pub struct Untold;
+
+impl fmt::Display for Stop {
+    fn fmt<W: fmt::Write>(&self, f: &mut fmt::Formatter<W>) -> fmt::Result {
+        match self {
+            Stop::Refused => fmt::Display::fmt(&OpenFault::Refused, f),
+            Stop::Unbound(port) => write!(f, "port {port} could not be bound"),
+            Stop::Unannounced => fmt::Display::fmt(&Untold, f),
+            Stop::Fault(fault) => fmt::Display::fmt(fault, f),
+        }
+    }
+}
+
+impl fmt::Display for Untold {
+    fn fmt<W: fmt::Write>(&self, f: &mut fmt::Formatter<W>) -> fmt::Result {
+        f.write_str("what was to be told could not be told")
+    }
+}
+
+impl Error for Stop {}
+
+impl Error for Untold {}
+
+impl From<Untold> for Stop {
+    ghost use Rattle.locked_server.specs.declared.stop.Stop.TheVariants.{Unannounced};
+
+    ghost from_gives = { λ _ e. e ≡ Unannounced };
+
+    fn from(_: Untold) -> Self {
+        Stop::Unannounced
+    }
+}
+
+impl From<OpenFault> for Stop {
+    ghost use Rattle.locked_server.specs.Causes.{stop_of};
+
+    ghost from_gives = { λ fault e. e ≡ stop_of fault };
+
+    fn from(fault: OpenFault) -> Self {
+        match fault {
+            OpenFault::Refused => Stop::Refused,
+            OpenFault::NoMemory => Stop::Fault(ServeFault::NoMemory),
+        }
+    }
+}
+
+impl From<AllocError> for Stop {
+    ghost use Rattle.fronts.specs.declared.totals.ServeFault.TheVariants.{NoMemory};
+    ghost use Rattle.locked_server.specs.declared.stop.Stop.TheVariants.{Fault};
+
+    ghost from_gives = { λ _ e. e ≡ Fault NoMemory };
+
+    fn from(_: AllocError) -> Self {
+        Stop::Fault(ServeFault::NoMemory)
+    }
+}
+
+impl From<NoMemory> for Stop {
+    ghost use Rattle.fronts.specs.declared.totals.ServeFault.TheVariants.{NoMemory};
+    ghost use Rattle.locked_server.specs.declared.stop.Stop.TheVariants.{Fault};
+
+    ghost from_gives = { λ _ e. e ≡ Fault NoMemory };
+
+    fn from(_: NoMemory) -> Self {
+        Stop::Fault(ServeFault::NoMemory)
+    }
+}
+
+impl From<ServeFault> for Stop {
+    ghost use Rattle.locked_server.specs.declared.stop.Stop.TheVariants.{Fault};
+
+    ghost from_gives = { λ fault e. e ≡ Fault fault };
+
+    fn from(fault: ServeFault) -> Self {
+        Stop::Fault(fault)
+    }
+}

@@ -1,0 +1,119 @@
+//! The partitions taken back from their locks, with what the fronts have in hand.
+ghost use Rattle.std.specs.Prelude.{◌≡◌, ◌+◌, ◌++◌, ◌≤◌, ℕ, [], Some, length, map, slice_get, vec_len, vec_capacity};
+ghost use Rattle.partition_model.specs.declared.options.TheConstants.{MOST_PARTITIONS};
+ghost use Rattle.partition_words.specs.declared.state.Phase.TheVariants.{Idle};
+ghost use Rattle.partition_table.specs.Tabled.{kept_seat_in};
+ghost use Rattle.locked_front.specs.Owned.{Owned, IsOwned};
+ghost use Rattle.locked_server.specs.Taking.{AreHands, AreTakenBack, TakesBack, MayTakeHand, TakesHand, MayTakeHands, TakesHands, left_view};
+
+use any_partition::OnTable;
+use locked_front::{LockedPart, OwnedPartition, Returned, ServerPlan};
+use partition_table::{Note, ReaderSeat, Tables};
+use partition_words::LendPartition;
+use std::sync::{Mutex, Wait};
+
+// Takes the partition of the number from its lock. Which one lies under a lock no clause of a lock says, so it is looked at; it is never another.
+fn take_back<R: Wait, J: ServerPlan, P: LendPartition<Reader = ReaderSeat, Note = Note> + Drop>(
+    rt: &R,
+    lock: Mutex<OwnedPartition<J, P>>,
+    number: u32,
+) -> Returned<P>
+    ensures number { result.number ≡ number }
+    ensures of { IsOwned J.plan (left_view P.owner P.home result) }
+{
+    let part = lock.into_inner().give_back();
+    for _ in rt.forever() {
+        if part.number == number {
+            return part;
+        }
+    }
+    unreachable!()
+}
+
+// Takes all partitions from their locks.
+fn take_all_back<R: Wait, J: ServerPlan, P: LendPartition<Reader = ReaderSeat, Note = Note> + Drop>(
+    rt: &R,
+    locks: Vec<Mutex<OwnedPartition<J, P>>>,
+    parts: &mut Vec<Returned<P>>,
+)
+    requires none { parts.old.items ≡ [] }
+    requires room { vec_len locks ≤ vec_capacity parts.old }
+    requires few { vec_len locks ≤ MOST_PARTITIONS }
+    ensures many { length parts.new.items ≡ length locks.items }
+    ensures each { AreTakenBack J.plan (map (λ part. left_view P.owner P.home part) parts.new.items) }
+{
+    let mut number = 0;
+    for lock in locks {
+        parts.push_reserved(take_back(rt, lock, number));
+        number += 1;
+    }
+}
+
+// Each partition takes in its part of a front.
+fn take_hand<P: LendPartition<Reader = ReaderSeat, Note = Note> + Drop>(
+    parts: &mut Vec<Returned<P>>,
+    hand: Vec<LockedPart>,
+)
+    requires { MayTakeHand (map (λ part. left_view P.owner P.home part) parts.old.items) hand.items }
+    ensures { TakesHand (map (λ part. left_view P.owner P.home part) parts.old.items) (map (λ part. left_view P.owner P.home part) parts.new.items) hand.items }
+{
+    let mut at = 0;
+    for own in hand {
+        let part = &mut parts[at];
+        part.take_in(own);
+        at += 1;
+    }
+}
+
+// The partitions take in all that the fronts have in hand.
+fn take_hands<P: LendPartition<Reader = ReaderSeat, Note = Note> + Drop>(
+    parts: &mut Vec<Returned<P>>,
+    hands: Vec<Vec<LockedPart>>,
+)
+    requires { MayTakeHands (map (λ part. left_view P.owner P.home part) parts.old.items) (map (λ hand. hand.items) hands.items) }
+    ensures { TakesHands (map (λ part. left_view P.owner P.home part) parts.old.items) (map (λ part. left_view P.owner P.home part) parts.new.items) (map (λ hand. hand.items) hands.items) }
+{
+    for hand in hands {
+        take_hand(parts, hand);
+    }
+}
+
+/// Takes all partitions from their locks, with what the fronts of both kinds have in hand.
+pub(crate) fn take_in_all<
+    R: Wait,
+    J: ServerPlan,
+    P: LendPartition<Reader = ReaderSeat, Note = Note> + Drop,
+>(
+    rt: &R,
+    locks: Vec<Mutex<OwnedPartition<J, P>>>,
+    stream_hands: Vec<Vec<LockedPart>>,
+    hands: Vec<Vec<LockedPart>>,
+    parts: &mut Vec<Returned<P>>,
+)
+    requires none { parts.old.items ≡ [] }
+    requires room { vec_len locks ≤ vec_capacity parts.old }
+    requires few { vec_len locks ≤ MOST_PARTITIONS }
+    requires many { length locks.items ≡ J.plan.options.partitions }
+    requires hands { AreHands J.plan (map (λ hand. hand.items) stream_hands.items ++ map (λ hand. hand.items) hands.items) }
+    ensures { TakesBack J.plan (map (λ hand. hand.items) stream_hands.items ++ map (λ hand. hand.items) hands.items) (map (λ part. left_view P.owner P.home part) parts.new.items) }
+{
+    take_all_back(rt, locks, parts);
+    take_hands(parts, stream_hands);
+    take_hands(parts, hands);
+}
+
+/// Keeps the owners' seats, in order.
+pub(crate) fn keep_all<P: OnTable + LendPartition<Reader = ReaderSeat, Note = Note>>(
+    parts: Vec<Returned<P>>,
+    tables: &mut Tables,
+)
+    requires same { (p : P) → P.state p ≡ P.owner p }
+    requires room { length tables.old + length parts.items ≤ MOST_PARTITIONS }
+    requires idle { (p : ℕ) (left : Owned) → slice_get (map (λ part. left_view P.owner P.home part) parts.items) p ≡ Some left → left.owner.phase ≡ Idle }
+    ensures { tables.new ≡ tables.old ++ map (λ left. kept_seat_in left.owner) (map (λ part. left_view P.owner P.home part) parts.items) }
+{
+    let mut rest = parts.into_iter();
+    while let Some(left) = rest.next() {
+        tables.keep(left.part.into_seat());
+    }
+}

@@ -1,5 +1,0 @@
-use Rattle.std.proofs.Common.{arith}
-use Rattle.memcached_changes.proofs.laws.numbers_rise.Goals as goal
-
-pub returns : goal.returns
-returns c base earlier later fits before = omega (arith, fits, before)

@@ -1,8 +1,0 @@
-use Rattle.memcached_changes.proofs.SwapLaws.{swaps, drawn}
-use Rattle.memcached_changes.proofs.laws.swaps_what_stands.Goals as goal
-
-pub returns-clause-swaps : goal.returns-clause-swaps
-returns-clause-swaps c = swaps
-
-pub returns-clause-drawn : goal.returns-clause-drawn
-returns-clause-drawn c = drawn

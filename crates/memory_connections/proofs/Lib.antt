@@ -1,0 +1,8 @@
+pub mod Marks
+pub mod Numbers
+pub mod Room
+pub mod Pending
+pub mod Stages
+pub mod Views
+pub mod Told
+pub mod Seats

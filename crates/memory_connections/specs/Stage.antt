@@ -1,0 +1,29 @@
+-- A schedule as it is played in memory, and what its parts keep.
+use Rattle.std.specs.Prelude.{◌≡◌, ◌≤◌, ◌<◌, ℕ, ◌+◌, true, List, length}
+use Rattle.connections.specs.declared.schedule.Step.{Step}
+use Rattle.connections.specs.Connection.{Connection}
+use Rattle.connections.specs.State.{State, Entry, state_after}
+use Rattle.memory_connections.specs.MemoryConnection.{pending, need, are_below}
+
+-- the schedule, and what calls did, the last of them first
+pub record Played : Type 0 where
+  pub schedule : List Step
+  pub entries : List Entry
+
+abbrev pub played_state : Played → State
+played_state played = state_after played.schedule played.entries
+
+abbrev pub played_connections : Played → List Connection
+played_connections played = (played_state played).connections
+
+-- what stands after these entries, and that there is room for all that may follow
+pub record Goes (schedule : List Step) (entries : List Entry) (room : ℕ) (state : State) : Type 0 where
+  pub stands : state_after schedule entries ≡ state
+  pub fits : need (state_after schedule entries) ≤ room
+
+pub record IsStage (schedule : List Step) (at : ℕ) (reports : List ℕ) (paid : ℕ) (all : List Connection) (entries : List Entry) (room : ℕ) : Type 0 where
+  pub at_fits : at ≤ length schedule
+  pub paid_fits : paid ≤ length reports
+  pub goes : Goes schedule entries room (record { connections = all; later = pending schedule at reports paid })
+  pub few : length all + room < 4294967296
+  pub numbers : are_below (length all) all ≡ true

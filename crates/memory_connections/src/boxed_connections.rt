@@ -1,0 +1,40 @@
+//! Connections in memory, in a box.
+use crate::MemConnections;
+use connections::{Broken, Connections, Event, Input};
+use outside::Failed;
+
+/// Connections in memory that were listened at. They lie in a box, so that a seat for each number of a port takes little.
+#[derive(Drop)]
+pub struct BoxedConnections<'a> {
+    pub(crate) connections: Box<MemConnections<'a>>,
+}
+
+impl<'a> Connections for BoxedConnections<'a> {
+    ghost port = { λ b. ⟦<MemConnections<'a> as Connections>⟧.port b.connections.value };
+
+    ghost log = { λ b. ⟦<MemConnections<'a> as Connections>⟧.log b.connections.value };
+
+    ghost faults = { λ b. ⟦<MemConnections<'a> as Connections>⟧.faults b.connections.value };
+
+    ghost has_ended = { λ b. ⟦<MemConnections<'a> as Connections>⟧.has_ended b.connections.value };
+
+    fn next(&mut self) -> Result<Option<Event>, Failed> {
+        self.connections.next()
+    }
+
+    fn read(&mut self, number: u32, out: &mut [u8]) -> Result<Input, Broken> {
+        self.connections.read(number, out)
+    }
+
+    fn write(&mut self, number: u32, piece: &[u8]) -> Result<usize, Broken> {
+        self.connections.write(number, piece)
+    }
+
+    fn again(&mut self, number: u32) {
+        self.connections.again(number);
+    }
+
+    fn close(&mut self, number: u32) {
+        self.connections.close(number);
+    }
+}

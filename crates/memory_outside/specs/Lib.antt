@@ -1,0 +1,2 @@
+pub mod SentRoom
+pub mod MemoryPorts

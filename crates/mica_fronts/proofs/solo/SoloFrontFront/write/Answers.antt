@@ -1,8 +1,0 @@
-use Rattle.mica_fronts.proofs.SoloSteps.{writes_alone, changes_only}
-use Rattle.mica_fronts.proofs.solo.SoloFrontFront.write.Goals as goal
-
-pub returns-clause-written : goal.returns-clause-written
-returns-clause-written g c = writes_alone _ _ _ _ c.write.ensures
-
-pub returns-clause-others : goal.returns-clause-others
-returns-clause-others g c = changes_only _ _ _ _ c.write.ensures

@@ -1,0 +1,5 @@
+pub mod Faults
+pub mod Script
+pub mod Traffic
+pub mod PortStates
+pub mod Seconds

@@ -1,0 +1,58 @@
+use Rattle.partition_words.proofs.Vocabulary.{arith, length, length-packed, packed, plays, puts_from, ◌+◌, ◌∙◌, ◌≡◌}
+use Rattle.partition_words.proofs.ItemEvents.{CanPut, keyed, can_put_parts, all_put}
+use Rattle.partition_words.proofs.item.write_item_hashed.Given.{Over}
+use Rattle.partition_words.proofs.item.write_item_hashed.Goals.{Start, After-from}
+use Rattle.partition_words.proofs.item.write_item_hashed.Goals as goal
+
+can : (g : Over) (c : Start g) → CanPut (g.W.OwnerWords.owner c.args.words.now) c.args.offset c.args.room c.args.key.now c.args.value.now
+can g c = can_put_parts (g.W.OwnerWords.owner c.args.words.now) c.args.offset c.args.room c.args.key.now c.args.value.now c.requires.allowed
+
+-- where the value goes
+place : (g : Over) (c : After-from g) → c.args.offset + c.from.result ≡ c.args.offset + 2 + length (packed c.args.key.now)
+place g c = omega (arith, length-packed c.args.key.now, c.from.ensures, c.item_size.ensures)
+
+-- once the key is put
+key_put : (g : Over) (c : After-from g) → g.W.OwnerWords.owner c.put_packed.new.words
+    ≡ keyed (g.W.OwnerWords.owner c.args.words.now) c.args.offset c.args.room c.args.key.now c.args.value.now
+key_put g c = simp (c.put_packed.ensures.events, c.put_word-2.ensures.event, c.put_word.ensures.event, c.header_of.ensures, c.requires.hashed)
+
+pub put_word-requires : goal.put_word-requires
+put_word-requires g c = (can g (goal.at.put_word-requires g c).Start).header
+
+pub put_word-requires-2 : goal.put_word-requires-2
+put_word-requires-2 g c = simp (c.put_word.ensures.event, c.header_of.ensures) (can g (goal.at.put_word-requires-2 g c).Start).hash
+
+pub put_packed-requires-clause-allowed : goal.put_packed-requires-clause-allowed
+put_packed-requires-clause-allowed g c =
+    simp (c.put_word-2.ensures.event, c.put_word.ensures.event, c.header_of.ensures, c.requires.hashed)
+    (can g (goal.at.put_packed-requires-clause-allowed g c).Start).key_words
+
+pub put_packed-requires-2-clause-allowed : goal.put_packed-requires-2-clause-allowed
+put_packed-requires-2-clause-allowed g c =
+    let at = goal.at.put_packed-requires-2-clause-allowed g c in
+    rw (key_put g at.After-from) (rw (place g at.After-from) (can g at.Start).value_words)
+
+pub returns-clause-events : goal.returns-clause-events
+returns-clause-events g c =
+    let at = (goal.at.returns-clause-events g c).After-from in
+    c.put_packed-2.ensures.events
+    ∙ (λ i. plays (puts_from (place g at i) (packed c.args.value.now)) (key_put g at i))
+    ∙ all_put (g.W.OwnerWords.owner c.args.words.now) c.args.offset c.args.room c.args.key.now c.args.value.now
+
+pub overflow_add-offset : goal.overflow_add-offset
+overflow_add-offset g c = let low = (can g (goal.at.overflow_add-offset g c).Start).header.low in omega arith
+
+pub overflow_add-offset-2 : goal.overflow_add-offset-2
+overflow_add-offset-2 g c = let low = (can g (goal.at.overflow_add-offset-2 g c).Start).header.low in omega arith
+
+pub put_packed-requires-clause-low : goal.put_packed-requires-clause-low
+put_packed-requires-clause-low g c = omega (arith, (can g (goal.at.put_packed-requires-clause-low g c).Start).header.low, c.requires.key)
+
+pub overflow_add-offset-3 : goal.overflow_add-offset-3
+overflow_add-offset-3 g c =
+    omega (arith, (can g (goal.at.overflow_add-offset-3 g c).Start).header.low, c.requires.key, c.from.ensures, c.item_size.ensures)
+
+pub put_packed-requires-2-clause-low : goal.put_packed-requires-2-clause-low
+put_packed-requires-2-clause-low g c =
+    let low = (can g (goal.at.put_packed-requires-2-clause-low g c).Start).header.low in
+    omega (arith, low, c.requires.key, c.requires.value, c.from.ensures, c.item_size.ensures)

@@ -1,0 +1,4 @@
+pub mod SoloSteps
+pub mod QueueSteps
+pub mod Telling
+pub mod OwnerSteps

@@ -1,0 +1,4 @@
+pub mod QueueStand
+pub mod QueueFront
+pub mod OwnerWork
+pub mod Solo

@@ -1,0 +1,3 @@
+pub mod ScriptKeeps
+pub mod Settling
+pub mod Cuts

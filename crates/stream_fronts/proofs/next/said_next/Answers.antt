@@ -1,5 +1,0 @@
-use Rattle.stream_fronts.proofs.Few.{few_asks_of}
-use Rattle.stream_fronts.proofs.next.said_next.Goals as goal
-
-pub returns-clause-few : goal.returns-clause-few
-returns-clause-few c = few_asks_of c.next_command.result c.args.bytes.now c.next_command.ensures.next

@@ -1,9 +1,0 @@
-pub mod Marks
-pub mod Places
-pub mod Numbers
-pub mod Room
-pub mod Pending
-pub mod Stages
-pub mod Views
-pub mod Told
-pub mod Seats

@@ -1,6 +1,0 @@
-use Rattle.stream_io.specs.Connection.{after_close}
-use Rattle.stream_io.proofs.Places.{changed_set}
-use Rattle.stream_io.proofs.memory_list.close_at.Goals as goal
-
-pub returns-clause-after : goal.returns-clause-after
-returns-clause-after c = changed_set c.args.place (after_close) c.args.all.now.items c.index_mut.result.now c.close.new.self c.requires.there c.index_mut.ensures.value c.close.ensures

@@ -1,0 +1,9 @@
+//! TCP connections of this machine: listeners and connections over epoll. What they give no contract can say.
+#![tactic(auto)]
+
+mod patience;
+mod tcp_connections;
+mod tcp_listeners;
+
+pub use tcp_connections::TcpConnections;
+pub use tcp_listeners::TcpListeners;
