@@ -113,7 +113,7 @@ const LONGER: &[u8] = b"two and more";
 const STORED: Option<Outcome> = Some(Outcome::Stored);
 
 /// Absent, present, shorter, as long and longer values. What is not there does not go.
-static ROWS: [Row; 8] = [
+const ROWS: &[Row] = &[
     (None, Change::Stay, b"", None, None),
     (None, Change::Become, b"one", STORED, ONE),
     (None, Change::Go, b"", None, None),
@@ -125,14 +125,14 @@ static ROWS: [Row; 8] = [
 ];
 
 /// In cache mode nothing is found of a value whose item later writes displaced, so it does not go.
-static DISPLACED: [Row; 3] = [
+const DISPLACED: &[Row] = &[
     (ONE, Change::Stay, b"", None, None),
     (ONE, Change::Go, b"", None, None),
     (ONE, Change::Become, b"two", STORED, Some(b"two")),
 ];
 
 /// 8,192 bytes and a key of one take 1,027 words, more than there are, so what the key had stays.
-static TOO_LONG: [Row; 1] = [(
+const TOO_LONG: &[Row] = &[(
     ONE,
     Change::Become,
     &[b'x'; 8_192],
@@ -271,14 +271,13 @@ impl Trial for Changing {
     }
 }
 
-static PLAIN: Changing = Changing {
-    rows: &ROWS,
-    later: &[],
-};
+fn over(rows: &'static [Row], later: &'static [&'static [u8]]) -> Changing {
+    Changing { rows, later }
+}
 
 #[test]
 fn changes_in_store_mode(rt: HostRuntime) -> Result<(), Fail> {
-    open_and_try::<StorePartition<OwnerSeat>, _>(&rt, &SMALL, &PLAIN)
+    open_and_try::<StorePartition<OwnerSeat>, _>(&rt, &SMALL, &over(ROWS, &[]))
 }
 
 const CACHE: Options = Options {
@@ -289,25 +288,15 @@ const CACHE: Options = Options {
 
 #[test]
 fn changes_in_cache_mode(rt: HostRuntime) -> Result<(), Fail> {
-    open_and_try::<CachePartition<OwnerSeat>, _>(&rt, &CACHE, &PLAIN)
+    open_and_try::<CachePartition<OwnerSeat>, _>(&rt, &CACHE, &over(ROWS, &[]))
 }
-
-static DISPLACING: Changing = Changing {
-    rows: &DISPLACED,
-    later: MANY,
-};
 
 #[test]
 fn a_displaced_value_is_not_found(rt: HostRuntime) -> Result<(), Fail> {
-    open_and_try::<CachePartition<OwnerSeat>, _>(&rt, &CACHE, &DISPLACING)
+    open_and_try::<CachePartition<OwnerSeat>, _>(&rt, &CACHE, &over(DISPLACED, MANY))
 }
-
-static LENGTHENING: Changing = Changing {
-    rows: &TOO_LONG,
-    later: &[],
-};
 
 #[test]
 fn a_change_without_room_leaves_the_value(rt: HostRuntime) -> Result<(), Fail> {
-    open_and_try::<StorePartition<OwnerSeat>, _>(&rt, &SMALL, &LENGTHENING)
+    open_and_try::<StorePartition<OwnerSeat>, _>(&rt, &SMALL, &over(TOO_LONG, &[]))
 }
