@@ -25,6 +25,8 @@ pub struct Plan {
 /// The words of a partition, in the hands of one of its readers. Each method but `item_block` is one load. None takes memory
 /// or refuses anything, whatever the owner does meanwhile.
 pub trait ReaderWords: Drop {
+    ghost use Rattle.partition_words.specs.declared.reading.Plan.{Plan};
+
     /// What the reader knows.
     ghost reader: { Self → ReaderState };
 
