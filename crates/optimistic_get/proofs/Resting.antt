@@ -6,7 +6,8 @@ use Rattle.partition_model.specs.Answer.{IsAnswer}
 use Rattle.partition_words.specs.declared.reader.ReaderState.{ReaderState}
 use Rattle.scripted_reader.specs.declared.scripted.Scripted.{Scripted}
 use Rattle.partition_words.specs.Shape.{options_of}
-use Rattle.scripted_reader.specs.Script.{HasPlayedOut, book_of}
+use Rattle.scripted_reader.specs.Script.{HasPlayedOut}
+use Rattle.scripted_reader.specs.Seat.{book_of}
 use Rattle.scripted_reader.proofs.Settling.{at_rest, same_owner, settled_still}
 use Rattle.optimistic_get.specs.declared.getting.Got.{Got}
 use Rattle.optimistic_get.specs.Gets.{is_again, TryAnswers}

@@ -1,7 +1,8 @@
 //! The get of a script that has no event left.
 ghost use Rattle.std.specs.Prelude.{◌≡◌};
 ghost use Rattle.mica_words.specs.Item.{KeyFits};
-ghost use Rattle.scripted_reader.specs.Script.{HasPlayedOut, book_of};
+ghost use Rattle.scripted_reader.specs.Script.{HasPlayedOut};
+ghost use Rattle.scripted_reader.specs.Seat.{book_of};
 ghost use Rattle.optimistic_get.specs.Settled.{AnswersPlayed};
 
 use crate::getting::Got;

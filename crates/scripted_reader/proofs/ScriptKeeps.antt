@@ -1,7 +1,13 @@
 -- Each step of a script keeps the rule of the one-word table whose seat has a book.
-use Rattle.partition_words.proofs.Vocabulary.{Begins, CanPlay, Ends, Event, IsAllowed, IsPossibleShape, Kept, List, OwnerState, Plan, ReaderKept}
-use Rattle.partition_words.proofs.Vocabulary.{ReaderState, Shape, [], after, ap, append-nil, append_assoc, arith, as_made, drop, drop-cons, get_or, length}
+use Rattle.partition_words.proofs.Vocabulary.{CanPlay, IsAllowed, IsPossibleShape, Kept, List, ReaderKept}
+use Rattle.partition_words.proofs.Vocabulary.{[], after, ap, append-nil, append_assoc, arith, as_made, drop, drop-cons, get_or, length}
 use Rattle.partition_words.proofs.Vocabulary.{map, newcomer, owner_event, plays, refl, suc, sym, ℕ, ◌++◌, ◌+◌, ◌<◌, ◌^◌, ◌∙◌, ◌∷◌, ◌≡◌}
+use Rattle.partition_words.specs.declared.event.Event.{Event}
+use Rattle.partition_words.specs.declared.event.Event.TheVariants.{Begins, Ends}
+use Rattle.partition_words.specs.declared.reader.ReaderState.{ReaderState}
+use Rattle.partition_words.specs.declared.reading.Plan.{Plan}
+use Rattle.partition_words.specs.declared.shape.Shape.{Shape}
+use Rattle.partition_words.specs.declared.state.OwnerState.{OwnerState}
 use Rattle.std.proofs.lemmas.Grind.{common_steps}
 use mathlib.Core.Option.{none}
 use Rattle.atomic_table.specs.Table.{Allows, keeps, opening, step}

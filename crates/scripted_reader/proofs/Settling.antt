@@ -1,11 +1,15 @@
 -- When a script is settled: by its last cut, and whether a write is under way.
 use Rattle.std.proofs.lemmas.Grind.{common_steps}
-use Rattle.partition_words.proofs.Vocabulary.{Bool, Idle, IsTrue, Phase, Plan, ap, arith, false, get_or, length, not}
+use Rattle.partition_words.proofs.Vocabulary.{Bool, IsTrue, ap, arith, false, get_or, length, not}
 use Rattle.partition_words.proofs.Vocabulary.{refl, sym, true, ℕ, ◌-◌, ◌<◌, ◌∙◌, ◌≡◌}
+use Rattle.partition_words.specs.declared.reading.Plan.{Plan}
+use Rattle.partition_words.specs.declared.state.Phase.{Phase}
+use Rattle.partition_words.specs.declared.state.Phase.TheVariants.{Idle}
 use Rattle.scripted_reader.specs.declared.scripted.Scripted.{Scripted}
 use Rattle.scripted_reader.proofs.Cuts.{last_of_still, still_at_last}
 use Rattle.partition_words.specs.Plan.{Rests, owner_at}
-use Rattle.scripted_reader.specs.Script.{HasPlayedOut, book_of, is_writing}
+use Rattle.scripted_reader.specs.Script.{HasPlayedOut, is_writing}
+use Rattle.scripted_reader.specs.Seat.{book_of}
 
 idle_is : (phase : Phase) → is_writing phase ≡ false → phase ≡ Idle
 idle_is Idle e = refl

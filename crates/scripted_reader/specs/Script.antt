@@ -21,7 +21,6 @@ use Rattle.partition_words.specs.declared.plain.Script.{Script}
 use Rattle.scripted_reader.specs.declared.scripted.Look.{Look}
 use Rattle.scripted_reader.specs.declared.scripted.Look.TheVariants.{FirstEpoch, Word, Stamp, LastEpoch}
 use Rattle.scripted_reader.specs.declared.scripted.Book.{Book}
-use Rattle.scripted_reader.specs.declared.scripted.Scripted.{Scripted}
 use Rattle.partition_words.specs.Shape.{IsMain}
 use Rattle.partition_words.specs.Layout.{epoch_at}
 use Rattle.partition_words.specs.OwnerState.{as_made}
@@ -44,10 +43,6 @@ NoneAbove n cuts = (i : ℕ) → i < length cuts → slice_index cuts i ≤ n
 
 abbrev pub plan_of : Script → Plan
 plan_of script = record { shape = script.shape; events = script.token.me.0.kept; cuts = script.cuts.items }
-
--- what a scripted reader keeps of its owner and itself
-abbrev pub book_of : Scripted → Book
-book_of seat = seat.stage.seat.me.0
 
 -- the plan of the kept events, by these cuts
 abbrev pub plan_for : PlainWords → List ℕ → Plan

@@ -244,7 +244,8 @@ fn are_cuts(cuts: &[u32], most: usize) -> bool
 impl Scripted {
     ghost use Rattle.std.specs.Prelude.{IfOk};
     ghost use Rattle.partition_words.specs.Seats.{diary_of};
-    ghost use Rattle.scripted_reader.specs.Script.{opening_book, book_of, plan_for};
+    ghost use Rattle.scripted_reader.specs.Script.{opening_book, plan_for};
+    ghost use Rattle.scripted_reader.specs.Seat.{book_of};
 
     /// Whether `new` takes the cuts: they never fall, and none is above the number of events that the words kept.
     pub fn takes(plain: &PlainWords, cuts: &[u32]) -> bool

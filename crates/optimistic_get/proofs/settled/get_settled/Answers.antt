@@ -3,7 +3,7 @@ use Rattle.mica_words.specs.Hash.{hash_bucket, bucket_of}
 use Rattle.mica_words.proofs.Hashes.{bucket_of_hash}
 use Rattle.partition_model.specs.declared.write.Answer.TheVariants.{Hit, Miss}
 use Rattle.partition_words.specs.declared.shape.Shape.{Shape}
-use Rattle.scripted_reader.specs.Script.{book_of}
+use Rattle.scripted_reader.specs.Seat.{book_of}
 use Rattle.optimistic_get.specs.Gets.{is_again}
 use Rattle.optimistic_get.proofs.Resting.{never_again, answers_played}
 use Rattle.optimistic_get.proofs.settled.get_settled.Goals as goal

@@ -1,4 +1,7 @@
-use Rattle.partition_words.proofs.Vocabulary.{IsMain, Plan, ReaderState, Shape, ap, arith, length, subst, sym, ℕ, ◌+◌, ◌∙◌, ◌≡◌}
+use Rattle.partition_words.proofs.Vocabulary.{IsMain, ap, arith, length, subst, sym, ℕ, ◌+◌, ◌∙◌, ◌≡◌}
+use Rattle.partition_words.specs.declared.reader.ReaderState.{ReaderState}
+use Rattle.partition_words.specs.declared.reading.Plan.{Plan}
+use Rattle.partition_words.specs.declared.shape.Shape.{Shape}
 use Rattle.scripted_reader.proofs.ScriptKeeps.{more_loads}
 use Rattle.scripted_reader.proofs.Cuts.{cut_few, cut_min, cut_rises}
 use Rattle.scripted_reader.proofs.scripted.Scripted.load.Given.{Over}
