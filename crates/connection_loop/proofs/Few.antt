@@ -7,7 +7,7 @@ use Rattle.std.proofs.lemmas.Bool.{ltb-false, cond_both}
 use Rattle.std.proofs.lemmas.List.{length-map}
 use Rattle.std.proofs.lemmas.List.Splits.{length-slice_split}
 use Rattle.std.proofs.lemmas.List.Sums.{count_by-le-length, length-filter}
-use Rattle.memcached_text.specs.declared.limits.TheConstants.{MAX_KEY_LEN, MAX_TEXT_LEN, MAX_LINE_LEN}
+use Rattle.memcached_text.specs.declared.limits.TheConstants.{MAX_TEXT_LEN, MAX_LINE_LEN}
 use Rattle.memcached_text.specs.declared.lifetime.Lifetime.{Lifetime}
 use Rattle.memcached_text.specs.declared.command.Command.TheVariants as commands
 use Rattle.memcached_text.specs.declared.command.Wants.TheVariants.{Whatever, Absent, Present, Numbered}
@@ -139,7 +139,7 @@ module _ (most : ℕ) (some : 1 ≤ most) where
 
   deleted_few : (key : List ℕ) (quiet : Bool) → IsFewLine (deleted key quiet)
   unfolding deleted
-  deleted_few key quiet = either_few (nat_lt MAX_KEY_LEN (length key)) (refused faults.Format quiet) (lines.Whole (commands.Delete key quiet)) tt some
+  deleted_few key quiet = either_few (is_key key) (lines.Whole (commands.Delete key quiet)) (refused faults.Format quiet) some tt
 
   delete_few : (words : List (List ℕ)) → IsFewOption (delete_line words)
   unfolding delete_line
@@ -152,7 +152,7 @@ module _ (most : ℕ) (some : 1 ≤ most) where
   counted_few : (direction : Direction) (key delta : List ℕ) (quiet : Bool) → IsFewLine (counted direction key delta quiet)
   unfolding counted
   counted_few direction key delta quiet =
-      either_few (nat_lt MAX_KEY_LEN (length key)) (refused faults.Format quiet) (counted_by direction key (number_of 18446744073709551615 delta) quiet) tt (go (number_of 18446744073709551615 delta))
+      either_few (is_key key) (counted_by direction key (number_of 18446744073709551615 delta) quiet) (refused faults.Format quiet) (go (number_of 18446744073709551615 delta)) tt
     where
       go : (o : Option ℕ) → IsFewLine (counted_by direction key o quiet)
       go None = tt
@@ -166,7 +166,7 @@ module _ (most : ℕ) (some : 1 ≤ most) where
 
   touched_few : (key expiry : List ℕ) (quiet : Bool) → IsFewLine (touched key expiry quiet)
   unfolding touched
-  touched_few key expiry quiet = either_few (nat_lt MAX_KEY_LEN (length key)) (refused faults.Format quiet) (touched_by key (lifetime_of expiry) quiet) tt (go (lifetime_of expiry))
+  touched_few key expiry quiet = either_few (is_key key) (touched_by key (lifetime_of expiry) quiet) (refused faults.Format quiet) (go (lifetime_of expiry)) tt
     where
       go : (o : Option Lifetime) → IsFewLine (touched_by key o quiet)
       go None = tt
@@ -201,7 +201,7 @@ module _ (most : ℕ) (some : 1 ≤ most) where
   verbosity_few : (words : List (List ℕ)) → IsFewOption (verbosity_line words)
   unfolding verbosity_line
   verbosity_few [] = tt
-  verbosity_few (level ∷ tail) = by_tail _ (level_few (number_of 4294967295 level)) (quiet_tail level tail)
+  verbosity_few (level ∷ tail) = by_tail _ (level_few (number_of 18446744073709551615 level)) (quiet_tail level tail)
     where
       level_few : (o : Option ℕ) (quiet : Bool) → IsFewLine (verbosity_by o quiet)
       level_few None quiet = tt
