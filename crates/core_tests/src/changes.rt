@@ -224,7 +224,6 @@ pub(crate) fn count_up<R: Threads + Wait + Sync, F: Changes + Drop>(
     room: Room,
 ) -> F
     requires { TIMES ≤ F.left front }
-    ensures { F.left front.entry ≤ F.left result + TIMES }
 {
     let mut front = front;
     let mut room = room;

@@ -192,7 +192,10 @@ pub fn split(alloc: Global, words: &str, into: &mut Vec<u8>) -> Result<(), NoMem
     let (version, count) = first_word(words);
     let version = version.parse::<u8>().unwrap_or(0);
     let all = misses(alloc, small(count).unwrap_or(0))?;
-    if !is_version(version) || !all.iter().all(|reply| is_reply(version, reply)) {
+    if !is_version(version) {
+        return say(into, "no version\n");
+    }
+    if !all.iter().all(|reply| is_reply(version, reply)) {
         return say(into, "no replies\n");
     }
     let written = write_replies(alloc, all.as_slice(), 7, version)?;
