@@ -6,6 +6,7 @@ import subprocess
 
 TOP = pathlib.Path(__file__).resolve().parent.parent
 PAGES = [TOP / "README.md", *sorted((TOP / "docs").glob("*.md"))]
+OF_CRATES = sorted((TOP / "crates").glob("*/README.md"))
 
 
 def blocks(page):

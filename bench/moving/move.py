@@ -1,5 +1,5 @@
 #!/usr/bin/env python3
-"""Moves the crates of a tree with the names before moving day to the names behind it.
+"""Moves the crates of a tree with the names before moving day to the names behind it. It was run once, and is kept for carry.py (README.md).
 
 bench/moving/move.py [--no-fmt] [TREE]      (TREE: the tree's top; without it the folder where it is run)
 
