@@ -1,6 +1,6 @@
 //! Hashes, entries, headers, packed bytes, classes and sizes.
 
-use crate::text::{number, say};
+use crate::text::{first_word, number, say};
 use mica_words::{
     MAX_KEY_LEN, MAX_VALUE_LEN, bucket_of, entry_of, entry_offset, entry_tag, header_key_len,
     header_of, header_room, header_value_len, item_size, key_fits, key_hash, pack, partition_of,
@@ -79,12 +79,11 @@ fn header(room: u64, key_len: u64, value_len: u64) -> Option<u64> {
 
 /// What the function that a line names first makes of its numbers.
 fn result_of(alloc: Global, line: &str) -> Result<Option<u64>, NoMemory> {
-    let mut name = "";
+    let (name, words) = first_word(line);
     let mut numbers = Vec::new(alloc);
-    for word in line.split(' ') {
-        match number(word) {
-            Some(number) => numbers.push(number)?,
-            None => name = word,
+    for word in words.split(' ') {
+        if let Some(number) = number(word) {
+            numbers.push(number)?;
         }
     }
     Ok(match numbers.as_slice() {
