@@ -1,0 +1,25 @@
+-- What cases tell apart.
+use Rattle.std.proofs.Common.{ℕ, Bool, true, false}
+use Rattle.memcached_text.specs.declared.next.Next.{Next}
+use Rattle.memcached_text.specs.declared.next.Next.TheVariants.{Command}
+use Rattle.memcached_commands.specs.declared.ask.Says.{Says}
+use Rattle.memcached_commands.specs.declared.ask.Says.TheVariants.{Shows}
+use Rattle.memcached_stats.specs.Stats.{Told}
+
+-- the number of an item that is shown, and 0 of all else
+abbrev pub shown_number : Says → ℕ
+shown_number (Shows item) = item.unique
+shown_number _ = 0
+
+-- bytes begin with a command
+abbrev pub is_command : Next → Bool
+is_command (Command command len) = true
+is_command _ = false
+
+-- a server told nothing of itself
+abbrev pub nothing_told : Told
+nothing_told = record {
+  about = record { pid = 0; uptime = 0; time = 0; threads = 0; limit_maxbytes = 0; max_connections = 0 };
+  counts = λ counter. 0;
+  wear = λ partition. record { writes = 0; writes_left = 0 };
+}

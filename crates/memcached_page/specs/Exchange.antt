@@ -1,0 +1,74 @@
+-- What a client said, with the deeds that carried it out, and what is due to it.
+use Rattle.std.specs.Prelude.{◌≡◌, ◌==◌, ℕ, suc, Bool, true, false, ⊤, List, [], ◌∷◌, ◌++◌, length, filter_map, flat_map, Option, Some, None, if◌then◌else◌}
+use Rattle.std.specs.List.{list_all}
+use Rattle.memcached_text.specs.declared.next.Next.{Next}
+use Rattle.memcached_text.specs.declared.reply.Reply.TheVariants.{Done as Okay, NoRoom}
+use Rattle.memcached_text.specs.Answer.{Answer, part_text, last_text}
+use Rattle.memcached_text.specs.Replies.{reply_text}
+use Rattle.memcached_commands.specs.declared.asks.Asked.{Asked}
+use Rattle.memcached_commands.specs.declared.ask.Says.{Says}
+use Rattle.memcached_commands.specs.Asks.{asks_in}
+use Rattle.memcached_commands.specs.Answers.{answer_of, unless_quiet}
+use Rattle.memcached_stats.specs.Stats.{Told}
+use Rattle.fronts.specs.declared.flushes.Flush.{Flush}
+use Rattle.command_answers.specs.Exchange.{flush_due, is_flush_all, is_quiet, wants_numbers, plain_text}
+use Rattle.command_answers.specs.FlushAnswers.{flush_at}
+use Rattle.memcached_page.specs.Course.{Deed, carried, flushed}
+
+-- What a client said; the deeds that carried it out so far, in order; what the server told of itself, where that is wanted; and whether memory lacked for it.
+pub record Exchange : Type 0 where
+  pub next : Next
+  pub deeds : List Deed
+  pub told : Told
+  pub lacked : Bool
+
+-- Carried out
+
+-- These carry out the first of what is asked of keys.
+abbrev pub CarryAsks : List Asked → List Deed → Type 0
+CarryAsks asks [] = ⊤
+CarryAsks (asked ∷ asks) (carried second number own says ∷ later) = (own ≡ asked) × CarryAsks asks later
+CarryAsks _ _ = ⊥
+
+-- These flush the parts from this one on.
+abbrev pub FlushParts : Flush → ℕ → List Deed → Type 0
+FlushParts flush part [] = ⊤
+FlushParts flush part (flushed own number asked took ∷ later) = (own ≡ part) × (asked ≡ flush) × FlushParts flush (suc part) later
+FlushParts flush part _ = ⊥
+
+-- A flush of all is one of each part, all asked for at one second.
+abbrev pub CarryOut : Bool → Next → List Deed → Type 0
+CarryOut true next deeds = (second : ℕ) × FlushParts (flush_at second (flush_due next)) 0 deeds
+CarryOut false next deeds = CarryAsks (asks_in next) deeds
+
+-- whether all of it is carried out
+abbrev pub is_done : ℕ → Exchange → Bool
+is_done parts e = length e.deeds == (if is_flush_all e.next then parts else length (asks_in e.next))
+
+-- Due
+
+-- what was said of a key
+abbrev pub said_in : Deed → Option (List ℕ × Says)
+said_in (carried second number asked says) = Some (asked.key, says)
+said_in _ = None
+
+abbrev pub took : Deed → Bool
+took (flushed part number flush accepted) = accepted
+took _ = false
+
+-- the items that were shown, and behind the last of them the last line
+abbrev pub asks_text : Bool → Answer → List ℕ
+asks_text done answer = flat_map part_text answer.parts ++ (if done then last_text answer.last else [])
+
+-- of a flush: whether each part took it
+abbrev pub flush_text : Bool → List Deed → List ℕ
+flush_text done deeds = if done then reply_text (if list_all took deeds then Okay else NoRoom) else []
+
+-- of what asks nothing of keys, and else of what was said of each
+abbrev pub text_for : ℕ → Exchange → List Asked → List ℕ
+text_for parts e [] = plain_text parts e.told e.next
+text_for parts e (asked ∷ later) = asks_text (is_done parts e) (answer_of (wants_numbers e.next) (filter_map said_in e.deeds))
+
+-- What is due to it so far, byte for byte.
+abbrev pub due_to : ℕ → Exchange → List ℕ
+due_to parts e = unless_quiet (is_quiet e.next) (if is_flush_all e.next then flush_text (is_done parts e) e.deeds else text_for parts e (asks_in e.next))

@@ -1,0 +1,51 @@
+//! What the page says of some talks: examples, as facts.
+ghost use Rattle.std.specs.Prelude.{◌≡◌, ℕ, List, [], ◌∷◌, codes};
+ghost use Rattle.partition_model.specs.declared.options.Mode.{Mode as OneMode};
+ghost use Rattle.memcached_commands.specs.declared.ask.Ask.TheVariants.{Get};
+ghost use Rattle.memcached_commands.specs.declared.ask.Says.TheVariants.{Nothing};
+ghost use Rattle.memcached_commands.specs.Asks.{asked};
+ghost use Rattle.memcached_page.specs.Shelf.{Shelf, empty};
+ghost use Rattle.memcached_page.specs.Course.{carried, IsCourse};
+ghost use Rattle.memcached_page.specs.Kept.{KeepsItems, RefusesWhereFull, shelf_in};
+ghost use Rattle.memcached_page.specs.Talk.{Talks, done_for};
+ghost use Rattle.memcached_page.specs.Examples.{counting, forgetting, forgetting_old, options, refusing, shown_behind_delete, shown_stale};
+
+use partition_model::Mode;
+
+/// A client sets `n` to 5, another counts it up by 2, and the first gets 7. That is a course, and each is sent what is due to it.
+pub fn counts_over_two()
+    ensures course { (mode : OneMode) → IsCourse mode empty counting (shelf_in empty counting) }
+    ensures first { Talks 1 (codes "set n 0 0 1\r\n5\r\nget n\r\n") (codes "STORED\r\nVALUE n 0 1\r\n7\r\nEND\r\n") (done_for 0 counting) }
+    ensures second { Talks 1 (codes "incr n 2\r\n") (codes "7\r\n") (done_for 1 counting) }
+{}
+
+/// What was deleted is not shown.
+pub fn deleted_is_gone()
+    ensures { (mode : OneMode) (left : Shelf) → IsCourse mode empty shown_behind_delete left → ⊥ }
+{}
+
+/// Of two values the one that was set last is shown, whoever set it.
+pub fn newest_is_shown()
+    ensures { (mode : OneMode) (left : Shelf) → IsCourse mode empty shown_stale left → ⊥ }
+{}
+
+/// In a store no item goes by itself that is there.
+pub fn store_keeps()
+    ensures { (left : Shelf) → IsCourse Mode.Store empty forgetting left → ⊥ }
+{}
+
+/// In a cache none goes at once, whichever keys may take each other's place. One goes once the log was written round behind it.
+pub fn cache_keeps()
+    ensures at_once { (class : List ℕ → ℕ) → KeepsItems (options Mode.Cache 256) class empty forgetting → ⊥ }
+    ensures round { (class : List ℕ → ℕ) → KeepsItems (options Mode.Cache 12) class empty forgetting_old }
+{}
+
+/// Nothing is refused for want of room where nothing is stored.
+pub fn refuses_where_full()
+    ensures { RefusesWhereFull (options Mode.Store 256) empty refusing → ⊥ }
+{}
+
+/// A client is not sent what is due to another.
+pub fn own_reply()
+    ensures { Talks 1 (codes "get n\r\n") (codes "VALUE m 0 1\r\n7\r\nEND\r\n") (carried 100 1 (asked Get (codes "n")) Nothing ∷ []) → ⊥ }
+{}
