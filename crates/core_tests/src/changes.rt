@@ -1,21 +1,33 @@
 //! Changes of a value under one hold, by two fronts that own one partition in turn.
-ghost use Rattle.std.specs.Prelude.{◌≡◌, ◌+◌, ◌*◌, ◌<◌, ◌≤◌, length, true, option_copied};
+ghost use Rattle.std.specs.Prelude.{◌≡◌, ◌+◌, ◌*◌, ◌<◌, ◌≤◌, length, map, true, option_copied};
 ghost use Rattle.mica_words.specs.Item.{ValueFits};
+ghost use Rattle.partition_model.specs.Options.{IsPossible};
+ghost use Rattle.partition_table.specs.Seats.{note_state, note_home};
+ghost use Rattle.locked_front.specs.Owned.{NotesAre};
+ghost use Rattle.locked_front.specs.Parts.{turns_left, most_turns};
+ghost use Rattle.locked_server.specs.Opening.{ArePlanned, AreNewParts, filled_view};
 ghost use Rattle.core_tests.specs.Decisions.{count_in as count_of, two_bytes as bytes_of};
 
-use crate::front_pair::{KEY, SMALL, Trial, expect_value, open_and_try, write_one};
+use crate::change_rows::{DISPLACED, ROWS, Row};
+use any_partition::OnTable;
 use cache_partition::CachePartition;
-use fronts::{Changes, Decide, Glances, When};
+use fronts::{Changes, Decide, Front, When};
+use locked_front::{LockedFront, LockedPart, OwnedPartition, ServerPlan};
+use locked_server::{FilledPart, lend_hand, lock_parts, open_parts};
 use mica_words::{key_fits, value_fits};
-use partition_model::{Change, ItemBuf, Mode, Op, Options, Outcome};
-use partition_table::OwnerSeat;
+use partition_model::{Answer, Change, ItemBuf, Mode, Op, Options, Outcome};
+use partition_table::{Note, OwnerSeat, ReaderSeat};
+use partition_words::LendPartition;
 use std::alloc::Global;
+use std::marker::Brand;
 use std::process::Abort;
 use std::sync::atomic::AtomicBool;
 use std::sync::{Mutex, Wait};
 use std::test::Fail;
 use std::thread::{Threads, join};
 use store_partition::StorePartition;
+
+pub(crate) const KEY: &[u8] = b"k";
 
 /// How often each of two threads counts.
 pub(crate) const TIMES: u32 = 10_000;
@@ -97,54 +109,89 @@ fn two_bytes(count: u32) -> [u8; 2]
     [(count % 256) as u8, (count / 256 % 256) as u8]
 }
 
-/// What the key has before, what is decided of its value, what comes of the write, if there is one, and what the key has then.
-type Row = (
-    Option<&'static [u8]>,
-    Change,
-    &'static [u8],
-    Option<Outcome>,
-    Option<&'static [u8]>,
-);
-
-const ONE: Option<&[u8]> = Some(b"one");
-
-const LONGER: &[u8] = b"two and more";
-
-const STORED: Option<Outcome> = Some(Outcome::Stored);
-
-/// Absent, present, shorter, as long and longer values. What is not there does not go.
-const ROWS: &[Row] = &[
-    (None, Change::Stay, b"", None, None),
-    (None, Change::Become, b"one", STORED, ONE),
-    (None, Change::Go, b"", None, None),
-    (ONE, Change::Stay, b"", None, ONE),
-    (ONE, Change::Become, b"2", STORED, Some(b"2")),
-    (ONE, Change::Become, LONGER, STORED, Some(LONGER)),
-    (ONE, Change::Become, b"", STORED, Some(b"")),
-    (ONE, Change::Go, b"", Some(Outcome::Deleted), None),
-];
-
-/// In cache mode nothing is found of a value whose item later writes displaced, so it does not go.
-const DISPLACED: &[Row] = &[
-    (ONE, Change::Stay, b"", None, None),
-    (ONE, Change::Go, b"", None, None),
-    (ONE, Change::Become, b"two", STORED, Some(b"two")),
-];
-
-/// 8,192 bytes and a key of one take 1,027 words, more than there are, so what the key had stays.
-const TOO_LONG: &[Row] = &[(
-    ONE,
-    Change::Become,
-    &[b'x'; 8_192],
-    Some(Outcome::FullBlock),
-    ONE,
-)];
-
-/// Keys whose values take more than the log.
-const MANY: &[&[u8]] = &[b"0", b"1", b"2", b"3"];
-
 /// A value that takes a fourth of the log with its key, and a little more.
 static LONG: [u8; 8_192] = [b'x'; 8_192];
+
+// What the key has.
+pub(crate) fn expect_value<R: Abort + Threads + Wait + Sync, F: Front>(
+    rt: &R,
+    front: &mut F,
+    out: &mut ItemBuf,
+    wanted: Option<&[u8]>,
+)
+    ensures { F.left front.new ≡ F.left front.old }
+{
+    assert!(rt; key_fits(KEY));
+    let (answer, _) = front.read(rt, KEY, out);
+    match wanted {
+        Some(value) => assert!(rt; answer == Answer::Hit && out.value() == value),
+        None => assert!(rt; answer == Answer::Miss),
+    }
+}
+
+// Puts a long value at each of the keys.
+fn put_long<R: Abort + AllocGlobal + Threads + Wait + Sync, F: Changes>(
+    rt: &R,
+    front: &mut F,
+    keys: &[&[u8]],
+) -> Result<(), Fail>
+    requires { length keys.now ≤ F.left front.old }
+    ensures { F.left front.old ≤ F.left front.new + length keys.now }
+{
+    for i in 0..keys.len() {
+        assert!(rt; key_fits(keys[i]) && value_fits(&LONG));
+        front.write(rt, rt.alloc(), Op::Put, keys[i], &LONG)?;
+    }
+    Ok(())
+}
+
+// One row, by a front.
+fn expect_row<R: Abort + AllocGlobal + Threads + Wait + Sync, F: Changes>(
+    rt: &R,
+    front: &mut F,
+    row: &Row<'_>,
+) -> Result<(), Fail>
+    requires { 8 ≤ F.left front.old }
+    ensures { F.left front.old ≤ F.left front.new + 8 }
+{
+    assert!(rt; key_fits(KEY) && value_fits(row.value) && row.later.len() <= 6);
+    let alloc = rt.alloc();
+    let mut found = ItemBuf::new(alloc)?;
+    let mut next = ItemBuf::new(alloc)?;
+    match row.before {
+        Some(value) => {
+            assert!(rt; value_fits(value));
+            front.write(rt, alloc, Op::Put, KEY, value)?;
+        }
+        None => {
+            front.write(rt, alloc, Op::Del, KEY, b"")?;
+        }
+    }
+    put_long(rt, front, row.later)?;
+    let decide = Fixed {
+        change: row.change,
+        value: row.value,
+    };
+    let changed = front.change(rt, 7, KEY, &decide, &mut found, &mut next);
+    assert!(rt; changed.outcome == row.outcome && changed.when.second == 7);
+    expect_value(rt, front, &mut found, row.after);
+    Ok(())
+}
+
+// All rows, by a front.
+fn expect_rows<R: Abort + AllocGlobal + Threads + Wait + Sync, F: Changes>(
+    rt: &R,
+    front: &mut F,
+    rows: &[Row<'_>],
+) -> Result<(), Fail>
+    requires { 8 * length rows.now ≤ F.left front.old }
+    ensures { F.left front.old ≤ F.left front.new + 8 * length rows.now }
+{
+    for i in 0..rows.len() {
+        expect_row(rt, front, &rows[i])?;
+    }
+    Ok(())
+}
 
 /// The room of a thread that counts.
 #[derive(Drop)]
@@ -160,61 +207,6 @@ impl Room {
             next: ItemBuf::new(alloc)?,
         })
     }
-}
-
-// Puts a long value at each of the keys.
-fn put_long<R: Abort + AllocGlobal + Threads + Wait + Sync, F: Changes>(
-    rt: &R,
-    front: &mut F,
-    keys: &[&[u8]],
-) -> Result<(), Fail>
-    requires { length keys.now ≤ F.left front.old }
-    ensures { F.left front.old ≤ F.left front.new + length keys.now }
-{
-    for i in 0..keys.len() {
-        write_one(rt, front, Op::Put, keys[i], &LONG)?;
-    }
-    Ok(())
-}
-
-// One row, by a front, with a long value put at other keys before the decision.
-fn expect_row<R: Abort + AllocGlobal + Threads + Wait + Sync, F: Changes>(
-    rt: &R,
-    front: &mut F,
-    row: &Row,
-    later: &[&[u8]],
-) -> Result<(), Fail>
-    requires { 8 ≤ F.left front.old }
-    ensures { F.left front.old ≤ F.left front.new + 8 }
-{
-    let (before, change, value, outcome, after) = *row;
-    assert!(rt; key_fits(KEY) && value_fits(value) && later.len() <= 6);
-    let mut room = Room::new(rt.alloc())?;
-    match before {
-        Some(value) => write_one(rt, front, Op::Put, KEY, value)?,
-        None => write_one(rt, front, Op::Del, KEY, b"")?,
-    };
-    put_long(rt, front, later)?;
-    let decide = Fixed { change, value };
-    let changed = front.change(rt, 7, KEY, &decide, &mut room.found, &mut room.next);
-    assert!(rt; changed.outcome == outcome && changed.when.second == 7);
-    expect_value(rt, front, KEY, after)
-}
-
-// All rows, by a front.
-fn expect_rows<R: Abort + AllocGlobal + Threads + Wait + Sync, F: Changes>(
-    rt: &R,
-    front: &mut F,
-    rows: &[Row],
-    later: &[&[u8]],
-) -> Result<(), Fail>
-    requires { 8 * length rows.now ≤ F.left front.old }
-    ensures { F.left front.old ≤ F.left front.new + 8 * length rows.now }
-{
-    for i in 0..rows.len() {
-        expect_row(rt, front, &rows[i], later)?;
-    }
-    Ok(())
 }
 
 /// Counts the key up, and gives the front back.
@@ -236,66 +228,132 @@ pub(crate) fn count_up<R: Threads + Wait + Sync, F: Changes + Drop>(
     front
 }
 
-/// The rows by the first front, and then both count.
-#[derive(Clone, Copy)]
-struct Changing {
-    rows: &'static [Row],
-    later: &'static [&'static [u8]],
+// A front that has taken no turn.
+pub(crate) fn front_of<
+    'a,
+    J: ServerPlan,
+    P: LendPartition<Reader = ReaderSeat, Note = Note> + Drop,
+>(
+    options: &Options,
+    locks: &'a [Mutex<OwnedPartition<J, P>>],
+    number: u32,
+    hand: Vec<LockedPart>,
+    ended: &'a AtomicBool,
+) -> LockedFront<'a, J, P>
+    requires valid { IsPossible options.now }
+    requires named { options.now ≡ J.plan.options }
+    requires low { number < J.plan.fronts }
+    requires locks { length locks.now ≡ options.now.partitions }
+    requires hand { AreNewParts J.plan number hand.items }
+    ensures { turns_left result.parts ≡ most_turns }
+{
+    LockedFront::new(options, locks, number, hand, ended)
 }
 
-impl Trial for Changing {
-    fn run<R: Abort + AllocGlobal + Threads + Wait + Sync, L: Drop, F: Glances + Drop + Send>(
-        &self,
-        rt: &R,
-        _lock: &Mutex<L>,
-        _ended: &AtomicBool,
-        one: F,
-        two: F,
-    ) -> Result<(), Fail> {
-        assert!(rt; self.rows.len() <= 100);
-        let mut one = one;
-        expect_rows(rt, &mut one, self.rows, self.later)?;
-        let (first, second) = (Room::new(rt.alloc())?, Room::new(rt.alloc())?);
-        let (mut one, _) = join(
-            rt,
-            move ||
-                requires { TIMES ≤ F.left one }
-            { count_up(rt, one, first) },
-            move ||
-                requires { TIMES ≤ F.left two }
-            { count_up(rt, two, second) },
-        );
-        // 20,000 is 78 times 256, and 32.
-        expect_value(rt, &mut one, KEY, Some(&[32, 78]))
+// Two fronts before one partition: the rows by the first, and then both count.
+fn change_by_two<
+    J: ServerPlan + Send + Sync,
+    W: Abort + AllocGlobal + Threads + Wait + Sync,
+    P: OnTable + LendPartition<Reader = ReaderSeat, Note = Note> + Drop + Send,
+>(rt: &W, options: &Options, rows: &[Row<'_>], parts: Vec<FilledPart<P>>) -> Result<(), Fail>
+    requires notes { NotesAre P.noted P.note_home note_state note_home }
+    requires valid { IsPossible options.now }
+    requires named { options.now ≡ J.plan.options }
+    requires takers { J.plan.fronts ≡ 2 }
+    requires of { ArePlanned J.plan 0 (map (λ f. filled_view P.owner P.home f) parts.items) }
+    requires rows { length rows.now ≤ 100 }
+{
+    let alloc = rt.alloc();
+    let mut parts = parts;
+    let first = lend_hand::<J, P>(alloc, &mut parts, 0)?;
+    let second = lend_hand::<J, P>(alloc, &mut parts, 1)?;
+    let locks = lock_parts::<J, P>(alloc, parts)?;
+    let ended = AtomicBool::new(false);
+    let mut first = front_of(options, locks.as_slice(), 0, first, &ended);
+    let second = front_of(options, locks.as_slice(), 1, second, &ended);
+    expect_rows(rt, &mut first, rows)?;
+    let (one, two) = (Room::new(alloc)?, Room::new(alloc)?);
+    let (mut first, _) = join(
+        rt,
+        move ||
+            requires { TIMES ≤ turns_left first.parts }
+        { count_up(rt, first, one) },
+        move ||
+            requires { TIMES ≤ turns_left second.parts }
+        { count_up(rt, second, two) },
+    );
+    // 20,000 is 78 times 256, and 32.
+    expect_value(rt, &mut first, &mut ItemBuf::new(alloc)?, Some(&[32, 78]));
+    Ok(())
+}
+
+// Opens one empty partition of the options.
+fn open_and_change<P: OnTable + LendPartition<Reader = ReaderSeat, Note = Note> + Drop + Send>(
+    rt: &(impl Abort + AllocGlobal + Threads + Wait + Sync),
+    options: &Options,
+    rows: &[Row<'_>],
+) -> Result<(), Fail>
+    requires notes { NotesAre P.noted P.note_home note_state note_home }
+    requires same { (p : P) → P.state p ≡ P.owner p }
+    requires mode { options.now.mode ≡ P.mode }
+    requires rows { length rows.now ≤ 100 }
+{
+    assert!(rt; options.is_possible());
+    let opened = open_parts::<_, P>(rt, rt.alloc(), options, &[]);
+    assert!(rt; opened.is_ok());
+    if let Ok(parts) = opened {
+        change_by_two::<Brand, _, P>(rt, options, rows, parts)?;
     }
+    Ok(())
 }
 
-fn over(rows: &'static [Row], later: &'static [&'static [u8]]) -> Changing {
-    Changing { rows, later }
-}
-
-#[test]
-fn changes_in_store_mode(rt: HostRuntime) -> Result<(), Fail> {
-    open_and_try::<StorePartition<OwnerSeat>, _>(&rt, &SMALL, &over(ROWS, &[]))
-}
-
-const CACHE: Options = Options {
-    mode: Mode::Cache,
-    words: 4_096,
-    ..SMALL
+/// One small partition in store mode.
+pub(crate) const SMALL: Options = Options {
+    mode: Mode::Store,
+    partitions: 1,
+    buckets: 1,
+    spares: 1,
+    words: 1_024,
+    readers: 2,
+    tries: 100,
+    wear: 1_000_000,
 };
 
 #[test]
+fn changes_in_store_mode(rt: HostRuntime) -> Result<(), Fail> {
+    open_and_change::<StorePartition<OwnerSeat>>(&rt, &SMALL, &ROWS)
+}
+
+#[test]
 fn changes_in_cache_mode(rt: HostRuntime) -> Result<(), Fail> {
-    open_and_try::<CachePartition<OwnerSeat>, _>(&rt, &CACHE, &over(ROWS, &[]))
+    let options = Options {
+        mode: Mode::Cache,
+        words: 4_096,
+        ..SMALL
+    };
+    open_and_change::<CachePartition<OwnerSeat>>(&rt, &options, &ROWS)
 }
 
 #[test]
 fn a_displaced_value_is_not_found(rt: HostRuntime) -> Result<(), Fail> {
-    open_and_try::<CachePartition<OwnerSeat>, _>(&rt, &CACHE, &over(DISPLACED, MANY))
+    let options = Options {
+        mode: Mode::Cache,
+        words: 4_096,
+        ..SMALL
+    };
+    open_and_change::<CachePartition<OwnerSeat>>(&rt, &options, &DISPLACED)
 }
 
+// 8,192 bytes and a key of one take 1,027 words, more than there are, so what the key had stays.
 #[test]
 fn a_change_without_room_leaves_the_value(rt: HostRuntime) -> Result<(), Fail> {
-    open_and_try::<StorePartition<OwnerSeat>, _>(&rt, &SMALL, &over(TOO_LONG, &[]))
+    let rows = [Row {
+        before: Some(b"one"),
+        later: &[],
+        change: Change::Become,
+        value: &LONG,
+        outcome: Some(Outcome::FullBlock),
+        after: Some(b"one"),
+    }];
+    open_and_change::<StorePartition<OwnerSeat>>(&rt, &SMALL, &rows)
 }

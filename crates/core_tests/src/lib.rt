@@ -7,9 +7,9 @@ mod adapters;
 #[cfg(test)]
 mod cache_put;
 #[cfg(test)]
-mod changes;
+mod change_rows;
 #[cfg(test)]
-mod front_pair;
+mod changes;
 #[cfg(test)]
 mod heap;
 #[cfg(test)]

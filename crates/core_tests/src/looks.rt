@@ -1,13 +1,22 @@
 //! Looks at a value that may need no hold, by two fronts that own one partition in turn.
-ghost use Rattle.std.specs.Prelude.{◌≡◌, ◌+◌, ◌<◌, ◌≤◌};
+ghost use Rattle.std.specs.Prelude.{◌≡◌, ◌+◌, ◌<◌, ◌≤◌, map};
+ghost use Rattle.partition_model.specs.Options.{IsPossible};
+ghost use Rattle.partition_table.specs.Seats.{note_state, note_home};
+ghost use Rattle.locked_front.specs.Owned.{NotesAre};
+ghost use Rattle.locked_front.specs.Parts.{turns_left};
+ghost use Rattle.locked_server.specs.Opening.{ArePlanned, filled_view};
 
-use crate::changes::{Room, TIMES, count_in, count_up};
-use crate::front_pair::{KEY, SMALL, Trial, open_and_try, write_one};
+use crate::changes::{KEY, Room, SMALL, TIMES, count_in, count_up, front_of};
+use any_partition::OnTable;
 use cache_partition::CachePartition;
-use fronts::{Changes, Decide, Glances, When};
-use mica_words::key_fits;
+use fronts::{Changes, Decide, Front, When};
+use locked_front::ServerPlan;
+use locked_server::{FilledPart, lend_hand, lock_parts, open_parts};
+use mica_words::{key_fits, value_fits};
 use partition_model::{Answer, Change, ItemBuf, Mode, Op, Options};
-use partition_table::OwnerSeat;
+use partition_table::{Note, OwnerSeat, ReaderSeat};
+use partition_words::LendPartition;
+use std::marker::Brand;
 use std::process::Abort;
 use std::sync::atomic::AtomicBool;
 use std::sync::{Mutex, Wait};
@@ -78,6 +87,24 @@ fn expect_look<R: Abort + Threads + Wait + Sync, F: Changes>(
     }
 }
 
+// A put or a delete of a key.
+fn write_one<R: Abort + AllocGlobal + Threads + Wait + Sync, F: Changes>(
+    rt: &R,
+    front: &mut F,
+    op: Op,
+    key: &[u8],
+    value: &[u8],
+) -> Result<(), Fail>
+    requires { 0 < F.left front.old }
+    ensures { F.left front.old ≤ F.left front.new + 1 }
+{
+    assert!(rt;
+        key_fits(key) && value_fits(value) && (op == Op::Put || op == Op::Del && value.is_empty())
+    );
+    front.write(rt, rt.alloc(), op, key, value)?;
+    Ok(())
+}
+
 // Each front looks behind its own writes and behind the other's.
 fn look_in_turn<R: Abort + AllocGlobal + Threads + Wait + Sync, F: Changes>(
     rt: &R,
@@ -109,10 +136,25 @@ fn look_in_turn<R: Abort + AllocGlobal + Threads + Wait + Sync, F: Changes>(
     Ok(())
 }
 
-// One front looks at what the other wrote, while the lock is held: a look that waited for it would wait for ever.
-fn look_beside<R: Abort + AllocGlobal + Threads + Wait + Sync, L: Drop, F: Changes>(
+// Looks while the lock is held: a look that waited for it would wait for ever.
+fn look_while_held<R: Abort + Threads + Wait + Sync, T: Drop, F: Changes>(
     rt: &R,
-    lock: &Mutex<L>,
+    lock: &Mutex<T>,
+    front: &mut F,
+    room: &mut Room,
+)
+    requires { 0 < F.left front.old }
+    ensures { F.left front.old ≤ F.left front.new }
+{
+    let held = lock.lock(rt);
+    expect_look(rt, front, room, Some(b"held"), 4);
+    drop(held);
+}
+
+// One front looks at what the other wrote, while the lock is held.
+fn look_beside<R: Abort + AllocGlobal + Threads + Wait + Sync, T: Drop, F: Changes>(
+    rt: &R,
+    lock: Option<&Mutex<T>>,
     one: &mut F,
     two: &mut F,
     room: &mut Room,
@@ -123,11 +165,11 @@ fn look_beside<R: Abort + AllocGlobal + Threads + Wait + Sync, L: Drop, F: Chang
     ensures two { F.left two.old ≤ F.left two.new + 2 }
 {
     write_one(rt, two, Op::Put, KEY, b"held")?;
-    let held = lock.lock(rt);
-    expect_look(rt, one, room, Some(b"held"), 4);
-    drop(held);
-    write_one(rt, two, Op::Del, KEY, b"")?;
-    Ok(())
+    match lock {
+        Some(lock) => look_while_held(rt, lock, one, room),
+        None => assert!(rt; false),
+    }
+    write_one(rt, two, Op::Del, KEY, b"")
 }
 
 // Looks while another counts up: the count never falls.
@@ -157,49 +199,72 @@ fn look_often<R: Threads + Wait + Sync, F: Changes + Drop>(rt: &R, front: F, roo
     true
 }
 
-/// Looks in turn, beside a hold, and beside a count that rises.
-#[derive(Clone, Copy)]
-struct Looking;
+// Two fronts before one partition.
+fn look_by_two<
+    J: ServerPlan + Send + Sync,
+    W: Abort + AllocGlobal + Threads + Wait + Sync,
+    P: OnTable + LendPartition<Reader = ReaderSeat, Note = Note> + Drop + Send,
+>(rt: &W, options: &Options, parts: Vec<FilledPart<P>>) -> Result<(), Fail>
+    requires notes { NotesAre P.noted P.note_home note_state note_home }
+    requires valid { IsPossible options.now }
+    requires named { options.now ≡ J.plan.options }
+    requires takers { J.plan.fronts ≡ 2 }
+    requires of { ArePlanned J.plan 0 (map (λ f. filled_view P.owner P.home f) parts.items) }
+{
+    let alloc = rt.alloc();
+    let mut parts = parts;
+    let first = lend_hand::<J, P>(alloc, &mut parts, 0)?;
+    let second = lend_hand::<J, P>(alloc, &mut parts, 1)?;
+    let locks = lock_parts::<J, P>(alloc, parts)?;
+    let ended = AtomicBool::new(false);
+    let mut first = front_of(options, locks.as_slice(), 0, first, &ended);
+    let mut second = front_of(options, locks.as_slice(), 1, second, &ended);
+    let (one, mut two) = (Room::new(alloc)?, Room::new(alloc)?);
+    look_in_turn(rt, &mut first, &mut second, &mut two)?;
+    let lock = locks.as_slice().get(0);
+    look_beside(rt, lock, &mut first, &mut second, &mut two)?;
+    let (_, rose) = join(
+        rt,
+        move ||
+            requires { TIMES ≤ turns_left first.parts }
+        { count_up(rt, first, one) },
+        move ||
+            requires { TIMES ≤ turns_left second.parts }
+        { look_often(rt, second, two) },
+    );
+    assert!(rt; rose);
+    Ok(())
+}
 
-impl Trial for Looking {
-    fn run<R: Abort + AllocGlobal + Threads + Wait + Sync, L: Drop, F: Glances + Drop + Send>(
-        &self,
-        rt: &R,
-        lock: &Mutex<L>,
-        _ended: &AtomicBool,
-        one: F,
-        two: F,
-    ) -> Result<(), Fail> {
-        let (mut one, mut two) = (one, two);
-        let (first, mut second) = (Room::new(rt.alloc())?, Room::new(rt.alloc())?);
-        look_in_turn(rt, &mut one, &mut two, &mut second)?;
-        look_beside(rt, lock, &mut one, &mut two, &mut second)?;
-        let (_, rose) = join(
-            rt,
-            move ||
-                requires { TIMES ≤ F.left one }
-            { count_up(rt, one, first) },
-            move ||
-                requires { TIMES ≤ F.left two }
-            { look_often(rt, two, second) },
-        );
-        assert!(rt; rose);
-        Ok(())
+// Opens one empty partition of the options.
+fn open_and_look<P: OnTable + LendPartition<Reader = ReaderSeat, Note = Note> + Drop + Send>(
+    rt: &(impl Abort + AllocGlobal + Threads + Wait + Sync),
+    options: &Options,
+) -> Result<(), Fail>
+    requires notes { NotesAre P.noted P.note_home note_state note_home }
+    requires same { (p : P) → P.state p ≡ P.owner p }
+    requires mode { options.now.mode ≡ P.mode }
+{
+    assert!(rt; options.is_possible());
+    let opened = open_parts::<_, P>(rt, rt.alloc(), options, &[]);
+    assert!(rt; opened.is_ok());
+    if let Ok(parts) = opened {
+        look_by_two::<Brand, _, P>(rt, options, parts)?;
     }
+    Ok(())
 }
 
 #[test]
 fn looks_in_store_mode(rt: HostRuntime) -> Result<(), Fail> {
-    open_and_try::<StorePartition<OwnerSeat>, _>(&rt, &SPREAD, &Looking)
+    open_and_look::<StorePartition<OwnerSeat>>(&rt, &SPREAD)
 }
-
-const CACHE: Options = Options {
-    mode: Mode::Cache,
-    words: 4_096,
-    ..SPREAD
-};
 
 #[test]
 fn looks_in_cache_mode(rt: HostRuntime) -> Result<(), Fail> {
-    open_and_try::<CachePartition<OwnerSeat>, _>(&rt, &CACHE, &Looking)
+    let options = Options {
+        mode: Mode::Cache,
+        words: 4_096,
+        ..SPREAD
+    };
+    open_and_look::<CachePartition<OwnerSeat>>(&rt, &options)
 }

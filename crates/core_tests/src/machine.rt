@@ -3,7 +3,7 @@
 ghost use Rattle.partition_model.specs.Options.{IsValid};
 
 use mica_model::{
-    Answer, CacheMachine, ItemBuf, Mode, Op, Options, Outcome, StoreMachine, write_fits,
+    Answer, CacheMachine, Fate, ItemBuf, Mode, Op, Options, Outcome, StoreMachine, write_fits,
 };
 use outside::NoMemory;
 use std::alloc::Global;
@@ -78,11 +78,27 @@ impl Machine {
         matches!(self, Machine::Store(_))
     }
 
+    /// Whether the stamp of store mode is the number of accepted writes.
+    pub(crate) fn is_counted(&self) -> bool {
+        match self {
+            Machine::Cache(_) => true,
+            Machine::Store(_) => self.accepted() == self.stamp(),
+        }
+    }
+
     /// The value of the key, which the buffer then has, or a miss.
     pub(crate) fn answer(&self, key: &[u8], out: &mut ItemBuf) -> Answer {
         match self {
             Machine::Cache(machine) => machine.answer(key, out),
             Machine::Store(machine) => machine.answer(key, out),
+        }
+    }
+
+    /// What became of the key, where the machine tells it.
+    pub(crate) fn fate(&self, key: &[u8]) -> Option<Fate> {
+        match self {
+            Machine::Cache(machine) => Some(machine.fate(key)),
+            Machine::Store(_) => None,
         }
     }
 }

@@ -1,19 +1,28 @@
 //! Items that are not there any more give their room back, and in a cache items that are used stay.
-ghost use Rattle.std.specs.Prelude.{◌≡◌, ◌+◌, ◌≤◌};
+ghost use Rattle.std.specs.Prelude.{◌≡◌, ◌+◌, ◌≤◌, length, map};
+ghost use Rattle.partition_model.specs.Options.{IsPossible};
+ghost use Rattle.partition_table.specs.Seats.{note_state, note_home};
+ghost use Rattle.locked_front.specs.Owned.{NotesAre};
+ghost use Rattle.locked_server.specs.Opening.{ArePlanned, filled_view};
 
-use crate::front_pair::{SMALL, Trial, expect_value, open_and_try, write_one};
+use crate::changes::{SMALL, front_of};
+use any_partition::OnTable;
 use cache_partition::CachePartition;
 use command_answers::{Noted, Numbering, Sweeper, sweep};
-use fronts::Glances;
+use fronts::{Front, Glances};
+use locked_front::ServerPlan;
+use locked_server::{FilledPart, lend_hand, lock_parts, open_parts};
 use memcached_commands::Ask;
 use memcached_text::Lifetime;
 use memory_outside::MemClock;
-use mica_words::{key_hash, tail_of};
-use partition_model::{Mode, Op, Options, Outcome};
-use partition_table::OwnerSeat;
+use mica_words::{key_fits, key_hash, tail_of, value_fits};
+use partition_model::{Answer, ItemBuf, Mode, Op, Options, Outcome};
+use partition_table::{Note, OwnerSeat, ReaderSeat};
+use partition_words::LendPartition;
+use std::marker::Brand;
 use std::process::Abort;
+use std::sync::Wait;
 use std::sync::atomic::AtomicBool;
-use std::sync::{Mutex, Wait};
 use std::test::Fail;
 use std::thread::Threads;
 use store_partition::StorePartition;
@@ -24,10 +33,20 @@ const FOREVER: [u8; 16] = [0; 16];
 /// What is stored of an item with 4,000 bytes that is kept for ever.
 static LONG: [u8; 4_016] = [0; 4_016];
 
-const NUMBERING: Numbering = Numbering {
-    partitions: 1,
-    base: 0,
-};
+// Puts a value, and says what came of it, and the stamp after it.
+fn put<R: Abort + AllocGlobal + Threads + Wait + Sync, F: Front>(
+    rt: &R,
+    front: &mut F,
+    key: &[u8],
+    value: &[u8],
+) -> Result<(Outcome, u64), Fail>
+    requires left { 1 ≤ F.left front.old }
+    ensures left { F.left front.old ≤ F.left front.new + 1 }
+    ensures options { F.options front.new ≡ F.options front.old }
+{
+    assert!(rt; key_fits(key) && value_fits(value));
+    Ok(front.write(rt, rt.alloc(), Op::Put, key, value)?)
+}
 
 // Sweeps all places several times, at a second.
 fn sweep_all<R: Abort + AllocGlobal + Threads + Wait + Sync, F: Glances>(
@@ -44,12 +63,16 @@ fn sweep_all<R: Abort + AllocGlobal + Threads + Wait + Sync, F: Glances>(
     let mut clock = MemClock::new(&script);
     let mut sweeper = Sweeper::new(rt.alloc(), 1)?;
     let mut noted = Noted::new();
+    let numbering = Numbering {
+        partitions: 1,
+        base: 0,
+    };
     for _ in 0..100u32 {
         sweep(
             rt,
             front,
             &mut clock,
-            NUMBERING,
+            numbering,
             64,
             &mut noted,
             &mut sweeper,
@@ -69,15 +92,19 @@ fn what_is_over_goes<R: Abort + AllocGlobal + Threads + Wait + Sync, F: Glances>
     let mut ending = [0u8; 416];
     ending[4] = 5;
     for i in 0..10u8 {
-        assert!(rt; write_one(rt, front, Op::Put, &[b'0' + i], &ending)?.0 == Outcome::Stored);
+        assert!(rt; put(rt, front, &[b'0' + i], &ending)?.0 == Outcome::Stored);
     }
-    assert!(rt; write_one(rt, front, Op::Put, b"kept", &FOREVER)?.0 == Outcome::Stored);
+    assert!(rt; put(rt, front, b"kept", &FOREVER)?.0 == Outcome::Stored);
     sweep_all(rt, front, 4)?;
-    assert!(rt; write_one(rt, front, Op::Put, b"long", &LONG)?.0 == Outcome::FullBlock);
+    assert!(rt; put(rt, front, b"long", &LONG)?.0 == Outcome::FullBlock);
     sweep_all(rt, front, 5)?;
-    assert!(rt; write_one(rt, front, Op::Put, b"long", &LONG)?.0 == Outcome::Stored);
-    expect_value(rt, front, b"kept", Some(&FOREVER))?;
-    expect_value(rt, front, b"9", None)
+    assert!(rt; put(rt, front, b"long", &LONG)?.0 == Outcome::Stored);
+    let mut out = ItemBuf::new(rt.alloc())?;
+    assert!(rt; key_fits(b"kept") && key_fits(b"9"));
+    let (kept, _) = front.read(rt, b"kept", &mut out);
+    let (over, _) = front.read(rt, b"9", &mut out);
+    assert!(rt; kept == Answer::Hit && over == Answer::Miss);
+    Ok(())
 }
 
 // A log of 1,024 words has 18 items of 55 words. The one that is touched behind each put of another is old, more than 512 words behind the tail, behind the 8th of these,
@@ -93,11 +120,15 @@ fn what_is_used_stays<R: Abort + AllocGlobal + Threads + Wait + Sync, F: Glances
     let mut clock = MemClock::new(&[]);
     let mut sweeper = Sweeper::new(rt.alloc(), 1)?;
     let mut noted = Noted::new();
-    assert!(rt; write_one(rt, front, Op::Put, b"u", &value)?.0 == Outcome::Stored);
-    assert!(rt; write_one(rt, front, Op::Put, b"l", &value)?.0 == Outcome::Stored);
+    let numbering = Numbering {
+        partitions: 1,
+        base: 0,
+    };
+    assert!(rt; put(rt, front, b"u", &value)?.0 == Outcome::Stored);
+    assert!(rt; put(rt, front, b"l", &value)?.0 == Outcome::Stored);
     let mut tail = 0;
     for i in 0..60u8 {
-        let (outcome, stamp) = write_one(rt, front, Op::Put, &[128 + i], &value)?;
+        let (outcome, stamp) = put(rt, front, &[128 + i], &value)?;
         assert!(rt; outcome == Outcome::Stored);
         tail = tail_of(stamp);
         noted.note(
@@ -110,43 +141,69 @@ fn what_is_used_stays<R: Abort + AllocGlobal + Threads + Wait + Sync, F: Glances
             rt,
             front,
             &mut clock,
-            NUMBERING,
+            numbering,
             64,
             &mut noted,
             &mut sweeper,
         );
     }
     assert!(rt; tail == 68 * 55);
-    expect_value(rt, front, b"u", Some(&value))?;
-    expect_value(rt, front, b"l", None)
+    let mut out = ItemBuf::new(rt.alloc())?;
+    assert!(rt; key_fits(b"u") && key_fits(b"l"));
+    let (used, _) = front.read(rt, b"u", &mut out);
+    assert!(rt; used == Answer::Hit && out.value() == value.as_slice());
+    let (left, _) = front.read(rt, b"l", &mut out);
+    assert!(rt; left == Answer::Miss);
+    Ok(())
 }
 
-/// What the mode does with items, by the first front.
-#[derive(Clone, Copy)]
-struct Sweeping {
-    mode: Mode,
-}
-
-impl Trial for Sweeping {
-    fn run<R: Abort + AllocGlobal + Threads + Wait + Sync, L: Drop, F: Glances + Drop + Send>(
-        &self,
-        rt: &R,
-        _lock: &Mutex<L>,
-        _ended: &AtomicBool,
-        one: F,
-        _two: F,
-    ) -> Result<(), Fail> {
-        let mut one = one;
-        match self.mode {
-            Mode::Cache => what_is_used_stays(rt, &mut one),
-            Mode::Store => what_is_over_goes(rt, &mut one),
-        }
+// One front before one partition.
+fn sweep_by_one<
+    J: ServerPlan + Send + Sync,
+    W: Abort + AllocGlobal + Threads + Wait + Sync,
+    P: OnTable + LendPartition<Reader = ReaderSeat, Note = Note> + Drop + Send,
+>(rt: &W, options: &Options, parts: Vec<FilledPart<P>>) -> Result<(), Fail>
+    requires notes { NotesAre P.noted P.note_home note_state note_home }
+    requires valid { IsPossible options.now }
+    requires one { options.now.partitions ≡ 1 }
+    requires named { options.now ≡ J.plan.options }
+    requires takers { J.plan.fronts ≡ 1 }
+    requires of { ArePlanned J.plan 0 (map (λ f. filled_view P.owner P.home f) parts.items) }
+{
+    let alloc = rt.alloc();
+    let mut parts = parts;
+    let hand = lend_hand::<J, P>(alloc, &mut parts, 0)?;
+    let locks = lock_parts::<J, P>(alloc, parts)?;
+    let ended = AtomicBool::new(false);
+    let mut front = front_of(options, locks.as_slice(), 0, hand, &ended);
+    match options.mode {
+        Mode::Cache => what_is_used_stays(rt, &mut front),
+        Mode::Store => what_is_over_goes(rt, &mut front),
     }
+}
+
+// Opens one empty partition of the options.
+fn open_and_sweep<P: OnTable + LendPartition<Reader = ReaderSeat, Note = Note> + Drop + Send>(
+    rt: &(impl Abort + AllocGlobal + Threads + Wait + Sync),
+    options: &Options,
+) -> Result<(), Fail>
+    requires notes { NotesAre P.noted P.note_home note_state note_home }
+    requires same { (p : P) → P.state p ≡ P.owner p }
+    requires mode { options.now.mode ≡ P.mode }
+    requires one { options.now.partitions ≡ 1 }
+{
+    assert!(rt; options.is_possible());
+    let opened = open_parts::<_, P>(rt, rt.alloc(), options, &[]);
+    assert!(rt; opened.is_ok());
+    if let Ok(parts) = opened {
+        sweep_by_one::<Brand, _, P>(rt, options, parts)?;
+    }
+    Ok(())
 }
 
 #[test]
 fn what_is_over_gives_its_room_back(rt: HostRuntime) -> Result<(), Fail> {
-    open_and_try::<StorePartition<OwnerSeat>, _>(&rt, &SMALL, &Sweeping { mode: Mode::Store })
+    open_and_sweep::<StorePartition<OwnerSeat>>(&rt, &SMALL)
 }
 
 const CACHE: Options = Options {
@@ -158,5 +215,5 @@ const CACHE: Options = Options {
 
 #[test]
 fn what_is_used_is_kept(rt: HostRuntime) -> Result<(), Fail> {
-    open_and_try::<CachePartition<OwnerSeat>, _>(&rt, &CACHE, &Sweeping { mode: Mode::Cache })
+    open_and_sweep::<CachePartition<OwnerSeat>>(&rt, &CACHE)
 }

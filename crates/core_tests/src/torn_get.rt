@@ -24,67 +24,115 @@ static PUT: Script = Script {
     key: b"a",
 };
 
-/// A get of `a`, between whose loads the put happens: so many of its events before the first load, the second and so on; whether it is settled
-/// before; how many tries the get has, what it gives, and the value. Then no event is left, if no write is begun, and a settled get has
-/// an answer.
-type Torn = (
-    &'static [u32],
-    bool,
-    u32,
-    Got,
-    &'static [u8],
-    Option<(Answer, &'static [u8])>,
-);
-
-const BEGUN: Got = Got::Again { first: 1, last: 1 };
-
-const BEFORE: Got = Got::Miss { stamp: 0 };
-
-const AFTER: Got = Got::Hit { stamp: 1 };
+/// A get of `a` with so many tries, between whose loads the put happens: so many of its events before the first load, the
+/// second and so on. Then no event is left, if no write is begun, and a settled get has an answer.
+struct Torn {
+    cuts: &'static [u32],
+    settled_before: bool,
+    tries: u32,
+    got: Got,
+    value: &'static [u8],
+    settled: Option<(Answer, &'static [u8])>,
+}
 
 static TORN: [Torn; 9] = [
     // The put comes between the first two loads.
-    (
-        &[0, 8, 8],
-        false,
-        1,
-        Got::Again { first: 0, last: 2 },
-        b"",
-        Some((Answer::Hit, b"1")),
-    ),
-    (&[0, 8, 8], false, 2, AFTER, b"1", Some((Answer::Hit, b"1"))),
+    Torn {
+        cuts: &[0, 8, 8],
+        settled_before: false,
+        tries: 1,
+        got: Got::Again { first: 0, last: 2 },
+        value: b"",
+        settled: Some((Answer::Hit, b"1")),
+    },
+    Torn {
+        cuts: &[0, 8, 8],
+        settled_before: false,
+        tries: 2,
+        got: Got::Hit { stamp: 1 },
+        value: b"1",
+        settled: Some((Answer::Hit, b"1")),
+    },
     // It is under way.
-    (&[1, 1, 1], false, 1, BEGUN, b"", None),
+    Torn {
+        cuts: &[1, 1, 1],
+        settled_before: false,
+        tries: 1,
+        got: Got::Again { first: 1, last: 1 },
+        value: b"",
+        settled: None,
+    },
     // It has not begun.
-    (&[0, 0, 0], true, 1, BEFORE, b"", Some((Answer::Miss, b""))),
+    Torn {
+        cuts: &[0, 0, 0],
+        settled_before: true,
+        tries: 1,
+        got: Got::Miss { stamp: 0 },
+        value: b"",
+        settled: Some((Answer::Miss, b"")),
+    },
     // Two tries find it begun and marked, the third one finds it done.
-    (&[1, 2, 8], false, 2, BEGUN, b"", None),
-    (&[1, 2, 8], false, 3, AFTER, b"1", Some((Answer::Hit, b"1"))),
+    Torn {
+        cuts: &[1, 2, 8],
+        settled_before: false,
+        tries: 2,
+        got: Got::Again { first: 1, last: 1 },
+        value: b"",
+        settled: None,
+    },
+    Torn {
+        cuts: &[1, 2, 8],
+        settled_before: false,
+        tries: 3,
+        got: Got::Hit { stamp: 1 },
+        value: b"1",
+        settled: Some((Answer::Hit, b"1")),
+    },
     // All of it comes before the first load.
-    (&[8], false, 1, AFTER, b"1", Some((Answer::Hit, b"1"))),
+    Torn {
+        cuts: &[8],
+        settled_before: false,
+        tries: 1,
+        got: Got::Hit { stamp: 1 },
+        value: b"1",
+        settled: Some((Answer::Hit, b"1")),
+    },
     // No event comes.
-    (&[], true, 1, BEFORE, b"", Some((Answer::Miss, b""))),
+    Torn {
+        cuts: &[],
+        settled_before: true,
+        tries: 1,
+        got: Got::Miss { stamp: 0 },
+        value: b"",
+        settled: Some((Answer::Miss, b"")),
+    },
     // The write has begun, and does not end.
-    (&[1], false, 1, BEGUN, b"", None),
+    Torn {
+        cuts: &[1],
+        settled_before: false,
+        tries: 1,
+        got: Got::Again { first: 1, last: 1 },
+        value: b"",
+        settled: None,
+    },
 ];
 
 // Whether the seat is settled as the row says, and then a settled get answers so and leaves the seat settled.
-fn is_settled_so(seat: &mut Scripted, settled: Option<(Answer, &[u8])>, out: &mut ItemBuf) -> bool {
+fn is_settled_so(seat: &mut Scripted, torn: &Torn, out: &mut ItemBuf) -> bool {
     if !seat.is_settled() {
-        return settled.is_none();
+        return torn.settled.is_none();
     }
     let answer = get_settled(seat, b"a", out);
-    settled == Some((answer, out.value())) && seat.is_settled()
+    torn.settled == Some((answer, out.value())) && seat.is_settled()
 }
 
 fn expect_torn(rt: &(impl Abort + AllocGlobal), torn: &Torn) -> Result<(), Fail> {
-    let (cuts, settled_before, tries, wanted, value, settled) = *torn;
-    let mut seat = seat_of(rt, &PUT, cuts)?;
+    let mut seat = seat_of(rt, &PUT, torn.cuts)?;
     let mut out = ItemBuf::new(rt.alloc())?;
-    assert!(rt; tries > 0 && seat.is_settled() == settled_before);
-    let got = get(&mut seat, b"a", tries, &mut out);
-    assert!(rt; got == wanted && out.value() == value);
-    assert!(rt; is_settled_so(&mut seat, settled, &mut out));
+    assert!(rt; torn.tries > 0 && seat.is_settled() == torn.settled_before);
+    let got = get(&mut seat, b"a", torn.tries, &mut out);
+    assert!(rt; got == torn.got && out.value() == torn.value);
+    assert!(rt; is_settled_so(&mut seat, torn, &mut out));
     Ok(())
 }
 

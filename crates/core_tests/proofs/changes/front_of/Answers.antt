@@ -1,7 +1,7 @@
 use Rattle.std.proofs.Common.{ap, arith}
 use Rattle.locked_front.specs.Parts.{LockedView, turns_taken}
 use Rattle.locked_server.proofs.Ran.{none_taken}
-use Rattle.core_tests.proofs.front_pair.front_of.Goals as goal
+use Rattle.core_tests.proofs.changes.front_of.Goals as goal
 
 pub new-requires-clause-none : goal.new-requires-clause-none
 new-requires-clause-none g c = none_taken c.args.hand.items (λ p x at. (c.requires.hand.each p x at).none)

@@ -1,6 +1,0 @@
-use Rattle.std.proofs.Common.{map}
-use Rattle.locked_server.specs.Opening.{plan_of, filled_view}
-use Rattle.core_tests.proofs.front_pair.open_and_try.Given as goal
-
-abbrev pub ghosts-try_by_two : goal.ghosts-try_by_two
-ghosts-try_by_two g a = record { plan = plan_of a.options.now 2 (map (λ f. filled_view g.P.Partition.owner g.P.Partition.home f) a.parts.items) }
