@@ -1,5 +1,5 @@
 //! Ports of TCP connections, and plain sockets as their clients.
-ghost use Rattle.std.specs.Prelude.{◌≡◌, false};
+ghost use Rattle.std.specs.Prelude.{◌≡◌, ◌<◌, false, length};
 
 use connections::{Broken, Connections, Event, Input, Listeners};
 use outside::Failed;
@@ -101,7 +101,9 @@ fn expect_heard(
     client: &mut TcpStream,
     number: u32,
     reply: &[u8],
-) -> Result<(), Fail> {
+) -> Result<(), Fail>
+    requires some { 0 < length reply.now }
+{
     let taken = connections.write(number, reply).unwrap_or(0);
     assert!(rt; taken == reply.len());
     let mut back = [0; 16];
