@@ -1,6 +1,6 @@
 -- The hash of a key is that of what is left of it, behind the words that went in.
-use Rattle.std.proofs.Common.{◌≡◌, ℕ, ◌+◌, ◌-◌, ◌*◌, ◌%◌, ◌^◌, ◌<◌, ◌≤◌, List, length, take, drop, get_or, refl, sym, ap, ◌∙◌, subst, arith, length-drop}
-use Rattle.std.specs.Prelude.{bit_and, bit_or}
+use Rattle.std.proofs.Common.{◌≡◌, ℕ, ◌+◌, ◌-◌, ◌%◌, ◌^◌, ◌<◌, ◌≤◌, List, length, take, drop, get_or, sym, ap, ◌∙◌, subst, arith, length-drop}
+use Rattle.std.proofs.lemmas.List.{get_or-drop}
 use Rattle.std.specs.Int.{w64, from_le_bytes}
 use Rattle.std.specs.declared.hash.DefaultHasher.{DefaultHasher}
 use Rattle.std.specs.Hash.DefaultHasher.{with_keys, write_word, write, finish}
@@ -12,22 +12,24 @@ use Rattle.keyed_hash.proofs.Words.{word_goes_in}
 pub record IsLeft (k0 k1 : ℕ) (key : List ℕ) (mixed : Mixed) (rest : List ℕ) : Type 0 where
   fits : length rest ≤ length key
   whole : (length key - length rest) % 8 ≡ 0
+  small : (k : ℕ) → get_or rest k 0 < 256
   same : siphash k0 k1 key ≡ finish (write (hasher_of mixed 0 (length key - length rest)) rest)
 
-pub starts : (k0 k1 : ℕ) (key : List ℕ) (mixed : Mixed) → hasher_of mixed 0 0 ≡ with_keys k0 k1 → IsLeft k0 k1 key mixed key
+pub starts : (k0 k1 : ℕ) (key : List ℕ) (mixed : Mixed) → ((k : ℕ) → get_or key k 0 < 256) → hasher_of mixed 0 0 ≡ with_keys k0 k1 → IsLeft k0 k1 key mixed key
 unfolding siphash
-starts k0 k1 key mixed is =
+starts k0 k1 key mixed small is =
     let none : 0 ≡ length key - length key = omega arith in
     record {
       fits = omega arith;
       whole = omega arith;
+      small = small;
       same = ap (λ (h : DefaultHasher). finish (write h key)) (sym is) ∙ ap (λ (n : ℕ). finish (write (hasher_of mixed 0 n) key)) none;
     }
 
-pub goes_on : (k0 k1 word : ℕ) (key rest behind : List ℕ) (mixed next : Mixed) → IsLeft k0 k1 key mixed rest → length key < 2 ^ 64 → ((k : ℕ) → get_or rest k 0 < 256)
+pub goes_on : (k0 k1 word : ℕ) (key rest behind : List ℕ) (mixed next : Mixed) → IsLeft k0 k1 key mixed rest → length key < 2 ^ 64
     → 8 ≤ length rest → behind ≡ drop 8 rest → word ≡ from_le_bytes w64 (take 8 rest)
     → ((tail n : ℕ) → hasher_of next tail n ≡ write_word (hasher_of mixed tail n) word) → IsLeft k0 k1 key next behind
-goes_on k0 k1 word key rest behind mixed next left small_key small long is reads goes =
+goes_on k0 k1 word key rest behind mixed next left short long is reads goes =
     let shorter : length behind ≡ length rest - 8 = ap length is ∙ length-drop 8 rest in
     let fits : length rest ≤ length key = left.fits in
     let whole : (length key - length rest) % 8 ≡ 0 = left.whole in
@@ -35,7 +37,8 @@ goes_on k0 k1 word key rest behind mixed next left small_key small long is reads
     record {
       fits = omega arith;
       whole = omega arith;
-      same = left.same ∙ ap finish (word_goes_in mixed next (length key - length rest) word rest long small (omega arith) whole reads goes)
+      small = λ k. subst (λ (bytes : List ℕ). get_or bytes k 0 < 256) (sym is) (rw get_or-drop (left.small (8 + k)));
+      same = left.same ∙ ap finish (word_goes_in mixed next (length key - length rest) word rest long left.small (omega arith) whole reads goes)
           ∙ ap (λ (n : ℕ). finish (write (hasher_of next 0 n) (drop 8 rest))) count
           ∙ ap (λ (bytes : List ℕ). finish (write (hasher_of next 0 (length key - length behind)) bytes)) (sym is);
     }

@@ -4,12 +4,12 @@ use Rattle.keyed_hash.proofs.Left.{starts, goes_on, ends}
 use Rattle.keyed_hash.proofs.keyed.keyed_hash.Goals as goal
 
 pub loop-word-init : goal.loop-word-init
-loop-word-init c = starts c.args.secret.now.k0 c.args.secret.now.k1 c.args.key.now c.under-mixed.result c.under-mixed.ensures
+loop-word-init c = starts c.args.secret.now.k0 c.args.secret.now.k1 c.args.key.now c.under-mixed.result (λ k. (c.type_inv.key k).fits) c.under-mixed.ensures
 
 pub loop-word-preserved : goal.loop-word-preserved
 loop-word-preserved c =
     goes_on c.args.secret.now.k0 c.args.secret.now.k1 c.from_le_bytes.result c.args.key.now c.loop-word.rest.now c.in-Some.behind.now c.loop-word.mixed c.with_word-mixed.result
-    c.loop-word.invariant (omega arith) ? (omega arith) c.in-Some.ensures.cases.1 (c.from_le_bytes.ensures ∙ ap (from_le_bytes w64) c.in-Some.ensures.cases.0) c.with_word-mixed.ensures
+    c.loop-word.invariant (omega arith) (omega (arith, c.in-Some.ensures.cases.2)) c.in-Some.ensures.cases.1 (c.from_le_bytes.ensures ∙ ap (from_le_bytes w64) c.in-Some.ensures.cases.0) c.with_word-mixed.ensures
 
 pub returns : goal.returns
 returns c =

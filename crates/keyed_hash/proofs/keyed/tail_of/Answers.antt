@@ -1,4 +1,4 @@
-use Rattle.std.proofs.Common.{◌≡◌, length, subst, arith}
+use Rattle.std.proofs.Common.{subst, arith}
 use Rattle.std.proofs.lemmas.List.{take_all}
 use Rattle.keyed_hash.specs.SipHash.{IsTail}
 use Rattle.keyed_hash.proofs.Words.{no_tail, tail_more}
