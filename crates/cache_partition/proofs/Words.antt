@@ -14,7 +14,7 @@ pub use Rattle.mica_words.proofs.Fields.{entry_not_empty, entry_offset-entry_of,
 pub use Rattle.mica_words.proofs.Hashes.{bucket_of_hash, tag_of-range, tag_of_hash}
 pub use Rattle.mica_words.proofs.ItemWords.{length-item_words}
 pub use Rattle.mica_words.proofs.Sizes.{item_size-most}
-pub use Rattle.mica_words.specs.Item.{ValueFits}
+pub use Rattle.mica_words.specs.Item.{StoredFits}
 pub use Rattle.mica_words.specs.Entry.{entry_of, entry_offset, entry_tag}
 pub use Rattle.mica_words.specs.Hash.{hash_bucket, hash_tag, tag_of}
 pub use Rattle.mica_words.specs.declared.entry.TheConstants.{SLOTS}

@@ -259,7 +259,8 @@ module _ (o : OwnerState) (s : Kept o) (may : MayWrite o) (w : Write) (is : IsWr
         let xs = item_words r.0.room w.key w.value in
         let there : SpellsItem (marked o accepted) r.0.offset w.key (cell_at r.0).0 = λ i l.
         marked_item o accepted (r.0.offset + i) ∙ (ap (λ (z : ℕ). item_in o (z + i)) at.1.offset ∙ at.1.spelt.item i l) in
-        let room = item_room (marked o accepted) r.0.offset w.key (cell_at r.0).0 (fits_kept (options_in o) h.m (machine h) w.key r.0 kept.is).5 there in
+        let fits = fits_kept (options_in o) h.m (machine h) w.key r.0 kept.is in
+        let room = item_room (marked o accepted) r.0.offset w.key (cell_at r.0).0 fits.5 (omega (arith, fits.0)) there in
         let window = window_kept (options_in o) h.m (machine h) w.key r.0 kept.is in
         let few = few_words r.0.room w.value (omega (arith, kept.fits, window.0, window.1)) in
         let words = put_words o accepted r.0.offset xs few in

@@ -1,6 +1,6 @@
 //! The partition in cache mode, and its calls.
 ghost use Rattle.std.specs.Prelude.{◌≡◌, ◌≢◌, [], length, nat_le};
-ghost use Rattle.mica_words.specs.Item.{KeyFits, ValueFits, item_size as item_size_of};
+ghost use Rattle.mica_words.specs.Item.{KeyFits, StoredFits, item_size as item_size_of};
 ghost use Rattle.partition_model.specs.Answer.{IsAnswer};
 ghost use Rattle.partition_model.specs.Fate.{fate_of};
 ghost use Rattle.partition_model.specs.declared.fate.Fate.TheVariants.{Held};
@@ -63,7 +63,7 @@ impl<W: OwnerWords> CachePartition<W> {
     // Whether the item is not longer than the log.
     fn fits_log(&self, key: &[u8], value: &[u8]) -> bool
         requires key { KeyFits key.now }
-        requires value { ValueFits value.now }
+        requires value { StoredFits value.now }
         ensures { result ≡ nat_le (item_size_of key.now value.now) (W.owner self.now.words).shape.words }
     {
         item_size(key.len(), value.len()) <= self.words.shape().words

@@ -1,6 +1,6 @@
 //! A put or an add, by its events: in the room that the key's item has, else at the tail of the log.
 ghost use Rattle.std.specs.Prelude.{◌≡◌, Some, None};
-ghost use Rattle.mica_words.specs.Item.{KeyFits, ValueFits};
+ghost use Rattle.mica_words.specs.Item.{KeyFits, StoredFits};
 ghost use Rattle.partition_model.specs.declared.write.Op.TheVariants.{Put};
 ghost use Rattle.partition_model.specs.Write.{GivesValue, IsWrite, write_of};
 ghost use Rattle.partition_model.specs.History.{stamp_of};
@@ -20,7 +20,7 @@ use partition_words::{OwnerWords, WordAt};
 pub(crate) fn put<W: OwnerWords>(words: &mut W, key: &[u8], value: &[u8]) -> u64
     requires may { MayWrite (W.owner words.old) }
     requires key { KeyFits key.now }
-    requires value { ValueFits value.now }
+    requires value { StoredFits value.now }
     requires taken { IsAcceptable (W.owner words.old) (write_of Put key.now value.now) }
     ensures gains { Gains (W.owner words.old) (W.owner words.new)
         (write_of Put key.entry.now value.entry.now) }
@@ -95,7 +95,7 @@ pub(crate) fn put_at_tail<W: OwnerWords>(
     requires gives { GivesValue op }
     requires kept { Kept (W.owner words.old) }
     requires may { MayWrite (W.owner words.old) }
-    requires value { ValueFits value.now }
+    requires value { StoredFits value.now }
     requires write { IsWrite (write_of op key.now value.now) }
     requires taken { IsAcceptable (W.owner words.old) (write_of op key.now value.now) }
     requires sought { IsSought (W.owner words.old) key.now sought.now }

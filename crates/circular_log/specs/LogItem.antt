@@ -1,6 +1,6 @@
 -- An item of the log, by its words.
 use Rattle.std.specs.Prelude.{◌≡◌, ℕ, zero, suc, ◌+◌, ◌<◌, List, [], ◌∷◌, ◌++◌}
-use Rattle.mica_words.specs.Item.{KeyFits, ValueFits, item_size}
+use Rattle.mica_words.specs.Item.{KeyFits, StoredFits, item_size}
 use Rattle.mica_words.specs.Packing.{AreBytes}
 use Rattle.mica_words.specs.Header.{header_room}
 use Rattle.partition_model.specs.Store.{Cell}
@@ -11,9 +11,9 @@ use Rattle.partition_words.specs.StandsFor.{SpellsItem}
 -- the words from the offset on spell this key, value and room, which fit
 pub record IsItem (o : OwnerState) (p : ℕ) (key : List ℕ) (cell : Cell) : Type 0 where
   pub key_fits : KeyFits key
-  pub value_fits : ValueFits cell.value
+  pub value_fits : StoredFits cell.value
   pub value_bytes : AreBytes cell.value
-  pub room_fits : cell.room < 65536
+  pub room_fits : cell.room < 16777216
   pub spelt : SpellsItem o p key cell
 
 -- an item stands at the offset

@@ -1,7 +1,7 @@
 //! Items, from their first word on.
 ghost use Rattle.std.specs.Prelude.{◌≡◌, ◌+◌, ◌<◌, ◌^◌};
 ghost use Rattle.mica_words.specs.Hash.{fnv1a};
-ghost use Rattle.mica_words.specs.Item.{KeyFits, ValueFits, item_size as item_size_of};
+ghost use Rattle.mica_words.specs.Item.{KeyFits, StoredFits, item_size as item_size_of};
 ghost use Rattle.partition_words.specs.Kept.{Kept};
 ghost use Rattle.circular_log.specs.LogItem.{HasItem, IsValueAt, room_at, words_from};
 ghost use Rattle.circular_log.specs.LogWrite.{MayAppend, MayRewrite, with_item};
@@ -13,7 +13,7 @@ use partition_words::{OwnerWords, WordAt, rewrite_item, write_item_hashed};
 /// Writes the marked write's item at the offset, in a room of the item's size.
 pub fn append<W: OwnerWords>(words: &mut W, offset: u64, key: &[u8], value: &[u8])
     requires key { KeyFits key.now }
-    requires value { ValueFits value.now }
+    requires value { StoredFits value.now }
     requires marked { MayAppend (W.owner words.old) offset key.now value.now }
     ensures item { W.owner words.new ≡ with_item (W.owner words.old) offset
         (item_size_of key.entry.now value.entry.now) key.entry.now value.entry.now }
@@ -27,7 +27,7 @@ pub fn append<W: OwnerWords>(words: &mut W, offset: u64, key: &[u8], value: &[u8
 pub fn append_hashed<W: OwnerWords>(words: &mut W, offset: u64, key: &[u8], hash: u64, value: &[u8])
     requires key { KeyFits key.now }
     requires hashed { hash ≡ fnv1a key.now }
-    requires value { ValueFits value.now }
+    requires value { StoredFits value.now }
     requires marked { MayAppend (W.owner words.old) offset key.now value.now }
     ensures item { W.owner words.new ≡ with_item (W.owner words.old) offset
         (item_size_of key.entry.now value.entry.now) key.entry.now value.entry.now }
@@ -44,7 +44,7 @@ pub fn append_hashed<W: OwnerWords>(words: &mut W, offset: u64, key: &[u8], hash
 /// the key, which are not stored again.
 pub fn rewrite<W: OwnerWords>(words: &mut W, offset: u64, key: &[u8], value: &[u8])
     requires key { KeyFits key.now }
-    requires value { ValueFits value.now }
+    requires value { StoredFits value.now }
     requires marked { MayRewrite (W.owner words.old) offset key.now value.now }
     ensures item { W.owner words.new ≡ with_item (W.owner words.old) offset
         (room_at (W.owner words.old) offset) key.entry.now value.entry.now }

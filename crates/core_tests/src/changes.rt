@@ -1,6 +1,6 @@
 //! Changes of a value under one hold, by two fronts that own one partition in turn.
 ghost use Rattle.std.specs.Prelude.{◌≡◌, ◌+◌, ◌*◌, ◌<◌, ◌≤◌, length, map, true, option_copied};
-ghost use Rattle.mica_words.specs.Item.{ValueFits};
+ghost use Rattle.mica_words.specs.Item.{StoredFits};
 ghost use Rattle.partition_model.specs.Options.{IsPossible};
 ghost use Rattle.partition_table.specs.Seats.{note_state, note_home};
 ghost use Rattle.locked_front.specs.Owned.{NotesAre};
@@ -37,7 +37,7 @@ pub(crate) const TIMES: u32 = 10_000;
 struct Fixed<'a> {
     change: Change,
     value: &'a [u8],
-    ghost fits: { ValueFits value.now },
+    ghost fits: { StoredFits value.now },
 }
 
 impl<'a> Decide for Fixed<'a> {

@@ -5,7 +5,7 @@ use Rattle.std.proofs.Math.Nat.{mod-eq_of_lt, mod-eq-sub-mod}
 use Rattle.std.proofs.lemmas.Bool.{leb-false, ltb-false, ltb-true, le-ltb, lt-leb, eqb-true}
 use Rattle.std.specs.Int.{w32, w64, from_le_bytes}
 use Rattle.std.specs.Option.{IfSome}
-use Rattle.mica_words.specs.Item.{ValueFits}
+use Rattle.mica_words.specs.Item.{StoredFits}
 use Rattle.memcached_text.specs.declared.limits.TheConstants.{HEADER_LEN, MAX_TEXT_LEN}
 use Rattle.memcached_text.specs.declared.command.Direction.{Direction}
 use Rattle.memcached_text.specs.declared.command.Side.{Side}
@@ -133,7 +133,7 @@ gone_is_not_there at item (flushed low) =
     rw below (and-false _)
 
 -- the value of what is stored
-value_fits : (stored : List ℕ) → ValueFits stored → length (item_in stored).value ≤ MAX_TEXT_LEN
+value_fits : (stored : List ℕ) → StoredFits stored → length (item_in stored).value ≤ MAX_TEXT_LEN
 unfolding item_in
 value_fits stored is = go (nat_lt (length stored) HEADER_LEN) refl
   where

@@ -1,6 +1,6 @@
 -- What may be asked, and found.
 use Rattle.std.specs.Prelude.{⊤, ℕ, ◌^◌, ◌<◌, ◌≤◌, List, length, Option, Some, None}
-use Rattle.mica_words.specs.Item.{ValueFits}
+use Rattle.mica_words.specs.Item.{StoredFits}
 use Rattle.memcached_text.specs.declared.limits.TheConstants.{MAX_TEXT_LEN}
 use Rattle.memcached_text.specs.Fit.{IsFitKey, IsWant}
 use Rattle.memcached_text.specs.Lifetimes.{IsLifetime}
@@ -20,7 +20,7 @@ IsFitAsk _ = ⊤
 -- nothing is stored, or a value that the store takes
 abbrev pub IsFitStored : Option (List ℕ) → Type 0
 IsFitStored None = ⊤
-IsFitStored (Some stored) = ValueFits stored
+IsFitStored (Some stored) = StoredFits stored
 
 -- and its key is neither empty nor too long
 abbrev pub IsFitAsked : Asked → Type 0

@@ -1,6 +1,6 @@
 -- What a user may rely on, whatever is asked.
 use Rattle.std.specs.Prelude.{◌≡◌, ⊤, ℕ, ◌+◌, ◌^◌, ◌<◌, ◌≤◌, ◌⊎◌, List, length, max, decimal, Option, Some, None}
-use Rattle.mica_words.specs.Item.{ValueFits}
+use Rattle.mica_words.specs.Item.{StoredFits}
 use Rattle.memcached_text.specs.declared.limits.TheConstants.{MAX_TEXT_LEN}
 use Rattle.memcached_text.specs.declared.command.Direction.{Direction}
 use Rattle.memcached_text.specs.declared.command.Direction.TheVariants.{Up, Down}
@@ -30,7 +30,7 @@ IsFitFound (Some item) = IsFitItem item
 -- an item that the store takes, and that is read as it was
 pub record IsKept (item : Item) : Type 0 where
   pub fit : IsFitItem item
-  pub fits : ValueFits (item_text item)
+  pub fits : StoredFits (item_text item)
   pub reads : item_in (item_text item) ≡ item
 
 abbrev pub BecomesKept : Becoming → Type 0

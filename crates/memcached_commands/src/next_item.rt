@@ -1,6 +1,6 @@
 //! The text of the item that is to be stored, in a buffer with room for the largest.
 ghost use Rattle.std.specs.Prelude.{◌≡◌, ◌+◌, ◌≤◌, ◌++◌, ℕ, List, length, replicate};
-ghost use Rattle.mica_words.specs.declared.item.TheConstants.{MAX_VALUE_LEN};
+ghost use Rattle.mica_words.specs.declared.item.TheConstants.{MAX_STORED_LEN};
 ghost use Rattle.memcached_text.specs.declared.limits.TheConstants.{HEADER_LEN};
 ghost use Rattle.memcached_text.specs.Item.{item_text};
 
@@ -24,7 +24,7 @@ pub fn begin_item(next: &mut ItemBuf, flags: u32, expires: u32, unique: u64)
 
 // Puts so many spaces last.
 pub fn put_spaces(next: &mut ItemBuf, count: usize)
-    requires { length next.old + count ≤ MAX_VALUE_LEN }
+    requires { length next.old + count ≤ MAX_STORED_LEN }
     ensures { next.new ≡ next.old ++ replicate count 32 }
 {
     let spaces = [b' '; SPACES];

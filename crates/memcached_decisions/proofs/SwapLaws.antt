@@ -5,7 +5,7 @@ use Rattle.std.proofs.lemmas.Bool.{cond_both, le-ltb, eqb-true, and_parts}
 use Rattle.std.proofs.lemmas.List.{append-nil}
 use Rattle.std.proofs.lemmas.Nat.{from_le_bytes-to_le_bytes_4, from_le_bytes-to_le_bytes_8}
 use Rattle.std.proofs.lemmas.Option.{same_Some}
-use Rattle.mica_words.specs.declared.item.TheConstants.{MAX_VALUE_LEN}
+use Rattle.mica_words.specs.declared.item.TheConstants.{MAX_STORED_LEN}
 use Rattle.partition_model.specs.declared.options.Options.{Options}
 use Rattle.partition_model.specs.declared.write.Write.{Write}
 use Rattle.partition_model.specs.declared.write.Op.TheVariants.{Del}
@@ -55,7 +55,7 @@ module _ (item : Item) (fits : item.unique < 2 ^ 64) where
 found_stored : (P : Option Item → Type 0) (at : Moment) (value : Option (List ℕ)) → P (found_in at (value_in value)) → P None ⊎ P (option_map item_in value)
 found_stored P at None is = inl is
 found_stored P at (Some s) is =
-    cond_both (nat_le (length s) MAX_VALUE_LEN) (Some s) None (λ v. P (found_in at v) → P None ⊎ P (Some (item_in s)))
+    cond_both (nat_le (length s) MAX_STORED_LEN) (Some s) None (λ v. P (found_in at v) → P None ⊎ P (Some (item_in s)))
     (λ _. cond_both (is_there at (item_in s)) (Some (item_in s)) None (λ f. P f → P None ⊎ P (Some (item_in s))) (λ _ here. inr here) (λ _ gone. inl gone)) (λ _ none. inl none) is
 
 -- What a command stores has a new number, or it is what was found, but for its end.

@@ -1,6 +1,6 @@
 -- Unique numbers and flushes, as functions of a partition's history.
 use Rattle.std.specs.Prelude.{ℕ, ◌+◌, ◌^◌, ◌<◌, ◌==◌, List, length, nat_le, min, Option, Some, None, if◌then◌else◌}
-use Rattle.mica_words.specs.declared.item.TheConstants.{MAX_VALUE_LEN}
+use Rattle.mica_words.specs.declared.item.TheConstants.{MAX_STORED_LEN}
 use Rattle.memcached_text.specs.Item.{item_text}
 use Rattle.partition_model.specs.declared.write.Outcome.{Outcome}
 use Rattle.partition_model.specs.Write.{is_accepted}
@@ -42,7 +42,7 @@ stored_becoming decided.goes = goes
 -- no value is longer than this
 abbrev pub value_in : Option (List ℕ) → Option (List ℕ)
 value_in None = None
-value_in (Some stored) = if nat_le (length stored) MAX_VALUE_LEN then Some stored else None
+value_in (Some stored) = if nat_le (length stored) MAX_STORED_LEN then Some stored else None
 
 -- What a command makes of what is stored.
 abbrev pub becoming_by : Order → When → Option (List ℕ) → Becoming

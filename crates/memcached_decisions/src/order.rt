@@ -12,7 +12,7 @@ use fronts::{Decide, When};
 use memcached_commands::{
     Ask, Moment, Says, change_stored, found_in, looks, no_room, only_gets, says_of,
 };
-use mica_words::MAX_VALUE_LEN;
+use mica_words::MAX_STORED_LEN;
 use partition_model::{Change, ItemBuf, Outcome};
 use std::marker::Model;
 
@@ -60,7 +60,7 @@ pub fn moment_at(base: u64, when: When) -> Moment
 fn value_in(stored: Option<&[u8]>) -> Option<&[u8]>
     ensures { option_copied result ≡ value_in (option_copied stored.entry) }
 {
-    stored.filter(|value| value.len() <= MAX_VALUE_LEN)
+    stored.filter(|value| value.len() <= MAX_STORED_LEN)
 }
 
 impl<'a> CommandOrder<'a> {

@@ -2,7 +2,7 @@
 use Rattle.std.specs.Prelude.{◌≡◌, ◌≢◌, ◌⊎◌, ◌≤◌, ◌<◌, ◌+◌, ◌-◌, ◌*◌, ◌/◌, ◌==◌, ◌||◌, not, ◌∷◌, ◌++◌, ℕ, Bool, true, false, ⊤, List, [], length, min, sum_by, nat_lt, bytes_eq, is_some, AllPairs, None, option_map, unwrap_or, if◌then◌else◌}
 use Rattle.std.specs.List.{AllByRecursion, list_any}
 use Rattle.mica_words.specs.declared.entry.TheConstants.{SLOTS}
-use Rattle.mica_words.specs.Item.{item_size, largest_item}
+use Rattle.mica_words.specs.Item.{item_size, largest_stored_item}
 use Rattle.partition_model.specs.declared.options.Mode.TheVariants.{Cache}
 use Rattle.partition_model.specs.declared.options.Options.{Options}
 use Rattle.partition_model.specs.Limits.{last_tail}
@@ -87,7 +87,7 @@ KeepsItems options class from course = options.mode ≡ Cache → AtEach (GoesFo
 -- them; or the keys are more than the spare buckets are for.
 abbrev pub LacksRoom : Options → Shelf → List Done → ℕ → List (List ℕ) → Type 0
 LacksRoom options from earlier words keys =
-    (min options.wear (last_tail / largest_item) ≤ length earlier)
+    (min options.wear (last_tail / largest_stored_item) ≤ length earlier)
     ⊎ ((0 < words) × (options.words ≤ (length keys + 1) * (words - 1) + sum_by (λ key. (place_in (λ other. 0) key from nowhere earlier).room) keys))
     ⊎ ((0 < words) × (SLOTS * options.spares < length keys))
 

@@ -9,12 +9,9 @@ use crate::lines::put_stats;
 use crate::tally::{MOST_NUMBERS, Tally, place_of_partition};
 use mica_words::tail_of;
 use outside::NoMemory;
-use partition_model::{LAST_TAIL, MOST_PARTITIONS, Mode, Options};
+use partition_model::{LARGEST_STORED_ITEM, LAST_TAIL, MOST_PARTITIONS, Mode, Options};
 use std::alloc::Global;
 use std::sync::atomic::{AtomicU64, Ordering};
-
-// The words of the largest item: its header, a key of 255 bytes and a value of 8,192. It is the most that a write takes of a log.
-const LARGEST_ITEM: u64 = 1_058;
 
 /// What a server is told of itself as it begins.
 #[derive(Clone, Copy)]
@@ -129,14 +126,14 @@ impl Board {
         Counts { numbers }
     }
 
-    // What a partition bears, by how many writes it accepted and its stamp. In cache mode its log also comes to an end.
+    // What a partition bears, by how many writes it accepted and its stamp. In cache mode its log also comes to an end, and a write takes no more of it than the largest item.
     fn left(&self, writes: u64, stamp: u64) -> u64 {
         let writes_left = self.options.wear.saturating_sub(writes);
         match self.options.mode {
             Mode::Store => writes_left,
             Mode::Cache => {
                 let words_left = LAST_TAIL.saturating_sub(tail_of(stamp));
-                writes_left.min(words_left / LARGEST_ITEM)
+                writes_left.min(words_left / LARGEST_STORED_ITEM)
             }
         }
     }

@@ -1,6 +1,6 @@
 //! How long the parts of a command may be.
 
-use mica_words::MAX_VALUE_LEN;
+use mica_words::MAX_STORED_LEN;
 
 /// The longest key, in bytes, as the protocol has it. The store takes longer ones.
 pub const MAX_KEY_LEN: usize = 250;
@@ -9,7 +9,7 @@ pub const MAX_KEY_LEN: usize = 250;
 pub const HEADER_LEN: usize = 16;
 
 /// The longest value of an item, in bytes. What is stored is longer by the header.
-pub const MAX_TEXT_LEN: usize = MAX_VALUE_LEN - HEADER_LEN;
+pub const MAX_TEXT_LEN: usize = MAX_STORED_LEN - HEADER_LEN;
 
 /// The most bytes that a line may say of the value in its block. What is longer than a value may be is dropped.
 pub const MAX_BLOCK_LEN: u32 = 2_147_483_645;

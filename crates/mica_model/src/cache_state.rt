@@ -1,11 +1,12 @@
 //! The state of a partition in cache mode, and the rules of a step.
 ghost use Rattle.std.specs.Prelude.{◌≡◌, ◌+◌, ◌≤◌, ◌<◌, [], ◌↔◌, IsTrue, IfSome, OnOk, OnErr, length, drop, is_some, option_copied, position, count_by, vec_len, vec_capacity};
-ghost use Rattle.mica_words.specs.Item.{KeyFits, ValueFits};
+ghost use Rattle.mica_words.specs.Item.{KeyFits, StoredFits};
 ghost use Rattle.partition_model.specs.Cache.{start, has_key, is_live, record_of, value_in};
 ghost use Rattle.partition_model.specs.Records.{ValuesFit, IsUnique};
 ghost use Rattle.mica_model.specs.CacheFields.{displaced_at, kept_place, passed_front, without_at};
 ghost use Rattle.partition_model.specs.CacheStep.{after_append, new_record, after_put, after_touch, after_delete, after_write, reply, kept_record, is_in_bucket};
-ghost use Rattle.partition_model.specs.Limits.{most_stamp};
+ghost use Rattle.mica_words.specs.Stamp.{tail_of};
+ghost use Rattle.partition_model.specs.Limits.{last_tail};
 ghost use Rattle.partition_model.specs.declared.options.TheConstants.{MAX_WEAR};
 ghost use Rattle.partition_model.specs.Options.{IsValid};
 ghost use Rattle.partition_model.specs.Write.{HasValueOf, write_of};
@@ -147,7 +148,7 @@ impl CacheState {
     ) -> Result<(), NoMemory>
         requires key { KeyFits key.now }
         requires value { HasValueOf op value.now }
-        requires stamp { self.old.stamp ≤ most_stamp }
+        requires room { tail_of self.old.stamp < last_tail }
         requires unique { IsUnique self.old.records }
         requires values { ValuesFit self.old.records }
 
@@ -175,8 +176,8 @@ impl CacheState {
         value: &[u8],
     ) -> Result<(), NoMemory>
         requires key { KeyFits key.now }
-        requires value { ValueFits value.now }
-        requires stamp { self.old.stamp ≤ most_stamp }
+        requires value { StoredFits value.now }
+        requires room { tail_of self.old.stamp < last_tail }
         requires unique { IsUnique self.old.records }
 
         ensures ok { let write = write_of Op.Put key.now value.now in
@@ -204,8 +205,8 @@ impl CacheState {
     ) -> Option<usize>
         requires found { found ≡ position (has_key key.now) self.now.records }
         requires key { KeyFits key.now }
-        requires value { ValueFits value.now }
-        requires stamp { self.now.stamp ≤ most_stamp }
+        requires value { StoredFits value.now }
+        requires room { tail_of self.now.stamp < last_tail }
         ensures { result ≡ kept_place options.now self.now (write_of Op.Put key.now value.now) }
     {
         let at = found?;
@@ -229,8 +230,8 @@ impl CacheState {
     ) -> Result<(), NoMemory>
         requires found { found ≡ position (has_key key.now) self.old.records }
         requires key { KeyFits key.now }
-        requires value { ValueFits value.now }
-        requires stamp { self.old.stamp ≤ most_stamp }
+        requires value { StoredFits value.now }
+        requires room { tail_of self.old.stamp < last_tail }
         requires unique { IsUnique self.old.records }
 
         ensures ok { OnOk result
@@ -255,7 +256,7 @@ impl CacheState {
     // The key's record, if it has one, becomes the last, in a room of its item's size.
     fn touch(&mut self, key: &[u8])
         requires key { KeyFits key.now }
-        requires stamp { self.old.stamp ≤ most_stamp }
+        requires room { tail_of self.old.stamp < last_tail }
         requires unique { IsUnique self.old.records }
         requires values { ValuesFit self.old.records }
         ensures { self.new
@@ -273,7 +274,7 @@ impl CacheState {
     }
 
     fn delete(&mut self, key: &[u8])
-        requires stamp { self.old.stamp ≤ most_stamp }
+        requires room { tail_of self.old.stamp < last_tail }
         requires unique { IsUnique self.old.records }
         ensures { self.new ≡ after_delete self.old (write_of Op.Del key.now []) }
     {

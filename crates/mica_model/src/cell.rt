@@ -1,5 +1,5 @@
 //! What the store machine keeps of a key.
-ghost use Rattle.mica_words.specs.Item.{ValueFits};
+ghost use Rattle.mica_words.specs.Item.{StoredFits};
 
 use outside::Bytes;
 
@@ -8,5 +8,5 @@ use outside::Bytes;
 pub struct Cell {
     pub value: Bytes,
     pub room: u32,
-    ghost fits: { ValueFits value },
+    ghost fits: { StoredFits value },
 }

@@ -3,7 +3,7 @@ ghost use Rattle.std.specs.Prelude.{◌≡◌, ◌+◌, ◌-◌, ◌*◌, ◌<�
 ghost use Rattle.std.specs.FinMap.{empty, get, insert, remove, len};
 ghost use Rattle.std.specs.Option.{option_map};
 ghost use Rattle.mica_words.specs.Hash.{bucket_of};
-ghost use Rattle.mica_words.specs.Item.{ValueFits};
+ghost use Rattle.mica_words.specs.Item.{StoredFits};
 ghost use Rattle.mica_words.specs.declared.entry.TheConstants.{SLOTS};
 ghost use Rattle.partition_model.specs.Store.{room_of, rooms, spares_in_use};
 ghost use Rattle.mica_model.specs.CellTable.{LacksSpare, with_cells, cell_of};
@@ -118,7 +118,7 @@ impl CellTable {
         value: &[u8],
         room: u32,
     ) -> Result<(), NoMemory>
-        requires value { ValueFits value.now }
+        requires value { StoredFits value.now }
         requires words { rooms self.old.cells + room < 2 ^ 32 + room_of (get self.old.cells key.now) }
         requires spares { spares_in_use self.old.buckets self.old.cells ≤ 65536 }
         ensures ok { OnOk result (self.new ≡ with_cells self.old

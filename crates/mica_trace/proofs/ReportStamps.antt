@@ -3,6 +3,7 @@ use Rattle.std.proofs.Common.{◌≡◌, ℕ, zero, suc, ◌<◌, ◌≤◌, Lis
 use Rattle.std.specs.List.{AllByRecursion, AllZip, cons_option}
 use Rattle.std.proofs.lemmas.List.{append-nil}
 use Rattle.mica_words.proofs.Hashes.{partition_of-below}
+use Rattle.mica_words.specs.Item.{ValueFits, StoredFits}
 use Rattle.mica_words.specs.Packing.{AreBytes}
 use Rattle.partition_model.specs.declared.options.Options.{Options}
 use Rattle.partition_model.specs.declared.write.Op.TheVariants.{Put as PutOp, Add as AddOp, Touch as TouchOp, Del as DelOp}
@@ -12,7 +13,7 @@ use Rattle.partition_model.specs.Write.{IsWrite, is_accepted}
 use Rattle.partition_model.specs.History.{History, IsHistory, MayGive, stamp_of}
 use Rattle.partition_model.specs.Run.{RunStep, IsRunFrom, history_of}
 use Rattle.partition_model.proofs.Histories.{history_snoc}
-use Rattle.partition_model.proofs.Stamps.{stamp_small}
+use Rattle.partition_model.proofs.StampWords.{stamp_is_word}
 use Rattle.mica_trace.specs.declared.line.TraceOp.{TraceOp}
 use Rattle.mica_trace.specs.declared.line.TraceOp.TheVariants.{Put, Add, Del, Touch, Get, Sync}
 use Rattle.mica_trace.specs.declared.line.TraceLine.{TraceLine}
@@ -37,13 +38,17 @@ visible : (low : ℕ) (bytes : List ℕ) → AllByRecursion (λ x. (low ≤ x) �
 visible low [] all = tt
 visible low (x ∷ bytes) all = (all.0.1, visible low bytes all.1)
 
+-- what a trace may have as a value is one
+fits : (value : List ℕ) → ValueFits value → StoredFits value
+fits value short = omega arith
+
 pub line_write : (op : TraceOp) (key value : List ℕ) (write : Write) → HasFields op key value → write_by op key value ≡ Some write → IsWrite write
 line_write Put key value write fields is =
     let e : record { op = PutOp; key = key; value = value } ≡ write = cc in
-    subst IsWrite e (record { key = fields.0.0; key_bytes = low_bytes key (visible 33 key fields.0.1); value = fields.1.0; value_bytes = low_bytes value (visible 32 value fields.1.1) })
+    subst IsWrite e (record { key = fields.0.0; key_bytes = low_bytes key (visible 33 key fields.0.1); value = fits value fields.1.0; value_bytes = low_bytes value (visible 32 value fields.1.1) })
 line_write Add key value write fields is =
     let e : record { op = AddOp; key = key; value = value } ≡ write = cc in
-    subst IsWrite e (record { key = fields.0.0; key_bytes = low_bytes key (visible 33 key fields.0.1); value = fields.1.0; value_bytes = low_bytes value (visible 32 value fields.1.1) })
+    subst IsWrite e (record { key = fields.0.0; key_bytes = low_bytes key (visible 33 key fields.0.1); value = fits value fields.1.0; value_bytes = low_bytes value (visible 32 value fields.1.1) })
 line_write Del key value write fields is =
     let e : record { op = DelOp; key = key; value = value } ≡ write = cc in
     subst IsWrite e (record { key = fields.0.0; key_bytes = low_bytes key (visible 33 key fields.0.1); value = fields.1; value_bytes = subst AreBytes (sym fields.1) (low_bytes [] tt) })
@@ -85,7 +90,7 @@ one_step options history step good is may =
 
 module _ (options : Options) (valid : IsValid options) where
   good_small : (history : History) → IsGood options history → IsStamp (stamp_of options history)
-  good_small history good = let small = stamp_small options valid history good.0 good.1 in omega arith
+  good_small history good = let wear = valid.wear.1 in stamp_is_word options (omega arith) history good.0 good.1
 
   run_small : (history : History) (steps : List RunStep) → IsGood options history → AllByRecursion Fits steps → IsRunFrom options history steps
       → AllByRecursion (λ step. IsStamp step.stamp) steps × IsGood options (history ++ history_of steps)

@@ -2,7 +2,7 @@
 use Rattle.std.proofs.Common.{◌≡◌, ◌≢◌, ℕ, zero, suc, ◌+◌, ◌*◌, ◌<◌, ◌≤◌, List, [], ◌∷◌, ◌++◌, length, refl, sym, ap, ◌∙◌, subst, arith, Option, None, inl, inr, length-append}
 use Rattle.std.specs.Prelude.{Contains}
 use Rattle.mica_words.specs.declared.entry.TheConstants.{SLOTS}
-use Rattle.mica_words.specs.Item.{largest_item}
+use Rattle.mica_words.specs.Item.{largest_stored_item}
 use Rattle.partition_model.specs.declared.options.Mode.TheVariants.{Store}
 use Rattle.partition_words.specs.declared.shape.Shape.{Shape}
 use Rattle.partition_words.specs.declared.reader.ReaderState.{ReaderState}
@@ -54,7 +54,7 @@ pub searched_one : (r q : ReaderState) (b : ℕ) (key value : List ℕ) (best : 
 searched_one r q b key value best v scans none =
     let spares : q.shape.spares ≡ 0 = ap (λ (z : Shape). z.spares) (on_shape r q _ scans.on) ∙ none in
     record {
-      on = on_at_most r q (SLOTS * (1 + largest_item)) ((r.shape.spares + 1) * (bucket_words + SLOTS * largest_item)) (omega arith) scans.on;
+      on = on_at_most r q (SLOTS * (1 + largest_stored_item)) ((r.shape.spares + 1) * (bucket_words + SLOTS * largest_stored_item)) (omega arith) scans.on;
       behind = [];
       links = tt;
       found = is_best q.shape (loads_in q) (b ∷ []) key value v best scans.found;
@@ -69,7 +69,7 @@ searched_one r q b key value best v scans none =
 
 -- So many links were followed in store mode. The key's item is in the last bucket, or in none.
 pub record Walks (old : ReaderState) (b links at : ℕ) (key : List ℕ) (best : Option ℕ) (value : List ℕ) (new : ReaderState) : Type 0 where
-  pub on : GoesOn old (links * (bucket_words + SLOTS * largest_item) + SLOTS * (1 + largest_item)) new
+  pub on : GoesOn old (links * (bucket_words + SLOTS * largest_stored_item) + SLOTS * (1 + largest_stored_item)) new
   pub behind : List ℕ
   pub long : length behind ≡ links
   pub path : HasPath new.shape (loads_in new) b behind at
@@ -83,7 +83,7 @@ seen_keeps shape loads more keeps key c slot (inr weighed) = inr (slot_keeps sha
 -- the first bucket
 pub walks_first : (r q : ReaderState) (b : ℕ) (key : List ℕ) (best : Option ℕ) (v : List ℕ) → ScansFirst r b key best v q → Walks r b 0 b key best v q
 walks_first r q b key best v scans = record {
-  on = on_at_most r q (SLOTS * (1 + largest_item)) (0 * (bucket_words + SLOTS * largest_item) + SLOTS * (1 + largest_item)) (omega arith) scans.on;
+  on = on_at_most r q (SLOTS * (1 + largest_stored_item)) (0 * (bucket_words + SLOTS * largest_stored_item) + SLOTS * (1 + largest_stored_item)) (omega arith) scans.on;
   behind = [];
   long = refl;
   path = refl;
@@ -109,8 +109,8 @@ module _ (r q q1 q2 : ReaderState) (b links at next : ℕ) (key : List ℕ) (bes
       let keeps = on_keeps q q1 1 one in
       let spares = ap (λ (z : Shape). z.spares) (on_shape r q _ before.on) in
       let path = path_keeps q.shape (loads_in q) (loads_in q1) keeps b before.behind at before.path in record {
-        on = on_at_most r q1 (links * (bucket_words + SLOTS * largest_item) + SLOTS * (1 + largest_item) + 1) ((r.shape.spares + 1) * (bucket_words + SLOTS * largest_item)) (omega arith)
-            (on_then r q q1 (links * (bucket_words + SLOTS * largest_item) + SLOTS * (1 + largest_item)) 1 before.on one);
+        on = on_at_most r q1 (links * (bucket_words + SLOTS * largest_stored_item) + SLOTS * (1 + largest_stored_item) + 1) ((r.shape.spares + 1) * (bucket_words + SLOTS * largest_stored_item)) (omega arith)
+            (on_then r q q1 (links * (bucket_words + SLOTS * largest_stored_item) + SLOTS * (1 + largest_stored_item)) 1 before.on one);
         behind = before.behind;
         links = subst (λ (z : Shape). LinksTo z (loads_in q1) z.spares b before.behind) (sym shape)
             (path_links q.shape (loads_in q1) q.shape.spares b before.behind at path (omega (arith, before.long, spares)));
@@ -125,8 +125,8 @@ module _ (r q q1 q2 : ReaderState) (b links at next : ℕ) (key : List ℕ) (bes
       }
 
   module _ (some : next ≢ 0) (scans : ScansFirst q1 next key now v q2) where
-    all : GoesOn q (1 + SLOTS * (1 + largest_item)) q2
-    all = on_then q q1 q2 1 (SLOTS * (1 + largest_item)) one scans.on
+    all : GoesOn q (1 + SLOTS * (1 + largest_stored_item)) q2
+    all = on_then q q1 q2 1 (SLOTS * (1 + largest_stored_item)) one scans.on
 
     shape : q2.shape ≡ q.shape
     shape = on_shape q q2 _ all
@@ -143,8 +143,8 @@ module _ (r q q1 q2 : ReaderState) (b links at next : ℕ) (key : List ℕ) (bes
     -- the bucket behind
     pub walks_more : Walks r b (links + 1) next key now v q2
     walks_more = record {
-      on = on_at_most r q2 (links * (bucket_words + SLOTS * largest_item) + SLOTS * (1 + largest_item) + (1 + SLOTS * (1 + largest_item))) ((links + 1) * (bucket_words + SLOTS * largest_item) + SLOTS * (1 + largest_item)) (omega arith)
-          (on_then r q q2 (links * (bucket_words + SLOTS * largest_item) + SLOTS * (1 + largest_item)) (1 + SLOTS * (1 + largest_item)) before.on all);
+      on = on_at_most r q2 (links * (bucket_words + SLOTS * largest_stored_item) + SLOTS * (1 + largest_stored_item) + (1 + SLOTS * (1 + largest_stored_item))) ((links + 1) * (bucket_words + SLOTS * largest_stored_item) + SLOTS * (1 + largest_stored_item)) (omega arith)
+          (on_then r q q2 (links * (bucket_words + SLOTS * largest_stored_item) + SLOTS * (1 + largest_stored_item)) (1 + SLOTS * (1 + largest_stored_item)) before.on all);
       behind = before.behind ++ next ∷ [];
       long = omega (arith, before.long, length-append before.behind (next ∷ []));
       path = subst (λ (z : Shape). HasPath z (loads_in q2) b (before.behind ++ next ∷ []) next) (sym shape)
@@ -169,7 +169,7 @@ pub searched_all : (r q : ReaderState) (b links at : ℕ) (key : List ℕ) (best
 searched_all r q b links at key best value w store few all =
     let shape = on_shape r q _ w.on in
     let spares = ap (λ (z : Shape). z.spares) shape in record {
-      on = on_at_most r q (links * (bucket_words + SLOTS * largest_item) + SLOTS * (1 + largest_item)) ((r.shape.spares + 1) * (bucket_words + SLOTS * largest_item)) (omega arith) w.on;
+      on = on_at_most r q (links * (bucket_words + SLOTS * largest_stored_item) + SLOTS * (1 + largest_stored_item)) ((r.shape.spares + 1) * (bucket_words + SLOTS * largest_stored_item)) (omega arith) w.on;
       behind = w.behind;
       links = path_links q.shape (loads_in q) q.shape.spares b w.behind at w.path (omega (arith, w.long, spares));
       found = w.found;

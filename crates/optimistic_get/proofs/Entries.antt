@@ -5,7 +5,7 @@ use Rattle.std.proofs.lemmas.Bool.{cases_lt}
 use Rattle.mica_words.specs.declared.entry.TheConstants.{SLOTS}
 use Rattle.mica_words.specs.Hash.{tag_of}
 use Rattle.mica_words.specs.Entry.{entry_tag, entry_offset}
-use Rattle.mica_words.specs.Item.{largest_item}
+use Rattle.mica_words.specs.Item.{largest_stored_item}
 use Rattle.mica_words.proofs.Hashes.{tag_of-range}
 use Rattle.partition_model.specs.declared.options.Mode.TheVariants.{Store}
 use Rattle.partition_words.specs.declared.shape.Shape.{Shape}
@@ -89,12 +89,12 @@ later_no_worse (Some p) q later = later p refl
 
 -- One entry
 
-pub weighs_none : (r q : ReaderState) (n entry : ℕ) (key : List ℕ) (best : Option ℕ) (value : List ℕ) → GoesOn r n q → n ≤ largest_item
+pub weighs_none : (r q : ReaderState) (n entry : ℕ) (key : List ℕ) (best : Option ℕ) (value : List ℕ) → GoesOn r n q → n ≤ largest_stored_item
     → IsWeighed q.shape (loads_in q) key best entry → Weighs r entry key best value best value q
 weighs_none r q n entry key best value g few weighed =
-    record { on = on_at_most r q n largest_item few g; rises = no_worse_same best; found = inl (refl, refl); weighed = weighed }
+    record { on = on_at_most r q n largest_stored_item few g; rises = no_worse_same best; found = inl (refl, refl); weighed = weighed }
 
-pub weighs_one : (r q : ReaderState) (entry : ℕ) (key : List ℕ) (best : Option ℕ) (value now : List ℕ) → GoesOn r largest_item q
+pub weighs_one : (r q : ReaderState) (entry : ℕ) (key : List ℕ) (best : Option ℕ) (value now : List ℕ) → GoesOn r largest_stored_item q
     → ((p : ℕ) → best ≡ Some p → p ≤ entry_offset entry) → entry_tag entry ≡ tag_of key → ShowsItem q.shape (loads_in q) (entry_offset entry) key now
     → Weighs r entry key best value (Some (entry_offset entry)) now q
 weighs_one r q entry key best value now g later tag shows = record {
@@ -111,17 +111,17 @@ module _ (r q q1 q2 : ReaderState) (c n entry : ℕ) (key : List ℕ) (best : Op
   one : GoesOn q 1 q1
   one = on_one q q1 (entry_at q.shape c n) entry (on_open r q _ before.on) load
 
-  all : GoesOn q (1 + largest_item) q2
-  all = on_then q q1 q2 1 largest_item one weigh.on
+  all : GoesOn q (1 + largest_stored_item) q2
+  all = on_then q q1 q2 1 largest_stored_item one weigh.on
 
   shape : q2.shape ≡ q.shape
-  shape = on_shape q q2 (1 + largest_item) all
+  shape = on_shape q q2 (1 + largest_stored_item) all
 
   keeps : Keeps (loads_in q) (loads_in q2)
-  keeps = on_keeps q q2 (1 + largest_item) all
+  keeps = on_keeps q q2 (1 + largest_stored_item) all
 
   entry_there : HasLoad (loads_in q2) (entry_at q.shape c n) entry
-  entry_there = on_keeps q1 q2 largest_item weigh.on (entry_at q.shape c n) entry (load_here q q1 (entry_at q.shape c n) entry (on_open r q _ before.on) load)
+  entry_there = on_keeps q1 q2 largest_stored_item weigh.on (entry_at q.shape c n) entry (load_here q q1 (entry_at q.shape c n) entry (on_open r q _ before.on) load)
 
   found_more : ((next ≡ best) × (w ≡ value)) ⊎ IsBest q2.shape (loads_in q2) (c ∷ []) key next w
   found_more = elim weigh.found [
@@ -150,8 +150,8 @@ module _ (r q q1 q2 : ReaderState) (c n entry : ℕ) (key : List ℕ) (best : Op
 
   pub scans_more : Scans r c (n + 1) key best value next w q2
   scans_more = record {
-    on = on_at_most r q2 (n * (1 + largest_item) + (1 + largest_item)) ((n + 1) * (1 + largest_item)) (omega arith)
-        (on_then r q q2 (n * (1 + largest_item)) (1 + largest_item) before.on all);
+    on = on_at_most r q2 (n * (1 + largest_stored_item) + (1 + largest_stored_item)) ((n + 1) * (1 + largest_stored_item)) (omega arith)
+        (on_then r q q2 (n * (1 + largest_stored_item)) (1 + largest_stored_item) before.on all);
     rises = no_worse_then best now next before.rises weigh.rises;
     found = found_more;
     slots = λ slot l. ⊎_elim
@@ -186,7 +186,7 @@ is_best shape loads chain key value v best (inr is) = is
 pub first_found : (r q : ReaderState) (c n : ℕ) (key value : List ℕ) (now : Option ℕ) (v : List ℕ) → Scans r c n key None value now v q → n ≤ SLOTS → is_some now ≡ true
     → ScansFirst r c key now v q
 first_found r q c n key value now v scans few some = record {
-  on = on_at_most r q (n * (1 + largest_item)) (SLOTS * (1 + largest_item)) (omega arith) scans.on;
+  on = on_at_most r q (n * (1 + largest_stored_item)) (SLOTS * (1 + largest_stored_item)) (omega arith) scans.on;
   found = is_best q.shape (loads_in q) (c ∷ []) key value v now scans.found;
   slots = λ none. absurd (some_no_none now some none);
 }
@@ -194,7 +194,7 @@ first_found r q c n key value now v scans few some = record {
 -- whole
 pub first_whole : (r q : ReaderState) (c n : ℕ) (key value v : List ℕ) → Scans r c n key None value None v q → n ≡ SLOTS → ScansFirst r c key None v q
 first_whole r q c n key value v scans all = record {
-  on = on_at_most r q (n * (1 + largest_item)) (SLOTS * (1 + largest_item)) (omega arith) scans.on;
+  on = on_at_most r q (n * (1 + largest_stored_item)) (SLOTS * (1 + largest_stored_item)) (omega arith) scans.on;
   found = tt;
   slots = λ none slot l. inr (scans.slots slot (omega arith));
 }
@@ -204,11 +204,11 @@ pub first_empty : (r q q1 : ReaderState) (c n entry : ℕ) (key value v : List �
     → r.shape.mode ≡ Store → ScansFirst r c key None v q1
 first_empty r q q1 c n entry key value v before load empty in_bucket store =
     let one = on_one q q1 (entry_at q.shape c n) entry (on_open r q _ before.on) load in
-    let all = on_then r q q1 (n * (1 + largest_item)) 1 before.on one in
+    let all = on_then r q q1 (n * (1 + largest_stored_item)) 1 before.on one in
     let shape : q1.shape ≡ q.shape = on_shape q q1 1 one in
     let there = load_here q q1 (entry_at q.shape c n) entry (on_open r q _ before.on) load in
     record {
-      on = on_at_most r q1 (n * (1 + largest_item) + 1) (SLOTS * (1 + largest_item)) (omega arith) all;
+      on = on_at_most r q1 (n * (1 + largest_stored_item) + 1) (SLOTS * (1 + largest_stored_item)) (omega arith) all;
       found = tt;
       slots = λ none slot l. subst (λ (z : Shape). IsSlotSeen z (loads_in q1) key None c slot) (sym shape) (⊎_elim
           (λ (less : slot < n). inr (slot_keeps q.shape (loads_in q) (loads_in q1) (on_keeps q q1 1 one) key None None c slot tt (before.slots slot less)))

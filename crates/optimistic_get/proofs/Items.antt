@@ -1,7 +1,7 @@
 -- The words of an item, loaded one after another.
 use Rattle.std.proofs.Common.{◌≡◌, ◌≢◌, ℕ, ◌+◌, ◌<◌, ◌≤◌, List, length, slice_index, refl, sym, ap, ◌∙◌, subst, arith}
 use Rattle.std.specs.Prelude.{Bool, true, false, is_some, MatchBool}
-use Rattle.mica_words.specs.declared.item.TheConstants.{MAX_VALUE_LEN}
+use Rattle.mica_words.specs.declared.item.TheConstants.{MAX_STORED_LEN}
 use Rattle.mica_words.specs.Hash.{fnv1a}
 use Rattle.mica_words.specs.Header.{header_key_len, header_value_len}
 use Rattle.mica_words.specs.Item.{words_for}
@@ -21,7 +21,7 @@ module _ (r q : ReaderState) (p header : ℕ) (key : List ℕ) (trying : is_some
   pub other_key_len : header_key_len header ≢ length key → ShowsOther q.shape (loads_in q) p key
   other_key_len n = by_key_len header (item_here r q p header trying one) n
 
-  pub long_value : MAX_VALUE_LEN < header_value_len header → ShowsOther q.shape (loads_in q) p key
+  pub long_value : MAX_STORED_LEN < header_value_len header → ShowsOther q.shape (loads_in q) p key
   long_value more = by_value_len header (item_here r q p header trying one) more
 
   after_one : is_some q.current ≡ true
@@ -43,7 +43,7 @@ module _ (r q : ReaderState) (p header : ℕ) (key : List ℕ) (trying : is_some
           let inside = lacks.inside in
           by_key_word lacks.at lacks.found (omega (arith, length-packed key)) lacks.load lacks.other
 
-      pub has_key : header_key_len header ≡ length key → header_value_len header ≤ MAX_VALUE_LEN → x ≡ fnv1a key → HasLoadedWords q3 (p + 2) (packed key)
+      pub has_key : header_key_len header ≡ length key → header_value_len header ≤ MAX_STORED_LEN → x ≡ fnv1a key → HasLoadedWords q3 (p + 2) (packed key)
           → HasKeyOf q3 p key (header_value_len header)
       has_key key_len fits hash has = record {
         header = header;

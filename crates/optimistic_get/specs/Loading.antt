@@ -1,10 +1,10 @@
 -- What loads in an open try make of a reader's state, and what they found.
 use Rattle.std.specs.Prelude.{◌≡◌, ◌≢◌, ℕ, ◌+◌, ◌*◌, ◌<◌, ◌≤◌, List, [], length, slice_index, Option, Some, None}
-use Rattle.mica_words.specs.declared.item.TheConstants.{MAX_VALUE_LEN}
+use Rattle.mica_words.specs.declared.item.TheConstants.{MAX_STORED_LEN}
 use Rattle.mica_words.specs.declared.entry.TheConstants.{SLOTS}
 use Rattle.mica_words.specs.Hash.{fnv1a}
 use Rattle.mica_words.specs.Header.{header_key_len, header_value_len}
-use Rattle.mica_words.specs.Item.{words_for, largest_item}
+use Rattle.mica_words.specs.Item.{words_for, largest_stored_item}
 use Rattle.mica_words.specs.Packing.{packed, unpacked}
 use Rattle.partition_words.specs.declared.shape.Shape.{Shape}
 use Rattle.partition_words.specs.declared.reader.Try.{Try}
@@ -15,7 +15,7 @@ use Rattle.partition_words.specs.Spelt.{Loads, HasLoad}
 -- the loads of one try at most: two epochs and the stamp, and of each bucket of the chain the entries, the link
 -- and an item behind each entry
 abbrev pub most_loads : Shape → ℕ
-most_loads shape = 3 + (shape.spares + 1) * (bucket_words + SLOTS * largest_item)
+most_loads shape = 3 + (shape.spares + 1) * (bucket_words + SLOTS * largest_stored_item)
 
 -- the loads of the open try
 abbrev pub loads_of : Option Try → Loads
@@ -60,7 +60,7 @@ pub record HasKeyOf (r : ReaderState) (p : ℕ) (key : List ℕ) (len : ℕ) : T
   pub header_load : HasLoad (loads_in r) (item_at r.shape p) header
   pub key_len : header_key_len header ≡ length key
   pub value_len : header_value_len header ≡ len
-  pub fits : len ≤ MAX_VALUE_LEN
+  pub fits : len ≤ MAX_STORED_LEN
   pub hash : HasLoad (loads_in r) (item_at r.shape (p + 1)) (fnv1a key)
   pub words : HasLoadedWords r (p + 2) (packed key)
 

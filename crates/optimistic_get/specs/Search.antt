@@ -3,7 +3,7 @@ use Rattle.std.specs.Prelude.{◌≡◌, ◌≢◌, ℕ, ◌+◌, ◌*◌, ◌<�
 use Rattle.mica_words.specs.declared.entry.TheConstants.{SLOTS}
 use Rattle.mica_words.specs.Hash.{tag_of}
 use Rattle.mica_words.specs.Entry.{entry_tag, entry_offset}
-use Rattle.mica_words.specs.Item.{largest_item}
+use Rattle.mica_words.specs.Item.{largest_stored_item}
 use Rattle.partition_model.specs.declared.options.Mode.TheVariants.{Store}
 use Rattle.partition_words.specs.declared.shape.Shape.{Shape}
 use Rattle.partition_words.specs.declared.reader.ReaderState.{ReaderState}
@@ -43,7 +43,7 @@ IsSlotSeen shape loads key best c slot = HasEmpty shape loads c slot ⊎ IsSlotW
 -- An entry was looked at. The best item of before is the best still, or this entry's is.
 pub record Weighs (old : ReaderState) (entry : ℕ) (key : List ℕ) (best : Option ℕ) (value : List ℕ)
     (now : Option ℕ) (now_value : List ℕ) (new : ReaderState) : Type 0 where
-  pub on : GoesOn old largest_item new
+  pub on : GoesOn old largest_stored_item new
   pub rises : IsNoWorse best now
   pub found : ((now ≡ best) × (now_value ≡ value))
       ⊎ ((now ≡ Some (entry_offset entry)) × (entry_tag entry ≡ tag_of key)
@@ -54,20 +54,20 @@ pub record Weighs (old : ReaderState) (entry : ℕ) (key : List ℕ) (best : Opt
 -- this bucket.
 pub record Scans (old : ReaderState) (c count : ℕ) (key : List ℕ) (best : Option ℕ) (value : List ℕ)
     (now : Option ℕ) (now_value : List ℕ) (new : ReaderState) : Type 0 where
-  pub on : GoesOn old (count * (1 + largest_item)) new
+  pub on : GoesOn old (count * (1 + largest_stored_item)) new
   pub rises : IsNoWorse best now
   pub found : ((now ≡ best) × (now_value ≡ value)) ⊎ IsBest new.shape (loads_in new) (c ∷ []) key now now_value
   pub slots : (slot : ℕ) → slot < count → IsSlotWeighed new.shape (loads_in new) key now c slot
 
 -- A bucket of store mode was looked at up to the key's item, or up to an empty slot, or whole.
 pub record ScansFirst (old : ReaderState) (c : ℕ) (key : List ℕ) (now : Option ℕ) (now_value : List ℕ) (new : ReaderState) : Type 0 where
-  pub on : GoesOn old (SLOTS * (1 + largest_item)) new
+  pub on : GoesOn old (SLOTS * (1 + largest_stored_item)) new
   pub found : IsBest new.shape (loads_in new) (c ∷ []) key now now_value
   pub slots : now ≡ None → (slot : ℕ) → slot < SLOTS → IsSlotSeen new.shape (loads_in new) key None c slot
 
 -- The whole chain of a bucket was looked at, in store mode up to the key's item.
 pub record Searches (old : ReaderState) (b : ℕ) (key : List ℕ) (best : Option ℕ) (value : List ℕ) (new : ReaderState) : Type 0 where
-  pub on : GoesOn old ((old.shape.spares + 1) * (bucket_words + SLOTS * largest_item)) new
+  pub on : GoesOn old ((old.shape.spares + 1) * (bucket_words + SLOTS * largest_stored_item)) new
   pub behind : List ℕ
   pub links : LinksTo new.shape (loads_in new) new.shape.spares b behind
   pub found : IsBest new.shape (loads_in new) (b ∷ behind) key best value

@@ -1,13 +1,13 @@
 //! The item behind an entry, by loads in an open try.
 ghost use Rattle.std.specs.Prelude.{◌≡◌, ◌+◌, ◌<◌, ◌≤◌, ◌^◌, true, is_some, length, MatchBool, MatchOption};
-ghost use Rattle.mica_words.specs.declared.item.TheConstants.{MAX_VALUE_LEN};
-ghost use Rattle.mica_words.specs.Item.{words_for, largest_item};
+ghost use Rattle.mica_words.specs.declared.item.TheConstants.{MAX_STORED_LEN};
+ghost use Rattle.mica_words.specs.Item.{words_for, largest_stored_item};
 ghost use Rattle.mica_words.specs.Packing.{packed};
 ghost use Rattle.partition_words.specs.Spelt.{ShowsOther, ShowsItem};
 ghost use Rattle.optimistic_get.specs.Loading.{loads_in, GoesOn, HasLoadedWords, LacksWord, HasKeyOf, HoldsValue};
 
 use crate::wanted::Wanted;
-use mica_words::{MAX_VALUE_LEN, header_key_len, header_value_len, item_size, packed_word};
+use mica_words::{MAX_STORED_LEN, header_key_len, header_value_len, item_size, packed_word};
 use partition_model::{ItemBuf, Mode};
 use partition_words::ReaderWords;
 
@@ -45,7 +45,7 @@ fn value_len_at<R: ReaderWords>(seat: &mut R, offset: u64, wanted: &Wanted<'_>) 
         return None;
     }
     let len = header_value_len(header) as usize;
-    if len > MAX_VALUE_LEN {
+    if len > MAX_STORED_LEN {
         return None;
     }
     if seat.item_word(offset + 1) != wanted.hash {
@@ -62,7 +62,7 @@ fn value_len_at<R: ReaderWords>(seat: &mut R, offset: u64, wanted: &Wanted<'_>) 
 fn load_value<R: ReaderWords>(seat: &mut R, offset: u64, len: usize, out: &mut ItemBuf)
     requires open { is_some (R.reader seat.old).current ≡ true }
     requires low { offset < 2 ^ 63 }
-    requires len { len ≤ MAX_VALUE_LEN }
+    requires len { len ≤ MAX_STORED_LEN }
     ensures on { GoesOn (R.reader seat.old) (words_for len) (R.reader seat.new) }
     ensures value { HoldsValue (R.reader seat.new) offset len out.new }
     ensures home { R.home seat.new ≡ R.home seat.old }
@@ -90,7 +90,7 @@ pub(crate) fn look<R: ReaderWords>(
 ) -> bool
     requires open { is_some (R.reader seat.old).current ≡ true }
     requires offset { offset < 2 ^ 48 }
-    ensures on { GoesOn (R.reader seat.old) largest_item (R.reader seat.new) }
+    ensures on { GoesOn (R.reader seat.old) largest_stored_item (R.reader seat.new) }
     ensures shows { MatchBool result
         (ShowsItem (R.reader seat.new).shape (loads_in (R.reader seat.new)) offset wanted.now.key.now out.new)
         (ShowsOther (R.reader seat.new).shape (loads_in (R.reader seat.new)) offset wanted.now.key.now

@@ -7,7 +7,7 @@ use Rattle.std.proofs.lemmas.List.Sums.{sum_by_push}
 use Rattle.std.proofs.lemmas.Grind.{common_steps}
 use Rattle.mica_words.specs.declared.entry.TheConstants.{SLOTS}
 use Rattle.mica_words.specs.Hash.{bucket_of}
-use Rattle.mica_words.specs.Item.{KeyFits, ValueFits, item_size, largest_item}
+use Rattle.mica_words.specs.Item.{KeyFits, StoredFits, item_size, largest_stored_item}
 use Rattle.mica_words.specs.Packing.{AreBytes}
 use Rattle.mica_words.specs.Stamp.{tail_of}
 use Rattle.partition_model.specs.declared.options.Options.{Options}
@@ -29,10 +29,10 @@ use Rattle.partition_model.proofs.Laid.{IsLaid}
 pub record IsRecord (held : Record) : Type 0 where
   pub key : KeyFits held.key
   pub key_bytes : AreBytes held.key
-  pub value : ValueFits held.value
+  pub value : StoredFits held.value
   pub value_bytes : AreBytes held.value
   pub size : item_size held.key held.value ≤ held.room
-  pub room : held.room ≤ largest_item
+  pub room : held.room ≤ largest_stored_item
 
 abbrev pub AreLive : ℕ → ℕ → List Record → Type 0
 AreLive words stamp records = AllOf (λ held. tail_of stamp ≤ held.offset + words) records
@@ -52,14 +52,14 @@ start_kept options = grind (arith, common_steps)
 
 -- a value that an operation has fits, and no value does
 
-pub fits_by : (op : Op) (value : List ℕ) → HasValueOf op value → ValueFits value
+pub fits_by : (op : Op) (value : List ℕ) → HasValueOf op value → StoredFits value
 fits_by op value fits = grind (arith, common_steps)
 
 -- the largest item has the most words
-pub item_at_most : (key value : List ℕ) → KeyFits key → ValueFits value → item_size key value ≤ largest_item
+pub item_at_most : (key value : List ℕ) → KeyFits key → StoredFits value → item_size key value ≤ largest_stored_item
 item_at_most key value key_fits fits = let short = key_fits.1 in omega arith
 
-pub size_at_most : (write : Write) → IsWrite write → size_of write ≤ largest_item
+pub size_at_most : (write : Write) → IsWrite write → size_of write ≤ largest_stored_item
 size_at_most write is = item_at_most write.key write.value is.key (fits_by write.op write.value is.value)
 
 -- a room of an append moves the tail on by as many words
@@ -135,9 +135,9 @@ module _ (options : Options) (s : Cache) (kept : IsKept options s) (write : Writ
   pub others_laid : IsLaid 0 (tail_of s.stamp) (others write.key s.records)
   others_laid = laid.laid_filter (λ r. not (has_key write.key r)) 0 (tail_of s.stamp) s.records kept.laid
 
-  appended : (value : List ℕ) → ValueFits value → AreBytes value → IsWritten options s write (cs.after_append s (new_record s write.key value))
+  appended : (value : List ℕ) → StoredFits value → AreBytes value → IsWritten options s write (cs.after_append s (new_record s write.key value))
   appended value fits bytes =
-      let size : item_size write.key value ≤ largest_item = item_at_most write.key value is.key fits in
+      let size : item_size write.key value ≤ largest_stored_item = item_at_most write.key value is.key fits in
       let some : 0 < item_size write.key value = omega arith in
       let count = λ (bucket : ℕ). sum_by_push (λ (r : Record). cond (is_in_bucket options bucket r) 1 0) (others write.key s.records) (new_record s write.key value) in
       record {
@@ -163,7 +163,7 @@ module _ (options : Options) (s : Cache) (kept : IsKept options s) (write : Writ
         fewer,
       )
 
-  rewrites : ValueFits write.value → (held : Record) → KeepsPut options s write held → IsWritten options s write (cs.after_rewrite s write)
+  rewrites : StoredFits write.value → (held : Record) → KeepsPut options s write held → IsWritten options s write (cs.after_rewrite s write)
   rewrites value held keeps =
       let same = λ (bucket : ℕ). count_map (is_in_bucket options bucket) (rewritten write) (λ r. ap (λ k. eqb (bucket_of k options.buckets) bucket) (rewritten_key write r)) s.records in
       record {
@@ -181,7 +181,7 @@ module _ (options : Options) (s : Cache) (kept : IsKept options s) (write : Writ
         most = omega arith;
       }
 
-  put : ValueFits write.value → (o : Option Record) → kept_record options s write ≡ o → IsWritten options s write (cs.after_put o s write)
+  put : StoredFits write.value → (o : Option Record) → kept_record options s write ≡ o → IsWritten options s write (cs.after_put o s write)
   put value None at = appended write.value value is.value_bytes
   put value (Some held) at = rewrites value held (keeps_put options s write held at)
 

@@ -8,7 +8,7 @@ use Rattle.std.proofs.lemmas.List.Sums.{sum_by_push}
 use Rattle.std.proofs.lemmas.Grind.{common_steps}
 use Rattle.mica_words.specs.declared.entry.TheConstants.{SLOTS}
 use Rattle.mica_words.specs.Hash.{bucket_of}
-use Rattle.mica_words.specs.Item.{KeyFits, ValueFits, item_size}
+use Rattle.mica_words.specs.Item.{KeyFits, StoredFits, item_size}
 use Rattle.mica_words.specs.Packing.{AreBytes}
 use Rattle.mica_words.specs.Stamp.{tail_of}
 use Rattle.partition_model.specs.declared.options.Options.{Options}
@@ -55,14 +55,14 @@ module _ (options : Options) (s : Cache) (kept : IsKept options s) where
   record_is key r is = found.found_has IsRecord (has_key key) s.records r kept.are is
 
   pub fits_kept : (key : List ℕ) (r : Record) → record_of s key ≡ Some r
-      → KeyFits key × AreBytes key × ValueFits r.value × AreBytes r.value × (item_size key r.value ≤ r.room) × (r.room < 65536)
+      → KeyFits key × AreBytes key × StoredFits r.value × AreBytes r.value × (item_size key r.value ≤ r.room) × (r.room < 16777216)
   fits_kept key r is = grind (arith, common_steps, laid.found_key key s.records r is, record_is key r is)
 
-  value_by : (key value : List ℕ) (o : Option Record) → record_of s key ≡ o → option_map (λ held. held.value) o ≡ Some value → ValueFits value
+  value_by : (key value : List ℕ) (o : Option Record) → record_of s key ≡ o → option_map (λ held. held.value) o ≡ Some value → StoredFits value
   value_by key value None at is = cc
-  value_by key value (Some r) at is = subst ValueFits (same_Some r.value value is) (record_is key r at).value
+  value_by key value (Some r) at is = subst StoredFits (same_Some r.value value is) (record_is key r at).value
 
-  pub value_kept : (key value : List ℕ) → value_in s key ≡ Some value → ValueFits value
+  pub value_kept : (key value : List ℕ) → value_in s key ≡ Some value → StoredFits value
   value_kept key value is = value_by key value (record_of s key) refl is
 
   -- the log's window

@@ -5,8 +5,10 @@ pub mod CacheKept
 pub mod Histories
 pub mod SameMachine
 pub mod CacheLaws
+pub mod Short
 pub mod StoreLaws
 pub mod Stamps
+pub mod StampWords
 pub mod FateLaws
 pub mod CellSums
 pub mod BucketSums

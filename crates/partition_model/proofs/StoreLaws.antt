@@ -9,7 +9,7 @@ use Rattle.std.specs.declared.cmp.Ordering.TheVariants.{Equal}
 use Rattle.std.specs.Cmp.Lexicographic.{slice_cmp, nat_list_cmp_total}
 use Rattle.std.proofs.lemmas.Bool.{false_from_ne_true}
 use Rattle.std.proofs.lemmas.Option.{same_Some}
-use Rattle.mica_words.specs.Item.{KeyFits, ValueFits, item_size, largest_item}
+use Rattle.mica_words.specs.Item.{KeyFits, StoredFits, item_size, largest_stored_item}
 use Rattle.mica_words.specs.Packing.{AreBytes}
 use Rattle.partition_model.specs.declared.options.Options.{Options}
 use Rattle.partition_model.specs.declared.options.Mode.{Mode}
@@ -53,10 +53,10 @@ others_same s write key other = op_same write.op s write key other
 pub record IsCell (key : List ℕ) (cell : Cell) : Type 0 where
   pub key_fits : KeyFits key
   pub key_bytes : AreBytes key
-  pub value : ValueFits cell.value
+  pub value : StoredFits cell.value
   pub value_bytes : AreBytes cell.value
   pub size : item_size key cell.value ≤ cell.room
-  pub room : cell.room ≤ largest_item
+  pub room : cell.room ≤ largest_stored_item
 
 pub record IsKept (s : Store) : Type 0 where
   pub are : (key : List ℕ) (cell : Cell) → get s.cells key ≡ Some cell → IsCell key cell
@@ -66,19 +66,19 @@ start_kept : IsKept store_start
 unfolding store_start
 start_kept = record { are = λ key cell is. let none = get-empty {X = Cell} (slice_cmp nat_cmp) key in cc; stamp = refl }
 
-room_by : (o : Option Cell) (size : ℕ) → size ≤ largest_item → ((cell : Cell) → o ≡ Some cell → cell.room ≤ largest_item) → (size ≤ ss.room_after o size) × (ss.room_after o size ≤ largest_item)
+room_by : (o : Option Cell) (size : ℕ) → size ≤ largest_stored_item → ((cell : Cell) → o ≡ Some cell → cell.room ≤ largest_stored_item) → (size ≤ ss.room_after o size) × (ss.room_after o size ≤ largest_stored_item)
 room_by o size small rooms = grind (arith, common_steps)
 
 module _ (s : Store) (kept : IsKept s) (write : Write) (is : IsWrite write) where
   abbrev put_cell : Cell
   put_cell = record { value = write.value; room = ss.room_after (get s.cells write.key) (size_of write) }
 
-  put_cell_is : ValueFits write.value → IsCell write.key put_cell
+  put_cell_is : StoredFits write.value → IsCell write.key put_cell
   put_cell_is value =
       let rooms = room_by (get s.cells write.key) (size_of write) (size_at_most write is) (λ cell found. (kept.are write.key cell found).room) in
       record { key_fits = is.key; key_bytes = is.key_bytes; value = value; value_bytes = is.value_bytes; size = rooms.0; room = rooms.1 }
 
-  after_put_kept : ValueFits write.value → IsKept (ss.after_put s write)
+  after_put_kept : StoredFits write.value → IsKept (ss.after_put s write)
   after_put_kept value = record {
     are = λ key cell found. elim (same_bytes key write.key) as (λ b. same_bytes key write.key ≡ b → cond b (Some put_cell) (get s.cells key) ≡ Some cell → IsCell key cell) [
       | true ↦ grind (arith, IsCell, bytes_are_same key write.key, IsCell write.key, same_Some put_cell cell, put_cell_is value)
@@ -122,7 +122,7 @@ module _ (options : Options) (history : History) (writes : AllOf IsWrite history
   kept_in = subst IsKeptState at (kept_from options (start options.mode) history writes (kept_start options.mode))
 
   pub cell_fits : (key : List ℕ) (cell : Cell) → get s.cells key ≡ Some cell
-      → KeyFits key × AreBytes key × ValueFits cell.value × AreBytes cell.value × (item_size key cell.value ≤ cell.room) × (cell.room < 65536)
+      → KeyFits key × AreBytes key × StoredFits cell.value × AreBytes cell.value × (item_size key cell.value ≤ cell.room) × (cell.room < 16777216)
   cell_fits key cell is = let fine = kept_in.are key cell is in (fine.key_fits, fine.key_bytes, fine.value, fine.value_bytes, fine.size, (let room = fine.room in omega arith))
 
   -- the stamp is the number of accepted writes

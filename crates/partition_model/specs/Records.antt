@@ -1,7 +1,7 @@
 -- What holds of the records that a log has: one a key, in the order of their offsets, with values that fit.
 use Rattle.std.specs.Prelude.{◌≡◌, ◌≤◌, List, [], ◌∷◌, None, find}
 use Rattle.std.specs.List.{AllByRecursion}
-use Rattle.mica_words.specs.Item.{ValueFits}
+use Rattle.mica_words.specs.Item.{StoredFits}
 use Rattle.partition_model.specs.Cache.{Record, has_key}
 
 -- no key has two records
@@ -16,4 +16,4 @@ AreRising (r ∷ rs) = AllByRecursion (λ later. r.offset ≤ later.offset) rs �
 
 -- their values fit
 abbrev pub ValuesFit : List Record → Type 0
-ValuesFit records = AllByRecursion (λ held. ValueFits held.value) records
+ValuesFit records = AllByRecursion (λ held. StoredFits held.value) records

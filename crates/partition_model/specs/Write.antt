@@ -1,6 +1,6 @@
 -- Writes and their outcomes.
 use Rattle.std.specs.Prelude.{◌≡◌, ℕ, Bool, true, false, List, []}
-use Rattle.mica_words.specs.Item.{KeyFits, ValueFits, item_size}
+use Rattle.mica_words.specs.Item.{KeyFits, StoredFits, ValueFits, item_size}
 use Rattle.mica_words.specs.Packing.{AreBytes}
 use Rattle.partition_model.specs.declared.write.Op.{Op}
 use Rattle.partition_model.specs.declared.write.Op.TheVariants.{Put, Add, Touch, Del}
@@ -28,8 +28,8 @@ Replaces Del = ⊥
 
 -- what a write's operation says of its value: a touch and a delete have none
 abbrev pub HasValueOf : Op → List ℕ → Type 0
-HasValueOf Put value = ValueFits value
-HasValueOf Add value = ValueFits value
+HasValueOf Put value = StoredFits value
+HasValueOf Add value = StoredFits value
 HasValueOf Touch value = value ≡ []
 HasValueOf Del value = value ≡ []
 
@@ -39,6 +39,10 @@ pub record IsWrite (write : Write) : Type 0 where
   pub key_bytes : AreBytes write.key
   pub value : HasValueOf write.op write.value
   pub value_bytes : AreBytes write.value
+
+-- a write whose value traces and datagrams may have
+abbrev pub IsShort : Write → Type 0
+IsShort write = ValueFits write.value
 
 -- the words of a write's item
 abbrev pub size_of : Write → ℕ

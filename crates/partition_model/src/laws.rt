@@ -5,7 +5,7 @@ ghost use Rattle.std.specs.List.{AllByRecursion};
 ghost use Rattle.mica_words.specs.Stamp.{tail_of};
 ghost use Rattle.partition_model.specs.History.{History, IsHistory, IsPrefix, IsCut, stamp_of};
 ghost use Rattle.partition_model.specs.Limits.{last_tail};
-ghost use Rattle.partition_model.specs.Write.{IsWrite};
+ghost use Rattle.partition_model.specs.Write.{IsWrite, IsShort};
 ghost use Rattle.partition_model.specs.Options.{IsValid, IsPossible};
 ghost use Rattle.partition_model.specs.Touches.{TouchesKeep};
 
@@ -14,10 +14,10 @@ pub fn valid_is_possible()
     ensures { (options : Options) → IsValid options → IsPossible options }
 {}
 
-/// Within the ranges of the words of `mica` a partition has accepted as many writes as it may before its log ends.
+/// Within the ranges of the words of `mica`, and with values that traces may have, a partition has accepted as many writes as it may before its log ends.
 pub fn count_comes_first()
     ensures { (options : Options) (history : History) → IsValid options → IsHistory options history → AllByRecursion IsWrite history
-        → tail_of (stamp_of options history) < last_tail }
+        → AllByRecursion IsShort history → tail_of (stamp_of options history) < last_tail }
 {}
 
 /// Each accepted write raises the stamp, so a stamp is that of one prefix of a history at most.

@@ -19,6 +19,6 @@ pub use change::Change;
 pub use fate::Fate;
 pub use item_buf::ItemBuf;
 pub use laws::{count_comes_first, one_cut, touches_keep, valid_is_possible};
-pub use log_end::{LAST_TAIL, has_room};
+pub use log_end::{LARGEST_STORED_ITEM, LAST_TAIL, has_room};
 pub use options::{MAX_WEAR, MOST_PARTITIONS, MOST_SPARES, MOST_WEAR, MOST_WORDS, Mode, Options};
 pub use write::{Answer, Op, Outcome, Write, write_fits};

@@ -2,7 +2,7 @@
 ghost use Rattle.std.specs.Prelude.{◌≡◌, ◌↔◌, IsTrue};
 ghost use Rattle.partition_model.specs.Write.{IsWrite, is_accepted, write_of};
 
-use mica_words::{key_fits, value_fits};
+use mica_words::{key_fits, stored_fits};
 use outside::Bytes;
 
 /// What a write does with its key.
@@ -32,7 +32,7 @@ pub fn write_fits(op: Op, key: &[u8], value: &[u8]) -> bool
 {
     key_fits(key)
         && match op {
-            Op::Put | Op::Add => value_fits(value),
+            Op::Put | Op::Add => stored_fits(value),
             Op::Touch | Op::Del => value.is_empty(),
         }
 }

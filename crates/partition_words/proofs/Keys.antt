@@ -12,9 +12,9 @@ pub header_there : (o : OwnerState) (p : ℕ) (key : List ℕ) (cell : Cell) →
     → item_in o p ≡ header_of cell.room (length key) (length cell.value)
 header_there o p key cell item = ap (item_in o) (sym (add-zero p)) ∙ item 0 (omega arith) ∙ header_word cell.room key cell.value
 
-pub item_room : (o : OwnerState) (p : ℕ) (key : List ℕ) (cell : Cell) → cell.room < 65536 → SpellsItem o p key cell
+pub item_room : (o : OwnerState) (p : ℕ) (key : List ℕ) (cell : Cell) → cell.room < 16777216 → length key < 256 → SpellsItem o p key cell
     → header_room (item_in o p) ≡ cell.room
-item_room o p key cell small item = grind (arith, common_steps, header_there o p key cell item, header_room-header_of cell.room (length key) (length cell.value) small)
+item_room o p key cell small short item = ap header_room (header_there o p key cell item) ∙ header_room-header_of cell.room (length key) (length cell.value) small short
 
 module _ (o : OwnerState) (s : Kept o) (b entry : ℕ) (key : List ℕ) (cell : Cell) (sp : Spells o b entry key cell) where
   key_len : header_key_len (item_in o (entry_offset entry)) ≡ length key

@@ -26,7 +26,8 @@ one_place n tail x y same a b c d = grind (arith, not_below n x y same, not_belo
 -- the room of an entry's item is the one that the machine has
 pub room_is : (o : OwnerState) → Kept o → (b entry : ℕ) (key : List ℕ) (cell : Cell) → Spells o b entry key cell → room_in o entry ≡ cell.room
 room_is o s b entry key cell sp =
-    item_room o (entry_offset entry) key cell (has_fits (options_in o) o.history s.history.writes key cell (entry_offset entry) sp.has).5 sp.item
+    let fits = has_fits (options_in o) o.history s.history.writes key cell (entry_offset entry) sp.has in
+    item_room o (entry_offset entry) key cell fits.5 (omega (arith, fits.0)) sp.item
 
 -- in cache mode it is a record of the log
 pub spelt_record : (o : OwnerState) → Kept o → (b entry : ℕ) (key : List ℕ) (cell : Cell) → Spells o b entry key cell

@@ -1,7 +1,7 @@
 -- What the machine has, in both modes.
 use Rattle.std.proofs.lemmas.Grind.{common_steps}
 use Rattle.partition_words.proofs.Vocabulary.{AllByRecursion, AreBytes, Cell, Has, History, IsLiveItem, IsWrite, KeyFits, List, Mode, None, Option}
-use Rattle.partition_words.proofs.Vocabulary.{Options, Some, State, ValueFits, Write, [], ap, arith, bucket_of, cache_state, cached_in, cell_at, get}
+use Rattle.partition_words.proofs.Vocabulary.{Options, Some, State, StoredFits, Write, [], ap, arith, bucket_of, cache_state, cached_in, cell_at, get}
 use Rattle.partition_words.proofs.Vocabulary.{item_size, option_map, refl, same_Some, stamp_of, state_of, state_snoc, store_state, stored_in, subst, sym}
 use Rattle.partition_words.proofs.Vocabulary.{ℕ, ◌++◌, ◌<◌, ◌∙◌, ◌∷◌, ◌≡◌, ◌≢◌, ◌≤◌}
 use Rattle.partition_model.specs.Cache.{Cache, Record, record_of}
@@ -23,7 +23,7 @@ all_more P [] x all one = (one, tt)
 all_more P (y ∷ xs) x all one = (all.0, all_more P xs x all.1 one)
 
 abbrev pub Fits : List ℕ → Cell → Type 0
-Fits key cell = KeyFits key × AreBytes key × ValueFits cell.value × AreBytes cell.value × (item_size key cell.value ≤ cell.room) × (cell.room < 65536)
+Fits key cell = KeyFits key × AreBytes key × StoredFits cell.value × AreBytes cell.value × (item_size key cell.value ≤ cell.room) × (cell.room < 16777216)
 
 -- the record behind what the machine has in cache mode
 pub found_record : (found : Option Record) (cell : Cell) (p : ℕ) → option_map cell_at found ≡ Some (cell, p)

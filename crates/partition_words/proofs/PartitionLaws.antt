@@ -57,7 +57,7 @@ module _ (o : OwnerState) (s : Kept o) where
       → IsOffset o.shape.mode o.shape.words (entry_offset x) → entry_tag x ≡ tag_of key → SpellsItem o (entry_offset x) key cell → Spells o c x key cell
   spells_item c x key cell bucket has offset tag item =
       let fits = has_fits (options_in o) o.history s.history.writes key cell (entry_offset x) has in
-      let room = item_room o (entry_offset x) key cell fits.5 item in
+      let room = item_room o (entry_offset x) key cell fits.5 (omega (arith, fits.0)) item in
       record { bucket = bucket; has = has; offset = offset; tag = tag; item = item; in_room = omega arith }
 
 -- A write that is refused

@@ -11,7 +11,7 @@ pub use Rattle.std.proofs.lemmas.List.Elements.{All-contains, All-from_recursion
 pub use Rattle.std.specs.Prelude.{AllPairs, Contains, IfSome, IsTrue, option_map}
 pub use Rattle.mica_words.specs.Hash.{bucket_of, fnv1a, tag_of}
 pub use Rattle.mica_words.specs.Header.{header_key_len, header_of, header_room, header_value_len}
-pub use Rattle.mica_words.specs.Item.{KeyFits, ValueFits, item_size, words_for}
+pub use Rattle.mica_words.specs.Item.{KeyFits, StoredFits, item_size, words_for}
 pub use Rattle.mica_words.specs.Packing.{AreBytes, packed, unpacked}
 pub use Rattle.partition_model.proofs.Histories.{accepted_is_length, cached_in, history_snoc, state_snoc, stored_in}
 pub use Rattle.partition_model.specs.History.{History, IsPrefix, MayGive, State, answer_of, cache_state, stamp_of, start, state_of, store_state, value_in}

@@ -1,6 +1,6 @@
 -- What the loads of a try spell.
 use Rattle.std.specs.Prelude.{◌≡◌, ◌≢◌, ℕ, zero, suc, ◌+◌, ◌<◌, ◌⊎◌, List, [], ◌∷◌, length, Contains, slice_index, Option, Some, None}
-use Rattle.mica_words.specs.declared.item.TheConstants.{MAX_VALUE_LEN}
+use Rattle.mica_words.specs.declared.item.TheConstants.{MAX_STORED_LEN}
 use Rattle.mica_words.specs.declared.entry.TheConstants.{SLOTS}
 use Rattle.mica_words.specs.Hash.{fnv1a, tag_of}
 use Rattle.mica_words.specs.Entry.{entry_tag, entry_offset}
@@ -45,7 +45,7 @@ pub data ShowsOther (shape : Shape) (loads : Loads) (p : ℕ) (key : List ℕ) :
   by_offset : ¬ (IsOffset shape.mode shape.words p) → ShowsOther shape loads p key
   by_key_len : (x : ℕ) → HasLoad loads (item_at shape p) x → header_key_len x ≢ length key
       → ShowsOther shape loads p key
-  by_value_len : (x : ℕ) → HasLoad loads (item_at shape p) x → MAX_VALUE_LEN < header_value_len x
+  by_value_len : (x : ℕ) → HasLoad loads (item_at shape p) x → MAX_STORED_LEN < header_value_len x
       → ShowsOther shape loads p key
   by_hash : (x : ℕ) → HasLoad loads (item_at shape (p + 1)) x → x ≢ fnv1a key
       → ShowsOther shape loads p key

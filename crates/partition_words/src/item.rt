@@ -1,7 +1,7 @@
 //! Items in the words of a partition.
 ghost use Rattle.std.specs.Prelude.{◌≡◌, ℕ, ◌+◌, ◌<◌, ◌^◌, ◌↔◌, IsTrue, length, slice_index};
 ghost use Rattle.mica_words.specs.Hash.{fnv1a};
-ghost use Rattle.mica_words.specs.Item.{KeyFits, ValueFits, words_for};
+ghost use Rattle.mica_words.specs.Item.{KeyFits, StoredFits, words_for};
 ghost use Rattle.mica_words.specs.Packing.{packed};
 ghost use Rattle.partition_words.specs.OwnerState.{item_in};
 ghost use Rattle.partition_words.specs.Events.{CanPlay, plays, puts_from, item_events};
@@ -58,8 +58,8 @@ fn holds_packed<W: OwnerWords>(words: &mut W, offset: u64, bytes: &[u8]) -> bool
 /// Stores the header, the hash, the key and the value, in this order.
 pub fn write_item<W: OwnerWords>(words: &mut W, offset: u64, room: u32, key: &[u8], value: &[u8])
     requires key { KeyFits key.now }
-    requires value { ValueFits value.now }
-    requires room { room < 65536 }
+    requires value { StoredFits value.now }
+    requires room { room < 16777216 }
     requires allowed { CanPlay (item_events offset room key.now value.now) (W.owner words.old) }
     ensures events { W.owner words.new
         ≡ plays (item_events offset room key.entry.now value.entry.now) (W.owner words.old) }
@@ -80,8 +80,8 @@ pub fn write_item_hashed<W: OwnerWords>(
 )
     requires key { KeyFits key.now }
     requires hashed { hash ≡ fnv1a key.now }
-    requires value { ValueFits value.now }
-    requires room { room < 65536 }
+    requires value { StoredFits value.now }
+    requires room { room < 16777216 }
     requires allowed { CanPlay (item_events offset room key.now value.now) (W.owner words.old) }
     ensures events { W.owner words.new
         ≡ plays (item_events offset room key.entry.now value.entry.now) (W.owner words.old) }
@@ -101,8 +101,8 @@ pub fn write_item_hashed<W: OwnerWords>(
 pub fn rewrite_item<W: OwnerWords>(words: &mut W, offset: u64, room: u32, key: &[u8], value: &[u8])
     requires kept { Kept (W.owner words.old) }
     requires key { KeyFits key.now }
-    requires value { ValueFits value.now }
-    requires room { room < 65536 }
+    requires value { StoredFits value.now }
+    requires room { room < 16777216 }
     requires there { HasKeyWords (W.owner words.old) offset key.now }
     requires allowed { CanPlay (item_events offset room key.now value.now) (W.owner words.old) }
     ensures events { W.owner words.new

@@ -1,7 +1,7 @@
 //! A partition: a machine of one thread over an owner's words.
 ghost use Rattle.std.specs.Prelude.{◌≡◌, [], length};
 ghost use Rattle.atomic_table.specs.Seated.{TableId};
-ghost use Rattle.mica_words.specs.Item.{KeyFits, ValueFits};
+ghost use Rattle.mica_words.specs.Item.{KeyFits, StoredFits};
 ghost use Rattle.partition_model.specs.declared.write.Op.TheVariants.{Put, Add, Touch, Del};
 ghost use Rattle.partition_model.specs.Write.{HasValueOf, write_of};
 ghost use Rattle.partition_model.specs.History.{stamp_of, answer_of};
@@ -22,7 +22,7 @@ pub trait Partition {
 
     fn put(&mut self, key: &[u8], value: &[u8]) -> Outcome
         requires key { KeyFits key.now }
-        requires value { ValueFits value.now }
+        requires value { StoredFits value.now }
         ensures step { IsOwnerStep (owner self.old) (owner self.new)
             (write_of Put key.now value.now) result }
         ensures home { home self.new ≡ home self.old };
@@ -30,7 +30,7 @@ pub trait Partition {
     /// Stores the value where the key has none.
     fn add(&mut self, key: &[u8], value: &[u8]) -> Outcome
         requires key { KeyFits key.now }
-        requires value { ValueFits value.now }
+        requires value { StoredFits value.now }
         ensures step { IsOwnerStep (owner self.old) (owner self.new)
             (write_of Add key.now value.now) result }
         ensures home { home self.new ≡ home self.old };

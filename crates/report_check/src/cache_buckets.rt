@@ -155,6 +155,7 @@ fn write(
     requires part { (cache : Cache) × IsReachable options.now cache
         × (bucket.old ≡ bucket_part options.now (bucket_of key.now options.now.buckets) cache) }
     requires unworn { bucket.old.accepted < options.now.wear }
+    requires room { tail_of bucket.old.stamp < last_tail }
     ensures { OnOk result (bucket.new ≡ after options.now bucket.old (write_of op key.now value.now)) }
 {
     bucket.write(alloc, options, op, key, value)?;

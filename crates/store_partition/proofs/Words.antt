@@ -4,7 +4,7 @@ pub use Rattle.partition_words.proofs.Vocabulary.{IsPossibleShape, Kept, KeyFits
 pub use Rattle.partition_words.proofs.Vocabulary.{WhenMarked, [], after as after_event, answer_of, ap, arith, as_made, bucket_in, bucket_of, cond, dite}
 pub use Rattle.partition_words.proofs.Vocabulary.{drop, false, fnv1a, get_or_default, header_room, if◌then◌else◌, inl, inr, is_some, item_at, item_events}
 pub use Rattle.partition_words.proofs.Vocabulary.{item_in, item_size, length, length-append, length-set, link_in, marked_in, not, option_map, options_in}
-pub use Rattle.partition_words.proofs.Vocabulary.{ValueFits, plays, puts_from, refl, room_in, slice_index, stamp_of, start, state_in, state_snoc, store_state}
+pub use Rattle.partition_words.proofs.Vocabulary.{StoredFits, plays, puts_from, refl, room_in, slice_index, stamp_of, start, state_in, state_snoc, store_state}
 pub use Rattle.partition_words.proofs.Vocabulary.{stored_in, subst, suc, sym, take, true, value_in, zero, ℕ, ℕ_discrete, ◌%◌, ◌*◌, ◌++◌, ◌+◌, ◌-◌, ◌<◌}
 pub use Rattle.partition_words.proofs.Vocabulary.{◌^◌, ◌∙◌, ◌∷◌, ◌≡◌, ◌≢◌, ◌≤◌, ◌⊎◌}
 pub use Rattle.chained_index.proofs.Words.{Cells, ChangesChain, Contains-append_left, Contains-append_right, Contains-get_or, Contains-permutation}

@@ -1,7 +1,7 @@
 //! The partition in store mode, and its calls.
 ghost use Rattle.std.specs.Prelude.{◌≡◌, ◌+◌, ◌<◌, ◌≤◌, ◌↔◌, [], Some, None, IsTrue, IfOk, MatchOption, length};
 ghost use Rattle.mica_words.specs.Hash.{fnv1a};
-ghost use Rattle.mica_words.specs.Item.{KeyFits, ValueFits, item_size as item_size_of};
+ghost use Rattle.mica_words.specs.Item.{KeyFits, StoredFits, item_size as item_size_of};
 ghost use Rattle.mica_words.specs.Entry.{entry_offset as entry_offset_of};
 ghost use Rattle.partition_model.specs.declared.options.Mode.TheVariants.{Store};
 ghost use Rattle.partition_model.specs.declared.write.Op.TheVariants.{Put, Add, Touch, Del};
@@ -82,7 +82,7 @@ impl<W: OwnerWords> StorePartition<W> {
         requires unworn { length (W.owner self.old.words).history < (W.owner self.old.words).shape.wear }
         requires key { KeyFits key.now }
         requires hashed { hash ≡ fnv1a key.now }
-        requires value { ValueFits value.now }
+        requires value { StoredFits value.now }
         requires sought { IsSought (W.owner self.old.words) key.now bucket (Some spot) }
         ensures step { IsOwnerStep (W.owner self.old.words) (W.owner self.new.words)
             (write_of Put key.entry.now value.entry.now) result }
@@ -103,7 +103,7 @@ impl<W: OwnerWords> StorePartition<W> {
         requires kept { Kept (W.owner self.old.words) }
         requires unworn { length (W.owner self.old.words).history < (W.owner self.old.words).shape.wear }
         requires key { KeyFits key.now }
-        requires value { ValueFits value.now }
+        requires value { StoredFits value.now }
         requires sought { IsSought (W.owner self.old.words) key.now bucket (Some spot) }
         requires offset { block.offset ≡ entry_offset_of (spot_entry (W.owner self.old.words) spot) }
         requires room { block.room ≡ room_in (W.owner self.old.words) (spot_entry (W.owner self.old.words) spot) }
@@ -133,7 +133,7 @@ impl<W: OwnerWords> StorePartition<W> {
         requires unworn { length (W.owner self.old.words).history < (W.owner self.old.words).shape.wear }
         requires key { KeyFits key.now }
         requires hashed { hash ≡ fnv1a key.now }
-        requires value { ValueFits value.now }
+        requires value { StoredFits value.now }
         requires sought { IsSought (W.owner self.old.words) key.now bucket (Some spot) }
         requires offset { offset ≡ entry_offset_of (spot_entry (W.owner self.old.words) spot) }
         requires grows { room_in (W.owner self.old.words) (spot_entry (W.owner self.old.words) spot)
@@ -166,7 +166,7 @@ impl<W: OwnerWords> StorePartition<W> {
         requires unworn { length (W.owner self.old.words).history < (W.owner self.old.words).shape.wear }
         requires key { KeyFits key.now }
         requires hashed { hash ≡ fnv1a key.now }
-        requires value { ValueFits value.now }
+        requires value { StoredFits value.now }
         requires sought { IsSought (W.owner self.old.words) key.now bucket None }
         ensures step { IsOwnerStep (W.owner self.old.words) (W.owner self.new.words)
             (write_of op key.entry.now value.entry.now) result }
@@ -239,7 +239,7 @@ impl<W: OwnerWords> Partition for StorePartition<W> {
 
     fn put(&mut self, key: &[u8], value: &[u8]) -> Outcome
         requires key { KeyFits key.now }
-        requires value { ValueFits value.now }
+        requires value { StoredFits value.now }
         ensures step { IsOwnerStep (W.owner self.old.words) (W.owner self.new.words)
             (write_of Put key.now value.now) result }
         ensures home { W.home self.new.words ≡ W.home self.old.words }
@@ -258,7 +258,7 @@ impl<W: OwnerWords> Partition for StorePartition<W> {
 
     fn add(&mut self, key: &[u8], value: &[u8]) -> Outcome
         requires key { KeyFits key.now }
-        requires value { ValueFits value.now }
+        requires value { StoredFits value.now }
         ensures step { IsOwnerStep (W.owner self.old.words) (W.owner self.new.words)
             (write_of Add key.now value.now) result }
         ensures home { W.home self.new.words ≡ W.home self.old.words }

@@ -2,7 +2,7 @@
 
 use crate::text::{first_word, number, say};
 use mica_words::{
-    MAX_KEY_LEN, MAX_VALUE_LEN, bucket_of, entry_of, entry_offset, entry_tag, header_key_len,
+    MAX_KEY_LEN, MAX_STORED_LEN, bucket_of, entry_of, entry_offset, entry_tag, header_key_len,
     header_of, header_room, header_value_len, item_size, key_fits, key_hash, pack, partition_of,
     tag_of, tail_of, unpack, value_fits,
 };
@@ -64,7 +64,7 @@ fn entry(tag: u64, offset: u64) -> Option<u64> {
 fn size(key_len: u64, value_len: u64) -> Option<u64> {
     let key_len = usize::try_from(key_len).ok()?;
     let value_len = usize::try_from(value_len).ok()?;
-    if key_len > MAX_KEY_LEN || value_len > MAX_VALUE_LEN {
+    if key_len > MAX_KEY_LEN || value_len > MAX_STORED_LEN {
         return None;
     }
     Some(u64::from(item_size(key_len, value_len)))

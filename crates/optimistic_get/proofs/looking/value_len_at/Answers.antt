@@ -9,10 +9,10 @@ returns-then-header_key_len-wanted-clause-shows g c =
     other_key_len (reader c.args.seat.now) (reader c.item_word-header.new.self) c.args.offset c.item_word-header.result c.args.wanted.now.key.now c.requires.open c.item_word-header.ensures.event
     (λ same. c.if-header_key_len-wanted.true (c.header_key_len.ensures ∙ same))
 
-pub returns-then-len-gt-MAX_VALUE_LEN-clause-shows : goal.returns-then-len-gt-MAX_VALUE_LEN-clause-shows
-returns-then-len-gt-MAX_VALUE_LEN-clause-shows g c =
+pub returns-then-len-gt-MAX_STORED_LEN-clause-shows : goal.returns-then-len-gt-MAX_STORED_LEN-clause-shows
+returns-then-len-gt-MAX_STORED_LEN-clause-shows g c =
     let reader = g.R.ReaderWords.reader in
-    let more = c.if-len-gt-MAX_VALUE_LEN.true in
+    let more = c.if-len-gt-MAX_STORED_LEN.true in
     long_value (reader c.args.seat.now) (reader c.item_word-header.new.self) c.args.offset c.item_word-header.result c.args.wanted.now.key.now c.requires.open c.item_word-header.ensures.event
     (omega (arith, c.header_value_len-len.ensures))
 
@@ -38,7 +38,7 @@ returns-then-holds_packed-clause-on g c =
 pub returns-then-holds_packed-clause-shows : goal.returns-then-holds_packed-clause-shows
 returns-then-holds_packed-clause-shows g c =
     let reader = g.R.ReaderWords.reader in
-    let fits = c.if-len-gt-MAX_VALUE_LEN.false in
+    let fits = c.if-len-gt-MAX_STORED_LEN.false in
     subst (HasKeyOf (reader c.holds_packed.new.seat) c.args.offset c.args.wanted.now.key.now) (sym c.header_value_len-len.ensures)
     (has_key (reader c.args.seat.now) (reader c.item_word-header.new.self) c.args.offset c.item_word-header.result c.args.wanted.now.key.now c.requires.open c.item_word-header.ensures.event
     (reader c.item_word.new.self) c.item_word.result c.item_word.ensures.event (reader c.holds_packed.new.seat) c.holds_packed.ensures.on

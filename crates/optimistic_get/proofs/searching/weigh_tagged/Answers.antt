@@ -1,7 +1,7 @@
 use Rattle.std.proofs.Common.{◌≡◌, ◌≤◌, ℕ, List, Some, sym, ap, ◌∙◌, subst, arith}
 use Rattle.mica_words.specs.Hash.{hash_tag, tag_of}
 use Rattle.mica_words.specs.Entry.{entry_offset}
-use Rattle.mica_words.specs.Item.{largest_item}
+use Rattle.mica_words.specs.Item.{largest_stored_item}
 use Rattle.mica_words.proofs.Hashes.{tag_of_hash}
 use Rattle.partition_words.specs.Spelt.{ShowsOther, ShowsItem}
 use Rattle.optimistic_get.specs.Loading.{loads_in}
@@ -38,5 +38,5 @@ returns-else-look-clause-weighs g c =
     let shows = c.if-look.ensures.shows in
     let at : c.entry_offset-offset.result ≡ entry_offset c.args.entry = c.entry_offset-offset.ensures in
     subst (λ (z : List ℕ). Weighs r c.args.entry c.args.wanted.now.key.now c.args.best c.args.out.now c.args.best z q) (sym shows.1)
-    (weighs_none r q largest_item c.args.entry c.args.wanted.now.key.now c.args.best c.args.out.now c.look.ensures.on (omega arith)
+    (weighs_none r q largest_stored_item c.args.entry c.args.wanted.now.key.now c.args.best c.args.out.now c.look.ensures.on (omega arith)
     (by_item (subst (λ (z : ℕ). ShowsOther q.shape (loads_in q) z c.args.wanted.now.key.now) at shows.0)))

@@ -12,9 +12,6 @@ use Rattle.mica_model.proofs.Passed.{laid_rising}
 use Rattle.report_check.proofs.Buckets.{after_is, bucket_kept}
 use Rattle.report_check.proofs.cache_buckets.write.Goals as goal
 
-pub write-requires-clause-stamp : goal.write-requires-clause-stamp
-write-requires-clause-stamp c = grind (arith, common_steps, bucket_kept c.args.options.now c.requires.part.0 c.args.bucket.now _ c.requires.part.1 c.requires.part.2)
-
 pub write-requires-clause-unique : goal.write-requires-clause-unique
 write-requires-clause-unique c = let part = c.requires.part in (bucket_kept c.args.options.now part.0 c.args.bucket.now _ part.1 part.2).unique
 

@@ -1,5 +1,5 @@
 use Rattle.std.proofs.Common.{◌≡◌, ◌+◌, [], ◌∷◌, ◌++◌, true, ap, sym, ◌∙◌, subst, arith}
-use Rattle.mica_words.specs.Item.{ValueFits}
+use Rattle.mica_words.specs.Item.{StoredFits}
 use Rattle.partition_model.specs.declared.write.Write.{Write}
 use Rattle.partition_model.specs.Cache.{Cache}
 use Rattle.partition_model.specs.Records.{AreRising}
@@ -8,9 +8,8 @@ use Rattle.partition_model.specs.History.{History}
 use Rattle.mica_model.specs.Logged.{Logged, IsLoggedStep}
 use Rattle.partition_model.specs.Write.{IsWrite, is_accepted, write_of}
 use Rattle.partition_model.proofs.CacheKept.{IsRecord}
-use Rattle.partition_model.proofs.CacheLaws.{stamp_bound}
 use Rattle.partition_model.proofs.Found.{all_weaker}
-use Rattle.partition_model.proofs.Histories.{within_wear}
+use Rattle.partition_model.proofs.Histories.{cache_has_room}
 use Rattle.mica_model.proofs.CacheMachineSteps.{kept, rising, refused_step, unworn, accepted_step, wrote_count, dropped_count, machine_after}
 use Rattle.mica_model.proofs.cache_machine.CacheMachine.apply.Goals.{After-copy, After-reply-outcome, After-count}
 use Rattle.mica_model.proofs.cache_machine.CacheMachine.apply.Goals as goal
@@ -37,21 +36,18 @@ later c =
     ∙ ap (λ (l : History). l ++ record { op = c.args.op; key = c.in_ok-copy.field-0; value = c.in_ok-copy-2.field-0 } ∷ []) c.in_ok-reserve.ensures.items
     ∙ ap (λ (w : Write). c.self.inside.log.items ++ w ∷ []) (λ i. record { op = c.args.op; key = c.in_ok-copy.ensures i; value = c.in_ok-copy-2.ensures i })
 
-pub write-requires-clause-stamp : goal.write-requires-clause-stamp
-write-requires-clause-stamp c =
+pub write-requires-clause-room : goal.write-requires-clause-room
+write-requires-clause-room c =
+    let z = goal.at.write-requires-clause-room c in
     let a = c.self.inside in
-    let i = c.self.invariant in
-    let most = stamp_bound a.options a.log.items i.writes a.state i.state in
-    let few = within_wear a.options a.log.items i.lawful in
-    let wear = i.valid.wear.1 in
-    omega arith
+    cache_has_room a.options a.state (write z.After-reply-outcome) c.reply-outcome.result (done z.After-copy) c.reply-outcome.ensures
 
 pub write-requires-clause-unique : goal.write-requires-clause-unique
 write-requires-clause-unique c = (kept c.self.inside c.self.invariant).unique
 
 pub write-requires-clause-values : goal.write-requires-clause-values
 write-requires-clause-values c =
-    all_weaker IsRecord (λ held. ValueFits held.value) (λ held fine. fine.value) c.self.inside.state.records (kept c.self.inside c.self.invariant).are
+    all_weaker IsRecord (λ held. StoredFits held.value) (λ held fine. fine.value) c.self.inside.state.records (kept c.self.inside c.self.invariant).are
 
 pub drop_dead-requires-clause-rising : goal.drop_dead-requires-clause-rising
 drop_dead-requires-clause-rising c =

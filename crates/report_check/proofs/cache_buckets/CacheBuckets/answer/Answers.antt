@@ -1,6 +1,6 @@
 use Rattle.std.proofs.Common.{arith}
 use Rattle.std.proofs.Common.{◌≡◌, ◌&&◌, Bool, List, ℕ, Some, option_map, sym, ap, ◌∙◌, subst}
-use Rattle.mica_words.specs.Item.{ValueFits}
+use Rattle.mica_words.specs.Item.{StoredFits}
 use Rattle.partition_model.specs.Cache.{Record, has_key, is_live, record_of}
 use Rattle.partition_model.proofs.CacheKept.{IsRecord}
 use Rattle.partition_model.proofs.Found.{found_has}
@@ -21,7 +21,7 @@ set-requires c =
     let held = c.index-records-at.result in
     let here = found_in m s are c.bucket_number-bucket.result c.index.result.now c.bucket_number-bucket.ensures.within c.index.ensures key c.records-records.result.now c.bucket_number-bucket.ensures.value c.records-records.ensures in
     let found : record_of s key ≡ Some held = sym here ∙ found_at (wanted m key) c.records-records.result.now c.in-Some.at (sym c.find_live.ensures ∙ c.in-Some.is) held ∙ ap Some (sym c.index-records-at.is) in
-    subst ValueFits (sym c.value.ensures) (found_has IsRecord (has_key key) s.records held (reached_kept m.options s are.reached).are found).value
+    subst StoredFits (sym c.value.ensures) (found_has IsRecord (has_key key) s.records held (reached_kept m.options s are.reached).are found).value
 
 pub returns-in-Some : goal.returns-in-Some
 returns-in-Some c =
