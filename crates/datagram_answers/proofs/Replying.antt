@@ -4,7 +4,7 @@ use Rattle.std.specs.Prelude.{Result, Ok, Err, Option, IfSome}
 use Rattle.std.proofs.lemmas.List.{append-nil}
 use Rattle.std.specs.Result.{OnErr}
 use Rattle.std.proofs.lemmas.Bool.{ltb-false}
-use Rattle.mica_words.specs.Item.{StoredFits}
+use Rattle.mica_words.specs.Item.{StoredFits, ValueFits}
 use Rattle.mica_words.specs.Hash.{partition_of}
 use Rattle.partition_model.specs.declared.options.Options.{Options}
 use Rattle.partition_model.specs.declared.write.Answer.{Answer}
@@ -32,7 +32,7 @@ err_anyway (Ok t) x = tt
 err_anyway (Err e) x = x
 
 -- a reply to a get is of its version
-lawful_get : (version ticket stamp : ℕ) (value : Option (List ℕ)) → IfSome value StoredFits → IsReply version (get_reply version ticket stamp value)
+lawful_get : (version ticket stamp : ℕ) (value : Option (List ℕ)) → IfSome value ValueFits → IsReply version (get_reply version ticket stamp value)
 unfolding status_byte
 lawful_get version ticket stamp None fits = record { status = refl; value = omega arith }
 lawful_get version ticket stamp (Some v) fits = by (eqb version 1) (ltb MAX_VALUE_LEN_V1 (length v)) refl refl
@@ -42,10 +42,14 @@ lawful_get version ticket stamp (Some v) fits = by (eqb version 1) (ltb MAX_VALU
     by true false is under = record { status = rw (is, under) refl; value = rw (is, under) (ltb-false _ _ under) }
     by false long is over = record { status = rw is refl; value = rw is fits }
 
+-- a datagram takes whatever a partition keeps, as long as the two bounds are one number
+is_short : (value : List ℕ) → StoredFits value → ValueFits value
+is_short value fits = omega arith
+
 -- the value of an answer fits where the buffer does
-fits_of : (answer : Answer) (buffer : List ℕ) (value : Option (List ℕ)) → StoredFits buffer → IsAnswer answer buffer value → IfSome value StoredFits
-fits_of Hit buffer value fits is = subst (λ (o : Option (List ℕ)). IfSome o StoredFits) (sym is) fits
-fits_of Miss buffer value fits is = subst (λ (o : Option (List ℕ)). IfSome o StoredFits) (sym is.0) tt
+fits_of : (answer : Answer) (buffer : List ℕ) (value : Option (List ℕ)) → StoredFits buffer → IsAnswer answer buffer value → IfSome value ValueFits
+fits_of Hit buffer value fits is = subst (λ (o : Option (List ℕ)). IfSome o ValueFits) (sym is) (is_short buffer fits)
+fits_of Miss buffer value fits is = subst (λ (o : Option (List ℕ)). IfSome o ValueFits) (sym is.0) tt
 
 -- a get
 pub get_replied : (options : Options) (is_alone : Bool) (version : ℕ) (old new : Sessions) (request : Request) (key : List ℕ) (answer : Answer) (buffer : List ℕ) (stamp : ℕ) (value : Option (List ℕ))

@@ -7,7 +7,7 @@ use Rattle.std.proofs.lemmas.List.{length-set}
 use Rattle.std.proofs.lemmas.List.Sums.{sum_by-set}
 use Rattle.std.proofs.lemmas.List.Elements.{recursion_from_All}
 use Rattle.mica_words.specs.declared.item.TheConstants.{MAX_VALUE_LEN}
-use Rattle.mica_words.specs.Item.{StoredFits}
+use Rattle.mica_words.specs.Item.{ValueFits}
 use Rattle.partition_model.specs.declared.write.Op.{Op}
 use Rattle.partition_model.specs.declared.write.Op.TheVariants.{Put as PutOp, Add as AddOp, Touch as TouchOp, Del as DelOp}
 use Rattle.partition_model.specs.declared.write.Outcome.{Outcome}
@@ -160,7 +160,7 @@ wrote_line asked does stamp (Some o) line kind has h =
     let same : wrote does stamp o ≡ line = cc in
     subst (IsFor asked) same (has, subst (λ k. IsReplyTo k does) (sym kind) refl)
 
-hit : (stamp : ℕ) (value : List ℕ) (b : Bool) → list_all is_printable value ≡ b → StoredFits value → (line : Line) → cond b (Some (Hit stamp value)) None ≡ Some line → IsFor op.Get line
+hit : (stamp : ℕ) (value : List ℕ) (b : Bool) → list_all is_printable value ≡ b → ValueFits value → (line : Line) → cond b (Some (Hit stamp value)) None ≡ Some line → IsFor op.Get line
 hit stamp value true e short line k = let same : Hit stamp value ≡ line = cc in subst (IsFor op.Get) same ((short, all_printable value e), tt)
 hit stamp value false e short line k = absurd (cc)
 

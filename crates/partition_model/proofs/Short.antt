@@ -1,6 +1,6 @@
 -- Where all values are short, stamps rise by no more than a short item's words for each write.
-use Rattle.std.proofs.Common.{◌≡◌, ℕ, ◌+◌, ◌*◌, ◌≤◌, List, [], ◌∷◌, ◌++◌, length, Option, Some, None, Bool, true, false, cond, not, refl, subst, arith, eqb}
-use Rattle.std.specs.List.{AllByRecursion as AllOf, count_by, filter}
+use Rattle.std.proofs.Common.{◌≡◌, ℕ, ◌+◌, ◌*◌, ◌≤◌, List, [], ◌∷◌, length, Option, Some, None, true, false, cond, not, refl, subst, arith, eqb}
+use Rattle.std.specs.List.{AllByRecursion as AllOf, count_by}
 use Rattle.std.specs.Prelude.{map, fold}
 use Rattle.std.proofs.lemmas.Grind.{common_steps}
 use Rattle.mica_words.specs.declared.entry.TheConstants.{SLOTS}
@@ -11,7 +11,7 @@ use Rattle.partition_model.specs.declared.write.Write.{Write}
 use Rattle.partition_model.specs.declared.write.Op.{Op}
 use Rattle.partition_model.specs.declared.write.Op.TheVariants.{Put, Add, Touch, Del}
 use Rattle.partition_model.specs.Limits.{most_short_added}
-use Rattle.partition_model.specs.Write.{IsWrite, IsShort, size_of}
+use Rattle.partition_model.specs.Write.{IsWrite, IsShort}
 use Rattle.partition_model.specs.Cache as cache
 use Rattle.partition_model.specs.Cache.{Record, Cache, has_key, record_of, is_live}
 use Rattle.partition_model.specs.CacheStep as cs

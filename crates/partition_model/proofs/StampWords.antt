@@ -1,5 +1,5 @@
 -- A stamp is a word, by the acceptance of its last write, whatever the values and the wear.
-use Rattle.std.proofs.Common.{◌≡◌, ◌^◌, ◌<◌, ◌≤◌, [], ◌∷◌, ◌++◌, ◌+◌, refl, sym, subst, arith, append_assoc}
+use Rattle.std.proofs.Common.{◌≡◌, ◌^◌, ◌<◌, [], ◌∷◌, ◌++◌, ◌+◌, refl, sym, subst, arith, append_assoc}
 use Rattle.std.specs.List.{AllByRecursion as AllOf}
 use Rattle.std.proofs.lemmas.List.{append-nil}
 use Rattle.std.proofs.lemmas.Grind.{common_steps}
@@ -7,7 +7,7 @@ use Rattle.mica_words.specs.Stamp.{tail_of}
 use Rattle.partition_model.specs.declared.options.Options.{Options}
 use Rattle.partition_model.specs.declared.options.Mode.{Mode}
 use Rattle.partition_model.specs.declared.write.Write.{Write}
-use Rattle.partition_model.specs.Limits.{last_tail, most_added}
+use Rattle.partition_model.specs.Limits.{last_tail}
 use Rattle.partition_model.specs.Write.{IsWrite}
 use Rattle.partition_model.specs.Cache as cache
 use Rattle.partition_model.specs.CacheStep as cs

@@ -2,10 +2,12 @@
 ghost use Rattle.std.specs.Prelude.{◌≡◌, ◌<◌, ◌&&◌, IfOk, MatchBool, OnOk, position};
 ghost use Rattle.mica_words.specs.Hash.{bucket_of};
 ghost use Rattle.mica_words.specs.Item.{KeyFits};
+ghost use Rattle.mica_words.specs.Stamp.{tail_of};
 ghost use Rattle.partition_model.specs.Answer.{IsAnswer};
 ghost use Rattle.partition_model.specs.Cache.{Cache, has_key, is_live, start, value_in};
 ghost use Rattle.partition_model.specs.Records.{AreRising};
 ghost use Rattle.partition_model.specs.CacheStep.{after, reply, without_passed};
+ghost use Rattle.partition_model.specs.Limits.{last_tail};
 ghost use Rattle.partition_model.specs.Options.{IsValid};
 ghost use Rattle.partition_model.specs.Write.{HasValueOf, is_accepted, write_of};
 ghost use Rattle.report_check.specs.Machines.{bucket_part, AreBuckets, IsReachable, TakesInBuckets};

@@ -86,7 +86,7 @@ module _ (options : Options) (valid : IsValid options) (lines : List TraceLine) 
 
   module _ (all : AllByRecursion IsTraceLine lines) where
     -- a value that is answered is one of a trace
-    value_stands : (key value : List ℕ) → value_at owners options.partitions key ≡ Some value → IsValue value
+    pub value_stands : (key value : List ℕ) → value_at owners options.partitions key ≡ Some value → IsValue value
     value_stands key value is =
         let p = partition_of key options.partitions in
         let history = history_in options p lines report in

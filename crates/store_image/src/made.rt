@@ -7,7 +7,7 @@ ghost use Rattle.std.specs.Cmp.Lexicographic.{slice_cmp};
 ghost use Rattle.mica_words.specs.Item.{KeyFits};
 ghost use Rattle.partition_model.specs.declared.options.Mode.{Mode};
 ghost use Rattle.partition_model.specs.Options.{IsValid};
-ghost use Rattle.mica_trace.specs.TraceGrammar.{IsKey, IsWithinLimits};
+ghost use Rattle.mica_trace.specs.TraceGrammar.{IsKey, IsValue, IsWithinLimits};
 ghost use Rattle.line_replies.specs.Answered.{AreAnswered};
 ghost use Rattle.store_image.specs.ImageGrammar.{IsImage};
 ghost use Rattle.store_image.specs.PutKeys.{gives_value as op_gives_value, put_keys, has_key, pairs_by};
@@ -90,6 +90,7 @@ fn image_of_keys<P: Partition>(
     requires valid { IsValid options.now }
     requires many { length parts.old.items ≡ options.now.partitions }
     requires keys { AllByRecursion IsKey (map (λ key. key.now) keys.now) }
+    requires values { (key value : List ℕ) → value_at (map (λ p. P.owner p) parts.old.items) options.now.partitions key ≡ Some value → IsValue value }
     requires image { IsImage (pairs_by (value_at (map (λ p. P.owner p) parts.old.items) options.now.partitions) (map (λ key. key.now) keys.now)) }
     ensures { IfOk result (λ image. image ≡ pairs_by (value_at (map (λ p. P.owner p) parts.old.items) options.now.partitions) (map (λ key. key.now) keys.now)) }
 {

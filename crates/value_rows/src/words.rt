@@ -71,10 +71,13 @@ fn size(key_len: u64, value_len: u64) -> Option<u64> {
 }
 
 fn header(room: u64, key_len: u64, value_len: u64) -> Option<u64> {
-    let room = u16::try_from(room).ok()?;
-    let key_len = u16::try_from(key_len).ok()?;
+    let room = u32::try_from(room).ok()?;
+    let key_len = u32::from(u16::try_from(key_len).ok()?);
     let value_len = u32::try_from(value_len).ok()?;
-    Some(header_of(u32::from(room), u32::from(key_len), value_len))
+    if room >= 1 << 24 || key_len + 256 * (room / 65_536) >= 65_536 {
+        return None;
+    }
+    Some(header_of(room, key_len, value_len))
 }
 
 /// What the function that a line names first makes of its numbers.

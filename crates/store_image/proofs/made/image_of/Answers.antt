@@ -9,7 +9,7 @@ use Rattle.store_image.specs.PutKeys.{put_keys, has_key, pairs_by}
 use Rattle.store_image.specs.Answers.{value_at}
 use Rattle.store_image.specs.ImageOf.{HasPairsOf}
 use Rattle.store_image.proofs.Keys.{all_among, put_keys_are}
-use Rattle.store_image.proofs.Left.{left_image, left_pairs}
+use Rattle.store_image.proofs.Left.{left_image, left_pairs, value_stands}
 use Rattle.store_image.proofs.made.image_of.Goals as goal
 
 abbrev now : Bor (List ℕ) → List ℕ
@@ -17,6 +17,11 @@ now k = k.now
 
 pub image_of_keys-requires-clause-keys : goal.image_of_keys-requires-clause-keys
 image_of_keys-requires-clause-keys c = search (rules, AllByRecursion, all_among, map, put_keys, put_keys_are)
+
+pub image_of_keys-requires-clause-values : goal.image_of_keys-requires-clause-values
+image_of_keys-requires-clause-values c = λ key value is.
+    let owners = map (λ p. (diary_of p.words).owner) c.reply_to_all.new.parts.items in
+    value_stands c.args.options.now c.requires.valid c.args.trace.now c.in_ok-report.report owners c.in_ok-report.ensures.answered c.lines-lines.ensures.lines key value is
 
 pub image_of_keys-requires-clause-image : goal.image_of_keys-requires-clause-image
 image_of_keys-requires-clause-image c =

@@ -6,7 +6,7 @@ use Rattle.std.proofs.lemmas.Grind.{common_steps}
 use Rattle.partition_model.specs.Cache.{Cache}
 use Rattle.partition_model.specs.CacheStep.{after, reply}
 use Rattle.partition_model.specs.Write.{IsWrite, is_accepted, write_of}
-use Rattle.partition_model.proofs.Histories.{cache_unworn}
+use Rattle.partition_model.proofs.Histories.{cache_has_room, cache_unworn}
 use Rattle.report_check.specs.Machines.{bucket_part}
 use Rattle.report_check.proofs.BucketSteps.{own_reply}
 use Rattle.report_check.proofs.Buckets.{are_after, are_met, caught_at, part_at}
@@ -29,6 +29,9 @@ write-requires-clause-part c = search (rules, caught_at, bucket_part)
 
 pub write-requires-clause-unworn : goal.write-requires-clause-unworn
 write-requires-clause-unworn c = search (rules, cache_unworn, write_of)
+
+pub write-requires-clause-room : goal.write-requires-clause-room
+write-requires-clause-room c = search (rules, cache_has_room, write_of)
 
 pub returns-in_ok-write : goal.returns-in_ok-write
 returns-in_ok-write c = λ s are.
