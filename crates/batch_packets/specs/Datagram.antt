@@ -17,7 +17,7 @@ is_version version = version == 1 || version == 2
 abbrev pub max_datagram_len : ℕ → ℕ
 max_datagram_len version = if version == 1 then MAX_DATAGRAM_LEN_V1 else MAX_DATAGRAM_LEN_V2
 
--- how many bytes a value of a version may have: the second takes all that the store takes
+-- how many bytes a value of a version may have: the second takes those that a trace may have
 abbrev pub max_value_len : ℕ → ℕ
 max_value_len version = if version == 1 then MAX_VALUE_LEN_V1 else MAX_VALUE_LEN
 

@@ -54,6 +54,9 @@ header_of-requires-clause-room g c =
     c.read-header.ensures.value c.header_value_len-value_len.ensures in
     omega (arith, keys, values, (its g z).item.key_fits, (its g z).item.value_fits, c.item_size-size.ensures)
 
+pub header_of-requires-clause-key_len : goal.header_of-requires-clause-key_len
+header_of-requires-clause-key_len g c = let room = header_of-requires-clause-room g c in omega (arith, room, c.header_key_len-key_len.ensures)
+
 pub put_word-requires : goal.put_word-requires
 put_word-requires g c = grind (arith, (goal.at.put_word-requires g c).After-read-header, MayPutWord, c.read-header.ensures.same, carried.may_begin)
 
