@@ -1,4 +1,4 @@
-use Rattle.cache_partition.proofs.Words.{Add, Exists, FullBlock, Gains, IsOwnerStep, IsAcceptable, IsWrite, Kept, MayWrite, OwnerState, Stored, ap, arith, cond, false, had_record, is_accepted, item_size, length}
+use Rattle.cache_partition.proofs.Words.{Add, Exists, FullBlock, Gains, IsOwnerStep, IsAcceptable, IsWrite, Kept, MayWrite, OwnerState, Stored, ap, arith, cond, false, had_record, is_accepted, item_size}
 use Rattle.cache_partition.proofs.Words.{nat_le, options_in, refl, reply_of, subst, sym, true, write_of, Bool, ◌∙◌, ◌≡◌}
 use Rattle.cache_partition.proofs.Held.{found_had, held, stands_at}
 use Rattle.cache_partition.proofs.Writes.{add_appends, add_reply, gained_step, left_step, may_write, worn_step}
