@@ -6,7 +6,9 @@ ghost use Rattle.partition_model.specs.Limits.{last_tail};
 use mica_words::{MAX_KEY_LEN, MAX_STORED_LEN, OFFSET_BITS, tail_of};
 
 /// The words of the largest item.
-pub const LARGEST_STORED_ITEM: u64 = 2 + (MAX_KEY_LEN as u64 + 7) / 8 + (MAX_STORED_LEN as u64 + 7) / 8;
+pub const LARGEST_STORED_ITEM: u64 = 2
+    + (MAX_KEY_LEN as u64 + 7) / 8
+    + (MAX_STORED_LEN as u64 + 7) / 8;
 
 /// The first tail from which the largest item would not end before the last offset.
 pub const LAST_TAIL: u64 = (1 << OFFSET_BITS) - LARGEST_STORED_ITEM;
