@@ -13,6 +13,7 @@ use std::alloc::Global;
 use std::io::{self, ErrorKind, Read, Write};
 use std::mem;
 use std::net::{Ipv4Addr, Net as Sockets, Shutdown, SocketAddr};
+use std::sync::Wait;
 use std::sync::atomic::{AtomicBool, Ordering};
 use std::time::Duration;
 
@@ -34,6 +35,9 @@ const MOST_DROPPED: usize = 64 * 1_024;
 /// So many of them are dropped at once.
 const SCRATCH_LEN: usize = 4_096;
 
+/// How often a read or a write that was interrupted is tried. A socket that never blocks is hardly interrupted at all.
+const MOST_TRIES: u32 = 64;
+
 #[derive(Drop)]
 struct Slot {
     stream: TcpStream,
@@ -54,10 +58,21 @@ enum Accepting {
     Refused,
 }
 
-/// The TCP connections at one port, at most so many at a time: more wait to be accepted. It tells nothing of content, and waits where nothing comes.
-#[derive(Drop)]
-pub struct TcpConnections<'a> {
+/// What is told of a port beside its connections.
+#[derive(Clone, Copy)]
+struct Account {
     port: u16,
+    /// How many reports it gives at most before it fails: so many that no machine comes to the end.
+    left: u64,
+    faults: u64,
+}
+
+/// The TCP connections at one port, at most so many at a time: more wait to be accepted. It tells nothing of content, and waits where nothing comes: the
+/// handle for that lies here, so that who reads, sends and closes has none.
+#[derive(Drop)]
+pub struct TcpConnections<'a, R> {
+    rt: &'a R,
+    account: Account,
     most: usize,
     /// Tells whether a port has failed, where ports fail together.
     has_failed: Option<&'a AtomicBool>,
@@ -73,7 +88,6 @@ pub struct TcpConnections<'a> {
     /// Whether this round may still end with a connection that waits to be accepted.
     may_open: bool,
     patience: Patience,
-    faults: u64,
 }
 
 /// Puts a connection among those to be reported, once. There is room for it.
@@ -111,7 +125,7 @@ fn read_from(slot: &mut Slot, out: &mut [u8]) -> Result<Input, Broken>
     requires room { 0 < length out.old }
     ensures fits { IfOk result (FitsRoom (length out.old)) }
 {
-    for _ in 0..u64::MAX {
+    for _ in 0..MOST_TRIES {
         match (&slot.stream).read(out) {
             Ok(0) => return Ok(Input::Ended),
             Ok(count) if slot.half_closed || count == out.len() => return Ok(Input::Bytes(count)),
@@ -136,7 +150,7 @@ fn read_from(slot: &mut Slot, out: &mut [u8]) -> Result<Input, Broken>
 fn write_to(stream: &TcpStream, piece: &[u8]) -> Result<usize, Broken>
     ensures { IfOk result (λ n. n ≤ length piece.now) }
 {
-    for _ in 0..u64::MAX {
+    for _ in 0..MOST_TRIES {
         match (&*stream).write(piece) {
             Err(error) => match error.kind() {
                 ErrorKind::WouldBlock => return Ok(0),
@@ -161,16 +175,16 @@ fn drop_unread(slot: &mut Slot) {
     }
 }
 
-impl<'a> TcpConnections<'a> {
+impl<'a, R: Sockets + Wait> TcpConnections<'a, R> {
     pub(crate) fn open(
-        rt: &impl Sockets,
+        rt: &'a R,
         alloc: Global,
         address: Ipv4Addr,
         port: u16,
         most: usize,
         has_failed: Option<&'a AtomicBool>,
-    ) -> io::Result<TcpConnections<'a>>
-        ensures { IfOk result (λ c. (c.port ≡ port) × (c.faults ≡ 0)) }
+    ) -> io::Result<TcpConnections<'a, R>>
+        ensures { IfOk result (λ c. (c.account.port ≡ port) × (c.account.faults ≡ 0)) }
     {
         let poll = Poll::new(rt)?;
         let events = Events::with_capacity(alloc, MOST_EVENTS)?;
@@ -178,7 +192,12 @@ impl<'a> TcpConnections<'a> {
         poll.registry()
             .register(&mut listener, LISTENER, Interest::READABLE)?;
         Ok(TcpConnections {
-            port,
+            rt,
+            account: Account {
+                port,
+                left: u64::MAX,
+                faults: 0,
+            },
             most,
             has_failed,
             poll,
@@ -190,13 +209,12 @@ impl<'a> TcpConnections<'a> {
             round: Vec::new(alloc),
             may_open: false,
             patience: Patience::new(),
-            faults: 0,
         })
     }
 
     /// Takes a connection in, and says its number. Where there is no memory for it, it is let go.
     fn take_in(&mut self, stream: TcpStream) -> Option<u32>
-        ensures { (self.new.port ≡ self.old.port) × (self.new.faults ≡ self.old.faults) }
+        ensures { self.new.account ≡ self.old.account }
     {
         let _unheeded = stream.set_nodelay(true);
         // Each that is open once, and each that was closed since the last round.
@@ -234,7 +252,7 @@ impl<'a> TcpConnections<'a> {
 
     /// The next connection, where one waits and there is room.
     fn accept(&mut self) -> Option<u32>
-        ensures { (self.new.port ≡ self.old.port) × (self.new.faults ≡ self.old.faults) }
+        ensures { self.new.account ≡ self.old.account }
     {
         if !self.may_accept() {
             return None;
@@ -273,7 +291,7 @@ impl<'a> TcpConnections<'a> {
 
     /// Looks for what is ready at once, a few times over, and says whether something is.
     fn finds_some(&mut self) -> io::Result<bool>
-        ensures { (self.new.port ≡ self.old.port) × (self.new.faults ≡ self.old.faults) }
+        ensures { self.new.account ≡ self.old.account }
     {
         for _ in 0..self.patience.looks() {
             self.poll.poll(&mut self.events, Some(Duration::ZERO))?;
@@ -288,7 +306,7 @@ impl<'a> TcpConnections<'a> {
 
     /// Waits until something is ready. Where it may sleep, it looks for more first.
     fn wait(&mut self) -> io::Result<()>
-        ensures { (self.new.port ≡ self.old.port) × (self.new.faults ≡ self.old.faults) }
+        ensures { self.new.account ≡ self.old.account }
     {
         let timeout = self.timeout();
         if timeout != Some(Duration::ZERO) && self.finds_some()? {
@@ -300,7 +318,7 @@ impl<'a> TcpConnections<'a> {
     /// Asks the system what is ready. All of it is one round of reports, by number: connections that were opened together stand together there, and a thread of a client that has several of them wakes
     /// once for all.
     fn ask(&mut self) -> io::Result<()>
-        ensures { (self.new.port ≡ self.old.port) × (self.new.faults ≡ self.old.faults) }
+        ensures { self.new.account ≡ self.old.account }
     {
         if self.tells_failure() {
             return Err(ErrorKind::Other.into());
@@ -317,7 +335,7 @@ impl<'a> TcpConnections<'a> {
 
     /// The next connection to be reported in this round, where it was not closed since.
     fn take_ready(&mut self) -> Option<u32>
-        ensures { (self.new.port ≡ self.old.port) × (self.new.faults ≡ self.old.faults) }
+        ensures { self.new.account ≡ self.old.account }
     {
         let number = self.round.pop()?;
         let slot = self.slots.get_mut(number as usize)?;
@@ -327,9 +345,13 @@ impl<'a> TcpConnections<'a> {
 
     /// The next report: those of a round, and after each round one connection that waits to be accepted.
     fn report(&mut self) -> io::Result<Event>
-        ensures { (self.new.port ≡ self.old.port) × (self.new.faults ≡ self.old.faults) }
+        ensures account { self.new.account ≡ self.old.account }
+        ensures left { IfOk result (λ _. 0 < self.old.account.left) }
     {
-        for _ in 0..u64::MAX {
+        if self.account.left == 0 {
+            return Err(ErrorKind::TimedOut.into());
+        }
+        for _ in self.rt.forever() {
             if !self.round.is_empty() {
                 if let Some(number) = self.take_ready() {
                     return Ok(Event::Ready(number));
@@ -344,24 +366,27 @@ impl<'a> TcpConnections<'a> {
                 self.may_open = true;
             }
         }
-        Err(ErrorKind::TimedOut.into())
+        unreachable!()
     }
 }
 
-impl<'a> Connections for TcpConnections<'a> {
-    ghost port = { λ c. c.port };
+impl<'a, R: Sockets + Wait> Connections for TcpConnections<'a, R> {
+    ghost port = { λ c. c.account.port };
 
     ghost log = { λ _. None };
 
-    ghost faults = { λ c. c.faults };
+    ghost faults = { λ c. c.account.faults };
 
     ghost has_ended = { λ _. false };
 
+    ghost reports = { λ c. c.account.left };
+
     fn next(&mut self) -> Result<Option<Event>, Failed> {
         if let Ok(event) = self.report() {
+            self.account.left -= 1;
             return Ok(Some(event));
         }
-        self.faults = self.faults.saturating_add(1);
+        self.account.faults = self.account.faults.saturating_add(1);
         if let Some(has_failed) = self.has_failed {
             has_failed.store(true, Ordering::Relaxed);
         }

@@ -2,4 +2,4 @@ use Rattle.std.proofs.Common.{◌≡◌}
 use Rattle.tcp_connections.proofs.tcp_connections.TcpConnections.report.Given as goal
 
 abbrev pub invariant-loop : goal.invariant-loop
-invariant-loop l = (l.self.port ≡ l.initial.self.port) × (l.self.faults ≡ l.initial.self.faults)
+invariant-loop l = l.self.account ≡ l.initial.self.account
