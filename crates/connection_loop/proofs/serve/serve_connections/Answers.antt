@@ -1,4 +1,4 @@
-use Rattle.std.proofs.Common.{rules, ◌≡◌, [], refl, inl, inr, ap, sym, ◌∙◌, subst, arith}
+use Rattle.std.proofs.Common.{rules, ◌≡◌, ◌<◌, [], refl, inl, inr, ap, sym, ◌∙◌, subst, arith}
 use Rattle.std.specs.Prelude.{is_none, IfSome, IfNone}
 use Rattle.partition_model.specs.declared.options.Options.{Options}
 use Rattle.connections.specs.Calls.{ReportsNext, IsOver}
@@ -84,6 +84,12 @@ loop-preserved g c =
       since_then options F.is_alone base old left told c.args.lacked.now c.loop.clients.held.items then.clients.held.items c.in-Some.event c.loop.lacked c.serve_event-count.result _ (search rules)
           (log c.args.connections.now) before after (log then.connections) inv.10 next.told reports (F.options c.loop.front) inv.6 served.serves (F.options then.front) same sweep.swept served.clients,
     )
+
+pub loop-smaller : goal.loop-smaller
+loop-smaller g c =
+    let reports = g.C.Connections.reports in
+    let fewer = subst (λ got. IfSome got (λ _. reports c.next.new.self < reports c.loop.connections)) c.in-Some.is c.in_ok-event.ensures.fewer in
+    omega (arith, fewer, c.serve_event-count.ensures.port.no_more)
 
 pub returns-in_err-desk-clause-serves : goal.returns-in_err-desk-clause-serves
 returns-in_err-desk-clause-serves g c =
