@@ -14,14 +14,14 @@ use Rattle.connection_loop.proofs.Sweeping.{by_sweeps}
 use Rattle.connection_loop.proofs.serve.serve_connections.Goals as goal
 
 pub serve_event-count-requires-clause-clients : goal.serve_event-count-requires-clause-clients
-serve_event-count-requires-clause-clients g c κs within =
+serve_event-count-requires-clause-clients g c =
     let before = g.C.Connections.log c.loop.connections in
     let after = g.C.Connections.log c.next.new.self in
     let reports = subst (λ got. IfSome got (λ event. IfSome before (λ l. ReportsNext l event after))) c.in-Some.is c.in_ok-event.ensures.next in
     all_kept c.loop.clients.held.items before after c.loop.invariant.1 c.in_ok-event.ensures.told (tells_keeps c.in-Some.event before after reports)
 
 pub serve_event-count-requires-clause-event : goal.serve_event-count-requires-clause-event
-serve_event-count-requires-clause-event g c κs within =
+serve_event-count-requires-clause-event g c =
     let before = g.C.Connections.log c.loop.connections in
     let after = g.C.Connections.log c.next.new.self in
     let reports = subst (λ got. IfSome got (λ event. IfSome before (λ l. ReportsNext l event after))) c.in-Some.is c.in_ok-event.ensures.next in
