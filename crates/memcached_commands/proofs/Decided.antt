@@ -84,19 +84,23 @@ new_one at ask found lifetime flags value won lasts fit = inr (inr (record {
 }))
 
 module _ (at : Moment) where
-  by_lease : (ask : Ask) (item : Item) (touch : Option Lifetime) (wins : Bool) → (IsFitAsk ask → IsFitLifetime touch) → IsDecided at ask (Some item) touch (leased_item at touch wins item)
+  -- the item before, which may be won now
+  won_fits : (item : Item) (won : Bool) → IsFitItem item → IsFitNext (record item { won = won })
+  won_fits item won is = record { flags = is.numbers.flags; unique = is.numbers.unique; value = is.value }
+
+  by_lease : (ask : Ask) (item : Item) (touch : Option Lifetime) (won : Bool) → (IsFitAsk ask → IsFitLifetime touch) → IsDecided at ask (Some item) touch (leased_item at touch won item)
   by_lease ask item None false lasts = inl refl
   by_lease ask item None true lasts = inr (inr (record {
     next = record item { won = item.won || true };
     is = refl;
-    fits = λ low asked found. same_fits item found;
+    fits = λ low asked found. won_fits item (item.won || true) found;
     number = inr (refl, refl, refl);
     lasts = lasts;
   }))
-  by_lease ask item (Some lifetime) wins lasts = inr (inr (record {
-    next = record item { won = item.won || wins };
+  by_lease ask item (Some lifetime) won lasts = inr (inr (record {
+    next = record item { won = item.won || won };
     is = refl;
-    fits = λ low asked found. same_fits item found;
+    fits = λ low asked found. won_fits item (item.won || won) found;
     number = inr (refl, refl, refl);
     lasts = lasts;
   }))

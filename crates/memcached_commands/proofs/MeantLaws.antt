@@ -1,24 +1,21 @@
 -- Which item a command means, which number it tells, and what does not depend on that.
-use Rattle.std.proofs.Common.{◌≡◌, ◌+◌, ℕ, List, Bool, true, false, cond, Option, Some, None, length, nat_lt, refl, sym, ap, ◌∙◌, subst}
+use Rattle.std.proofs.Common.{◌≡◌, ◌+◌, ℕ, List, Bool, true, false, cond, Option, Some, None, length, nat_lt, decimal, refl, ap, subst}
 use Rattle.std.proofs.lemmas.Bool.{cond_both}
-use Rattle.std.proofs.lemmas.Option.{none-some, same_Some}
 use Rattle.memcached_text.specs.declared.limits.TheConstants.{MAX_TEXT_LEN}
 use Rattle.memcached_text.specs.declared.command.Direction.{Direction}
 use Rattle.memcached_text.specs.declared.command.Side.{Side}
 use Rattle.memcached_text.specs.declared.fault.Fault.TheVariants.{TooLarge}
 use Rattle.memcached_text.specs.declared.item.Item.{Item}
 use Rattle.memcached_text.specs.declared.lifetime.Lifetime.{Lifetime}
-use Rattle.memcached_text.specs.declared.reply.Reply.{Reply}
-use Rattle.memcached_text.specs.declared.reply.Reply.TheVariants.{Exists, Deleted}
+use Rattle.memcached_text.specs.declared.reply.Reply.TheVariants.{Exists, Deleted, Touched}
 use Rattle.memcached_commands.specs.declared.moment.Moment.{Moment}
 use Rattle.memcached_commands.specs.declared.ask.Ask.{Ask}
 use Rattle.memcached_commands.specs.declared.ask.Ask.TheVariants.{Get, GetTouch, Leased, Store, Join, Count, Touch, Delete, Mark, Spoil}
 use Rattle.memcached_commands.specs.declared.ask.Initial.{Initial}
-use Rattle.memcached_commands.specs.declared.ask.Says.{Says}
 use Rattle.memcached_commands.specs.declared.ask.Says.TheVariants.{Line, Refusal, Stores}
 use Rattle.memcached_commands.specs.Moments.{end_of}
 use Rattle.memcached_commands.specs.Counting.{number_in}
-use Rattle.memcached_commands.specs.Decide.{Becoming, stays, becomes, goes, Decision, leaves, kept_until, end_by, number_until, has_number, if_meant, is_wanted, later_than, missed, stored, stored_over, joined_item, joins, count_from, begun, vivified, outdated, decide}
+use Rattle.memcached_commands.specs.Decide.{Becoming, stays, becomes, goes, Decision, leaves, kept_until, end_by, number_until, has_number, if_meant, is_wanted, later_than, missed, new_item, stored_over, joined_item, counted_item, joins, count_from, begun, vivified, outdated, decide}
 use Rattle.memcached_commands.specs.Laws.{ChangesWhatIsMeant, told_number, IsTold, TellsNumber, LeavesAlike}
 
 -- The item that is meant
@@ -44,66 +41,67 @@ meant at Spoil item other = any_meant other
 
 -- Numbers that are told
 
+-- what is told, if anything is, is that of what is left
+abbrev IsToldOf : Option (Option ℕ) → Becoming → Type 0
+IsToldOf None becoming = Unit {0}
+IsToldOf (Some told) becoming = IsTold told becoming
+
 abbrev Tells : Decision → Type 0
-Tells d = (unique : Option ℕ) → told_number d.says ≡ Some unique → IsTold unique d.becoming
-
-tells_none : (d : Decision) → told_number d.says ≡ None → Tells d
-tells_none d none unique is = absurd (none-some unique (sym none ∙ is))
-
-tells_it : (d : Decision) (told : Option ℕ) → told_number d.says ≡ Some told → IsTold told d.becoming → Tells d
-tells_it d told says holds unique is = subst (λ u. IsTold u d.becoming) (same_Some told unique (sym says ∙ is)) holds
+Tells d = IsToldOf (told_number d.says) d.becoming
 
 module _ (at : Moment) where
   until : (end : Option ℕ) (item : Item) → item.unique ≡ at.unique → IsTold (number_until at end) (kept_until end item)
   until None item same = tt
   until (Some end) item same = same
 
-  if_meant_tells : (unique : Option ℕ) (item : Item) (d : Decision) → Tells d → Tells (if_meant unique item d)
-  if_meant_tells unique item d is = cond_both (has_number unique item) d (leaves (Line Exists)) Tells (λ _. is) (λ _. tells_none _ refl)
+  meant_tells : (unique : Option ℕ) (item : Item) (d : Decision) → Tells d → Tells (if_meant unique item d)
+  meant_tells unique item d is = cond_both (has_number unique item) d (leaves (Line Exists)) Tells (λ _. is) (λ _. tt)
 
   stored_tells : (over : Option Item) (flags : ℕ) (lifetime : Lifetime) (value : List ℕ) → Tells (stored_over over at flags lifetime value)
-  stored_tells None flags lifetime value = tells_it _ (number_until at (end_of at.second lifetime)) refl (until (end_of at.second lifetime) _ refl)
-  stored_tells (Some item) flags lifetime value = tells_it _ (Some at.unique) refl refl
+  stored_tells None flags lifetime value = until (end_of at.second lifetime) (new_item at flags value) refl
+  stored_tells (Some item) flags lifetime value = refl
 
   count_tells : (number : Option ℕ) (direction : Direction) (delta : ℕ) (lifetime : Option Lifetime) (item : Item) → Tells (count_from number at direction delta lifetime item)
-  count_tells None direction delta lifetime item = tells_none _ refl
-  count_tells (Some n) direction delta lifetime item = tells_it _ (number_until at (end_by at lifetime item)) refl (until (end_by at lifetime item) _ refl)
+  count_tells None direction delta lifetime item = tt
+  count_tells (Some n) direction delta lifetime item = until (end_by at lifetime item) (counted_item at direction delta n item) refl
 
   begun_tells : (initial : Option Initial) → Tells (begun at initial)
-  begun_tells None = tells_none _ refl
-  begun_tells (Some initial) = tells_it _ (number_until at (end_of at.second initial.lifetime)) refl (until (end_of at.second initial.lifetime) _ refl)
+  begun_tells None = tt
+  begun_tells (Some initial) = until (end_of at.second initial.lifetime) (new_item at 0 (decimal initial.number)) refl
 
   vivified_tells : (lifetime : Option Lifetime) → Tells (vivified at lifetime)
-  vivified_tells None = tells_none _ refl
-  vivified_tells (Some lifetime) = tells_none _ refl
+  vivified_tells None = tt
+  vivified_tells (Some lifetime) = tt
 
   tells_each : (ask : Ask) (found : Option Item) → Tells (decide at ask found)
   unfolding decide
-  tells_each Get None = tells_none _ refl
-  tells_each Get (Some item) = tells_none _ refl
-  tells_each (GetTouch lifetime) None = tells_none _ refl
-  tells_each (GetTouch lifetime) (Some item) = tells_none _ refl
+  tells_each Get None = tt
+  tells_each Get (Some item) = tt
+  tells_each (GetTouch lifetime) None = tt
+  tells_each (GetTouch lifetime) (Some item) = tt
   tells_each (Leased lease) None = vivified_tells lease.vivify
-  tells_each (Leased lease) (Some item) = tells_none _ refl
+  tells_each (Leased lease) (Some item) = tt
   tells_each (Store wants flags lifetime value) found =
       cond_both (is_wanted wants found) (stored_over (later_than wants found) at flags lifetime value) (leaves (Line (missed wants found))) Tells
-      (λ _. stored_tells (later_than wants found) flags lifetime value) (λ _. tells_none _ refl)
-  tells_each (Join side unique more) None = tells_none _ refl
-  tells_each (Join side unique more) (Some item) = if_meant_tells unique item _
+      (λ _. stored_tells (later_than wants found) flags lifetime value) (λ _. tt)
+  tells_each (Join side unique more) None = tt
+  tells_each (Join side unique more) (Some item) = meant_tells unique item (joins at side more item)
       (cond_both (nat_lt MAX_TEXT_LEN (length item.value + length more)) (leaves (Refusal TooLarge)) (record { becoming = becomes (joined_item at side more item); says = Stores (Some at.unique) })
-      Tells (λ _. tells_none _ refl) (λ _. tells_it _ (Some at.unique) refl refl))
+      Tells (λ _. tt) (λ _. refl))
   tells_each (Count direction delta unique lifetime initial) None = begun_tells initial
-  tells_each (Count direction delta unique lifetime initial) (Some item) = if_meant_tells unique item _ (count_tells (number_in item.value) direction delta lifetime item)
-  tells_each (Touch lifetime) None = tells_none _ refl
-  tells_each (Touch lifetime) (Some item) = tells_none _ refl
-  tells_each (Delete unique) None = tells_none _ refl
-  tells_each (Delete unique) (Some item) = if_meant_tells unique item _ (tells_none _ refl)
-  tells_each (Mark unique lifetime) None = tells_none _ refl
-  tells_each (Mark unique lifetime) (Some item) = if_meant_tells unique item _ (tells_none _ refl)
-  tells_each Spoil found = tells_none _ refl
+  tells_each (Count direction delta unique lifetime initial) (Some item) =
+      meant_tells unique item (count_from (number_in item.value) at direction delta lifetime item) (count_tells (number_in item.value) direction delta lifetime item)
+  tells_each (Touch lifetime) None = tt
+  tells_each (Touch lifetime) (Some item) = tt
+  tells_each (Delete unique) None = tt
+  tells_each (Delete unique) (Some item) = meant_tells unique item (record { becoming = goes; says = Line Deleted }) tt
+  tells_each (Mark unique lifetime) None = tt
+  tells_each (Mark unique lifetime) (Some item) =
+      meant_tells unique item (record { becoming = kept_until (end_by at lifetime item) (outdated at item); says = Line Touched }) tt
+  tells_each Spoil found = tt
 
 pub tells : TellsNumber
-tells at ask found = tells_each at ask found
+tells at ask found unique is = subst (λ t. IsToldOf t (decide at ask found).becoming) is (tells_each at ask found)
 
 -- What is left does not depend on them
 
