@@ -20,7 +20,7 @@ use Rattle.memcached_text.specs.declared.fault.Fault.TheVariants.{TooLarge}
 use Rattle.memcached_text.specs.declared.reply.Reply.TheVariants.{Exists, Deleted}
 use Rattle.memcached_commands.specs.Moments.{end_of}
 use Rattle.memcached_commands.specs.Counting.{number_in, counted}
-use Rattle.memcached_commands.specs.Decide.{Becoming, stays, becomes, goes, Decision, leaves, kept_until, end_by, has_number, if_meant, is_wanted, later_than, stored, stored_over, joined, joined_item, new_item, joins, counted_item, count_from, begun, leased_item, wins, vivified, outdated, decide}
+use Rattle.memcached_commands.specs.Decide.{Becoming, stays, becomes, goes, Decision, leaves, kept_until, end_by, has_number, if_meant, is_wanted, missed, later_than, stored, stored_over, joined, joined_item, new_item, joins, counted_item, count_from, begun, leased_item, wins, vivified, outdated, decide}
 use Rattle.memcached_commands.specs.Fit.{IsFitAsk, IsFitInitial}
 use Rattle.memcached_commands.specs.Laws.{IsFitItem, IsFitFound, IsSameValue, asked_lifetime}
 use Rattle.memcached_commands.proofs.CountLaws.{number_fits, counted_fits, padded_fits, digits_fit}
@@ -172,10 +172,14 @@ module _ (at : Moment) where
   decided (GetTouch lifetime) (Some item) = kept_on at (GetTouch lifetime) item lifetime (λ asked. asked)
   decided (Leased lease) None = by_vivify (Leased lease) lease.vivify (λ asked. asked.1)
   decided (Leased lease) (Some item) = by_lease (Leased lease) item lease.touch (wins at lease item) (λ asked. asked.0)
-  decided (Store Whatever flags lifetime value) found = by_store _ true _ found flags lifetime value (λ asked. asked.2) (λ asked. (asked.1, asked.3))
-  decided (Store Absent flags lifetime value) found = by_store _ (is_wanted Absent found) _ found flags lifetime value (λ asked. asked.2) (λ asked. (asked.1, asked.3))
-  decided (Store Present flags lifetime value) found = by_store _ (is_wanted Present found) _ found flags lifetime value (λ asked. asked.2) (λ asked. (asked.1, asked.3))
-  decided (Store (Numbered unique) flags lifetime value) found = by_store _ (is_wanted (Numbered unique) found) _ found flags lifetime value (λ asked. asked.2) (λ asked. (asked.1, asked.3))
+  decided (Store Whatever flags lifetime value) found =
+      by_store (Store Whatever flags lifetime value) true (Line (missed Whatever found)) found flags lifetime value (λ asked. asked.2) (λ asked. (asked.1, asked.3))
+  decided (Store Absent flags lifetime value) found =
+      by_store (Store Absent flags lifetime value) (is_wanted Absent found) (Line (missed Absent found)) found flags lifetime value (λ asked. asked.2) (λ asked. (asked.1, asked.3))
+  decided (Store Present flags lifetime value) found =
+      by_store (Store Present flags lifetime value) (is_wanted Present found) (Line (missed Present found)) found flags lifetime value (λ asked. asked.2) (λ asked. (asked.1, asked.3))
+  decided (Store (Numbered unique) flags lifetime value) found =
+      by_store (Store (Numbered unique) flags lifetime value) (is_wanted (Numbered unique) found) (Line (missed (Numbered unique) found)) found flags lifetime value (λ asked. asked.2) (λ asked. (asked.1, asked.3))
   decided (Store (AtLeast unique) flags lifetime value) None = inl refl
   decided (Store (AtLeast unique) flags lifetime value) (Some item) =
       cond_both (is_wanted (AtLeast unique) (Some item)) (stored_over (later_than (AtLeast unique) (Some item)) at flags lifetime value) (leaves (Line Exists))
