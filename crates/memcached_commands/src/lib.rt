@@ -23,7 +23,7 @@ pub use asks::{Asked, Asks, wants_numbers};
 pub use change::{change_stored, looks, only_gets};
 pub use counting::{counted, number_in};
 pub use laws::{
-    counts, fits, in_time, leaves_alike, leases, one_value, tells_number, what_is_meant,
+    counts, fits, in_time, leases, leaves_alike, one_value, tells_number, what_is_meant,
 };
 pub use moment::{LAST_SECOND, Moment, end_of, ended_by, found_in, is_there};
 pub use says::{no_room, says_of};

@@ -84,12 +84,7 @@ fn says_stored<'a>(at: &Moment, wants: Wants, lifetime: Lifetime, found: Option<
 }
 
 #[tactic(auto, unfolding(crate::specs::Decide::decide))]
-fn says_joined<'a>(
-    at: &Moment,
-    unique: Option<u64>,
-    more: &[u8],
-    found: Option<&Item>,
-) -> Says<'a>
+fn says_joined<'a>(at: &Moment, unique: Option<u64>, more: &[u8], found: Option<&Item>) -> Says<'a>
     ensures said { (side : Side) → result ≡ (decide at.now (Ask.Join side unique more.now) (option_copied found.entry)).says }
     ensures none { shown_len result ≡ 0 }
 {
@@ -178,7 +173,9 @@ pub fn says_of<'a>(at: &Moment, ask: &Ask, found: Option<Item<'a>>) -> Says<'a>
         Ask::Get | Ask::GetTouch(_) => says_found(found),
         Ask::Leased(lease) => says_leased(at, lease, found),
         Ask::Store {
-            wants, lifetime, ..
+            wants,
+            lifetime,
+            ..
         } => says_stored(at, *wants, *lifetime, found.as_ref()),
         Ask::Join { unique, more, .. } => says_joined(at, *unique, more.bytes(), found.as_ref()),
         Ask::Count {

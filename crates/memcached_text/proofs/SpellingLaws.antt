@@ -306,7 +306,6 @@ store_is_read Present key flags len lifetime quiet want is flags_is kept len_is 
 store_is_read (Numbered unique) key flags len lifetime quiet want is flags_is kept len_is =
     few _ _ _ refl (behind_keys (verbs.Store Present) key flags len lifetime quiet is flags_is kept len_is (decimal unique ∷ quiet_words quiet) (decimal_is_key unique want, quiet_keys quiet)) (omega (arith, quiet_few quiet)) refl
     (rw (cas_meant key flags len unique lifetime quiet is flags_is kept len_is want) refl)
-
 store_is_read (AtLeast unique) key flags len lifetime quiet want is flags_is kept len_is = absurd want
 
 zero_item : (verb : Verb) (key : List ℕ) → IsKey key → item_of verb key (codes "0") (codes "0") ≡ Some (item_told verb key 0 Forever)
