@@ -47,7 +47,9 @@ def installed(packages):
     has = lambda package: "install ok installed" in subprocess.run(["dpkg-query", "-W", "-f", "${Status}", package], capture_output=True, text=True).stdout
     missing = [package for package in packages if not has(package)]
     if missing:
-        subprocess.run(["apt-get", "install", "-y", "-q", "-q", *missing], check=True, env=os.environ | {"DEBIAN_FRONTEND": "noninteractive"}, stdout=subprocess.DEVNULL)
+        ended = subprocess.run(["apt-get", "install", "-y", *missing], env=os.environ | {"DEBIAN_FRONTEND": "noninteractive"}, capture_output=True, text=True)
+        if ended.returncode:
+            sys.exit(f"apt-get install {' '.join(missing)}: {ended.stderr}")
 
 
 def tar_of(package):
