@@ -2,3 +2,4 @@ pub mod Frames
 pub mod Header
 pub mod Laws
 pub mod Opcodes
+pub mod Replies
