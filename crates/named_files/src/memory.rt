@@ -215,7 +215,8 @@ impl Place for MemPlace {
             kept: self.kept,
         };
         self.kept = 0;
-        self.past.push_reserved(mem::replace(&mut self.newest, next));
+        self.past
+            .push_reserved(mem::replace(&mut self.newest, next));
         Ok(())
     }
 
@@ -233,7 +234,8 @@ impl Place for MemPlace {
             file: None,
             kept: 0,
         };
-        self.past.push_reserved(mem::replace(&mut self.newest, next));
+        self.past
+            .push_reserved(mem::replace(&mut self.newest, next));
         Ok(())
     }
 
