@@ -183,6 +183,12 @@ impl<J: ServerPlan, P: LendPartition<Reader = ReaderSeat, Note = Note> + Drop> O
         }
     }
 
+    pub(crate) fn number(&self) -> u32
+        ensures { result ≡ self.now.number }
+    {
+        self.number
+    }
+
     /// What is left once its lock is gone.
     pub fn give_back(self) -> Returned<P>
         ensures law { IsOwned J.plan self }
