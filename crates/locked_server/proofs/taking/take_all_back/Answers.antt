@@ -14,18 +14,18 @@ view g part = left_view g.P.Partition.owner g.P.Partition.home part
 pub loop-lock-init : goal.loop-lock-init
 loop-lock-init g c = record {
   each = record { each = λ p left at. absurd (let low = slice_get_within (map (view g) c.args.parts.now.items) p left at in omega (arith, ap length (ap (map (view g)) c.requires.none))) };
-  many = omega (arith, ap length c.requires.none, ap length c.into_iter-lock-iterator.ensures.into_iter_gives.0);
+  many = omega (arith, ap length c.requires.none, ap length c.into_iter-lock-iterator.ensures.into_iter_gives.0, c.into_locks.ensures.many);
   number = sym (ap length c.requires.none);
   room = c.requires.room;
 }
 
 pub push_reserved-requires : goal.push_reserved-requires
 push_reserved-requires g c =
-    omega (arith, c.loop-lock.invariant.many, ap length c.in-Some.ensures.steps.0, c.loop-lock.invariant.room, c.args.locks.ok, c.loop-lock.parts.ok)
+    omega (arith, c.loop-lock.invariant.many, ap length c.in-Some.ensures.steps.0, c.loop-lock.invariant.room, c.loop-lock.parts.ok)
 
 pub overflow_add-number : goal.overflow_add-number
 overflow_add-number g c =
-    omega (arith, c.loop-lock.invariant.many, c.loop-lock.invariant.number, ap length c.in-Some.ensures.steps.0, c.args.locks.ok, c.requires.few)
+    omega (arith, c.loop-lock.invariant.many, c.loop-lock.invariant.number, ap length c.in-Some.ensures.steps.0, c.requires.few)
 
 pub returns-clause-many : goal.returns-clause-many
 returns-clause-many g c = omega (arith, c.loop-lock.invariant.many, c.in-None.ensures.steps.0, c.loop-lock.lock-iterator.rest.ok)

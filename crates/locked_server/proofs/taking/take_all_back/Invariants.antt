@@ -6,7 +6,7 @@ use Rattle.locked_server.proofs.taking.take_all_back.Given as goal
 abbrev pub invariant-loop-lock : goal.invariant-loop-lock
 invariant-loop-lock g l = record {
   each : AreTakenBack g.J.ServerPlan.plan (map (λ part. left_view g.P.Partition.owner g.P.Partition.home part) l.parts.items);
-  many : length l.parts.items + length (into_iter_items l.lock-iterator) ≡ length l.fn.locks.items;
+  many : length l.parts.items + length (into_iter_items l.lock-iterator) ≡ l.fn.locks;
   number : l.number ≡ length l.parts.items;
-  room : vec_len l.fn.locks ≤ vec_capacity l.parts;
+  room : l.fn.locks ≤ vec_capacity l.parts;
 }
