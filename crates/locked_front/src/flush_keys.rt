@@ -4,7 +4,6 @@ ghost use Rattle.mica_words.specs.Hash.{bucket_of, fnv1a, partition_of};
 ghost use Rattle.mica_words.specs.Item.{KeyFits};
 ghost use Rattle.fronts.specs.Flushes.{begins_with_feed, flush_in};
 
-use fronts::Flush;
 use mica_words::{bucket_of, key_hash, partition_of};
 use partition_model::{ItemBuf, Options};
 use std::sync::Wait;
@@ -46,14 +45,15 @@ pub(crate) fn make_key<R: Wait>(
     rt: &R,
     options: &Options,
     partition: u32,
-    flush: Flush,
+    due: u64,
+    asked: u64,
     key: &mut ItemBuf,
 )
     requires partitions { 0 < options.now.partitions }
     requires buckets { 0 < options.now.buckets }
     ensures feed { begins_with_feed key.new ≡ true }
     ensures fits { KeyFits key.new }
-    ensures flush { flush_in key.new ≡ flush }
+    ensures flush { flush_in key.new ≡ record { due = due; asked = asked } }
     ensures partition { partition_of key.new options.now.partitions ≡ partition }
     ensures bucket { bucket_of key.new options.now.buckets ≡ 0 }
 {
@@ -66,8 +66,8 @@ pub(crate) fn make_key<R: Wait>(
     for _ in rt.forever() {
         key.clear();
         key.extend(b"\n");
-        key.push_word(flush.due);
-        key.push_word(flush.asked);
+        key.push_word(due);
+        key.push_word(asked);
         key.extend(&number.to_le_bytes());
         if let Some(end) = seek_end(key_hash(key.value()), partitions, buckets, partition) {
             key.extend(&end);

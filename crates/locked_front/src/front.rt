@@ -198,7 +198,8 @@ impl<'a, J: ServerPlan, P: LendPartition<Reader = ReaderSeat, Note = Note> + Dro
 impl<'a, J: ServerPlan, P: LendPartition<Reader = ReaderSeat, Note = Note> + Drop, R: Wait> Changes
     for LockedFront<'a, J, P, R> {
     fn flush_key(&self, partition: u32, flush: Flush, key: &mut ItemBuf) {
-        make_key(self.rt, &self.options, partition, flush, key);
+        let Flush { due, asked } = flush;
+        make_key(self.rt, &self.options, partition, due, asked, key);
     }
 
     fn change<D: Decide>(
