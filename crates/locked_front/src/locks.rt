@@ -101,7 +101,7 @@ impl<J: ServerPlan, P: LendPartition<Reader = ReaderSeat, Note = Note> + Drop> P
 
     /// All of them, in order.
     pub fn into_locks(self) -> Vec<PartitionLock<J, P>>
-        ensures many { length result.items ≡ self.entry }
+        ensures many { length result.items ≡ self }
         ensures order { AreInOrder result.items }
     {
         self.locks

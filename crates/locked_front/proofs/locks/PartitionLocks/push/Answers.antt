@@ -3,6 +3,6 @@ use Rattle.locked_front.specs.Locks.{AreInOrder}
 use Rattle.locked_front.proofs.Locking.{one_more}
 use Rattle.locked_front.proofs.locks.PartitionLocks.push.Goals as goal
 
-pub invariant_of-self : goal.invariant_of-self
-invariant_of-self g c =
+pub invariant_of-self-2 : goal.invariant_of-self-2
+invariant_of-self-2 g c =
     subst AreInOrder (sym c.in_ok-push.ensures.items) (one_more c.self.inside.locks.items c.new.result c.self.invariant (omega (arith, c.new.ensures, c.requires, c.self.view_is)))
