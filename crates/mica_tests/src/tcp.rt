@@ -38,7 +38,7 @@ fn new_port<'a, R: Abort + AllocGlobal + Sockets + Wait + Sync>(
 /// A client that comes, and the number that its connection is under.
 fn joined(
     rt: &(impl Abort + Sockets<Listener = TcpListener, Stream = TcpStream>),
-    connections: &mut TcpConnections<'_, impl Sockets + Wait>,
+    connections: &mut TcpConnections<'_, impl Wait>,
     port: u16,
 ) -> Result<(TcpStream, u32), Fail> {
     let client = TcpStream::connect(rt, ("127.0.0.1", port))?;
@@ -62,7 +62,7 @@ fn is_ready(event: Result<Option<Event>, Failed>, number: u32) -> bool {
 /// What the connection under this number gives next, at the reports of it.
 fn input_of(
     rt: &impl Abort,
-    connections: &mut TcpConnections<'_, impl Sockets + Wait>,
+    connections: &mut TcpConnections<'_, impl Wait>,
     number: u32,
     out: &mut [u8; 16],
 ) -> Result<Input, Broken> {
@@ -80,7 +80,7 @@ fn input_of(
 /// The client says this, and it comes under the number, and nothing else does.
 fn expect_said(
     rt: &impl Abort,
-    connections: &mut TcpConnections<'_, impl Sockets + Wait>,
+    connections: &mut TcpConnections<'_, impl Wait>,
     client: &mut TcpStream,
     number: u32,
     said: &[u8],
@@ -98,7 +98,7 @@ fn expect_said(
 /// What is written under the number comes to the client, and nothing else did.
 fn expect_heard(
     rt: &impl Abort,
-    connections: &mut TcpConnections<'_, impl Sockets + Wait>,
+    connections: &mut TcpConnections<'_, impl Wait>,
     client: &mut TcpStream,
     number: u32,
     reply: &[u8],
@@ -138,7 +138,7 @@ fn two_clients_hear_their_own(rt: HostRuntime) -> Result<(), Fail> {
 }
 
 /// Writes bytes that count up to 250 again and again, as far as they are taken, and says how many were.
-fn fill(rt: &impl Abort, connections: &mut TcpConnections<'_, impl Sockets + Wait>, number: u32) -> u32 {
+fn fill(rt: &impl Abort, connections: &mut TcpConnections<'_, impl Wait>, number: u32) -> u32 {
     let mut piece = [0; 4_016];
     for at in 0..4_016usize {
         piece[at] = (at % 251) as u8;

@@ -4,6 +4,7 @@ ghost use Rattle.outside.specs.Faults.{Rose, faults_after};
 ghost use Rattle.connections.specs.PortLogs.{place_at};
 
 use crate::TcpConnections;
+use crate::tcp_port::TcpPort;
 use connections::{Heard, Listeners, PortPlace};
 use outside::Failed;
 use std::alloc::Global;
@@ -79,7 +80,7 @@ impl<'a, R: Sockets + Wait + Sync> Listeners for TcpListeners<'a, R> {
     }
 
     fn listen(&mut self, port: u16) -> Result<TcpConnections<'a, R>, Failed> {
-        let opened = TcpConnections::open(
+        let opened = TcpPort::open(
             self.rt,
             self.alloc,
             self.place.address,
@@ -87,10 +88,10 @@ impl<'a, R: Sockets + Wait + Sync> Listeners for TcpListeners<'a, R> {
             self.place.most as usize,
             self.has_failed,
         );
-        if let Ok(connections) = opened {
+        if let Ok(sockets) = opened {
             let place = self.place;
             if self.heard.push(Heard { port, place }).is_ok() {
-                return Ok(connections);
+                return Ok(TcpConnections::new(self.rt, port, sockets));
             }
         }
         self.faults = self.faults.saturating_add(1);
