@@ -56,8 +56,11 @@ second_of (second s ∷ entries) = s
 second_of (_ ∷ entries) = second_of entries
 
 -- it is told which second it is
+abbrev pub timed_entries : List Step → List Entry → List Entry
+timed_entries schedule entries = second (now_after schedule entries) ∷ entries
+
 abbrev pub timed : Log → Log
-timed log = logged (second (now_of log)) log
+timed log = with_entries (timed_entries log.schedule) log
 
 -- what reads gave of the c-th connection
 abbrev pub received_of : ℕ → List Entry → List ℕ
