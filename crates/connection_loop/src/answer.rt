@@ -120,9 +120,7 @@ fn answer_one<F: CountsWrites, K: Clock>(
     }
     let (len, last) = (len_of(&next), is_last(&next));
     let before = out.len();
-    let progress = answer_next(
-        front, clock, numbering, buffers, next, done, LIMITS, out,
-    )?;
+    let progress = answer_next(front, clock, numbering, buffers, next, done, LIMITS, out)?;
     if !progress.is_whole {
         return Ok(Said::Part(progress.done));
     }

@@ -200,10 +200,10 @@ pub fn serve_connections<F: Glances, K: Clock, C: Connections>(
     let least = most_writes(numbering);
     loop {
         if front.writes_left() < least {
-            break;
+            return Ok(());
         }
         let Some(event) = connections.next()? else {
-            break;
+            return Ok(());
         };
         let count = serve_event(
             alloc,
@@ -222,5 +222,4 @@ pub fn serve_connections<F: Glances, K: Clock, C: Connections>(
         let noted = &mut desk.buffers.noted;
         sweep(front, clock, numbering, most, noted, &mut sweeper);
     }
-    Ok(())
 }
