@@ -13,7 +13,7 @@ ghost use Rattle.memcached_stats.specs.Stats.{Told, stats_text};
 ghost use Rattle.command_answers.specs.Counting.{tally_after_all, tally_after_next};
 ghost use Rattle.command_answers.specs.Exchange.{IsOpenAt, asks_stats, flush_due, flush_text, is_flush_all};
 ghost use Rattle.command_answers.specs.FlushAnswers.{FlushesFrom, flush_at};
-ghost use Rattle.command_answers.specs.Seconds.{ToldFrom, seconds_of};
+ghost use Rattle.command_answers.specs.Seconds.{AreAt};
 ghost use Rattle.command_answers.specs.Going.{AnswersFirst, RepliesFirst, GoesOn, Replies};
 
 use crate::ask::answer_ask;

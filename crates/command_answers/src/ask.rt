@@ -7,7 +7,6 @@ ghost use Rattle.fronts.specs.Answered.{Answered, count_of_writes};
 ghost use Rattle.command_answers.specs.AskAnswers.{said_of};
 ghost use Rattle.command_answers.specs.Counting.{count_of_accepted, noted_if, tally_after};
 ghost use Rattle.command_answers.specs.Going.{AnswersAt, ask_text, value_found};
-ghost use Rattle.command_answers.specs.Seconds.{ToldFrom};
 
 use crate::buffers::Buffers;
 use crate::noted::Noted;
