@@ -66,3 +66,61 @@ impl<'a, R: Sockets + Wait + Sync, K: Clock + Copy + Drop + Send> TcpListeners<'
         .ok()
     }
 }
+
+impl<'a, R: Sockets + Wait + Sync, K: Clock + Copy + Drop + Send> Listeners
+    for TcpListeners<'a, R, K> {
+    type Port = TcpConnections<'a, R, K>;
+
+    ghost faults = { λ l. l.faults };
+
+    ghost waits = { λ _. None };
+
+    ghost released = { λ _. None };
+
+    ghost places = { λ l. l.places.items };
+
+    ghost most = { λ l. l.most };
+
+    ghost heard = { λ l. l.heard.items };
+
+    ghost given = { λ l. l.given };
+
+    fn set_places(&mut self, places: &[Place], most: u32) -> Result<(), Failed> {
+        self.places.clear();
+        if self.places.extend_from_slice(places).is_err() {
+            self.faults = self.faults.saturating_add(1);
+            return Err(Failed);
+        }
+        self.most = most;
+        Ok(())
+    }
+
+    // One share: to deal connections to several is the hall's.
+    fn listen(
+        &mut self,
+        place: u32,
+        shares: u32,
+        out: &mut Vec<TcpConnections<'a, R, K>>,
+    ) -> Result<(), Failed> {
+        let at = self.places[place as usize];
+        if shares == 1 && self.given < u32::MAX {
+            if let Some(sockets) = self.open(at) {
+                if self.heard.push(place).is_ok() {
+                    out.push_reserved(TcpConnections::new(
+                        self.rt,
+                        self.given,
+                        sockets,
+                        self.clock,
+                        self.stopping,
+                    ));
+                    self.given += 1;
+                    return Ok(());
+                }
+            }
+        }
+        self.faults = self.faults.saturating_add(1);
+        Err(Failed)
+    }
+
+    fn release(&mut self, _connections: TcpConnections<'a, R, K>) {}
+}
