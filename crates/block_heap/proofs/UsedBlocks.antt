@@ -19,7 +19,7 @@ pub record AddsBlock (old new : List Block) (block : Block) : Type 0 where
   pub was : old ≡ before ++ after
   pub now : new ≡ before ++ block ∷ after
 
-used_blocks-append : (xs ys : List Block) → used_blocks (xs ++ ys) ≡ used_blocks xs ++ used_blocks ys
+pub used_blocks-append : (xs ys : List Block) → used_blocks (xs ++ ys) ≡ used_blocks xs ++ used_blocks ys
 used_blocks-append xs ys = filter-append (λ (b : Block). b.used) xs ys
 
 pub used_blocks-taken : (old new : List Block) (place need : ℕ) → IsTaken old new place need → AddsBlock (used_blocks old) (used_blocks new) (used_block place need)
