@@ -8,19 +8,16 @@ pub fn reads_all()
 {}
 
 /// A file is read in one way.
-#[tactic(auto, using(crate::proofs::Readings::one_reading))]
 pub fn one_reading()
     ensures { OneReading }
 {}
 
 /// A file in which one word was changed is not read without a fault.
-#[tactic(auto, using(crate::proofs::Changed::one_changed_word))]
 pub fn one_changed_word()
     ensures { OneChangedWord }
 {}
 
 /// A file that was cut is not read without a fault.
-#[tactic(auto, using(crate::proofs::Begins::no_beginning))]
 pub fn no_beginning()
     ensures { NoBeginning }
 {}
