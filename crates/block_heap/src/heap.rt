@@ -77,13 +77,23 @@ fn first_above(blocks: &TaggedBlocks, free: &FreeLists, rank: u32) -> Option<Blo
     ensures some { IfSome result (λ block. Contains blocks.now.0 block × IsFree block × (rank < rank_of block.size)) }
 {
     let next = free.next_above(rank)?;
-    let slot = free.first(next)?;
+    first_of(blocks, free, next)
+}
+
+// The first block of a list.
+fn first_of(blocks: &TaggedBlocks, free: &FreeLists, rank: u32) -> Option<Block>
+    requires rank { rank < 1152 }
+    requires heap { IsHeap blocks.now.0 blocks.now.1 free.now }
+    ensures some { IfSome result (λ block. Contains blocks.now.0 block × IsFree block × (rank_of block.size ≡ rank)) }
+    ensures none { IfNone result (length (list_of free.now rank) ≡ 0) }
+{
+    let slot = free.first(rank)?;
     let place = free.place(slot);
     Some(Block::free(place, blocks.size_at(place)))
 }
 
-// A free block of as many words as are needed: the first of the need's own list that has as many, else the first of the next list
-// that has one.
+// A free block of as many words as are needed. Of the need's own list the first block is asked; each block of a list above is large enough.
+// So the whole list is gone through only where sizes share it and no list above has a block.
 fn fitting(blocks: &TaggedBlocks, free: &FreeLists, need: u32) -> Option<Block>
     requires some { 1 ≤ need }
     requires heap { IsHeap blocks.now.0 blocks.now.1 free.now }
@@ -94,10 +104,15 @@ fn fitting(blocks: &TaggedBlocks, free: &FreeLists, need: u32) -> Option<Block>
         return None;
     }
     let rank = rank_of(need);
-    if let Some(block) = first_fit(blocks, free, rank, need) {
+    if let Some(block) = first_of(blocks, free, rank) {
+        if block.size >= need {
+            return Some(block);
+        }
+    }
+    if let Some(block) = first_above(blocks, free, rank) {
         return Some(block);
     }
-    first_above(blocks, free, rank)
+    first_fit(blocks, free, rank, need)
 }
 
 // The words of the largest block of a list.

@@ -1,12 +1,12 @@
 -- The class of a size never falls.
-use Rattle.std.proofs.Common.{◌≡◌, ℕ, ◌+◌, ◌-◌, ◌*◌, ◌/◌, ◌^◌, ◌<◌, ◌≤◌, min, refl, arith, rules}
+use Rattle.std.proofs.Common.{◌≡◌, ℕ, ◌+◌, ◌-◌, ◌*◌, ◌/◌, ◌%◌, ◌^◌, ◌<◌, ◌≤◌, min, refl, arith, rules}
 use Rattle.std.specs.Int.{bit_at}
 use Rattle.std.proofs.Math.Pow.{pow_mono, shr_mono}
 use Rattle.std.proofs.Math.Nat.{div-mul-le_self, lt_of_mul-lt-mul_right}
 use Rattle.std.proofs.lemmas.Nat.{leading_top, pow_pos, le-div, pow-add}
 use Rattle.std.proofs.lemmas.Nat.Bits.{bit_at-lt}
 use Rattle.std.proofs.lemmas.Bool.{le-ltb, lt-ltb}
-use Rattle.size_classes.specs.Classes.{highest_bit, class_of}
+use Rattle.size_classes.specs.Classes.{highest_bit, class_of, fine_class_of}
 
 abbrev large : ℕ → ℕ
 large words = 31 + 2 * (highest_bit words - 5) + bit_at words (highest_bit words - 1)
@@ -64,3 +64,30 @@ rises a b some le limit = grind (arith, class_small a, class_small b, class_larg
 
 pub below_sixty_four : (words : ℕ) → class_of words < 64
 below_sixty_four words = grind (arith, class_small words, class_large words)
+
+-- from 1,024 on the highest bit has ten below it, and with the next three makes 8 to 15
+record Eighths (words : ℕ) : Type 0 where
+  ten : 10 ≤ highest_bit words
+  bits : words / 2 ^ (highest_bit words - 3) % 8 + 8 ≡ words / 2 ^ (highest_bit words - 3)
+
+eighths : (words : ℕ) → 1024 ≤ words → words < 2 ^ 32 → Eighths words
+eighths words least limit =
+    let h = between words (omega arith) limit in
+    let k = highest_bit words - 3 in
+    grind (
+      arith,
+      below_power 10 (highest_bit words + 1) words,
+      h.low,
+      h.high,
+      pow-add 2 k 3,
+      pow-add 2 k 4,
+      le-div 8 words (2 ^ k) (pow_pos k),
+      lt_of_mul-lt-mul_right (2 ^ k),
+      div-mul-le_self words (2 ^ k),
+    )
+
+pub ten_bits : (words : ℕ) → 1024 ≤ words → words < 2 ^ 32 → 10 ≤ highest_bit words
+ten_bits words least limit = (eighths words least limit).ten
+
+pub fine_rises : (a b : ℕ) → 1024 ≤ a → a ≤ b → b < 2 ^ 32 → fine_class_of a ≤ fine_class_of b
+fine_rises a b least le limit = search (rules, eighths, highest_rises, shr_mono)

@@ -8,7 +8,7 @@ use mica_words::{
 };
 use outside::NoMemory;
 use partition_model::has_room;
-use size_classes::class_of;
+use size_classes::{class_of, fine_class_of};
 use std::alloc::Global;
 
 /// A byte more than the longest value has.
@@ -20,6 +20,14 @@ fn class(words: u64) -> Option<u64> {
         return None;
     }
     Some(u64::from(class_of(words)))
+}
+
+fn fine_class(words: u64) -> Option<u64> {
+    let words = u32::try_from(words).ok()?;
+    if words < 1024 {
+        return None;
+    }
+    Some(u64::from(fine_class_of(words)))
 }
 
 /// What the function of this name makes of a number.
@@ -34,6 +42,7 @@ fn of_one(name: &str, x: u64) -> Option<u64> {
         "tail_of" => Some(tail_of(x)),
         "has_room" => Some(u64::from(has_room(x))),
         "class_of" => class(x),
+        "fine_class_of" => fine_class(x),
         "key_fits" => Some(u64::from(key_fits(ZEROS.get(..usize::try_from(x).ok()?)?))),
         "value_fits" => Some(u64::from(value_fits(ZEROS.get(..usize::try_from(x).ok()?)?))),
         _ => None,
