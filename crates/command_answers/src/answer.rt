@@ -26,8 +26,6 @@ use memcached_stats::counter_by;
 use memcached_text::{Command, Due, Next, Reply, Topic, reply_line};
 use outside::{Clock, NoMemory};
 use partition_model::ItemBuf;
-use std::sync::Wait;
-use std::thread::Threads;
 
 /// The partitions of a server, as commands see them.
 #[derive(Clone, Copy)]
@@ -124,8 +122,7 @@ fn flush_line(took: bool) -> &'static [u8]
 }
 
 // Flushes all partitions, and appends the line that is due to it.
-fn answer_flush<R: Threads + Wait + Sync, F: Changes, C: Clock>(
-    rt: &R,
+fn answer_flush<F: Changes, C: Clock>(
     front: &mut F,
     clock: &mut C,
     partitions: u32,
@@ -151,7 +148,7 @@ fn answer_flush<R: Threads + Wait + Sync, F: Changes, C: Clock>(
     ensures stands { F.stands front.new ≡ F.stands front.old }
 {
     let flush = ask_flush(clock, partitions, due);
-    let took = flush_all(rt, front, partitions, flush, key);
+    let took = flush_all(front, partitions, flush, key);
     let Ok(()) = put_line(out, quiet, flush_line(took)) else {
         return Err(NoMemory);
     };
@@ -173,8 +170,7 @@ fn skip(asks: &mut Asks, count: usize)
 }
 
 // Answers asks in order, as far as the limits allow, and appends the text that is due to them. When out of memory, some of it may be appended.
-fn answer_asks<'a, R: Threads + Wait + Sync, F: Changes, C: Clock>(
-    rt: &R,
+fn answer_asks<'a, F: Changes, C: Clock>(
     front: &mut F,
     clock: &mut C,
     base: u64,
@@ -207,7 +203,7 @@ fn answer_asks<'a, R: Threads + Wait + Sync, F: Changes, C: Clock>(
         };
         let is_last = asks.is_empty();
         let Ok(()) = answer_ask(
-            rt, front, clock, base, partitions, buffers, style, &asked, is_last, out,
+            front, clock, base, partitions, buffers, style, &asked, is_last, out,
         ) else {
             return Err(NoMemory);
         };
@@ -221,8 +217,7 @@ fn answer_asks<'a, R: Threads + Wait + Sync, F: Changes, C: Clock>(
 
 /// Answers what a client said, of which so many answers were given, and appends the text that is due. What came of it is counted. When out of memory, nothing is appended, though
 /// some of it may be done: then the connection is to end.
-pub fn answer_next<'a, R: Threads + Wait + Sync, F: Changes, C: Clock>(
-    rt: &R,
+pub fn answer_next<'a, F: Changes, C: Clock>(
     front: &mut F,
     clock: &mut C,
     numbering: Numbering,
@@ -254,7 +249,6 @@ pub fn answer_next<'a, R: Threads + Wait + Sync, F: Changes, C: Clock>(
     buffers.tally.count(counter_by(&next));
     if is_flush_all(&next) {
         return answer_flush(
-            rt,
             front,
             clock,
             numbering.partitions,
@@ -281,7 +275,6 @@ pub fn answer_next<'a, R: Threads + Wait + Sync, F: Changes, C: Clock>(
     skip(&mut asks, done);
     let start = out.len();
     match answer_asks(
-        rt,
         front,
         clock,
         numbering.base,

@@ -19,8 +19,6 @@ use memcached_stats::{Tally, counter_of};
 use mica_words::{key_hash, partition_of};
 use outside::{Clock, NoMemory};
 use partition_model::{Answer, ItemBuf, Outcome};
-use std::sync::Wait;
-use std::thread::Threads;
 
 // Appends the text that is due to one ask. When out of memory, nothing is appended.
 #[inline(always)]
@@ -87,8 +85,7 @@ fn note_write(
 }
 
 /// Decides of one look what is asked of a key, and does it with nothing between, at the second that the clock tells. It appends the text that is due to it. What came of it is counted. When out of memory, nothing is appended, and it is done all the same.
-pub fn answer_ask<R: Threads + Wait + Sync, F: Changes, C: Clock>(
-    rt: &R,
+pub fn answer_ask<F: Changes, C: Clock>(
     front: &mut F,
     clock: &mut C,
     base: u64,
@@ -124,7 +121,7 @@ pub fn answer_ask<R: Threads + Wait + Sync, F: Changes, C: Clock>(
     let second = clock.second();
     let order = CommandOrder::new(&asked.ask, base);
     let key = asked.key.bytes();
-    let changed = front.change(rt, second, key, &order, found, next);
+    let changed = front.change(second, key, &order, found, next);
     let stored = value_found(changed.found, found);
     let says = order.says(changed.when, stored, changed.outcome);
     tally.count(counter_of(&asked.ask, &says));

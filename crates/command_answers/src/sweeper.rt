@@ -13,8 +13,6 @@ use memcached_decisions::{SweepOrder, is_over};
 use outside::{Clock, NoMemory};
 use partition_model::ItemBuf;
 use std::alloc::Global;
-use std::sync::Wait;
-use std::thread::Threads;
 
 /// The most answers that one sweep gives: a touch of each key that was noted, and a look at each place.
 pub const MOST_SWEPT: u32 = 4_160;
@@ -114,8 +112,7 @@ impl Sweeper {
 }
 
 // Looks at a key under a hold, and deletes what is over.
-fn sweep_key<R: Threads + Wait + Sync, F: Changes, C: Clock>(
-    rt: &R,
+fn sweep_key<F: Changes, C: Clock>(
     front: &mut F,
     clock: &mut C,
     base: u64,
@@ -133,12 +130,11 @@ fn sweep_key<R: Threads + Wait + Sync, F: Changes, C: Clock>(
 {
     let second = clock.second();
     let order = SweepOrder::new(base);
-    front.change(rt, second, key, &order, found, next)
+    front.change(second, key, &order, found, next)
 }
 
 // Takes away the item that was glanced at, unless it is there, and says whether it did. It looks under a hold once for so many items, and where one seems to be over.
-fn sweep_item<R: Threads + Wait + Sync, F: Changes, C: Clock>(
-    rt: &R,
+fn sweep_item<F: Changes, C: Clock>(
     front: &mut F,
     clock: &mut C,
     base: u64,
@@ -163,7 +159,7 @@ fn sweep_item<R: Threads + Wait + Sync, F: Changes, C: Clock>(
         next,
         ..
     } = sweeper;
-    let changed = sweep_key(rt, front, clock, base, key.value(), found, next);
+    let changed = sweep_key(front, clock, base, key.value(), found, next);
     sweeper.when = Some(changed.when);
     sweeper.fresh = FRESH;
     let gone = changed.outcome.is_some_and(|outcome| outcome.is_accepted());
@@ -174,8 +170,7 @@ fn sweep_item<R: Threads + Wait + Sync, F: Changes, C: Clock>(
 }
 
 // Looks at the next place, and says whether an item was taken away there.
-fn sweep_place<R: Threads + Wait + Sync, F: Glances, C: Clock>(
-    rt: &R,
+fn sweep_place<F: Glances, C: Clock>(
     front: &mut F,
     clock: &mut C,
     numbering: Numbering,
@@ -195,7 +190,7 @@ fn sweep_place<R: Threads + Wait + Sync, F: Glances, C: Clock>(
         return false;
     }
     match front.glance(partition, place, &mut sweeper.key, &mut sweeper.head) {
-        Glimpse::Item => sweep_item(rt, front, clock, numbering.base, sweeper),
+        Glimpse::Item => sweep_item(front, clock, numbering.base, sweeper),
         Glimpse::Nothing => {
             sweeper.step();
             false
@@ -208,8 +203,7 @@ fn sweep_place<R: Threads + Wait + Sync, F: Glances, C: Clock>(
 }
 
 // Looks at the next places, so many at most, and takes away what is over. Says how many places it looked at.
-fn sweep_places<R: Threads + Wait + Sync, F: Glances, C: Clock>(
-    rt: &R,
+fn sweep_places<F: Glances, C: Clock>(
     front: &mut F,
     clock: &mut C,
     numbering: Numbering,
@@ -228,7 +222,7 @@ fn sweep_places<R: Threads + Wait + Sync, F: Glances, C: Clock>(
     let mut looked = 0;
     let mut taken: u32 = 0;
     while looked < most && !sweeper.pace.is_enough(taken) {
-        let gone = sweep_place(rt, front, clock, numbering, sweeper);
+        let gone = sweep_place(front, clock, numbering, sweeper);
         taken = taken.saturating_add(u32::from(gone));
         looked += 1;
     }
@@ -237,13 +231,7 @@ fn sweep_places<R: Threads + Wait + Sync, F: Glances, C: Clock>(
 }
 
 // Touches a key with this hash, if its item is old, and if it may give a write. Says how many it gave.
-fn touch_old<R: Threads + Wait + Sync, F: Glances>(
-    rt: &R,
-    front: &mut F,
-    most: u64,
-    hash: u64,
-    key: &mut ItemBuf,
-) -> u64
+fn touch_old<F: Glances>(front: &mut F, most: u64, hash: u64, key: &mut ItemBuf) -> u64
     requires left { most ≤ F.left front.old }
     ensures swept { (base : ℕ) (told : ClockView) → SweepsBy (F.options front.old) F.is_alone base 1 (F.sessions front.old) (F.left front.old) told (F.sessions front.new) (F.left front.new) told }
     ensures few { result ≤ most }
@@ -255,18 +243,12 @@ fn touch_old<R: Threads + Wait + Sync, F: Glances>(
     if most == 0 || !front.glance_old(hash, key) {
         return 0;
     }
-    front.touch(rt, key.value());
+    front.touch(key.value());
     1
 }
 
 // Touches keys that were noted whose items are old, so many at most, and notes none any more. Says how many it touched.
-fn touch_used<R: Threads + Wait + Sync, F: Glances>(
-    rt: &R,
-    front: &mut F,
-    most: u64,
-    noted: &mut Noted,
-    key: &mut ItemBuf,
-) -> u64
+fn touch_used<F: Glances>(front: &mut F, most: u64, noted: &mut Noted, key: &mut ItemBuf) -> u64
     requires left { most ≤ F.left front.old }
     ensures swept { (base : ℕ) (told : ClockView) → SweepsBy (F.options front.old) F.is_alone base MOST_USED (F.sessions front.old) (F.left front.old) told (F.sessions front.new) (F.left front.new) told }
     ensures few { result ≤ most }
@@ -277,7 +259,7 @@ fn touch_used<R: Threads + Wait + Sync, F: Glances>(
 {
     let mut touched = 0;
     for hash in noted.used() {
-        touched += touch_old(rt, front, most - touched, *hash, key);
+        touched += touch_old(front, most - touched, *hash, key);
     }
     noted.forget_used();
     touched
@@ -285,8 +267,7 @@ fn touch_used<R: Threads + Wait + Sync, F: Glances>(
 
 /// Touches what was used and is old, and looks at the next places of an index, as far as so many writes reach. Takes away what is over there. Where a write found
 /// no room, it looks far in that partition. Says how many writes it may have made.
-pub fn sweep<R: Threads + Wait + Sync, F: Glances, C: Clock>(
-    rt: &R,
+pub fn sweep<F: Glances, C: Clock>(
     front: &mut F,
     clock: &mut C,
     numbering: Numbering,
@@ -303,10 +284,10 @@ pub fn sweep<R: Threads + Wait + Sync, F: Glances, C: Clock>(
     ensures number { F.number front.new ≡ F.number front.old }
     ensures stands { F.stands front.new ≡ F.stands front.old }
 {
-    let touched = touch_used(rt, front, most, noted, &mut sweeper.key);
+    let touched = touch_used(front, most, noted, &mut sweeper.key);
     sweeper.want_room(noted.take_full());
     let places = sweeper.pace.places(clock);
     let left = u32::try_from(most - touched).unwrap_or(u32::MAX);
-    let looked = sweep_places(rt, front, clock, numbering, places.min(left), sweeper);
+    let looked = sweep_places(front, clock, numbering, places.min(left), sweeper);
     touched + u64::from(looked)
 }

@@ -113,7 +113,7 @@ fn two_bytes(count: u32) -> [u8; 2]
 static LONG: [u8; 8_192] = [b'x'; 8_192];
 
 // What the key has.
-pub(crate) fn expect_value<R: Abort + Threads + Wait + Sync, F: Front>(
+pub(crate) fn expect_value<R: Abort, F: Front>(
     rt: &R,
     front: &mut F,
     out: &mut ItemBuf,
@@ -122,7 +122,7 @@ pub(crate) fn expect_value<R: Abort + Threads + Wait + Sync, F: Front>(
     ensures { F.left front.new ≡ F.left front.old }
 {
     assert!(rt; key_fits(KEY));
-    let (answer, _) = front.read(rt, KEY, out);
+    let (answer, _) = front.read(KEY, out);
     match wanted {
         Some(value) => assert!(rt; answer == Answer::Hit && out.value() == value),
         None => assert!(rt; answer == Answer::Miss),
@@ -130,7 +130,7 @@ pub(crate) fn expect_value<R: Abort + Threads + Wait + Sync, F: Front>(
 }
 
 // Puts a long value at each of the keys.
-fn put_long<R: Abort + AllocGlobal + Threads + Wait + Sync, F: Changes>(
+fn put_long<R: Abort + AllocGlobal, F: Changes>(
     rt: &R,
     front: &mut F,
     keys: &[&[u8]],
@@ -140,13 +140,13 @@ fn put_long<R: Abort + AllocGlobal + Threads + Wait + Sync, F: Changes>(
 {
     for i in 0..keys.len() {
         assert!(rt; key_fits(keys[i]) && value_fits(&LONG));
-        front.write(rt, rt.alloc(), Op::Put, keys[i], &LONG)?;
+        front.write(rt.alloc(), Op::Put, keys[i], &LONG)?;
     }
     Ok(())
 }
 
 // One row, by a front.
-fn expect_row<R: Abort + AllocGlobal + Threads + Wait + Sync, F: Changes>(
+fn expect_row<R: Abort + AllocGlobal, F: Changes>(
     rt: &R,
     front: &mut F,
     row: &Row<'_>,
@@ -161,10 +161,10 @@ fn expect_row<R: Abort + AllocGlobal + Threads + Wait + Sync, F: Changes>(
     match row.before {
         Some(value) => {
             assert!(rt; value_fits(value));
-            front.write(rt, alloc, Op::Put, KEY, value)?;
+            front.write(alloc, Op::Put, KEY, value)?;
         }
         None => {
-            front.write(rt, alloc, Op::Del, KEY, b"")?;
+            front.write(alloc, Op::Del, KEY, b"")?;
         }
     }
     put_long(rt, front, row.later)?;
@@ -172,14 +172,14 @@ fn expect_row<R: Abort + AllocGlobal + Threads + Wait + Sync, F: Changes>(
         change: row.change,
         value: row.value,
     };
-    let changed = front.change(rt, 7, KEY, &decide, &mut found, &mut next);
+    let changed = front.change(7, KEY, &decide, &mut found, &mut next);
     assert!(rt; changed.outcome == row.outcome && changed.when.second == 7);
     expect_value(rt, front, &mut found, row.after);
     Ok(())
 }
 
 // All rows, by a front.
-fn expect_rows<R: Abort + AllocGlobal + Threads + Wait + Sync, F: Changes>(
+fn expect_rows<R: Abort + AllocGlobal, F: Changes>(
     rt: &R,
     front: &mut F,
     rows: &[Row<'_>],
@@ -210,11 +210,7 @@ impl Room {
 }
 
 /// Counts the key up, and gives the front back.
-pub(crate) fn count_up<R: Threads + Wait + Sync, F: Changes + Drop>(
-    rt: &R,
-    front: F,
-    room: Room,
-) -> F
+pub(crate) fn count_up<F: Changes + Drop>(front: F, room: Room) -> F
     requires { TIMES ≤ F.left front }
 {
     let mut front = front;
@@ -223,7 +219,7 @@ pub(crate) fn count_up<R: Threads + Wait + Sync, F: Changes + Drop>(
         return front;
     }
     for _ in 0..TIMES {
-        front.change(rt, 0, KEY, &CountUp, &mut room.found, &mut room.next);
+        front.change(0, KEY, &CountUp, &mut room.found, &mut room.next);
     }
     front
 }
@@ -233,13 +229,15 @@ pub(crate) fn front_of<
     'a,
     J: ServerPlan,
     P: LendPartition<Reader = ReaderSeat, Note = Note> + Drop,
+    R: Wait,
 >(
+    rt: &'a R,
     options: &Options,
     locks: &'a [Mutex<OwnedPartition<J, P>>],
     number: u32,
     hand: Vec<LockedPart>,
     ended: &'a AtomicBool,
-) -> LockedFront<'a, J, P>
+) -> LockedFront<'a, J, P, R>
     requires valid { IsPossible options.now }
     requires named { options.now ≡ J.plan.options }
     requires low { number < J.plan.fronts }
@@ -247,7 +245,7 @@ pub(crate) fn front_of<
     requires hand { AreNewParts J.plan number hand.items }
     ensures { turns_left result.parts ≡ most_turns }
 {
-    LockedFront::new(options, locks, number, hand, ended)
+    LockedFront::new(rt, options, locks, number, hand, ended)
 }
 
 // Two fronts before one partition: the rows by the first, and then both count.
@@ -269,18 +267,18 @@ fn change_by_two<
     let second = lend_hand::<J, P>(alloc, &mut parts, 1)?;
     let locks = lock_parts::<J, P>(alloc, parts)?;
     let ended = AtomicBool::new(false);
-    let mut first = front_of(options, locks.as_slice(), 0, first, &ended);
-    let second = front_of(options, locks.as_slice(), 1, second, &ended);
+    let mut first = front_of(rt, options, locks.as_slice(), 0, first, &ended);
+    let second = front_of(rt, options, locks.as_slice(), 1, second, &ended);
     expect_rows(rt, &mut first, rows)?;
     let (one, two) = (Room::new(alloc)?, Room::new(alloc)?);
     let (mut first, _) = join(
         rt,
         move ||
             requires { TIMES ≤ turns_left first.parts }
-        { count_up(rt, first, one) },
+        { count_up(first, one) },
         move ||
             requires { TIMES ≤ turns_left second.parts }
-        { count_up(rt, second, two) },
+        { count_up(second, two) },
     );
     // 20,000 is 78 times 256, and 32.
     expect_value(rt, &mut first, &mut ItemBuf::new(alloc)?, Some(&[32, 78]));

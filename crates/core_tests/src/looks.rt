@@ -65,7 +65,7 @@ impl Decide for Reads {
 }
 
 // What a look finds, and how many writes had been flushed then.
-fn expect_look<R: Abort + Threads + Wait + Sync, F: Changes>(
+fn expect_look<R: Abort, F: Changes>(
     rt: &R,
     front: &mut F,
     room: &mut Room,
@@ -76,7 +76,7 @@ fn expect_look<R: Abort + Threads + Wait + Sync, F: Changes>(
     ensures { F.left front.old ≤ F.left front.new }
 {
     assert!(rt; key_fits(KEY));
-    let looked = front.change(rt, 7, KEY, &Reads, &mut room.found, &mut room.next);
+    let looked = front.change(7, KEY, &Reads, &mut room.found, &mut room.next);
     assert!(rt; looked.outcome.is_none());
     assert!(rt; looked.when.flushed == flushed);
     match wanted {
@@ -88,7 +88,7 @@ fn expect_look<R: Abort + Threads + Wait + Sync, F: Changes>(
 }
 
 // A put or a delete of a key.
-fn write_one<R: Abort + AllocGlobal + Threads + Wait + Sync, F: Changes>(
+fn write_one<R: Abort + AllocGlobal, F: Changes>(
     rt: &R,
     front: &mut F,
     op: Op,
@@ -101,12 +101,12 @@ fn write_one<R: Abort + AllocGlobal + Threads + Wait + Sync, F: Changes>(
     assert!(rt;
         key_fits(key) && value_fits(value) && (op == Op::Put || op == Op::Del && value.is_empty())
     );
-    front.write(rt, rt.alloc(), op, key, value)?;
+    front.write(rt.alloc(), op, key, value)?;
     Ok(())
 }
 
 // Each front looks behind its own writes and behind the other's.
-fn look_in_turn<R: Abort + AllocGlobal + Threads + Wait + Sync, F: Changes>(
+fn look_in_turn<R: Abort + AllocGlobal, F: Changes>(
     rt: &R,
     one: &mut F,
     two: &mut F,
@@ -137,7 +137,7 @@ fn look_in_turn<R: Abort + AllocGlobal + Threads + Wait + Sync, F: Changes>(
 }
 
 // Looks while the lock is held: a look that waited for it would wait for ever.
-fn look_while_held<R: Abort + Threads + Wait + Sync, T: Drop, F: Changes>(
+fn look_while_held<R: Abort + Wait, T: Drop, F: Changes>(
     rt: &R,
     lock: &Mutex<T>,
     front: &mut F,
@@ -152,7 +152,7 @@ fn look_while_held<R: Abort + Threads + Wait + Sync, T: Drop, F: Changes>(
 }
 
 // One front looks at what the other wrote, while the lock is held.
-fn look_beside<R: Abort + AllocGlobal + Threads + Wait + Sync, T: Drop, F: Changes>(
+fn look_beside<R: Abort + AllocGlobal + Wait, T: Drop, F: Changes>(
     rt: &R,
     lock: Option<&Mutex<T>>,
     one: &mut F,
@@ -173,7 +173,7 @@ fn look_beside<R: Abort + AllocGlobal + Threads + Wait + Sync, T: Drop, F: Chang
 }
 
 // Looks while another counts up: the count never falls.
-fn look_often<R: Threads + Wait + Sync, F: Changes + Drop>(rt: &R, front: F, room: Room) -> bool
+fn look_often<F: Changes + Drop>(front: F, room: Room) -> bool
     requires { TIMES ≤ F.left front }
 {
     let mut front = front;
@@ -183,7 +183,7 @@ fn look_often<R: Threads + Wait + Sync, F: Changes + Drop>(rt: &R, front: F, roo
         return false;
     }
     for _ in 0..TIMES {
-        let looked = front.change(rt, 0, KEY, &Reads, &mut room.found, &mut room.next);
+        let looked = front.change(0, KEY, &Reads, &mut room.found, &mut room.next);
         if looked.outcome.is_some() {
             return false;
         }
@@ -217,8 +217,8 @@ fn look_by_two<
     let second = lend_hand::<J, P>(alloc, &mut parts, 1)?;
     let locks = lock_parts::<J, P>(alloc, parts)?;
     let ended = AtomicBool::new(false);
-    let mut first = front_of(options, locks.as_slice(), 0, first, &ended);
-    let mut second = front_of(options, locks.as_slice(), 1, second, &ended);
+    let mut first = front_of(rt, options, locks.as_slice(), 0, first, &ended);
+    let mut second = front_of(rt, options, locks.as_slice(), 1, second, &ended);
     let (one, mut two) = (Room::new(alloc)?, Room::new(alloc)?);
     look_in_turn(rt, &mut first, &mut second, &mut two)?;
     let lock = locks.as_slice().get(0);
@@ -227,10 +227,10 @@ fn look_by_two<
         rt,
         move ||
             requires { TIMES ≤ turns_left first.parts }
-        { count_up(rt, first, one) },
+        { count_up(first, one) },
         move ||
             requires { TIMES ≤ turns_left second.parts }
-        { look_often(rt, second, two) },
+        { look_often(second, two) },
     );
     assert!(rt; rose);
     Ok(())

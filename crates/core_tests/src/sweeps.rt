@@ -34,7 +34,7 @@ const FOREVER: [u8; 16] = [0; 16];
 static LONG: [u8; 4_016] = [0; 4_016];
 
 // Puts a value, and says what came of it, and the stamp after it.
-fn put<R: Abort + AllocGlobal + Threads + Wait + Sync, F: Front>(
+fn put<R: Abort + AllocGlobal, F: Front>(
     rt: &R,
     front: &mut F,
     key: &[u8],
@@ -45,11 +45,11 @@ fn put<R: Abort + AllocGlobal + Threads + Wait + Sync, F: Front>(
     ensures options { F.options front.new ≡ F.options front.old }
 {
     assert!(rt; key_fits(key) && value_fits(value));
-    Ok(front.write(rt, rt.alloc(), Op::Put, key, value)?)
+    Ok(front.write(rt.alloc(), Op::Put, key, value)?)
 }
 
 // Sweeps all places several times, at a second.
-fn sweep_all<R: Abort + AllocGlobal + Threads + Wait + Sync, F: Glances>(
+fn sweep_all<R: Abort + AllocGlobal, F: Glances>(
     rt: &R,
     front: &mut F,
     second: u64,
@@ -68,24 +68,13 @@ fn sweep_all<R: Abort + AllocGlobal + Threads + Wait + Sync, F: Glances>(
         base: 0,
     };
     for _ in 0..100u32 {
-        sweep(
-            rt,
-            front,
-            &mut clock,
-            numbering,
-            64,
-            &mut noted,
-            &mut sweeper,
-        );
+        sweep(front, &mut clock, numbering, 64, &mut noted, &mut sweeper);
     }
     Ok(())
 }
 
 // Ten items of 55 words that end at the fifth second and one of 5 words leave 469 of 1,024 words. The long one takes 505.
-fn what_is_over_goes<R: Abort + AllocGlobal + Threads + Wait + Sync, F: Glances>(
-    rt: &R,
-    front: &mut F,
-) -> Result<(), Fail>
+fn what_is_over_goes<R: Abort + AllocGlobal, F: Glances>(rt: &R, front: &mut F) -> Result<(), Fail>
     requires left { 20000 ≤ F.left front.old }
     requires partitions { (F.options front.old).partitions ≡ 1 }
 {
@@ -101,18 +90,15 @@ fn what_is_over_goes<R: Abort + AllocGlobal + Threads + Wait + Sync, F: Glances>
     assert!(rt; put(rt, front, b"long", &LONG)?.0 == Outcome::Stored);
     let mut out = ItemBuf::new(rt.alloc())?;
     assert!(rt; key_fits(b"kept") && key_fits(b"9"));
-    let (kept, _) = front.read(rt, b"kept", &mut out);
-    let (over, _) = front.read(rt, b"9", &mut out);
+    let (kept, _) = front.read(b"kept", &mut out);
+    let (over, _) = front.read(b"9", &mut out);
     assert!(rt; kept == Answer::Hit && over == Answer::Miss);
     Ok(())
 }
 
 // A log of 1,024 words has 18 items of 55 words. The one that is touched behind each put of another is old, more than 512 words behind the tail, behind the 8th of these,
 // and again behind each 9th. So six times it was written anew: 68 items in all.
-fn what_is_used_stays<R: Abort + AllocGlobal + Threads + Wait + Sync, F: Glances>(
-    rt: &R,
-    front: &mut F,
-) -> Result<(), Fail>
+fn what_is_used_stays<R: Abort + AllocGlobal, F: Glances>(rt: &R, front: &mut F) -> Result<(), Fail>
     requires left { 20000 ≤ F.left front.old }
     requires partitions { (F.options front.old).partitions ≡ 1 }
 {
@@ -137,22 +123,14 @@ fn what_is_used_stays<R: Abort + AllocGlobal + Threads + Wait + Sync, F: Glances
             0,
             Outcome::Stored,
         );
-        sweep(
-            rt,
-            front,
-            &mut clock,
-            numbering,
-            64,
-            &mut noted,
-            &mut sweeper,
-        );
+        sweep(front, &mut clock, numbering, 64, &mut noted, &mut sweeper);
     }
     assert!(rt; tail == 68 * 55);
     let mut out = ItemBuf::new(rt.alloc())?;
     assert!(rt; key_fits(b"u") && key_fits(b"l"));
-    let (used, _) = front.read(rt, b"u", &mut out);
+    let (used, _) = front.read(b"u", &mut out);
     assert!(rt; used == Answer::Hit && out.value() == value.as_slice());
-    let (left, _) = front.read(rt, b"l", &mut out);
+    let (left, _) = front.read(b"l", &mut out);
     assert!(rt; left == Answer::Miss);
     Ok(())
 }
@@ -175,7 +153,7 @@ fn sweep_by_one<
     let hand = lend_hand::<J, P>(alloc, &mut parts, 0)?;
     let locks = lock_parts::<J, P>(alloc, parts)?;
     let ended = AtomicBool::new(false);
-    let mut front = front_of(options, locks.as_slice(), 0, hand, &ended);
+    let mut front = front_of(rt, options, locks.as_slice(), 0, hand, &ended);
     match options.mode {
         Mode::Cache => what_is_used_stays(rt, &mut front),
         Mode::Store => what_is_over_goes(rt, &mut front),

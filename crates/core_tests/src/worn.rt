@@ -35,7 +35,7 @@ enum Call {
 static CALLS: [Call; 4] = [Call::Write, Call::Change, Call::Delete, Call::Touch];
 
 // What comes of one write by this call.
-fn write_by<R: Abort + AllocGlobal + Threads + Wait + Sync, F: Changes>(
+fn write_by<R: Abort + AllocGlobal, F: Changes>(
     rt: &R,
     front: &mut F,
     call: Call,
@@ -46,14 +46,14 @@ fn write_by<R: Abort + AllocGlobal + Threads + Wait + Sync, F: Changes>(
     assert!(rt; key_fits(KEY) && value_fits(b"1"));
     let alloc = rt.alloc();
     match call {
-        Call::Write => Ok(Some(front.write(rt, alloc, Op::Put, KEY, b"1")?.0)),
+        Call::Write => Ok(Some(front.write(alloc, Op::Put, KEY, b"1")?.0)),
         Call::Change => {
             let mut room = Room::new(alloc)?;
-            let changed = front.change(rt, 0, KEY, &CountUp, &mut room.found, &mut room.next);
+            let changed = front.change(0, KEY, &CountUp, &mut room.found, &mut room.next);
             Ok(changed.outcome)
         }
-        Call::Delete => Ok(Some(front.delete(rt, KEY).0)),
-        Call::Touch => Ok(Some(front.touch(rt, KEY).0)),
+        Call::Delete => Ok(Some(front.delete(KEY).0)),
+        Call::Touch => Ok(Some(front.touch(KEY).0)),
     }
 }
 
@@ -74,7 +74,7 @@ fn wear_by_one<
     let ended = AtomicBool::new(false);
     let hand = lend_hand::<J, P>(alloc, &mut parts, 0)?;
     let locks = lock_parts::<J, P>(alloc, parts)?;
-    let mut front = front_of(options, locks.as_slice(), 0, hand, &ended);
+    let mut front = front_of(rt, options, locks.as_slice(), 0, hand, &ended);
     let mut room = Room::new(alloc)?;
     let first = write_by(rt, &mut front, Call::Write)?;
     expect_value(rt, &mut front, &mut room.found, Some(b"1"));

@@ -9,12 +9,9 @@ use fronts::Front;
 use outside::{Gate, NoMemory};
 use partition_model::ItemBuf;
 use std::alloc::Global;
-use std::sync::Wait;
-use std::thread::Threads;
 
 /// The replies to one datagram, each request answered before the next one begins. The gate is passed before each, as by worker 0.
-pub fn serve_batch<R: Threads + Wait + Sync, F: Front, G: Gate>(
-    rt: &R,
+pub fn serve_batch<F: Front, G: Gate>(
     alloc: Global,
     front: &mut F,
     from: &[u8],
@@ -33,6 +30,6 @@ pub fn serve_batch<R: Threads + Wait + Sync, F: Front, G: Gate>(
     ensures stands { F.stands front.new ≡ F.stands front.old }
 {
     let mut out = ItemBuf::new(alloc)?;
-    let dealt = deal(rt, alloc, front, from, gate, &mut out)?;
+    let dealt = deal(alloc, front, from, gate, &mut out)?;
     Ok(dealt.replies)
 }

@@ -21,8 +21,6 @@ use fronts::Front;
 use outside::{Bytes, Gate, NoMemory};
 use partition_model::{Answer, ItemBuf, Op, Outcome};
 use std::alloc::Global;
-use std::sync::Wait;
-use std::thread::Threads;
 
 /// The replies to a datagram, and how many requests it has: none where it is no batch.
 #[derive(Drop)]
@@ -48,8 +46,7 @@ fn status_of(outcome: Outcome) -> Status
 }
 
 /// Does a write, and adds its reply.
-fn reply_to_write<R: Threads + Wait + Sync, F: Front>(
-    rt: &R,
+fn reply_to_write<F: Front>(
     alloc: Global,
     front: &mut F,
     op: Op,
@@ -68,7 +65,7 @@ fn reply_to_write<R: Threads + Wait + Sync, F: Front>(
     ensures number { F.number front.new ≡ F.number front.old }
     ensures stands { F.stands front.new ≡ F.stands front.old }
 {
-    let (outcome, stamp) = front.write(rt, alloc, op, request.key(), request.value())?;
+    let (outcome, stamp) = front.write(alloc, op, request.key(), request.value())?;
     replies.add(status_of(outcome), request.ticket(), stamp, &[])
 }
 
@@ -87,8 +84,7 @@ fn get_reply(version: u8, answer: Answer, value: &[u8]) -> (Status, &[u8])
 }
 
 /// Gets, and adds the reply.
-fn reply_to_get<R: Threads + Wait + Sync, F: Front>(
-    rt: &R,
+fn reply_to_get<F: Front>(
     front: &mut F,
     version: u8,
     request: &RequestRef,
@@ -106,14 +102,13 @@ fn reply_to_get<R: Threads + Wait + Sync, F: Front>(
     ensures number { F.number front.new ≡ F.number front.old }
     ensures stands { F.stands front.new ≡ F.stands front.old }
 {
-    let (answer, stamp) = front.read(rt, request.key(), out);
+    let (answer, stamp) = front.read(request.key(), out);
     let (status, value) = get_reply(version, answer, out.value());
     replies.add(status, request.ticket(), stamp, value)
 }
 
 /// Answers one request, and adds its reply.
-fn reply_to<R: Threads + Wait + Sync, F: Front>(
-    rt: &R,
+fn reply_to<F: Front>(
     alloc: Global,
     front: &mut F,
     version: u8,
@@ -133,17 +128,16 @@ fn reply_to<R: Threads + Wait + Sync, F: Front>(
     ensures stands { F.stands front.new ≡ F.stands front.old }
 {
     match request.want() {
-        Want::Get => reply_to_get(rt, front, version, request, replies, out),
-        Want::Put => reply_to_write(rt, alloc, front, Op::Put, request, replies),
-        Want::Del => reply_to_write(rt, alloc, front, Op::Del, request, replies),
-        Want::Add => reply_to_write(rt, alloc, front, Op::Add, request, replies),
-        Want::Touch => reply_to_write(rt, alloc, front, Op::Touch, request, replies),
+        Want::Get => reply_to_get(front, version, request, replies, out),
+        Want::Put => reply_to_write(alloc, front, Op::Put, request, replies),
+        Want::Del => reply_to_write(alloc, front, Op::Del, request, replies),
+        Want::Add => reply_to_write(alloc, front, Op::Add, request, replies),
+        Want::Touch => reply_to_write(alloc, front, Op::Touch, request, replies),
     }
 }
 
 /// Answers the requests of a batch that are left, so many, each before the next one begins, and adds their replies.
-fn reply_to_all<R: Threads + Wait + Sync, F: Front, G: Gate>(
-    rt: &R,
+fn reply_to_all<F: Front, G: Gate>(
     alloc: Global,
     front: &mut F,
     count: u8,
@@ -170,7 +164,7 @@ fn reply_to_all<R: Threads + Wait + Sync, F: Front, G: Gate>(
     for number in 0..count {
         gate.turn(0, u32::from(number));
         let request = requests.next_request();
-        reply_to(rt, alloc, front, version, &request, replies, out)?;
+        reply_to(alloc, front, version, &request, replies, out)?;
     }
     Ok(())
 }
@@ -200,8 +194,7 @@ fn refuse(alloc: Global) -> Result<Dealt, NoMemory>
 }
 
 /// The replies to a batch whose requests are left, and how many these are.
-fn answer<R: Threads + Wait + Sync, F: Front, G: Gate>(
-    rt: &R,
+fn answer<F: Front, G: Gate>(
     alloc: Global,
     front: &mut F,
     header: &Header,
@@ -233,7 +226,6 @@ fn answer<R: Threads + Wait + Sync, F: Front, G: Gate>(
     let mut replies = ReplyText::new(alloc, version, number)?;
     load_ahead(front, count, requests);
     reply_to_all(
-        rt,
         alloc,
         front,
         count,
@@ -250,8 +242,7 @@ fn answer<R: Threads + Wait + Sync, F: Front, G: Gate>(
 }
 
 /// The replies to a datagram, and how many requests it has.
-pub(crate) fn deal<R: Threads + Wait + Sync, F: Front, G: Gate>(
-    rt: &R,
+pub(crate) fn deal<F: Front, G: Gate>(
     alloc: Global,
     front: &mut F,
     from: &[u8],
@@ -272,9 +263,7 @@ pub(crate) fn deal<R: Threads + Wait + Sync, F: Front, G: Gate>(
     ensures stands { F.stands front.new ≡ F.stands front.old }
 {
     match check_batch(from) {
-        Ok((header, mut requests)) => {
-            answer(rt, alloc, front, &header, &mut requests, gate, out)
-        }
+        Ok((header, mut requests)) => { answer(alloc, front, &header, &mut requests, gate, out) }
         Err(_) => refuse(alloc),
     }
 }

@@ -13,8 +13,6 @@ use fronts::{Front, ServeFault, Totals};
 use outside::{Datagrams, Failed, Gate, NoMemory};
 use partition_model::ItemBuf;
 use std::alloc::Global;
-use std::sync::Wait;
-use std::thread::Threads;
 
 /// The room for one datagram: a byte more than the longest batch, so that a longer one is still too long.
 pub const ROOM: usize = MAX_DATAGRAM_LEN_V2 + 1;
@@ -39,8 +37,7 @@ fn send_all<D: Datagrams>(end: &mut D, replies: &[Datagram]) -> Result<(), Faile
 }
 
 /// Serves the next datagram, and says how many requests it has; `None` is the end.
-fn serve_one<R: Threads + Wait + Sync, F: Front, D: Datagrams, G: Gate>(
-    rt: &R,
+fn serve_one<F: Front, D: Datagrams, G: Gate>(
     alloc: Global,
     front: &mut F,
     end: &mut D,
@@ -77,7 +74,7 @@ fn serve_one<R: Threads + Wait + Sync, F: Front, D: Datagrams, G: Gate>(
     let Some(count) = end.recv(room)? else {
         return Ok(None);
     };
-    let dealt = deal(rt, alloc, front, &room[..count], gate, out)?;
+    let dealt = deal(alloc, front, &room[..count], gate, out)?;
     send_all(end, dealt.replies.as_slice())?;
     Ok(Some(dealt.requests))
 }
@@ -88,8 +85,7 @@ fn next_call(requests: u64) -> u32 {
 }
 
 /// Serves one end, to its end or to so many datagrams.
-pub fn serve_end<R: Threads + Wait + Sync, F: Front, D: Datagrams, G: Gate>(
-    rt: &R,
+pub fn serve_end<F: Front, D: Datagrams, G: Gate>(
     alloc: Global,
     front: &mut F,
     end: &mut D,
@@ -127,7 +123,7 @@ pub fn serve_end<R: Threads + Wait + Sync, F: Front, D: Datagrams, G: Gate>(
             worker,
             base: next_call(totals.requests),
         };
-        match serve_one(rt, alloc, front, end, &front_gate, &mut room, &mut out)? {
+        match serve_one(alloc, front, end, &front_gate, &mut room, &mut out)? {
             Some(requests) => totals.count(requests),
             None => return Ok(totals),
         }

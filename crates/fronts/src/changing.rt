@@ -1,16 +1,16 @@
 //! A front that looks at a value and writes under one hold.
 ghost use Rattle.std.specs.Prelude.{◌≡◌, ◌+◌, ◌<◌, ◌≤◌, ℕ, Bool, true, false, List, [], Option, option_copied};
-ghost use Rattle.mica_words.specs.Hash.{partition_of};
+ghost use Rattle.mica_words.specs.Hash.{bucket_of, partition_of};
 ghost use Rattle.mica_words.specs.Item.{KeyFits};
 ghost use Rattle.partition_model.specs.declared.write.Op.TheVariants.{Del, Touch};
 ghost use Rattle.partition_model.specs.Write.{write_of};
 ghost use Rattle.fronts.specs.Session.{ChangesOnly, Writes};
 ghost use Rattle.fronts.specs.Changing.{Becoming, OnlyGets, IsChange, ComesTo, count_of};
+ghost use Rattle.fronts.specs.Flushes.{begins_with_feed, flush_in};
 
+use crate::flushes::Flush;
 use crate::front::Front;
 use partition_model::{Answer, Change, ItemBuf, Outcome};
-use std::sync::Wait;
-use std::thread::Threads;
 
 /// When a decision is made.
 #[derive(Clone, Copy)]
@@ -65,14 +65,17 @@ pub struct Changed {
 
 /// A front that looks at a value, decides, and writes what was decided, with nothing between. Where nothing is to be written, it may look without a hold.
 pub trait Changes: Front {
-    /// How many buckets each of its partitions has.
-    fn buckets(&self) -> u32
-        ensures some { 0 < result }
-        ensures is { result ≡ (Self.options self.now).buckets };
+    /// Makes the key of a flush of a partition, that no line can spell, and that says when it flushes.
+    fn flush_key(&self, partition: u32, flush: Flush, key: &mut ItemBuf)
+        requires low { partition < (Self.options self.now).partitions }
+        ensures feed { begins_with_feed key.new ≡ true }
+        ensures fits { KeyFits key.new }
+        ensures flush { flush_in key.new ≡ flush }
+        ensures partition { partition_of key.new (Self.options self.now).partitions ≡ partition }
+        ensures bucket { bucket_of key.new (Self.options self.now).buckets ≡ 0 };
 
-    fn change<R: Threads + Wait + Sync, D: Decide>(
+    fn change<D: Decide>(
         &mut self,
-        rt: &R,
         second: u64,
         key: &[u8],
         decide: &D,
@@ -91,7 +94,7 @@ pub trait Changes: Front {
         ensures stands { Self.stands self.new ≡ Self.stands self.old };
 
     /// The outcome of a delete, and the stamp after it. It takes no memory.
-    fn delete<R: Threads + Wait + Sync>(&mut self, rt: &R, key: &[u8]) -> (Outcome, u64)
+    fn delete(&mut self, key: &[u8]) -> (Outcome, u64)
         requires key { KeyFits key.now }
         requires left { 0 < Self.left self.old }
         ensures written { let p = partition_of key.entry.now (Self.options self.old).partitions in
@@ -104,7 +107,7 @@ pub trait Changes: Front {
         ensures stands { Self.stands self.new ≡ Self.stands self.old };
 
     /// The outcome of a touch, and the stamp after it. It takes no memory.
-    fn touch<R: Threads + Wait + Sync>(&mut self, rt: &R, key: &[u8]) -> (Outcome, u64)
+    fn touch(&mut self, key: &[u8]) -> (Outcome, u64)
         requires key { KeyFits key.now }
         requires left { 0 < Self.left self.old }
         ensures written { let p = partition_of key.entry.now (Self.options self.old).partitions in

@@ -10,8 +10,6 @@ ghost use Rattle.fronts.specs.Session.{Sessions, ChangesOnly, Writes, Reads};
 use outside::NoMemory;
 use partition_model::{Answer, ItemBuf, Op, Outcome};
 use std::alloc::Global;
-use std::sync::Wait;
-use std::thread::Threads;
 
 /// What stands behind one port: it answers writes and gets, each before the next one.
 pub trait Front {
@@ -49,9 +47,8 @@ pub trait Front {
     fn load_item(&self, hash: u64, entry: u64);
 
     /// The outcome of a write, and the stamp after it.
-    fn write<R: Threads + Wait + Sync>(
+    fn write(
         &mut self,
-        rt: &R,
         alloc: Global,
         op: Op,
         key: &[u8],
@@ -73,12 +70,7 @@ pub trait Front {
         ensures stands { stands self.new ≡ stands self.old };
 
     /// The machine's answer, and its stamp. The buffer has the value of a hit, and is empty at a miss.
-    fn read<R: Threads + Wait + Sync>(
-        &mut self,
-        rt: &R,
-        key: &[u8],
-        out: &mut ItemBuf,
-    ) -> (Answer, u64)
+    fn read(&mut self, key: &[u8], out: &mut ItemBuf) -> (Answer, u64)
         requires key { KeyFits key.now }
 
         ensures answer { let p = partition_of key.entry.now (options self.old).partitions in

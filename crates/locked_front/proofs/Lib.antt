@@ -3,3 +3,4 @@ pub mod Telling
 pub mod Getting
 pub mod Finding
 pub mod Ending
+pub mod FlushKeys

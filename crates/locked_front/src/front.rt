@@ -9,9 +9,10 @@ ghost use Rattle.fronts.specs.Changing.{count_of};
 ghost use Rattle.locked_front.specs.declared.part.LockedPart.{LockedPart};
 ghost use Rattle.locked_front.specs.Parts.{IsPartOf, IsLockedFront, locked_view, sessions_of, turns_left, turns_taken};
 
+use crate::flush_keys::make_key;
 use crate::owned::{OwnedPartition, ServerPlan};
 use crate::part::LockedPart;
-use fronts::{Changed, Changes, CountsWrites, Decide, Front, Glances, Glimpse, seat_loads};
+use fronts::{Changed, Changes, CountsWrites, Decide, Flush, Front, Glances, Glimpse, seat_loads};
 use mica_words::{key_hash, partition_of};
 use outside::NoMemory;
 use partition_model::{Answer, ItemBuf, Mode, Op, Options, Outcome};
@@ -21,7 +22,6 @@ use std::alloc::Global;
 use std::marker::Model;
 use std::sync::atomic::{AtomicBool, Ordering};
 use std::sync::{Mutex, Wait};
-use std::thread::Threads;
 
 // How many writes were made.
 fn count_of(outcome: Option<Outcome>) -> u64
@@ -46,7 +46,10 @@ pub struct LockedFront<
     'a,
     J: ServerPlan,
     P: LendPartition<Reader = ReaderSeat, Note = Note> + Drop,
+    R: Wait,
 > {
+    // What it waits by, for locks.
+    rt: &'a R,
     options: Options,
     locks: &'a [Mutex<OwnedPartition<J, P>>],
     number: u32,
@@ -57,8 +60,8 @@ pub struct LockedFront<
     ended: &'a AtomicBool,
 }
 
-impl<'a, J: ServerPlan, P: LendPartition<Reader = ReaderSeat, Note = Note> + Drop> Model
-    for LockedFront<'a, J, P> {
+impl<'a, J: ServerPlan, P: LendPartition<Reader = ReaderSeat, Note = Note> + Drop, R: Wait> Model
+    for LockedFront<'a, J, P, R> {
     ghost use Rattle.std.specs.Prelude.{◌≡◌, length};
     ghost use Rattle.locked_front.specs.Parts.{LockedView, IsLockedFront, locked_view, turns_left};
 
@@ -70,19 +73,21 @@ impl<'a, J: ServerPlan, P: LendPartition<Reader = ReaderSeat, Note = Note> + Dro
         × (f.left ≡ turns_left f.parts.items) };
 }
 
-impl<'a, J: ServerPlan, P: LendPartition<Reader = ReaderSeat, Note = Note> + Drop> LockedFront<
+impl<
     'a,
-    J,
-    P,
-> {
+    J: ServerPlan,
+    P: LendPartition<Reader = ReaderSeat, Note = Note> + Drop,
+    R: Wait,
+> LockedFront<'a, J, P, R> {
     /// A front that has taken no turn. The locks are those of the partitions, in order. It sets `ended` once a write finds its partition worn.
     pub fn new(
+        rt: &'a R,
         options: &Options,
         locks: &'a [Mutex<OwnedPartition<J, P>>],
         number: u32,
         parts: Vec<LockedPart>,
         ended: &'a AtomicBool,
-    ) -> LockedFront<'a, J, P>
+    ) -> LockedFront<'a, J, P, R>
         requires options { options.now ≡ J.plan.options }
         requires valid { IsPossible options.now }
         requires low { number < J.plan.fronts }
@@ -93,6 +98,7 @@ impl<'a, J: ServerPlan, P: LendPartition<Reader = ReaderSeat, Note = Note> + Dro
         ensures { result ≡ locked_view options.now number parts.items }
     {
         LockedFront {
+            rt,
             options: *options,
             locks,
             number,
@@ -103,7 +109,7 @@ impl<'a, J: ServerPlan, P: LendPartition<Reader = ReaderSeat, Note = Note> + Dro
     }
 
     // Takes a turn of the key's partition, for one write.
-    fn write_in_turn<R: Wait>(&mut self, rt: &R, op: Op, key: &[u8], value: &[u8]) -> (Outcome, u64)
+    fn write_in_turn(&mut self, op: Op, key: &[u8], value: &[u8]) -> (Outcome, u64)
         requires key { KeyFits key.now }
         requires value { HasValueOf op value.now }
         requires left { 0 < turns_left self.old.parts }
@@ -119,7 +125,7 @@ impl<'a, J: ServerPlan, P: LendPartition<Reader = ReaderSeat, Note = Note> + Dro
         let number = partition_of(hash, self.options.partitions);
         let at = number as usize;
         let lock = &self.locks[at];
-        let written = self.parts[at].write(rt, lock, number, op, key, hash, value);
+        let written = self.parts[at].write(self.rt, lock, number, op, key, hash, value);
         self.left -= 1;
         tell_worn(self.ended, Some(written.0));
         written
@@ -134,8 +140,8 @@ impl<'a, J: ServerPlan, P: LendPartition<Reader = ReaderSeat, Note = Note> + Dro
     }
 }
 
-impl<'a, J: ServerPlan, P: LendPartition<Reader = ReaderSeat, Note = Note> + Drop> Front
-    for LockedFront<'a, J, P> {
+impl<'a, J: ServerPlan, P: LendPartition<Reader = ReaderSeat, Note = Note> + Drop, R: Wait> Front
+    for LockedFront<'a, J, P, R> {
     ghost use Rattle.std.specs.Prelude.{false, []};
     ghost use Rattle.locked_front.specs.Parts.{sessions_of, turns_left};
 
@@ -170,39 +176,33 @@ impl<'a, J: ServerPlan, P: LendPartition<Reader = ReaderSeat, Note = Note> + Dro
         seat_loads::load_item(&self.parts[at].seat, entry);
     }
 
-    fn write<R: Threads + Wait + Sync>(
+    fn write(
         &mut self,
-        rt: &R,
         _alloc: Global,
         op: Op,
         key: &[u8],
         value: &[u8],
     ) -> Result<(Outcome, u64), NoMemory> {
-        Ok(self.write_in_turn(rt, op, key, value))
+        Ok(self.write_in_turn(op, key, value))
     }
 
-    fn read<R: Threads + Wait + Sync>(
-        &mut self,
-        rt: &R,
-        key: &[u8],
-        out: &mut ItemBuf,
-    ) -> (Answer, u64) {
+    fn read(&mut self, key: &[u8], out: &mut ItemBuf) -> (Answer, u64) {
         let hash = key_hash(key);
         let number = partition_of(hash, self.options.partitions);
         let tries = self.options.tries;
-        self.parts[number as usize].read::<R, J>(rt, number, key, hash, tries, out)
+        self.parts[number as usize].read::<R, J>(self.rt, number, key, hash, tries, out)
     }
 }
 
-impl<'a, J: ServerPlan, P: LendPartition<Reader = ReaderSeat, Note = Note> + Drop> Changes
-    for LockedFront<'a, J, P> {
-    fn buckets(&self) -> u32 {
-        self.options.buckets
+impl<'a, J: ServerPlan, P: LendPartition<Reader = ReaderSeat, Note = Note> + Drop, R: Wait> Changes
+    for LockedFront<'a, J, P, R> {
+    fn flush_key(&self, partition: u32, flush: Flush, key: &mut ItemBuf) {
+        let Flush { due, asked } = flush;
+        make_key(self.rt, &self.options, partition, due, asked, key);
     }
 
-    fn change<R: Threads + Wait + Sync, D: Decide>(
+    fn change<D: Decide>(
         &mut self,
-        rt: &R,
         second: u64,
         key: &[u8],
         decide: &D,
@@ -214,31 +214,35 @@ impl<'a, J: ServerPlan, P: LendPartition<Reader = ReaderSeat, Note = Note> + Dro
         let at = number as usize;
         let lock = &self.locks[at];
         let changed = self.parts[at].change(
-            rt, lock, number, second, key, hash, decide, found, next,
+            self.rt, lock, number, second, key, hash, decide, found, next,
         );
         self.left -= count_of(changed.outcome);
         tell_worn(self.ended, changed.outcome);
         changed
     }
 
-    fn delete<R: Threads + Wait + Sync>(&mut self, rt: &R, key: &[u8]) -> (Outcome, u64) {
-        self.write_in_turn(rt, Op::Del, key, &[])
+    fn delete(&mut self, key: &[u8]) -> (Outcome, u64) {
+        self.write_in_turn(Op::Del, key, &[])
     }
 
-    fn touch<R: Threads + Wait + Sync>(&mut self, rt: &R, key: &[u8]) -> (Outcome, u64) {
-        self.write_in_turn(rt, Op::Touch, key, &[])
+    fn touch(&mut self, key: &[u8]) -> (Outcome, u64) {
+        self.write_in_turn(Op::Touch, key, &[])
     }
 }
 
-impl<'a, J: ServerPlan, P: LendPartition<Reader = ReaderSeat, Note = Note> + Drop> CountsWrites
-    for LockedFront<'a, J, P> {
+impl<
+    'a,
+    J: ServerPlan,
+    P: LendPartition<Reader = ReaderSeat, Note = Note> + Drop,
+    R: Wait,
+> CountsWrites for LockedFront<'a, J, P, R> {
     fn writes_left(&self) -> u64 {
         self.left
     }
 }
 
-impl<'a, J: ServerPlan, P: LendPartition<Reader = ReaderSeat, Note = Note> + Drop> Glances
-    for LockedFront<'a, J, P> {
+impl<'a, J: ServerPlan, P: LendPartition<Reader = ReaderSeat, Note = Note> + Drop, R: Wait> Glances
+    for LockedFront<'a, J, P, R> {
     fn glance(&self, partition: u32, place: u64, key: &mut ItemBuf, head: &mut ItemBuf) -> Glimpse {
         seat_loads::glance(&self.parts[partition as usize].seat, place, key, head)
     }

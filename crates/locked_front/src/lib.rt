@@ -6,6 +6,7 @@
 #![tactic(auto)]
 
 mod counts;
+mod flush_keys;
 mod flushes;
 mod front;
 mod owned;

@@ -13,7 +13,7 @@ use outside::{Datagrams, Gate};
 use owner_queue::{AckSender, JobReceiver};
 use partition_table::{Note, ReaderSeat};
 use partition_words::LendPartition;
-use queue_front::{FrontPart, QueueFront, serve_owner};
+use queue_front::{FrontPart, QueueFront, WaitingFront, serve_owner};
 use std::alloc::Global;
 use std::sync::Wait;
 use std::thread::{Threads, for_each_mut, join_mut};
@@ -58,29 +58,16 @@ impl<P: LendPartition<Reader = ReaderSeat, Note = Note>> OwnerTask<P> {
 
 impl<D: Datagrams> FrontTask<D> {
     // Serves the end of its port. Whatever happened, then each owner is sent that the front has ended.
-    fn run<W: Threads + Wait + Sync, G: Gate>(
-        &mut self,
-        rt: &W,
-        alloc: Global,
-        batches: u64,
-        gate: &G,
-    )
+    fn run<W: Wait, G: Gate>(&mut self, rt: &W, alloc: Global, batches: u64, gate: &G)
         requires { IsReadyFront batches (end_facts D.Datagrams) self.old }
         ensures { FrontRan batches (end_facts D.Datagrams) self.old self.new }
     {
-        let Some(mut front) = self.front.take() else {
+        let Some(front) = self.front.take() else {
             unreachable!()
         };
-        self.answer = serve_end(
-            rt,
-            alloc,
-            &mut front,
-            &mut self.end,
-            batches,
-            gate,
-            self.worker,
-        );
-        self.parts = front.end(rt);
+        let mut front = WaitingFront::new(rt, front);
+        self.answer = serve_end(alloc, &mut front, &mut self.end, batches, gate, self.worker);
+        self.parts = front.end();
     }
 }
 

@@ -5,9 +5,7 @@ use outside::FreeGate;
 use partition_model::{Mode, Options};
 use queue_front::SoloFront;
 use std::process::Abort;
-use std::sync::Wait;
 use std::test::Fail;
-use std::thread::Threads;
 
 const OPTIONS: Options = Options {
     mode: Mode::Store,
@@ -68,13 +66,10 @@ const BAD_BATCH: &[u8] = b"\
     \x09\x00\x00\x00\x00\x00\x00\x00\x00\x00\x00\x00\x00\x00\x00\x00";
 
 // A new front answers the datagram with this one.
-fn expect_reply(
-    rt: &(impl Abort + AllocGlobal + Threads + Wait + Sync),
-    row: &Row,
-) -> Result<(), Fail> {
+fn expect_reply(rt: &(impl Abort + AllocGlobal), row: &Row) -> Result<(), Fail> {
     assert!(rt; OPTIONS.is_valid());
     let mut front = SoloFront::new(rt.alloc(), &OPTIONS)?;
-    let replies = serve_batch(rt, rt.alloc(), &mut front, row.0, &FreeGate)?;
+    let replies = serve_batch(rt.alloc(), &mut front, row.0, &FreeGate)?;
     assert!(rt; replies.len() == 1 && replies[0].bytes() == row.1);
     Ok(())
 }

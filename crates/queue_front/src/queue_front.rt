@@ -1,14 +1,16 @@
 //! A front before owners in other threads.
-ghost use Rattle.std.specs.Prelude.{◌≡◌, ◌<◌, ◌≤◌, true, All, IsTrue, map, vec_len};
-ghost use Rattle.mica_words.specs.Hash.{fnv1a};
+ghost use Rattle.std.specs.Prelude.{◌≡◌, ◌+◌, ◌<◌, ◌≤◌, ℕ, true, false, List, Option, All, IfOk, OnErr, IsTrue, map, vec_len};
+ghost use Rattle.mica_words.specs.Hash.{fnv1a, partition_of};
 ghost use Rattle.mica_words.specs.Item.{KeyFits};
 ghost use Rattle.partition_model.specs.Options.{IsValid};
-ghost use Rattle.partition_model.specs.Write.{is_accepted, write_of};
+ghost use Rattle.partition_model.specs.Answer.{IsAnswer};
+ghost use Rattle.partition_model.specs.Write.{HasValueOf, is_accepted, write_of};
+ghost use Rattle.fronts.specs.Session.{ChangesOnly, Writes, Reads};
 ghost use Rattle.owner_queue.specs.declared.message.Message.TheVariants as message;
 ghost use Rattle.owner_queue.specs.Messages.{MayFollow};
-ghost use Rattle.queue_front.specs.QueueFront.{IsOfOneTable, IsNewPart, IsQueueFront, HasAwaited, PartWrites, PartReads, queue_view, ended_part};
+ghost use Rattle.queue_front.specs.QueueFront.{IsOfOneTable, IsNewPart, IsQueueFront, HasAwaited, PartWrites, PartReads, queue_view, ended_part, sessions_of, stand_of};
 
-use fronts::{Front, seat_loads};
+use fronts::seat_loads;
 use mica_words::{key_hash, partition_of};
 use optimistic_get::{Got, ask_hashed};
 use outside::{Bytes, NoMemory};
@@ -18,7 +20,6 @@ use partition_table::ReaderSeat;
 use std::alloc::Global;
 use std::marker::Model;
 use std::sync::Wait;
-use std::thread::Threads;
 
 /// What a front holds of one partition.
 #[derive(Drop)]
@@ -173,69 +174,29 @@ impl QueueFront {
         }
     }
 
-    /// Sends its end to each owner.
-    pub fn end<R: Wait>(self, rt: &R) -> Vec<FrontPart>
-        ensures front { IsQueueFront self }
-        ensures ended { result.items ≡ map (ended_part self.number) self.parts }
-    {
-        let QueueFront {
-            number,
-            mut parts,
-            ..
-        } = self;
-        for part in parts.iter_mut() {
-            part.end(rt, number);
-        }
-        parts
-    }
-}
-
-impl Front for QueueFront {
-    ghost use Rattle.std.specs.Prelude.{false, map};
-    ghost use Rattle.queue_front.specs.QueueStand.{QueueStand};
-    ghost use Rattle.queue_front.specs.QueueFront.{sessions_of, stand_of};
-
-    ghost options = { λ f. f.options };
-
-    ghost number = { λ f. f.number };
-
-    ghost Stand = { QueueStand };
-
-    ghost stands = { λ f. map stand_of f.parts };
-
-    ghost sessions = { λ f. sessions_of f.parts };
-
-    ghost left = { λ f. f.left };
-
-    ghost is_alone = { false };
-
-    fn loads_ahead(&self) -> bool {
-        seat_loads::are_large(&self.options)
-    }
-
-    fn load_bucket(&self, hash: u64) {
-        let at = partition_of(hash, self.options.partitions) as usize;
-        seat_loads::load_bucket(&self.parts[at].seat, hash);
-    }
-
-    fn entry_of(&self, hash: u64) -> u64 {
-        let at = partition_of(hash, self.options.partitions) as usize;
-        seat_loads::entry_of(&self.parts[at].seat, hash)
-    }
-
-    fn load_item(&self, hash: u64, entry: u64) {
-        let at = partition_of(hash, self.options.partitions) as usize;
-        seat_loads::load_item(&self.parts[at].seat, entry);
-    }
-
-    fn write<R: Threads + Wait + Sync>(
+    // Sends a write to its owner, and waits for what that made of it.
+    pub(crate) fn write<R: Wait>(
         &mut self,
         rt: &R,
         alloc: Global,
         op: Op,
         key: &[u8],
         value: &[u8],
-    ) -> Result<(Outcome, u64), NoMemory> {
+    ) -> Result<(Outcome, u64), NoMemory>
+        requires key { KeyFits key.now }
+        requires value { HasValueOf op value.now }
+        requires left { 0 < self.old.left }
+        ensures written { IfOk result (λ r. let p = partition_of key.entry.now self.old.options.partitions in
+            Writes self.old.options false (sessions_of self.old.parts p)
+            (record { write = write_of op key.entry.now value.entry.now; outcome = r.0; stamp = r.1 }) (sessions_of self.new.parts p)) }
+        ensures others { IfOk result (λ _.
+            ChangesOnly (partition_of key.entry.now self.old.options.partitions) (sessions_of self.old.parts) (sessions_of self.new.parts)) }
+        ensures err { OnErr result (self.new ≡ self.old) }
+        ensures left { self.old.left ≤ self.new.left + 1 }
+        ensures options { self.new.options ≡ self.old.options }
+        ensures number { self.new.number ≡ self.old.number }
+        ensures stands { map stand_of self.new.parts ≡ map stand_of self.old.parts }
+    {
         let write = CowWrite {
             op,
             key: Bytes::copy(alloc, key)?.into(),
@@ -253,14 +214,55 @@ impl Front for QueueFront {
         Ok(answer)
     }
 
-    fn read<R: Threads + Wait + Sync>(
-        &mut self,
-        rt: &R,
-        key: &[u8],
-        out: &mut ItemBuf,
-    ) -> (Answer, u64) {
+    // Gets by loads of its own.
+    pub(crate) fn read<R: Wait>(&mut self, rt: &R, key: &[u8], out: &mut ItemBuf) -> (Answer, u64)
+        requires key { KeyFits key.now }
+        ensures answer { let p = partition_of key.entry.now self.old.options.partitions in
+            (value : Option (List ℕ)) × IsAnswer result.0 out.new value
+            × Reads self.old.options false (sessions_of self.old.parts p) key.entry.now result.1 value (sessions_of self.new.parts p) }
+        ensures others { ChangesOnly (partition_of key.entry.now self.old.options.partitions) (sessions_of self.old.parts) (sessions_of self.new.parts) }
+        ensures left { self.new.left ≡ self.old.left }
+        ensures options { self.new.options ≡ self.old.options }
+        ensures number { self.new.number ≡ self.old.number }
+        ensures stands { map stand_of self.new.parts ≡ map stand_of self.old.parts }
+    {
         let hash = key_hash(key);
         let at = partition_of(hash, self.options.partitions) as usize;
         self.parts[at].read(rt, key, hash, self.options.tries, out)
+    }
+
+    pub(crate) fn loads_ahead(&self) -> bool {
+        seat_loads::are_large(&self.options)
+    }
+
+    pub(crate) fn load_bucket(&self, hash: u64) {
+        let at = partition_of(hash, self.options.partitions) as usize;
+        seat_loads::load_bucket(&self.parts[at].seat, hash);
+    }
+
+    pub(crate) fn entry_of(&self, hash: u64) -> u64 {
+        let at = partition_of(hash, self.options.partitions) as usize;
+        seat_loads::entry_of(&self.parts[at].seat, hash)
+    }
+
+    pub(crate) fn load_item(&self, hash: u64, entry: u64) {
+        let at = partition_of(hash, self.options.partitions) as usize;
+        seat_loads::load_item(&self.parts[at].seat, entry);
+    }
+
+    /// Sends its end to each owner.
+    pub fn end<R: Wait>(self, rt: &R) -> Vec<FrontPart>
+        ensures front { IsQueueFront self }
+        ensures ended { result.items ≡ map (ended_part self.number) self.parts }
+    {
+        let QueueFront {
+            number,
+            mut parts,
+            ..
+        } = self;
+        for part in parts.iter_mut() {
+            part.end(rt, number);
+        }
+        parts
     }
 }

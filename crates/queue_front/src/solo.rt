@@ -16,8 +16,6 @@ use partition_model::{Answer, ItemBuf, Op, Options, Outcome};
 use partition_words::{Partition, write_to};
 use std::alloc::Global;
 use std::marker::Model;
-use std::sync::Wait;
-use std::thread::Threads;
 
 /// Partitions that nobody else writes.
 #[derive(Drop)]
@@ -130,9 +128,8 @@ impl Front for SoloFront {
 
     fn load_item(&self, _hash: u64, _entry: u64) {}
 
-    fn write<R: Threads + Wait + Sync>(
+    fn write(
         &mut self,
-        _rt: &R,
         _alloc: Global,
         op: Op,
         key: &[u8],
@@ -141,12 +138,7 @@ impl Front for SoloFront {
         Ok(self.owned.write(op, key, value))
     }
 
-    fn read<R: Threads + Wait + Sync>(
-        &mut self,
-        _rt: &R,
-        key: &[u8],
-        out: &mut ItemBuf,
-    ) -> (Answer, u64) {
+    fn read(&mut self, key: &[u8], out: &mut ItemBuf) -> (Answer, u64) {
         self.owned.read(key, out)
     }
 }

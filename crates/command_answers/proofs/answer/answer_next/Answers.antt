@@ -31,7 +31,7 @@ abbrev progress_of : ℕ → Bool → Progress
 progress_of done whole = record { done = done; is_whole = whole }
 
 pub answer_flush-requires-clause-due : goal.answer_flush-requires-clause-due
-answer_flush-requires-clause-due g c = λ _ _. subst IsDue (sym c.flush_due.ensures) (fit_due c.args.next c.requires.fit)
+answer_flush-requires-clause-due g c = subst IsDue (sym c.flush_due.ensures) (fit_due c.args.next c.requires.fit)
 
 pub returns-then-is_flush_all-clause-answered : goal.returns-then-is_flush_all-clause-answered
 returns-then-is_flush_all-clause-answered g c =

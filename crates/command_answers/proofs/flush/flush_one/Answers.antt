@@ -1,4 +1,4 @@
-use Rattle.std.proofs.Common.{◌∙◌, ap, sym}
+use Rattle.std.proofs.Common.{◌∙◌, ap}
 use Rattle.mica_words.specs.Hash.{partition_of, bucket_of}
 use Rattle.fronts.specs.Flushes.{begins_with_feed, flush_in}
 use Rattle.command_answers.proofs.Flushing.{one_flush}
@@ -9,11 +9,10 @@ returns-clause-flushed g c =
     let F = g.F.Front in
     let options = F.options c.args.front.now in
     let key = c.value.result.now in
-    let made = c.make_key.ensures in
+    let made = c.flush_key.ensures in
     let same = c.value.ensures.value in
     let one = one_flush options c.args.flush F.is_alone (F.sessions c.args.front.now) (F.sessions c.delete-outcome.new.self) c.args.partition key c.delete-outcome.result.0
     c.delete-outcome.result.1 (ap begins_with_feed same ∙ made.feed) (ap flush_in same ∙ made.flush)
-    (ap (partition_of key) (sym c.requires.partitions) ∙ ap (λ k. partition_of k c.args.partitions) same ∙ made.partition)
-    (ap (bucket_of key) (sym c.buckets.ensures.is) ∙ ap (λ k. bucket_of k c.buckets.result) same ∙ made.bucket) c.delete-outcome.ensures.written
+    (ap (λ k. partition_of k options.partitions) same ∙ made.partition) (ap (λ k. bucket_of k options.buckets) same ∙ made.bucket) c.delete-outcome.ensures.written
     c.delete-outcome.ensures.others in
     (one.0, one.1, one.2, c.is_accepted.ensures ∙ one.3)

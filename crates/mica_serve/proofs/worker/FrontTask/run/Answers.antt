@@ -1,4 +1,4 @@
-use Rattle.std.proofs.Common.{sym, ◌∙◌}
+use Rattle.std.proofs.Common.{Some, sym, ap, ◌∙◌}
 use Rattle.queue_front.specs.QueueFront.{sessions_of}
 use Rattle.served.specs.Ends.{EndFacts, end_facts}
 use Rattle.served.proofs.FrontEnds.{runs_front, tells_still}
@@ -7,14 +7,14 @@ use Rattle.mica_serve.proofs.worker.FrontTask.run.Goals as goal
 pub returns : goal.returns
 returns g c =
     let facts : g.row.D.Denot → EndFacts = end_facts g.D.Datagrams in
-    let old = c.in-Some.front in
-    let new = c.serve_end-self.new.front in
+    let old = c.new-front.result.front in
+    let new = c.serve_end-self.new.front.front in
     let b = facts c.args.self.now.end in
     let a = facts c.serve_end-self.new.end in
     let served = c.serve_end-self.ensures in
     record {
       front = old;
-      front_is = sym c.take.ensures.value ∙ c.in-Some.is;
+      front_is = sym c.take.ensures.value ∙ c.in-Some.is ∙ ap Some (sym c.new-front.ensures);
       ran = record {
         new = new;
         is = c.end.ensures.front;

@@ -1,6 +1,6 @@
 use Rattle.std.proofs.Common.{arith}
-use Rattle.command_answers.proofs.Flushing.{made_key}
-use Rattle.command_answers.proofs.flush.make_key.Goals as goal
+use Rattle.locked_front.proofs.FlushKeys.{made_key}
+use Rattle.locked_front.proofs.flush_keys.make_key.Goals as goal
 
 pub returns-in-Some-seek_end-clause-flush : goal.returns-in-Some-seek_end-clause-flush
 returns-in-Some-seek_end-clause-flush g c =

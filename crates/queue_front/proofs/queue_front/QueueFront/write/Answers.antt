@@ -3,7 +3,7 @@ use Rattle.partition_model.specs.declared.write.Write.{Write}
 use Rattle.partition_model.specs.Write.{write_of}
 use Rattle.queue_front.specs.QueueFront.{QueueView}
 use Rattle.queue_front.proofs.QueueSteps.{finds_part, write_keeps, others_at, writes_at, stands_write}
-use Rattle.queue_front.proofs.queue_front.QueueFrontFront.write.Goals as goal
+use Rattle.queue_front.proofs.queue_front.QueueFront.write.Goals as goal
 
 pub overflow_add-self : goal.overflow_add-self
 overflow_add-self g c = omega (arith, c.self.invariant.few, c.requires.left, ap (λ (v : QueueView). v.left) c.self.view_is)

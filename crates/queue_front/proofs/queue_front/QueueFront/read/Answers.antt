@@ -1,5 +1,5 @@
 use Rattle.queue_front.proofs.QueueSteps.{finds_part, read_keeps, others_at, reads_at, stands_read}
-use Rattle.queue_front.proofs.queue_front.QueueFrontFront.read.Goals as goal
+use Rattle.queue_front.proofs.queue_front.QueueFront.read.Goals as goal
 
 pub invariant_of-self : goal.invariant_of-self
 invariant_of-self g c =

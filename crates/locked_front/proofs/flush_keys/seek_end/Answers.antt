@@ -1,6 +1,6 @@
 use Rattle.std.proofs.Common.{◌++◌, ◌∷◌, [], sym, ◌∙◌}
-use Rattle.command_answers.proofs.Flushing.{sought}
-use Rattle.command_answers.proofs.flush.seek_end.Goals as goal
+use Rattle.locked_front.proofs.FlushKeys.{sought}
+use Rattle.locked_front.proofs.flush_keys.seek_end.Goals as goal
 
 pub returns-then-partition_of-partition : goal.returns-then-partition_of-partition
 returns-then-partition_of-partition c key is =
