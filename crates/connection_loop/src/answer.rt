@@ -15,8 +15,6 @@ use command_answers::{Buffers, Limits, Numbering, answer_next};
 use fronts::CountsWrites;
 use memcached_text::Next;
 use outside::{Clock, NoMemory};
-use std::sync::Wait;
-use std::thread::Threads;
 
 /// The most commands that are answered at one look, so that no connection holds up the others. One that gets no answer and no reply is not counted.
 pub const MOST_COMMANDS: u32 = 256;
@@ -92,8 +90,7 @@ fn speaks(done: usize, answers: usize, before: usize, len: usize) -> bool
 }
 
 /// Answers the command that the bytes begin with, to which so many answers were given, and appends its replies.
-fn answer_one<R: Threads + Wait + Sync, F: CountsWrites, K: Clock>(
-    rt: &R,
+fn answer_one<F: CountsWrites, K: Clock>(
     front: &mut F,
     clock: &mut K,
     numbering: Numbering,
@@ -123,9 +120,7 @@ fn answer_one<R: Threads + Wait + Sync, F: CountsWrites, K: Clock>(
     }
     let (len, last) = (len_of(&next), is_last(&next));
     let before = out.len();
-    let progress = answer_next(
-        rt, front, clock, numbering, buffers, next, done, LIMITS, out,
-    )?;
+    let progress = answer_next(front, clock, numbering, buffers, next, done, LIMITS, out)?;
     if !progress.is_whole {
         return Ok(Said::Part(progress.done));
     }
@@ -138,8 +133,7 @@ fn answer_one<R: Threads + Wait + Sync, F: CountsWrites, K: Clock>(
 }
 
 /// Answers what the bytes spell, in order, to whose first command so many answers were given, and appends the replies.
-pub fn answer_bytes<R: Threads + Wait + Sync, F: CountsWrites, K: Clock>(
-    rt: &R,
+pub fn answer_bytes<F: CountsWrites, K: Clock>(
     front: &mut F,
     clock: &mut K,
     numbering: Numbering,
@@ -175,7 +169,7 @@ pub fn answer_bytes<R: Threads + Wait + Sync, F: CountsWrites, K: Clock>(
         if rest.is_empty() {
             return Ok(HowFar::at(taken, done, Halt::Needs));
         }
-        let said = answer_one(rt, front, clock, numbering, buffers, rest, done, out)?;
+        let said = answer_one(front, clock, numbering, buffers, rest, done, out)?;
         match said {
             Said::Nothing => return Ok(HowFar::at(taken, done, Halt::Needs)),
             Said::Part(done) => return Ok(HowFar::at(taken, done, Halt::Enough)),

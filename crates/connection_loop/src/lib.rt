@@ -12,6 +12,8 @@
 //! open there, and asks for a connection again no more often than its bytes allow. That is often enough: the bytes of one that is left with more to do pay for
 //! asking (`specs/Paid`).
 //!
+//! No function here has a handle to wait by, so each ends where its front does. The loop over reports ends since a port gives only so many.
+//!
 //! Of its parts: `answer_bytes` answers what bytes spell, one command after another, and says how far it went: whatever was said before, the talk goes on by
 //! just the answers that it gave, the front's sessions and the clock went on by these and no others, and the text that it appends is what is due to them
 //! (`specs/Reached`). `look_at` keeps what is left of a connection's bytes, no more than the longest that waits. The calls of a connection keep open what is

@@ -18,8 +18,6 @@ use command_answers::{Buffers, Numbering, load_ahead};
 use fronts::CountsWrites;
 use outside::{Clock, NoMemory};
 use std::alloc::Global;
-use std::sync::Wait;
-use std::thread::Threads;
 
 impl Client {
     /// Keeps what is left of the bytes, to whose first command so many answers were given.
@@ -43,8 +41,7 @@ impl Client {
 
 /// Answers what the bytes spell, where so many answers were given to their first command, and keeps what is left of them. The replies are no more than may be
 /// kept.
-pub(crate) fn look_at<R: Threads + Wait + Sync, F: CountsWrites, K: Clock>(
-    rt: &R,
+pub(crate) fn look_at<F: CountsWrites, K: Clock>(
     alloc: Global,
     front: &mut F,
     clock: &mut K,
@@ -78,7 +75,7 @@ pub(crate) fn look_at<R: Threads + Wait + Sync, F: CountsWrites, K: Clock>(
 {
     replies.clear();
     load_ahead(front, bytes);
-    let answered = answer_bytes(rt, front, clock, numbering, buffers, bytes, done, replies)?;
+    let answered = answer_bytes(front, clock, numbering, buffers, bytes, done, replies)?;
     client.dropping = answered.dropping;
     client.leaving = answered.halt == Halt::Leaves;
     client.keep(alloc, &bytes[answered.taken..], answered.done)?;

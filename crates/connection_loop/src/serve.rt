@@ -26,13 +26,10 @@ use fronts::{CountsWrites, Glances, ServeFault};
 use memcached_stats::{Board, Counter, Tally};
 use outside::{Clock, NoMemory};
 use std::alloc::Global;
-use std::sync::Wait;
-use std::thread::Threads;
 
 /// Visits the connection under a number, where one is held. Says for how many there was no memory, one at most.
 #[tactic(auto, using(crate::proofs::Going::by_none))]
-fn visit_held<R: Threads + Wait + Sync, F: CountsWrites, K: Clock, C: Connections>(
-    rt: &R,
+fn visit_held<F: CountsWrites, K: Clock, C: Connections>(
     alloc: Global,
     front: &mut F,
     clock: &mut K,
@@ -48,7 +45,7 @@ fn visit_held<R: Threads + Wait + Sync, F: CountsWrites, K: Clock, C: Connection
     requires left { MayAnswer numbering.partitions (F.left front.old) }
     ensures room { vec_len desk.new.room ≡ MAX_WAITING_LEN }
     ensures clients { AreOpen clients.new.held.items (C.log connections.new) }
-    ensures port { LeavesPort C.log C.has_ended C.faults C.port connections.old connections.new }
+    ensures port { LeavesPort C.log C.has_ended C.faults C.port C.reports connections.old connections.new }
     ensures front { MovesFront F.options F.number F.stands F.is_alone F.sessions F.left K.view front.old clock.old front.new clock.new }
     ensures serves { GoesByGiven (F.options front.old) F.is_alone (F.sessions front.old) (F.left front.old) (K.view clock.old) (F.sessions front.new) (F.left front.new) (K.view clock.new)
         (λ given. OnLogs (StandsOn (F.options front.old) numbering.base (Event.Ready number) clients.old.held.items result given clients.new.held.items) (C.log connections.old) (C.log connections.new)) }
@@ -58,7 +55,6 @@ fn visit_held<R: Threads + Wait + Sync, F: CountsWrites, K: Clock, C: Connection
     };
     let asks = client.asks;
     let visited = visit_on(
-        rt,
         alloc,
         front,
         clock,
@@ -111,7 +107,7 @@ fn take_in<C: Connections>(connections: &mut C, number: u32, clients: &mut Clien
     requires clients { AreOpen clients.old.held.items (C.log connections.old) }
     requires open { IfSome (C.log connections.old) (IsOpen number 0) }
     ensures clients { AreOpen clients.new.held.items (C.log connections.new) }
-    ensures port { LeavesPort C.log C.has_ended C.faults C.port connections.old connections.new }
+    ensures port { LeavesPort C.log C.has_ended C.faults C.port C.reports connections.old connections.new }
     ensures serves { (options : Options) (base : ℕ)
         → OnLogs (StandsOn options base (Event.Opened number) clients.old.held.items result [] clients.new.held.items) (C.log connections.old) (C.log connections.new) }
 {
@@ -130,8 +126,7 @@ fn take_in<C: Connections>(connections: &mut C, number: u32, clients: &mut Clien
 
 /// Serves what is reported. Says for how many connections there was no memory.
 #[tactic(auto, using(crate::proofs::Going::by_none))]
-fn serve_event<R: Threads + Wait + Sync, F: CountsWrites, K: Clock, C: Connections>(
-    rt: &R,
+fn serve_event<F: CountsWrites, K: Clock, C: Connections>(
     alloc: Global,
     front: &mut F,
     clock: &mut K,
@@ -148,7 +143,7 @@ fn serve_event<R: Threads + Wait + Sync, F: CountsWrites, K: Clock, C: Connectio
     requires left { MayAnswer numbering.partitions (F.left front.old) }
     ensures room { vec_len desk.new.room ≡ MAX_WAITING_LEN }
     ensures clients { AreOpen clients.new.held.items (C.log connections.new) }
-    ensures port { LeavesPort C.log C.has_ended C.faults C.port connections.old connections.new }
+    ensures port { LeavesPort C.log C.has_ended C.faults C.port C.reports connections.old connections.new }
     ensures front { MovesFront F.options F.number F.stands F.is_alone F.sessions F.left K.view front.old clock.old front.new clock.new }
     ensures serves { GoesByGiven (F.options front.old) F.is_alone (F.sessions front.old) (F.left front.old) (K.view clock.old) (F.sessions front.new) (F.left front.new) (K.view clock.new)
         (λ given. OnLogs (StandsOn (F.options front.old) numbering.base event clients.old.held.items result given clients.new.held.items) (C.log connections.old) (C.log connections.new)) }
@@ -156,7 +151,6 @@ fn serve_event<R: Threads + Wait + Sync, F: CountsWrites, K: Clock, C: Connectio
     match event {
         Event::Opened(number) => take_in(connections, number, clients),
         Event::Ready(number) => visit_held(
-            rt,
             alloc,
             front,
             clock,
@@ -172,8 +166,7 @@ fn serve_event<R: Threads + Wait + Sync, F: CountsWrites, K: Clock, C: Connectio
 /// Serves the connections of a port, to its end, or until the front may be given fewer writes than one command may need. A connection that there is no memory for is closed,
 /// and `lacked` counts it. For one report a connection is read twice at most, and few of its commands are answered. What the front counts is shown in this place of the board. After each report it sweeps a few places of the partitions, and touches old items that were used.
 #[tactic(auto, using(crate::proofs::Going::by_none))]
-pub fn serve_connections<R: Threads + Wait + Sync, F: Glances, K: Clock, C: Connections>(
-    rt: &R,
+pub fn serve_connections<F: Glances, K: Clock, C: Connections>(
     alloc: Global,
     front: &mut F,
     clock: &mut K,
@@ -205,15 +198,14 @@ pub fn serve_connections<R: Threads + Wait + Sync, F: Glances, K: Clock, C: Conn
     let mut sweeper = Sweeper::new(alloc, numbering.partitions)?;
     let mut clients = Clients::new(alloc);
     let least = most_writes(numbering);
-    for _ in rt.forever() {
+    loop {
         if front.writes_left() < least {
-            break;
+            return Ok(());
         }
         let Some(event) = connections.next()? else {
-            break;
+            return Ok(());
         };
         let count = serve_event(
-            rt,
             alloc,
             front,
             clock,
@@ -228,7 +220,6 @@ pub fn serve_connections<R: Threads + Wait + Sync, F: Glances, K: Clock, C: Conn
         desk.buffers.show();
         let most = front.writes_left();
         let noted = &mut desk.buffers.noted;
-        sweep(rt, front, clock, numbering, most, noted, &mut sweeper);
+        sweep(front, clock, numbering, most, noted, &mut sweeper);
     }
-    Ok(())
 }

@@ -27,8 +27,6 @@ use memcached_stats::{Counter, Tally};
 use outside::{Clock, NoMemory};
 use std::alloc::Global;
 use std::mem;
-use std::sync::Wait;
-use std::thread::Threads;
 
 /// What becomes of a connection.
 #[derive(Clone, Copy)]
@@ -59,7 +57,7 @@ fn send_unsent<C: Connections>(
     ensures some { IfOk result (λ all. all ≡ false → client.new.unsent ≢ []) }
     ensures sends { OnLogs (OnHeld number (SendsFrom client.old.unsent client.new.unsent result)) (C.log connections.old) (C.log connections.new) }
     ensures keeps { OnLogs Keeps (C.log connections.old) (C.log connections.new) }
-    ensures port { LeavesPort C.log C.has_ended C.faults C.port connections.old connections.new }
+    ensures port { LeavesPort C.log C.has_ended C.faults C.port C.reports connections.old connections.new }
 {
     let sent = send(connections, number, client.asks, client.unsent.bytes())?;
     tally.raise(Counter::Sent, sent as u64);
@@ -89,7 +87,7 @@ fn send_new<C: Connections>(
     ensures sends { MatchResult result (λ sent. OnLogs (OnHeld number (SendsFrom replies.now client.new.unsent sent)) (C.log connections.old) (C.log connections.new))
         (λ _. OnLogs (OnHeld number (SendsSome replies.now)) (C.log connections.old) (C.log connections.new)) }
     ensures keeps { OnLogs Keeps (C.log connections.old) (C.log connections.new) }
-    ensures port { LeavesPort C.log C.has_ended C.faults C.port connections.old connections.new }
+    ensures port { LeavesPort C.log C.has_ended C.faults C.port C.reports connections.old connections.new }
 {
     let sent = match send(connections, number, client.asks, replies) {
         Ok(sent) => sent,
@@ -134,7 +132,7 @@ fn fill<C: Connections>(
     ensures unsent { client.new.unsent ≡ client.old.unsent }
     ensures open { IfSome (C.log connections.new) (IsOpen number client.new.asks) }
     ensures keeps { OnLogs Keeps (C.log connections.old) (C.log connections.new) }
-    ensures port { LeavesPort C.log C.has_ended C.faults C.port connections.old connections.new }
+    ensures port { LeavesPort C.log C.has_ended C.faults C.port C.reports connections.old connections.new }
 {
     let kept = client.kept.bytes();
     let had = kept.len();
@@ -151,8 +149,7 @@ fn fill<C: Connections>(
 }
 
 /// Answers what lies in the room, but for what is to be dropped.
-fn look_at_room<R: Threads + Wait + Sync, F: CountsWrites, K: Clock>(
-    rt: &R,
+fn look_at_room<F: CountsWrites, K: Clock>(
     alloc: Global,
     front: &mut F,
     clock: &mut K,
@@ -194,14 +191,13 @@ fn look_at_room<R: Threads + Wait + Sync, F: CountsWrites, K: Clock>(
     }
     let bytes = &bytes[client.dropping..];
     look_at(
-        rt, alloc, front, clock, numbering, client, bytes, 0, buffers, replies,
+        alloc, front, clock, numbering, client, bytes, 0, buffers, replies,
     )
 }
 
 /// Goes on with a command that was answered in part, or reads once and answers. Says why no more was answered, and what the read gave.
 #[tactic(auto, using(crate::proofs::Opening::still_open, crate::proofs::Opening::same_keeps))]
-fn answer_more<R: Threads + Wait + Sync, F: CountsWrites, K: Clock, C: Connections>(
-    rt: &R,
+fn answer_more<F: CountsWrites, K: Clock, C: Connections>(
     alloc: Global,
     front: &mut F,
     clock: &mut K,
@@ -228,7 +224,7 @@ fn answer_more<R: Threads + Wait + Sync, F: CountsWrites, K: Clock, C: Connectio
         (λ _. OnLogs (OnHeld number (Lacks (F.options front.old) numbering.base client.old answers)) (C.log connections.old) (C.log connections.new))) }
     ensures open { IfSome (C.log connections.new) (IsOpen number client.new.asks) }
     ensures keeps { OnLogs Keeps (C.log connections.old) (C.log connections.new) }
-    ensures port { LeavesPort C.log C.has_ended C.faults C.port connections.old connections.new }
+    ensures port { LeavesPort C.log C.has_ended C.faults C.port C.reports connections.old connections.new }
     ensures options { F.options front.new ≡ F.options front.old }
     ensures number { F.number front.new ≡ F.number front.old }
     ensures stands { F.stands front.new ≡ F.stands front.old }
@@ -243,7 +239,7 @@ fn answer_more<R: Threads + Wait + Sync, F: CountsWrites, K: Clock, C: Connectio
         let done = client.done;
         let bytes = kept.bytes();
         let halt = look_at(
-            rt, alloc, front, clock, numbering, client, bytes, done, buffers, replies,
+            alloc, front, clock, numbering, client, bytes, done, buffers, replies,
         )?;
         return Ok(Ok((halt, None)));
     }
@@ -254,7 +250,7 @@ fn answer_more<R: Threads + Wait + Sync, F: CountsWrites, K: Clock, C: Connectio
     count_input(input, &mut buffers.tally);
     let bytes = &room[..len];
     let halt = look_at_room(
-        rt, alloc, front, clock, numbering, client, bytes, buffers, replies,
+        alloc, front, clock, numbering, client, bytes, buffers, replies,
     )?;
     Ok(Ok((halt, input)))
 }
@@ -288,8 +284,7 @@ fn after_all(leaving: bool, halt: Halt, input: Option<Input>) -> After
 
 /// Sends what waits; where all of it was taken, answers more, and sends the replies.
 #[tactic(auto, using(crate::proofs::Opening::still_open, crate::proofs::Opening::keeps_on))]
-pub(crate) fn visit_once<R: Threads + Wait + Sync, F: CountsWrites, K: Clock, C: Connections>(
-    rt: &R,
+pub(crate) fn visit_once<F: CountsWrites, K: Clock, C: Connections>(
     alloc: Global,
     front: &mut F,
     clock: &mut K,
@@ -313,7 +308,7 @@ pub(crate) fn visit_once<R: Threads + Wait + Sync, F: CountsWrites, K: Clock, C:
         (λ _. OnLogs (OnHeld number (VisitLacks (F.options front.old) numbering.base 1 client.old answers)) (C.log connections.old) (C.log connections.new))) }
     ensures open { IfSome (C.log connections.new) (IsOpen number client.new.asks) }
     ensures keeps { OnLogs Keeps (C.log connections.old) (C.log connections.new) }
-    ensures port { LeavesPort C.log C.has_ended C.faults C.port connections.old connections.new }
+    ensures port { LeavesPort C.log C.has_ended C.faults C.port C.reports connections.old connections.new }
     ensures options { F.options front.new ≡ F.options front.old }
     ensures number { F.number front.new ≡ F.number front.old }
     ensures stands { F.stands front.new ≡ F.stands front.old }
@@ -327,7 +322,6 @@ pub(crate) fn visit_once<R: Threads + Wait + Sync, F: CountsWrites, K: Clock, C:
         return Ok(After::Over);
     }
     let answered = answer_more(
-        rt,
         alloc,
         front,
         clock,

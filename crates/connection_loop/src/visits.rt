@@ -18,14 +18,11 @@ use connections::Connections;
 use fronts::CountsWrites;
 use outside::{Clock, NoMemory};
 use std::alloc::Global;
-use std::sync::Wait;
-use std::thread::Threads;
 
 /// Visits a connection once, and once more where there may be more to do at once. Mostly the first visit reads all that came and answers it: then it waits for
 /// its peer. Where there is more to do still, it is to be asked for again, and it may be: whoever is left so has sent bytes that pay for it. Where the front
 /// may be given too few writes for one command, it is visited once.
-pub(crate) fn visit_on<R: Threads + Wait + Sync, F: CountsWrites, K: Clock, C: Connections>(
-    rt: &R,
+pub(crate) fn visit_on<F: CountsWrites, K: Clock, C: Connections>(
     alloc: Global,
     front: &mut F,
     clock: &mut K,
@@ -49,11 +46,10 @@ pub(crate) fn visit_on<R: Threads + Wait + Sync, F: CountsWrites, K: Clock, C: C
         (λ _. OnLogs (OnHeld number (VisitLacks (F.options front.old) numbering.base 2 client.old answers)) (C.log connections.old) (C.log connections.new))) }
     ensures open { IfSome (C.log connections.new) (IsOpen number client.new.asks) }
     ensures keeps { OnLogs Keeps (C.log connections.old) (C.log connections.new) }
-    ensures port { LeavesPort C.log C.has_ended C.faults C.port connections.old connections.new }
+    ensures port { LeavesPort C.log C.has_ended C.faults C.port C.reports connections.old connections.new }
     ensures front { MovesFront F.options F.number F.stands F.is_alone F.sessions F.left K.view front.old clock.old front.new clock.new }
 {
     match visit_once(
-        rt,
         alloc,
         front,
         clock,
@@ -70,7 +66,6 @@ pub(crate) fn visit_on<R: Threads + Wait + Sync, F: CountsWrites, K: Clock, C: C
         return Ok(After::Again);
     }
     visit_once(
-        rt,
         alloc,
         front,
         clock,

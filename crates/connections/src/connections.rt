@@ -57,6 +57,9 @@ pub trait Connections: Drop {
     /// Whether `next` has answered `None`.
     ghost has_ended: { Self → Bool };
 
+    /// How many reports there are at most from now on, whatever is called between them. So who takes one after another comes to an end.
+    ghost reports: { Self → ℕ };
+
     /// Waits until there is something to report. `None` is the end: nothing will be reported any more.
     ///
     /// A connection is reported once for all that happened to it since, so who looks at it goes on until `All` or `Later`, or asks for it again.
@@ -67,6 +70,7 @@ pub trait Connections: Drop {
             (λ l. ReportsNext l event (log self.new)))) }
         ensures end { IfOk result (λ got. IfNone got (IfSome (log self.old) (λ l. IsOver l (log self.new)))) }
         ensures ended { IfOk result (λ got. has_ended self.new ≡ is_none got) }
+        ensures fewer { IfOk result (λ got. IfSome got (λ _. reports self.new < reports self.old)) }
 
         ensures unmoved { OnErr result (log self.new ≡ option_map called (log self.old)) }
         ensures still_open { OnErr result (has_ended self.new ≡ false) }
@@ -86,6 +90,7 @@ pub trait Connections: Drop {
             (λ l. ReadGives number (length out.old) out.new result l (log self.new)) }
         ensures told { is_some (log self.new) ≡ is_some (log self.old) }
         ensures ended { has_ended self.new ≡ has_ended self.old }
+        ensures no_more { reports self.new ≤ reports self.old }
         ensures faults { faults self.new ≡ faults self.old }
         ensures port { port self.new ≡ port self.old };
 
@@ -98,6 +103,7 @@ pub trait Connections: Drop {
             (λ l. WriteTakes number piece.now result l (log self.new)) }
         ensures told { is_some (log self.new) ≡ is_some (log self.old) }
         ensures ended { has_ended self.new ≡ has_ended self.old }
+        ensures no_more { reports self.new ≤ reports self.old }
         ensures faults { faults self.new ≡ faults self.old }
         ensures port { port self.new ≡ port self.old };
 
@@ -108,6 +114,7 @@ pub trait Connections: Drop {
         ensures asked { IfSome (log self.old) (λ l. Asks number l (log self.new)) }
         ensures told { is_some (log self.new) ≡ is_some (log self.old) }
         ensures ended { has_ended self.new ≡ has_ended self.old }
+        ensures no_more { reports self.new ≤ reports self.old }
         ensures faults { faults self.new ≡ faults self.old }
         ensures port { port self.new ≡ port self.old };
 
@@ -117,6 +124,7 @@ pub trait Connections: Drop {
         ensures closed { IfSome (log self.old) (λ l. Closes number l (log self.new)) }
         ensures told { is_some (log self.new) ≡ is_some (log self.old) }
         ensures ended { has_ended self.new ≡ has_ended self.old }
+        ensures no_more { reports self.new ≤ reports self.old }
         ensures faults { faults self.new ≡ faults self.old }
         ensures port { port self.new ≡ port self.old };
 }

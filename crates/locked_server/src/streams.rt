@@ -44,14 +44,13 @@ impl<C: Connections, K: Clock> StreamTask<C, K> {
     {
         let options = &shared.service.options;
         let parts = mem::replace(&mut self.parts, Vec::new(shared.alloc));
-        let mut front = LockedFront::new(options, locks, number, parts, shared.ended);
+        let mut front = LockedFront::new(shared.rt, options, locks, number, parts, shared.ended);
         let numbering = Numbering {
             partitions: options.partitions,
             base: shared.service.base,
         };
         self.lacked = 0;
         self.answer = serve_connections(
-            shared.rt,
             shared.alloc,
             &mut front,
             &mut self.clock,

@@ -43,9 +43,8 @@ impl<D: Datagrams> FrontTask<D> {
     {
         let options = &shared.service.options;
         let parts = mem::replace(&mut self.parts, Vec::new(shared.alloc));
-        let mut front = LockedFront::new(options, locks, number, parts, shared.ended);
+        let mut front = LockedFront::new(shared.rt, options, locks, number, parts, shared.ended);
         self.answer = serve_end(
-            shared.rt,
             shared.alloc,
             &mut front,
             &mut self.end,

@@ -72,7 +72,7 @@ owed_unmet (c ∷ places) entries = refl
 
 -- what is played stands so
 pub played_is : (schedule : List Step) (at : ℕ) (reports : List ℕ) (paid : ℕ) (all : List Connection) (entries : List Entry) (room : ℕ) → IsStage schedule at reports paid all entries room
-    → (p : Played) → record { schedule = schedule; entries = entries } ≡ p → played_state p ≡ record { connections = all; later = pending schedule at reports paid }
+    → (p : Played) → record { schedule = schedule; entries = entries; room = room } ≡ p → played_state p ≡ record { connections = all; later = pending schedule at reports paid }
 played_is schedule at reports paid all entries room s p is = sym (ap played_state is) ∙ s.goes.stands
 
 module _ (schedule : List Step) (at : ℕ) (reports : List ℕ) (paid : ℕ) (all : List Connection) (entries : List Entry) (room : ℕ) (s : IsStage schedule at reports paid all entries room) where
@@ -204,7 +204,7 @@ module _ (schedule : List Step) (at : ℕ) (reports : List ℕ) (paid : ℕ) (al
       (goes_on schedule entries room 1 (asked c) (record { connections = all; later = later }) (record { connections = all'; later = later' }) s.goes
       (ap (λ (l : List Step). record { connections = all'; later = l }) (sym push)) less)
 
-  module _ (p : Played) (view : record { schedule = schedule; entries = entries } ≡ p) where
+  module _ (p : Played) (view : record { schedule = schedule; entries = entries; room = room } ≡ p) where
     all_are : played_connections p ≡ all
     all_are = ap (λ (st : State). st.connections) (played_is schedule at reports paid all entries room s p view)
 

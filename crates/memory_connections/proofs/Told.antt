@@ -23,9 +23,9 @@ pub record HasMet (old : Log) (played : Played) : Type 0 where
   pub schedule : played.schedule ≡ old.schedule
   pub entries : played.entries ≡ after_meeting_one (state_of old).later old.entries
 
-met_is : (old : Log) (m : Played) → HasMet old m → m ≡ record { schedule = old.schedule; entries = after_meeting_one (state_of old).later old.entries }
+met_is : (old : Log) (m : Played) → HasMet old m → m ≡ record { schedule = old.schedule; entries = after_meeting_one (state_of old).later old.entries; room = m.room }
 met_is old m h =
-    ap (λ (s : List Step). record { schedule = s; entries = m.entries }) h.schedule ∙ ap (λ (es : List Entry). record { schedule = old.schedule; entries = es }) h.entries
+    ap (λ (s : List Step). record { schedule = s; entries = m.entries; room = m.room }) h.schedule ∙ ap (λ (es : List Entry). record { schedule = old.schedule; entries = es; room = m.room }) h.entries
 
 pub read_told : (old : Log) (number place most most' : ℕ) (out : List ℕ) (answer : Result Input Broken) (m n : Played) → held number (connections_of old) ≡ Some place → HasMet old m → most ≡ most'
     → IfSome (slice_get (played_connections m) place) (λ x. IsGiven x most out answer)

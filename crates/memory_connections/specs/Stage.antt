@@ -5,10 +5,11 @@ use Rattle.connections.specs.Connection.{Connection}
 use Rattle.connections.specs.State.{State, Entry, state_after}
 use Rattle.memory_connections.specs.MemoryConnection.{pending, need, are_below}
 
--- the schedule, and what calls did, the last of them first
+-- the schedule, what calls did, the last of them first, and for how many entries more there is room
 pub record Played : Type 0 where
   pub schedule : List Step
   pub entries : List Entry
+  pub room : ℕ
 
 abbrev pub played_state : Played → State
 played_state played = state_after played.schedule played.entries

@@ -18,6 +18,8 @@ impl<'a> Connections for BoxedConnections<'a> {
 
     ghost has_ended = { λ b. ⟦<MemConnections<'a> as Connections>⟧.has_ended b.connections.value };
 
+    ghost reports = { λ b. ⟦<MemConnections<'a> as Connections>⟧.reports b.connections.value };
+
     fn next(&mut self) -> Result<Option<Event>, Failed> {
         self.connections.next()
     }

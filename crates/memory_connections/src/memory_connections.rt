@@ -67,6 +67,8 @@ impl<'a> Connections for MemConnections<'a> {
 
     ghost has_ended = { λ c. c.ended };
 
+    ghost reports = { λ c. c.stage.room };
+
     fn next(&mut self) -> Result<Option<Event>, Failed> {
         self.calls = self.calls.saturating_add(1);
         if self.fails.contains(&self.calls) {

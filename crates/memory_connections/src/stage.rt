@@ -33,7 +33,7 @@ impl<'a> Model for Stage<'a> {
 
     ghost Value = { Played };
 
-    ghost view = { λ s. record { schedule = s.schedule.now; entries = s.log.entries } };
+    ghost view = { λ s. record { schedule = s.schedule.now; entries = s.log.entries; room = s.log.room } };
 
     ghost invariant = { λ s. IsStage s.schedule.now s.at s.owed.items s.paid s.all.items s.log.entries s.log.room
         × (vec_len s.owed + s.log.room ≤ vec_capacity s.owed)
@@ -102,6 +102,7 @@ impl<'a> Stage<'a> {
         ensures next { IfSome result (λ event. IsNext event (played_connections self.old) (played_state self.old).later) }
         ensures entries { IfSome result (λ event. self.new.entries ≡ entry_of event ∷ self.old.entries) }
         ensures over { IfNone result (((played_state self.old).later ≡ []) × (self.new.entries ≡ self.old.entries)) }
+        ensures room { IfSome result (λ _. self.new.room < self.old.room) }
         ensures schedule { self.new.schedule ≡ self.old.schedule }
     {
         let schedule = self.schedule;
@@ -140,6 +141,7 @@ impl<'a> Stage<'a> {
     pub fn meet(&mut self)
         ensures entries { self.new.entries ≡ after_meeting_one (played_state self.old).later self.old.entries }
         ensures places { length (played_connections self.new) ≡ length (played_connections self.old) }
+        ensures room { self.new.room ≤ self.old.room }
         ensures schedule { self.new.schedule ≡ self.old.schedule }
     {
         let schedule = self.schedule;
@@ -177,6 +179,7 @@ impl<'a> Stage<'a> {
         ensures entries { IfSome (slice_get (played_connections self.old) place)
             (λ c. self.new.entries ≡ gave place c result self.old.entries) }
         ensures fits { IfOk result (FitsRoom (length out.old)) }
+        ensures room { self.new.room ≤ self.old.room }
         ensures schedule { self.new.schedule ≡ self.old.schedule }
     {
         let connection = &self.all[place];
@@ -199,6 +202,7 @@ impl<'a> Stage<'a> {
         ensures takes { IfSome (slice_get (played_connections self.old) place) (λ c. IsTaken c most piece.now result) }
         ensures entries { self.new.entries ≡ took place piece.now result self.old.entries }
         ensures fits { IfOk result (λ n. n ≤ length piece.now) }
+        ensures room { self.new.room ≤ self.old.room }
         ensures schedule { self.new.schedule ≡ self.old.schedule }
     {
         let connection = &self.all[place];
@@ -219,6 +223,7 @@ impl<'a> Stage<'a> {
         requires there { place < length (played_connections self.old) }
         requires some { IfSome (slice_get (played_connections self.old) place) (λ c. 0 < c.asks) }
         ensures entries { self.new.entries ≡ asked place ∷ self.old.entries }
+        ensures room { self.new.room ≤ self.old.room }
         ensures schedule { self.new.schedule ≡ self.old.schedule }
     {
         ask_at(&mut self.all, place);
@@ -231,6 +236,7 @@ impl<'a> Stage<'a> {
         requires there { place < length (played_connections self.old) }
         requires open { IfSome (slice_get (played_connections self.old) place) (λ c. c.is_closed ≡ false) }
         ensures entries { self.new.entries ≡ closed place ∷ self.old.entries }
+        ensures room { self.new.room ≤ self.old.room }
         ensures schedule { self.new.schedule ≡ self.old.schedule }
     {
         close_at(&mut self.all, place);

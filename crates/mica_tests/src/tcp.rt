@@ -6,6 +6,7 @@ use outside::Failed;
 use std::io::{Read, Write};
 use std::net::{Ipv4Addr, Net as Sockets, Shutdown, TcpListener, TcpStream};
 use std::process::Abort;
+use std::sync::Wait;
 use std::sync::atomic::{AtomicBool, Ordering};
 use std::test::Fail;
 use std::thread::{join, sleep};
@@ -13,11 +14,11 @@ use std::time::Duration;
 use tcp_connections::{TcpConnections, TcpListeners};
 
 /// Connections at the first of some ports that is free, and this port.
-fn new_port<'a, R: Abort + AllocGlobal + Sockets>(
+fn new_port<'a, R: Abort + AllocGlobal + Sockets + Wait + Sync>(
     rt: &'a R,
     has_failed: &'a AtomicBool,
-) -> (TcpConnections<'a>, u16)
-    ensures { ⟦<TcpConnections<'a> as Connections>⟧.has_ended result.0 ≡ false }
+) -> (TcpConnections<'a, R>, u16)
+    ensures { ⟦<TcpConnections<'a, R> as Connections>⟧.has_ended result.0 ≡ false }
 {
     let mut listeners = TcpListeners::failing_whole(
         rt,
@@ -37,7 +38,7 @@ fn new_port<'a, R: Abort + AllocGlobal + Sockets>(
 /// A client that comes, and the number that its connection is under.
 fn joined(
     rt: &(impl Abort + Sockets<Listener = TcpListener, Stream = TcpStream>),
-    connections: &mut TcpConnections<'_>,
+    connections: &mut TcpConnections<'_, impl Wait>,
     port: u16,
 ) -> Result<(TcpStream, u32), Fail> {
     let client = TcpStream::connect(rt, ("127.0.0.1", port))?;
@@ -61,7 +62,7 @@ fn is_ready(event: Result<Option<Event>, Failed>, number: u32) -> bool {
 /// What the connection under this number gives next, at the reports of it.
 fn input_of(
     rt: &impl Abort,
-    connections: &mut TcpConnections<'_>,
+    connections: &mut TcpConnections<'_, impl Wait>,
     number: u32,
     out: &mut [u8; 16],
 ) -> Result<Input, Broken> {
@@ -79,7 +80,7 @@ fn input_of(
 /// The client says this, and it comes under the number, and nothing else does.
 fn expect_said(
     rt: &impl Abort,
-    connections: &mut TcpConnections<'_>,
+    connections: &mut TcpConnections<'_, impl Wait>,
     client: &mut TcpStream,
     number: u32,
     said: &[u8],
@@ -97,7 +98,7 @@ fn expect_said(
 /// What is written under the number comes to the client, and nothing else did.
 fn expect_heard(
     rt: &impl Abort,
-    connections: &mut TcpConnections<'_>,
+    connections: &mut TcpConnections<'_, impl Wait>,
     client: &mut TcpStream,
     number: u32,
     reply: &[u8],
@@ -137,7 +138,7 @@ fn two_clients_hear_their_own(rt: HostRuntime) -> Result<(), Fail> {
 }
 
 /// Writes bytes that count up to 250 again and again, as far as they are taken, and says how many were.
-fn fill(rt: &impl Abort, connections: &mut TcpConnections<'_>, number: u32) -> u32 {
+fn fill(rt: &impl Abort, connections: &mut TcpConnections<'_, impl Wait>, number: u32) -> u32 {
     let mut piece = [0; 4_016];
     for at in 0..4_016usize {
         piece[at] = (at % 251) as u8;

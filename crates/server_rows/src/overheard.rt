@@ -37,6 +37,8 @@ impl<'a> Connections for OverheardConnections<'a> {
 
     ghost has_ended = { λ c. ⟦<BoxedConnections<'a> as Connections>⟧.has_ended c.connections };
 
+    ghost reports = { λ c. ⟦<BoxedConnections<'a> as Connections>⟧.reports c.connections };
+
     fn next(&mut self) -> Result<Option<Event>, Failed> {
         self.connections.next()
     }

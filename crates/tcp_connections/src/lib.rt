@@ -4,6 +4,7 @@
 mod patience;
 mod tcp_connections;
 mod tcp_listeners;
+mod tcp_port;
 
 pub use tcp_connections::TcpConnections;
 pub use tcp_listeners::TcpListeners;

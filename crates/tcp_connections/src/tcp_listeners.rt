@@ -4,10 +4,12 @@ ghost use Rattle.outside.specs.Faults.{Rose, faults_after};
 ghost use Rattle.connections.specs.PortLogs.{place_at};
 
 use crate::TcpConnections;
+use crate::tcp_port::TcpPort;
 use connections::{Heard, Listeners, PortPlace};
 use outside::Failed;
 use std::alloc::Global;
 use std::net::{Ipv4Addr, Net as Sockets};
+use std::sync::Wait;
 use std::sync::atomic::AtomicBool;
 
 /// The TCP ports of one address of this machine, each with at most so many connections at a time. They tell nothing of content.
@@ -21,7 +23,7 @@ pub struct TcpListeners<'a, R> {
     faults: u64,
 }
 
-impl<'a, R: Sockets> TcpListeners<'a, R> {
+impl<'a, R: Sockets + Wait + Sync> TcpListeners<'a, R> {
     /// Listeners at an address, for at most so many connections at a port.
     pub fn new(rt: &'a R, alloc: Global, address: Ipv4Addr, most: u32) -> TcpListeners<'a, R>
         ensures place { ⟦<TcpListeners<'a, R> as Listeners>⟧.place result ≡ place_at address most }
@@ -60,8 +62,8 @@ impl<'a, R: Sockets> TcpListeners<'a, R> {
     }
 }
 
-impl<'a, R: Sockets> Listeners for TcpListeners<'a, R> {
-    type Port = TcpConnections<'a>;
+impl<'a, R: Sockets + Wait + Sync> Listeners for TcpListeners<'a, R> {
+    type Port = TcpConnections<'a, R>;
 
     ghost faults = { λ l. l.faults };
 
@@ -77,8 +79,8 @@ impl<'a, R: Sockets> Listeners for TcpListeners<'a, R> {
         self.place = PortPlace { address, most };
     }
 
-    fn listen(&mut self, port: u16) -> Result<TcpConnections<'a>, Failed> {
-        let opened = TcpConnections::open(
+    fn listen(&mut self, port: u16) -> Result<TcpConnections<'a, R>, Failed> {
+        let opened = TcpPort::open(
             self.rt,
             self.alloc,
             self.place.address,
@@ -86,15 +88,15 @@ impl<'a, R: Sockets> Listeners for TcpListeners<'a, R> {
             self.place.most as usize,
             self.has_failed,
         );
-        if let Ok(connections) = opened {
+        if let Ok(sockets) = opened {
             let place = self.place;
             if self.heard.push(Heard { port, place }).is_ok() {
-                return Ok(connections);
+                return Ok(TcpConnections::new(self.rt, port, sockets));
             }
         }
         self.faults = self.faults.saturating_add(1);
         Err(Failed)
     }
 
-    fn release(&mut self, _connections: TcpConnections<'a>) {}
+    fn release(&mut self, _connections: TcpConnections<'a, R>) {}
 }

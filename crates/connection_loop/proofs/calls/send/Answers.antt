@@ -1,4 +1,4 @@
-use Rattle.std.proofs.Common.{rules, ◌≤◌, ◌+◌, ◌-◌, length, take, drop, refl, sym, subst, ◌∙◌}
+use Rattle.std.proofs.Common.{rules, ◌≤◌, ◌+◌, ◌-◌, length, take, drop, refl, sym, subst, ◌∙◌, arith}
 use Rattle.std.specs.Prelude.{Ok, Err}
 use Rattle.std.proofs.lemmas.List.{take_rest}
 use Rattle.std.proofs.lemmas.Result.{err_from_is_err_and}
@@ -11,7 +11,7 @@ use Rattle.connection_loop.proofs.calls.send.Goals as goal
 pub loop-sent-init : goal.loop-sent-init
 loop-sent-init g c =
     let log = g.C.Connections.log in
-    (search rules, same_keeps (log c.args.connections.now), c.requires.«open», refl, refl, refl, refl, wrote_none c.args.number c.args.text.now (log c.args.connections.now))
+    (search rules, same_keeps (log c.args.connections.now), c.requires.«open», refl, refl, refl, refl, wrote_none c.args.number c.args.text.now (log c.args.connections.now), omega arith)
 
 pub returns-in_err-count-clause-sends : goal.returns-in_err-count-clause-sends
 returns-in_err-count-clause-sends g c =
@@ -55,6 +55,7 @@ loop-sent-preserved g c =
           (λ d a b w. w.0)
           (wrote_more c.args.number c.args.asks text (take (length text - c.loop-sent.sent) (drop c.loop-sent.sent text)) c.loop-sent.sent (Ok c.in_ok-count.count) (log c.args.connections.now)
           (log c.loop-sent.connections) (log c.write.new.self) (take_rest text c.loop-sent.sent) c.requires.«open» inv.7 c.in_ok-count.ensures.written),
+      (let before = inv.8 in let now = c.write.ensures.no_more in omega (arith, before, now)),
     )
 
 pub returns-then-count-eq0-clause-keeps : goal.returns-then-count-eq0-clause-keeps

@@ -15,6 +15,7 @@ invariant-loop-sent g l =
     × (g.C.Connections.faults l.connections ≡ g.C.Connections.faults l.initial.connections)
     × (g.C.Connections.port l.connections ≡ g.C.Connections.port l.initial.connections)
     × OnLogs (OnHeld l.number (SendsFirst l.text l.sent)) (g.C.Connections.log l.initial.connections) (g.C.Connections.log l.connections)
+    × (g.C.Connections.reports l.connections ≤ g.C.Connections.reports l.initial.connections)
 
 abbrev pub decreases-loop-sent : goal.decreases-loop-sent
 decreases-loop-sent g l = length l.text - l.sent

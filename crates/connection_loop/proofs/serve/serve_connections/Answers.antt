@@ -1,35 +1,31 @@
-use Rattle.std.proofs.Common.{rules, ◌≡◌, true≢false, [], refl, inl, inr, ap, sym, ◌∙◌, subst, arith}
-use Rattle.std.specs.Prelude.{is_some, is_none, IfSome, IfNone}
+use Rattle.std.proofs.Common.{rules, ◌≡◌, ◌<◌, [], refl, inl, inr, ap, sym, ◌∙◌, subst, arith}
+use Rattle.std.specs.Prelude.{is_none, IfSome, IfNone}
 use Rattle.partition_model.specs.declared.options.Options.{Options}
 use Rattle.connections.specs.Calls.{ReportsNext, IsOver}
-use Rattle.connection_loop.specs.declared.desk.TheConstants.{MOST_UNSENT}
 use Rattle.command_answers.specs.declared.sweeper.TheConstants.{MOST_SWEPT}
 use Rattle.command_answers.specs.Sweeps.{SweepsBy}
 use Rattle.connection_loop.specs.Clients.{AreOpen}
 use Rattle.connection_loop.specs.Going.{GoesBy}
-use Rattle.connection_loop.specs.Open.{OnLogs}
-use Rattle.connection_loop.specs.Serving.{IsFinished, ServesFromNone}
 use Rattle.connection_loop.proofs.Going.{by_none, by_both}
 use Rattle.connection_loop.proofs.Opening.{tells_keeps, tells_opened}
 use Rattle.connection_loop.proofs.Holding.{all_kept, none_held}
 use Rattle.connection_loop.proofs.Since.{since_none, since_then, since_serves, since_called, since_over, failed_last}
 use Rattle.connection_loop.proofs.Sweeping.{by_sweeps}
 use Rattle.connection_loop.proofs.serve.serve_connections.Goals as goal
-use Rattle.connection_loop.proofs.serve.serve_connections.Goals.{in-None, in-Some+then-writes_left-least, in-Some+else-writes_left-least+in_ok-event+in_default}
 
 pub serve_event-count-requires-clause-clients : goal.serve_event-count-requires-clause-clients
-serve_event-count-requires-clause-clients g c κs within =
+serve_event-count-requires-clause-clients g c =
     let before = g.C.Connections.log c.loop.connections in
-    let after = g.C.Connections.log c.next-in-loop.new.self in
-    let reports = subst (λ got. IfSome got (λ event. IfSome before (λ l. ReportsNext l event after))) c.in-Some-2.is c.in_ok-event.ensures.next in
-    all_kept c.loop.clients.held.items before after c.loop.invariant.1 c.in_ok-event.ensures.told (tells_keeps c.in-Some-2.event before after reports)
+    let after = g.C.Connections.log c.next.new.self in
+    let reports = subst (λ got. IfSome got (λ event. IfSome before (λ l. ReportsNext l event after))) c.in-Some.is c.in_ok-event.ensures.next in
+    all_kept c.loop.clients.held.items before after c.loop.invariant.1 c.in_ok-event.ensures.told (tells_keeps c.in-Some.event before after reports)
 
 pub serve_event-count-requires-clause-event : goal.serve_event-count-requires-clause-event
-serve_event-count-requires-clause-event g c κs within =
+serve_event-count-requires-clause-event g c =
     let before = g.C.Connections.log c.loop.connections in
-    let after = g.C.Connections.log c.next-in-loop.new.self in
-    let reports = subst (λ got. IfSome got (λ event. IfSome before (λ l. ReportsNext l event after))) c.in-Some-2.is c.in_ok-event.ensures.next in
-    tells_opened c.in-Some-2.event before after c.in_ok-event.ensures.told reports
+    let after = g.C.Connections.log c.next.new.self in
+    let reports = subst (λ got. IfSome got (λ event. IfSome before (λ l. ReportsNext l event after))) c.in-Some.is c.in_ok-event.ensures.next in
+    tells_opened c.in-Some.event before after c.in_ok-event.ensures.told reports
 
 pub loop-init : goal.loop-init
 loop-init g c =
@@ -61,14 +57,14 @@ loop-preserved g c =
     let base = c.args.numbering.base in
     let inv = c.loop.invariant in
     let before = log c.loop.connections in
-    let after = log c.next-in-loop.new.self in
+    let after = log c.next.new.self in
     let next = c.in_ok-event.ensures in
     let served = c.serve_event-count.ensures in
     let then = c.serve_event-count.new in
     let now = c.sweep.new in
     let sweep = c.sweep.ensures in
-    let reports = subst (λ got. IfSome got (λ event. IfSome before (λ l. ReportsNext l event after))) c.in-Some-2.is next.next in
-    let on = subst (λ got. g.C.Connections.has_ended c.next-in-loop.new.self ≡ is_none got) c.in-Some-2.is next.ended in
+    let reports = subst (λ got. IfSome got (λ event. IfSome before (λ l. ReportsNext l event after))) c.in-Some.is next.next in
+    let on = subst (λ got. g.C.Connections.has_ended c.next.new.self ≡ is_none got) c.in-Some.is next.ended in
     let same = served.front.same_options ∙ inv.6 in
     let more = subst (λ (o : Options). GoesBy o F.is_alone (F.sessions c.loop.front) (F.left c.loop.front) (view c.loop.clock) (F.sessions then.front) (F.left then.front) (view then.clock)) inv.6
     served.front.goes in
@@ -85,9 +81,15 @@ loop-preserved g c =
       sweep.number ∙ served.front.same_number ∙ inv.7,
       sweep.stands ∙ served.front.same_stands ∙ inv.8,
       served.port.told ∙ next.told ∙ inv.9,
-      since_then options F.is_alone base old left told c.args.lacked.now c.loop.clients.held.items then.clients.held.items c.in-Some-2.event c.loop.lacked c.serve_event-count.result _ (search rules)
+      since_then options F.is_alone base old left told c.args.lacked.now c.loop.clients.held.items then.clients.held.items c.in-Some.event c.loop.lacked c.serve_event-count.result _ (search rules)
           (log c.args.connections.now) before after (log then.connections) inv.10 next.told reports (F.options c.loop.front) inv.6 served.serves (F.options then.front) same sweep.swept served.clients,
     )
+
+pub loop-smaller : goal.loop-smaller
+loop-smaller g c =
+    let reports = g.C.Connections.reports in
+    let fewer = subst (λ got. IfSome got (λ _. reports c.next.new.self < reports c.loop.connections)) c.in-Some.is c.in_ok-event.ensures.fewer in
+    omega (arith, fewer, c.serve_event-count.ensures.port.no_more)
 
 pub returns-in_err-desk-clause-serves : goal.returns-in_err-desk-clause-serves
 returns-in_err-desk-clause-serves g c =
@@ -118,53 +120,34 @@ returns-in_err-event-clause-serves g c =
     let log = g.C.Connections.log in
     let ended = g.C.Connections.has_ended in
     since_called (g.F.Front.options c.args.front.now) g.F.Front.is_alone c.args.numbering.base (g.F.Front.sessions c.args.front.now) (g.F.Front.left c.args.front.now) (g.K.Clock.view c.args.clock.now)
-    c.args.lacked.now (ended c.args.connections.now) (ended c.next-in-loop.new.self) (g.F.Front.sessions c.loop.front) (g.F.Front.left c.loop.front) (g.K.Clock.view c.loop.clock) c.loop.lacked
-    c.loop.clients.held.items c.in_err-event.ensures.still_open (log c.args.connections.now) (log c.loop.connections) (log c.next-in-loop.new.self) c.loop.invariant.10 c.in_err-event.ensures.unmoved
+    c.args.lacked.now (ended c.args.connections.now) (ended c.next.new.self) (g.F.Front.sessions c.loop.front) (g.F.Front.left c.loop.front) (g.K.Clock.view c.loop.clock) c.loop.lacked
+    c.loop.clients.held.items c.in_err-event.ensures.still_open (log c.args.connections.now) (log c.loop.connections) (log c.next.new.self) c.loop.invariant.10 c.in_err-event.ensures.unmoved
 
 pub returns-in_err-event-clause-last_failed : goal.returns-in_err-event-clause-last_failed
 returns-in_err-event-clause-last_failed g c is =
-    failed_last (g.C.Connections.log c.loop.connections) (g.C.Connections.log c.next-in-loop.new.self) c.in_err-event.ensures.unmoved c.in_err-event.ensures.foretold
+    failed_last (g.C.Connections.log c.loop.connections) (g.C.Connections.log c.next.new.self) c.in_err-event.ensures.unmoved c.in_err-event.ensures.foretold
 
-pub returns-clause-serves : goal.returns-clause-serves
-returns-clause-serves g c =
+pub returns-then-writes_left-least-clause-serves : goal.returns-then-writes_left-least-clause-serves
+returns-then-writes_left-least-clause-serves g c =
     let log = g.C.Connections.log in
     let ended = g.C.Connections.has_ended in
-    let options = g.F.Front.options c.args.front.now in
-    let base = c.args.numbering.base in
-    let opened = ended c.args.connections.now in
-    let sessions = g.F.Front.sessions c.args.front.now in
-    let told = g.K.Clock.view c.args.clock.now in
-    let inv = c.loop.invariant in
-    let here = since_serves options g.F.Front.is_alone base sessions (g.F.Front.left c.args.front.now) told c.args.lacked.now opened (ended c.loop.connections) (g.F.Front.sessions c.loop.front)
-    (g.F.Front.left c.loop.front) (g.K.Clock.view c.loop.clock) c.loop.lacked c.loop.clients.held.items inv.2 (log c.args.connections.now) (log c.loop.connections) inv.10 in
-    elim c.match-next.branch [
-      | in-None w ↦ subst (λ x. OnLogs (ServesFromNone options g.F.Front.is_alone base MOST_UNSENT (record { sessions = sessions; left = g.F.Front.left c.args.front.now; clock = told; lacked = c.args.lacked.now; has_ended = opened })
-          (record { sessions = g.F.Front.sessions c.loop.front; left = g.F.Front.left c.loop.front; clock = g.K.Clock.view c.loop.clock; lacked = c.loop.lacked; has_ended = ended x })) (log c.args.connections.now) (log x))
-          (sym w.connections-is) here
-      | in-Some+then-writes_left-least w ↦ subst (λ x. OnLogs (ServesFromNone options g.F.Front.is_alone base MOST_UNSENT
-          (record { sessions = sessions; left = g.F.Front.left c.args.front.now; clock = told; lacked = c.args.lacked.now; has_ended = opened })
-          (record { sessions = g.F.Front.sessions c.loop.front; left = g.F.Front.left c.loop.front; clock = g.K.Clock.view c.loop.clock; lacked = c.loop.lacked; has_ended = ended x })) (log c.args.connections.now) (log x))
-          (sym w.connections-is) here
-      | in-Some+else-writes_left-least+in_ok-event+in_default w ↦ subst (λ x. OnLogs (ServesFromNone options g.F.Front.is_alone base MOST_UNSENT
-          (record { sessions = sessions; left = g.F.Front.left c.args.front.now; clock = told; lacked = c.args.lacked.now; has_ended = opened })
-          (record { sessions = g.F.Front.sessions c.loop.front; left = g.F.Front.left c.loop.front; clock = g.K.Clock.view c.loop.clock; lacked = c.loop.lacked; has_ended = ended x })) (log c.args.connections.now) (log x))
-          (sym w.connections-is)
-          (since_over options g.F.Front.is_alone base sessions (g.F.Front.left c.args.front.now) told c.args.lacked.now opened (ended w.next-in-loop.new.self) (g.F.Front.sessions c.loop.front)
-          (g.F.Front.left c.loop.front) (g.K.Clock.view c.loop.clock) c.loop.lacked c.loop.clients.held.items (log c.args.connections.now) (log c.loop.connections) (log w.next-in-loop.new.self) inv.10
-          (subst (λ got. IfNone got (IfSome (log c.loop.connections) (λ l. IsOver l (log w.next-in-loop.new.self)))) w.in_default.is w.in_ok-event.ensures.end))
-    ]
+    since_serves (g.F.Front.options c.args.front.now) g.F.Front.is_alone c.args.numbering.base (g.F.Front.sessions c.args.front.now) (g.F.Front.left c.args.front.now) (g.K.Clock.view c.args.clock.now)
+    c.args.lacked.now (ended c.args.connections.now) (ended c.loop.connections) (g.F.Front.sessions c.loop.front) (g.F.Front.left c.loop.front) (g.K.Clock.view c.loop.clock) c.loop.lacked
+    c.loop.clients.held.items c.loop.invariant.2 (log c.args.connections.now) (log c.loop.connections) c.loop.invariant.10
 
-pub returns-clause-ends : goal.returns-clause-ends
-returns-clause-ends g c =
-    let options = g.F.Front.options c.loop.front in
-    let left = g.F.Front.left c.loop.front in
+pub returns-in_default-clause-serves : goal.returns-in_default-clause-serves
+returns-in_default-clause-serves g c =
+    let log = g.C.Connections.log in
     let ended = g.C.Connections.has_ended in
-    elim c.match-next.branch [
-      | in-None w ↦ absurd (true≢false (sym c.next.ensures.steps ∙ ap is_some w.in-None.is))
-      | in-Some+then-writes_left-least w ↦
-          let same = ap (λ (o : Options). o.partitions) c.loop.invariant.6 in
-          let few = w.if-writes_left-least.true in
-          subst (λ x. IsFinished options (ended x) left) (sym w.connections-is)
-          (inr (omega (arith, few, w.writes_left.ensures, c.most_writes-least.ensures, c.requires.partitions, same)))
-      | in-Some+else-writes_left-least+in_ok-event+in_default w ↦ subst (λ x. IsFinished options (ended x) left) (sym w.connections-is) (inl (w.in_ok-event.ensures.ended ∙ ap is_none w.in_default.is))
-    ]
+    since_over (g.F.Front.options c.args.front.now) g.F.Front.is_alone c.args.numbering.base (g.F.Front.sessions c.args.front.now) (g.F.Front.left c.args.front.now) (g.K.Clock.view c.args.clock.now)
+    c.args.lacked.now (ended c.args.connections.now) (ended c.next.new.self) (g.F.Front.sessions c.loop.front) (g.F.Front.left c.loop.front) (g.K.Clock.view c.loop.clock) c.loop.lacked
+    c.loop.clients.held.items (log c.args.connections.now) (log c.loop.connections) (log c.next.new.self) c.loop.invariant.10
+    (subst (λ got. IfNone got (IfSome (log c.loop.connections) (λ l. IsOver l (log c.next.new.self)))) c.in_default.is c.in_ok-event.ensures.end)
+
+pub returns-then-writes_left-least-clause-ends : goal.returns-then-writes_left-least-clause-ends
+returns-then-writes_left-least-clause-ends g c =
+    let same = ap (λ (o : Options). o.partitions) c.loop.invariant.6 in
+    inr (omega (arith, c.if-writes_left-least.true, c.writes_left.ensures, c.most_writes-least.ensures, c.requires.partitions, same))
+
+pub returns-in_default-clause-ends : goal.returns-in_default-clause-ends
+returns-in_default-clause-ends g c = inl (c.in_ok-event.ensures.ended ∙ ap is_none c.in_default.is)

@@ -21,3 +21,6 @@ invariant-loop g l =
     × (is_some (g.C.Connections.log l.connections) ≡ is_some (g.C.Connections.log l.initial.connections))
     × OnLogs (StandsSince (g.F.Front.options l.initial.front) g.F.Front.is_alone l.numbering.base (g.F.Front.sessions l.initial.front) (g.F.Front.left l.initial.front) (g.K.Clock.view l.initial.clock)
     l.initial.lacked (g.F.Front.sessions l.front) (g.F.Front.left l.front) (g.K.Clock.view l.clock) l.lacked l.clients.held.items) (g.C.Connections.log l.initial.connections) (g.C.Connections.log l.connections)
+
+abbrev pub decreases-loop : goal.decreases-loop
+decreases-loop g l = g.C.Connections.reports l.connections

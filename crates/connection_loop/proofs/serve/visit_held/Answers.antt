@@ -11,7 +11,7 @@ returns-in_default-clause-clients g c =
     let_go c.args.number c.args.clients.now.held.items c.take.new.self.held.items log log c.requires.clients c.take.ensures.others c.take.ensures.gone (λ n a other is. is)
 
 pub visit_on-visited-requires-clause-client : goal.visit_on-visited-requires-clause-client
-visit_on-visited-requires-clause-client g c κs within =
+visit_on-visited-requires-clause-client g c =
     (found_held c.args.number c.args.clients.now.held.items c.take.result c.in-Some.client (g.C.Connections.log c.args.connections.now) c.requires.clients c.take.ensures.taken
     c.in-Some.is).0
 

@@ -1,0 +1,379 @@
+//! A TCP port of this machine and its connections, over epoll. Nothing here waits but for one look at what is ready, with a time that may be set.
+ghost use Rattle.std.specs.Prelude.{◌<◌, ◌≤◌, length, IfOk};
+ghost use Rattle.connections.specs.Calls.{FitsRoom};
+
+use crate::patience::Patience;
+use connections::{Broken, Event, Input};
+use mio::event::Events;
+use mio::net::{TcpListener, TcpStream};
+use mio::{Interest, Poll, Token};
+use slab::Slab;
+use std::alloc::Global;
+use std::io::{self, ErrorKind, Read, Write};
+use std::mem;
+use std::net::{Ipv4Addr, Net as Sockets, Shutdown, SocketAddr};
+use std::sync::atomic::{AtomicBool, Ordering};
+use std::time::Duration;
+
+/// The token of the listener, which no connection has.
+const LISTENER: Token = Token(usize::MAX);
+
+/// The most events that one wait gives.
+const MOST_EVENTS: usize = 1_024;
+
+/// How long to wait before the system is asked again for a connection that it refused.
+const PAUSE_MILLIS: u64 = 100;
+
+/// How long a port waits before it looks whether another one has failed.
+const LOOK_SECONDS: u64 = 1;
+
+/// How many bytes that nobody reads any more are dropped before a close, so that the replies before it are not lost to a reset.
+const MOST_DROPPED: usize = 64 * 1_024;
+
+/// So many of them are dropped at once.
+const SCRATCH_LEN: usize = 4_096;
+
+/// How often a read or a write that was interrupted is tried. A socket that never blocks is hardly interrupted at all.
+const MOST_TRIES: u32 = 64;
+
+#[derive(Drop)]
+struct Slot {
+    stream: TcpStream,
+    /// Whether a read may give more, as far as is known. Readiness is told once.
+    may_read: bool,
+    /// Whether the peer's end was told: it isn't told again, so a short read doesn't say that nothing is left.
+    half_closed: bool,
+    /// Whether it is among those to be reported.
+    queued: bool,
+}
+
+/// Whether a connection may wait to be accepted.
+#[derive(Clone, Copy, PartialEq, Eq)]
+enum Accepting {
+    Idle,
+    Ready,
+    /// The system refused one: it was out of descriptors or memory.
+    Refused,
+}
+
+/// A TCP port and its connections, at most so many at a time: more wait to be accepted.
+#[derive(Drop)]
+pub(crate) struct TcpPort<'a> {
+    most: usize,
+    /// Tells whether a port has failed, where ports fail together.
+    has_failed: Option<&'a AtomicBool>,
+    poll: Poll,
+    events: Events,
+    listener: TcpListener,
+    accepting: Accepting,
+    slots: Slab<Slot>,
+    /// The connections to be reported in the next round, each once. There is room for all.
+    queue: Vec<u32>,
+    /// Those of this round that were not reported yet, by number.
+    round: Vec<u32>,
+    /// Whether this round may still end with a connection that waits to be accepted.
+    may_open: bool,
+    patience: Patience,
+}
+
+/// Puts a connection among those to be reported, once. There is room for it.
+fn put(slots: &mut Slab<Slot>, queue: &mut Vec<u32>, number: usize) {
+    if let Some(slot) = slots.get_mut(number) {
+        if !slot.queued {
+            if let Ok(short) = u32::try_from(number) {
+                slot.queued = queue.push(short).is_ok();
+            }
+        }
+    }
+}
+
+/// Puts each connection of the events among those to be reported, and says whether the listener was among them.
+fn put_events(events: &Events, slots: &mut Slab<Slot>, queue: &mut Vec<u32>) -> bool {
+    let mut listens = false;
+    for event in events {
+        let token = event.token();
+        if token == LISTENER {
+            listens = true;
+        } else {
+            let ended = event.is_read_closed() || event.is_error();
+            if let Some(slot) = slots.get_mut(token.0) {
+                slot.half_closed = slot.half_closed || ended;
+                slot.may_read = slot.may_read || event.is_readable() || ended;
+            }
+            put(slots, queue, token.0);
+        }
+    }
+    listens
+}
+
+/// Reads once, and notes whether there may be more.
+fn read_from(slot: &mut Slot, out: &mut [u8]) -> Result<Input, Broken>
+    requires room { 0 < length out.old }
+    ensures fits { IfOk result (FitsRoom (length out.old)) }
+{
+    for _ in 0..MOST_TRIES {
+        match (&slot.stream).read(out) {
+            Ok(0) => return Ok(Input::Ended),
+            Ok(count) if slot.half_closed || count == out.len() => return Ok(Input::Bytes(count)),
+            Ok(count) => {
+                slot.may_read = false;
+                return Ok(Input::All(count));
+            }
+            Err(error) => match error.kind() {
+                ErrorKind::WouldBlock => {
+                    slot.may_read = false;
+                    return Ok(Input::Later);
+                }
+                ErrorKind::Interrupted => {}
+                _ => break,
+            },
+        }
+    }
+    Err(Broken)
+}
+
+/// Writes once. Where nothing is taken now, that is 0.
+fn write_to(stream: &TcpStream, piece: &[u8]) -> Result<usize, Broken>
+    ensures { IfOk result (λ n. n ≤ length piece.now) }
+{
+    for _ in 0..MOST_TRIES {
+        match (&*stream).write(piece) {
+            Err(error) => match error.kind() {
+                ErrorKind::WouldBlock => return Ok(0),
+                ErrorKind::Interrupted => {}
+                _ => break,
+            },
+            taken => return taken.map_err(|_| Broken),
+        }
+    }
+    Err(Broken)
+}
+
+/// Says that nothing more will be sent, and drops what the peer sent and nobody reads, up to a bound: a close with bytes unread loses replies.
+fn drop_unread(slot: &mut Slot) {
+    let _unheeded = slot.stream.shutdown(Shutdown::Write);
+    let mut scratch = [0; SCRATCH_LEN];
+    for _ in 0..MOST_DROPPED / SCRATCH_LEN {
+        match read_from(slot, &mut scratch) {
+            Ok(Input::Bytes(_)) => {}
+            _ => return,
+        }
+    }
+}
+
+impl<'a> TcpPort<'a> {
+    /// Listens at a port.
+    pub(crate) fn open(
+        rt: &impl Sockets,
+        alloc: Global,
+        address: Ipv4Addr,
+        port: u16,
+        most: usize,
+        has_failed: Option<&'a AtomicBool>,
+    ) -> io::Result<TcpPort<'a>> {
+        let poll = Poll::new(rt)?;
+        let events = Events::with_capacity(alloc, MOST_EVENTS)?;
+        let mut listener = TcpListener::bind(rt, SocketAddr::from((address, port)))?;
+        poll.registry()
+            .register(&mut listener, LISTENER, Interest::READABLE)?;
+        Ok(TcpPort {
+            most,
+            has_failed,
+            poll,
+            events,
+            listener,
+            accepting: Accepting::Ready,
+            slots: Slab::new(alloc),
+            queue: Vec::new(alloc),
+            round: Vec::new(alloc),
+            may_open: false,
+            patience: Patience::new(),
+        })
+    }
+
+    /// Takes a connection in, and says its number. Where there is no memory for it, it is let go.
+    fn take_in(&mut self, stream: TcpStream) -> Option<u32> {
+        let _unheeded = stream.set_nodelay(true);
+        // Each that is open once, and each that was closed since the last round.
+        let room = self.slots.len().saturating_add(1).saturating_mul(2);
+        self.queue
+            .reserve(room.saturating_sub(self.queue.len()))
+            .ok()?;
+        self.round
+            .reserve(room.saturating_sub(self.round.len()))
+            .ok()?;
+        let slot = Slot {
+            stream,
+            may_read: false,
+            half_closed: false,
+            queued: false,
+        };
+        let number = self.slots.insert(slot).ok()?;
+        let slot = self.slots.get_mut(number)?;
+        let both = Interest::READABLE | Interest::WRITABLE;
+        let registry = self.poll.registry();
+        if registry
+            .register(&mut slot.stream, Token(number), both)
+            .is_err()
+        {
+            let _gone = self.slots.try_remove(number);
+            return None;
+        }
+        u32::try_from(number).ok()
+    }
+
+    /// Whether there is room for one more connection, and one may wait.
+    fn may_accept(&self) -> bool {
+        self.accepting == Accepting::Ready && self.slots.len() < self.most
+    }
+
+    /// The next connection, where one waits and there is room.
+    fn accept(&mut self) -> Option<u32> {
+        if !self.may_accept() {
+            return None;
+        }
+        match self.listener.accept() {
+            Ok((stream, _)) => self.take_in(stream),
+            Err(error) => {
+                match error.kind() {
+                    ErrorKind::WouldBlock => self.accepting = Accepting::Idle,
+                    ErrorKind::Interrupted | ErrorKind::ConnectionAborted => {}
+                    _ => self.accepting = Accepting::Refused,
+                }
+                None
+            }
+        }
+    }
+
+    /// How long to wait: not at all where something is to be reported or accepted, and not for long where ports fail together.
+    fn timeout(&self) -> Option<Duration> {
+        if !self.queue.is_empty() || self.may_accept() {
+            Some(Duration::ZERO)
+        } else if self.accepting == Accepting::Refused {
+            Some(Duration::from_millis(PAUSE_MILLIS))
+        } else if self.has_failed.is_some() {
+            Some(Duration::from_secs(LOOK_SECONDS))
+        } else {
+            None
+        }
+    }
+
+    /// Whether a port has failed, of those that fail together.
+    fn tells_failure(&self) -> bool {
+        self.has_failed
+            .is_some_and(|told| told.load(Ordering::Relaxed))
+    }
+
+    /// Looks for what is ready at once, a few times over, and says whether something is.
+    fn finds_some(&mut self) -> io::Result<bool> {
+        for _ in 0..self.patience.looks() {
+            self.poll.poll(&mut self.events, Some(Duration::ZERO))?;
+            if !self.events.is_empty() {
+                self.patience.has_paid();
+                return Ok(true);
+            }
+        }
+        self.patience.has_slept();
+        Ok(false)
+    }
+
+    /// Waits until something is ready. Where it may sleep, it looks for more first.
+    fn wait(&mut self) -> io::Result<()> {
+        let timeout = self.timeout();
+        if timeout != Some(Duration::ZERO) && self.finds_some()? {
+            return Ok(());
+        }
+        self.poll.poll(&mut self.events, timeout)
+    }
+
+    /// Asks the system what is ready. All of it is one round of reports, by number: connections that were opened together stand together there, and a thread of a client that has several of them wakes
+    /// once for all.
+    fn ask(&mut self) -> io::Result<()> {
+        if self.tells_failure() {
+            return Err(ErrorKind::Other.into());
+        }
+        self.wait()?;
+        let listens = put_events(&self.events, &mut self.slots, &mut self.queue);
+        if listens || self.accepting == Accepting::Refused {
+            self.accepting = Accepting::Ready;
+        }
+        mem::swap(&mut self.queue, &mut self.round);
+        self.round.sort_unstable();
+        Ok(())
+    }
+
+    /// The next connection to be reported in this round, where it was not closed since.
+    fn take_ready(&mut self) -> Option<u32> {
+        let number = self.round.pop()?;
+        let slot = self.slots.get_mut(number as usize)?;
+        slot.queued = false;
+        Some(number)
+    }
+
+    /// The next report, if there is one at hand or comes with one look: those of a round, and after each round one connection that waits to be accepted.
+    pub(crate) fn step(&mut self) -> io::Result<Option<Event>> {
+        if !self.round.is_empty() {
+            return Ok(match self.take_ready() {
+                Some(number) => Some(Event::Ready(number)),
+                None => None,
+            });
+        }
+        if self.may_open {
+            self.may_open = false;
+            return Ok(match self.accept() {
+                Some(number) => Some(Event::Opened(number)),
+                None => None,
+            });
+        }
+        self.ask()?;
+        self.may_open = true;
+        Ok(None)
+    }
+
+    /// The connections there have failed: so those at the other ports fail, where ports fail together.
+    pub(crate) fn tell_failure(&self) {
+        if let Some(has_failed) = self.has_failed {
+            has_failed.store(true, Ordering::Relaxed);
+        }
+    }
+
+    /// Reads from a connection, where there may be more.
+    pub(crate) fn read(&mut self, number: u32, out: &mut [u8]) -> Result<Input, Broken>
+        requires room { 0 < length out.old }
+        ensures fits { IfOk result (FitsRoom (length out.old)) }
+    {
+        match self.slots.get_mut(number as usize) {
+            Some(slot) if slot.may_read => read_from(slot, out),
+            Some(_) => Ok(Input::Later),
+            None => Err(Broken),
+        }
+    }
+
+    /// Writes to a connection.
+    pub(crate) fn write(&mut self, number: u32, piece: &[u8]) -> Result<usize, Broken>
+        ensures { IfOk result (λ n. n ≤ length piece.now) }
+    {
+        match self.slots.get(number as usize) {
+            Some(slot) => write_to(&slot.stream, piece),
+            None => Err(Broken),
+        }
+    }
+
+    /// Has a connection reported in the next round.
+    pub(crate) fn again(&mut self, number: u32) {
+        put(&mut self.slots, &mut self.queue, number as usize);
+    }
+
+    /// Closes a connection.
+    pub(crate) fn close(&mut self, number: u32) {
+        if let Some(slot) = self.slots.get_mut(number as usize) {
+            if slot.may_read {
+                drop_unread(slot);
+            }
+        }
+        let _gone = self.slots.try_remove(number as usize);
+        if self.accepting == Accepting::Refused {
+            self.accepting = Accepting::Ready;
+        }
+    }
+}
