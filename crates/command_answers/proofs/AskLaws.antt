@@ -8,13 +8,14 @@ use Rattle.std.proofs.lemmas.List.Elements.{filter_map-append}
 use Rattle.std.specs.List.{cons_option}
 use Rattle.outside.specs.Seconds.{ClockView, once_read}
 use Rattle.partition_model.specs.declared.options.Options.{Options}
-use Rattle.memcached_text.specs.Answer.{last_text}
 use Rattle.memcached_text.specs.declared.next.Next.{Next}
 use Rattle.memcached_commands.specs.declared.asks.Asked.{Asked}
-use Rattle.memcached_commands.specs.Answers.{last_of, unless_quiet}
+use Rattle.memcached_commands.specs.Answers.{unless_quiet}
 use Rattle.fronts.specs.Answered.{Answered}
 use Rattle.command_answers.specs.Seconds.{second_in, seconds_of, ToldFrom}
-use Rattle.command_answers.specs.AskAnswers.{AnswersAsks, said_of, shown_text, asks_text}
+use Rattle.command_answers.specs.AskAnswers.{AnswersAsks, said_of, quiet_of, shown_text, line_text, asks_text}
+use Rattle.command_answers.specs.declared.plain.Style.{Style}
+use Rattle.command_answers.specs.declared.plain.Style.TheVariants.{Classic}
 use Rattle.command_answers.specs.Exchange.{is_quiet, flush_text}
 use Rattle.command_answers.specs.Going.{ask_text}
 
@@ -55,27 +56,28 @@ module _ (base : ℕ) where
 
   -- Texts
 
-  no_text : (unique : Bool) (answers : List Answered) → asks_text base unique [] answers ≡ []
-  no_text unique [] = refl
-  no_text unique (a ∷ answers) = refl
+  no_text : (style : Style) (answers : List Answered) → asks_text base style [] answers ≡ []
+  no_text style [] = refl
+  no_text style (a ∷ answers) = refl
 
-  pub more_text : (unique : Bool) (asks : List Asked) (one two : List Answered)
-      → asks_text base unique asks (one ++ two) ≡ asks_text base unique asks one ++ asks_text base unique (drop (length one) asks) two
-  more_text unique asks [] two = refl
-  more_text unique [] (a ∷ one) two = sym (no_text unique two)
-  more_text unique (asked ∷ []) (a ∷ one) two =
-      let here = shown_text unique asked.key (said_of base asked a) ++ last_text (last_of (said_of base asked a)) in
-      sym (ap (λ asks. here ++ asks_text base unique asks two) (drop-nil (length one)) ∙ ap (λ text. here ++ text) (no_text unique two) ∙ append-nil here)
-  more_text unique (asked ∷ next ∷ asks) (a ∷ one) two =
-      ap (λ text. shown_text unique asked.key (said_of base asked a) ++ text) (more_text unique (next ∷ asks) one two)
-      ∙ sym (append_assoc (shown_text unique asked.key (said_of base asked a)) (asks_text base unique (next ∷ asks) one) (asks_text base unique (drop (length one) (next ∷ asks)) two))
+  pub more_text : (style : Style) (asks : List Asked) (one two : List Answered)
+      → asks_text base style asks (one ++ two) ≡ asks_text base style asks one ++ asks_text base style (drop (length one) asks) two
+  more_text style asks [] two = refl
+  more_text style [] (a ∷ one) two = sym (no_text style two)
+  more_text style (asked ∷ []) (a ∷ one) two =
+      let here = shown_text style asked.key (said_of base asked a) ++ line_text style (said_of base asked a) in
+      sym (ap (λ asks. here ++ asks_text base style asks two) (drop-nil (length one)) ∙ ap (λ text. here ++ text) (no_text style two) ∙ append-nil here)
+  more_text style (asked ∷ next ∷ asks) (a ∷ one) two =
+      ap (λ text. shown_text style asked.key (said_of base asked a) ++ text) (more_text style (next ∷ asks) one two)
+      ∙ sym (append_assoc (shown_text style asked.key (said_of base asked a)) (asks_text base style (next ∷ asks) one) (asks_text base style (drop (length one) (next ∷ asks)) two))
 
-  pub one_text : (quiet unique : Bool) (asked : Asked) (asks : List Asked) (a : Answered)
-      → ask_text quiet unique (length asks == 0) asked.key (said_of base asked a) ≡ unless_quiet quiet (asks_text base unique (asked ∷ asks) (a ∷ []))
-  one_text true unique asked asks a = refl
-  one_text false unique asked [] a = refl
-  one_text false unique asked (next ∷ asks) a =
-      ap (λ t. shown_text unique asked.key (said_of base asked a) ++ cond t (last_text (last_of (said_of base asked a))) []) (eqb-suc-zero (length asks))
+  pub one_text : (style : Style) (asked : Asked) (asks : List Asked) (a : Answered)
+      → ask_text style (length asks == 0) asked.key (said_of base asked a) ≡ unless_quiet (quiet_of style) (asks_text base style (asked ∷ asks) (a ∷ []))
+  one_text (Classic true unique) asked asks a = refl
+  one_text (Classic false unique) asked [] a = refl
+  one_text (Classic false unique) asked (next ∷ asks) a =
+      let style : Style = Classic false unique in
+      ap (λ t. shown_text style asked.key (said_of base asked a) ++ cond t (line_text style (said_of base asked a)) []) (eqb-suc-zero (length asks))
 
 pub quiet_none : (quiet : Bool) → unless_quiet quiet [] ≡ []
 quiet_none true = refl

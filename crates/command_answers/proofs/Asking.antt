@@ -8,7 +8,8 @@ use Rattle.memcached_commands.specs.Answers.{unless_quiet}
 use Rattle.fronts.specs.Answered.{Answered, step_in, steps_of, count_of_writes}
 use Rattle.fronts.specs.Session.{Sessions}
 use Rattle.fronts.proofs.InOrder.{answers_append}
-use Rattle.command_answers.specs.AskAnswers.{AnswersAsks, said_of, asks_text}
+use Rattle.command_answers.specs.AskAnswers.{AnswersAsks, said_of, quiet_of, asks_text}
+use Rattle.command_answers.specs.declared.plain.Style.{Style}
 use Rattle.command_answers.specs.Going.{AnswersAt, AnswersFirst, ask_text}
 use Rattle.command_answers.specs.Seconds.{ToldFrom}
 use Rattle.command_answers.proofs.AskLaws.{tells_more, more_answers, more_text, one_text, quiet_both}
@@ -26,16 +27,16 @@ module _ {options : Options} {is_alone : Bool} {base : ℕ} {asks : List Asked} 
   }
 
 -- and the text that is due to one more
-pub text_more : (base : ℕ) (quiet unique : Bool) (asks left : List Asked) (answers : List Answered) (asked : Asked) (a : Answered) (before here after : List ℕ)
-    → drop (length answers) asks ≡ asked ∷ left → here ≡ before ++ unless_quiet quiet (asks_text base unique asks answers)
-    → after ≡ here ++ ask_text quiet unique (length left == 0) asked.key (said_of base asked a)
-    → after ≡ before ++ unless_quiet quiet (asks_text base unique asks (answers ++ a ∷ []))
-text_more base quiet unique asks left answers asked a before here after left_is first then =
-    let so_far = unless_quiet quiet (asks_text base unique asks answers) in
-    then ∙ ap (λ text. text ++ ask_text quiet unique (length left == 0) asked.key (said_of base asked a)) first
-    ∙ append_assoc before so_far (ask_text quiet unique (length left == 0) asked.key (said_of base asked a)) ∙ ap (λ text. before ++ text)
-    (ap (λ text. so_far ++ text) (one_text base quiet unique asked left a ∙ ap (λ l. unless_quiet quiet (asks_text base unique l (a ∷ []))) (sym left_is))
-    ∙ sym (quiet_both quiet (asks_text base unique asks answers) (asks_text base unique (drop (length answers) asks) (a ∷ []))) ∙ ap (unless_quiet quiet) (sym (more_text base unique asks answers (a ∷ []))))
+pub text_more : (base : ℕ) (style : Style) (asks left : List Asked) (answers : List Answered) (asked : Asked) (a : Answered) (before here after : List ℕ)
+    → drop (length answers) asks ≡ asked ∷ left → here ≡ before ++ unless_quiet (quiet_of style) (asks_text base style asks answers)
+    → after ≡ here ++ ask_text style (length left == 0) asked.key (said_of base asked a)
+    → after ≡ before ++ unless_quiet (quiet_of style) (asks_text base style asks (answers ++ a ∷ []))
+text_more base style asks left answers asked a before here after left_is first then =
+    let so_far = unless_quiet (quiet_of style) (asks_text base style asks answers) in
+    then ∙ ap (λ text. text ++ ask_text style (length left == 0) asked.key (said_of base asked a)) first
+    ∙ append_assoc before so_far (ask_text style (length left == 0) asked.key (said_of base asked a)) ∙ ap (λ text. before ++ text)
+    (ap (λ text. so_far ++ text) (one_text base style asked left a ∙ ap (λ l. unless_quiet (quiet_of style) (asks_text base style l (a ∷ []))) (sym left_is))
+    ∙ sym (quiet_both (quiet_of style) (asks_text base style asks answers) (asks_text base style (drop (length answers) asks) (a ∷ []))) ∙ ap (unless_quiet (quiet_of style)) (sym (more_text base style asks answers (a ∷ []))))
 
 -- how many writes are among one answer more
 pub writes_more : (answers : List Answered) (a : Answered) → count_of_writes (answers ++ a ∷ []) ≡ count_of_writes answers + count_of_writes (a ∷ [])

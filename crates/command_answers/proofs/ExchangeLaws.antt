@@ -19,7 +19,7 @@ use Rattle.memcached_stats.specs.Stats.{Told, stats_text}
 use Rattle.memcached_stats.proofs.Untold.{untold}
 use Rattle.command_answers.specs.AskAnswers.{AnswersAsks, asks_text}
 use Rattle.command_answers.specs.FlushAnswers.{FlushesFrom, flush_at}
-use Rattle.command_answers.specs.Exchange.{Exchange, AnswersBy, AnswersNext, asks_stats, is_flush_all, flush_due, count_of_answers, is_answered, is_quiet, wants_numbers, plain_text, keyed_text, flush_text, text_by, due_to, due_before, IsOpenAt, longer}
+use Rattle.command_answers.specs.Exchange.{Exchange, AnswersBy, AnswersNext, asks_stats, is_flush_all, flush_due, count_of_answers, is_answered, is_quiet, style_of, plain_text, keyed_text, flush_text, text_by, due_to, due_before, IsOpenAt, longer}
 use Rattle.fronts.specs.Session.{Sessions, AnswersInOrder}
 use Rattle.command_answers.specs.declared.answer.Limits.{Limits}
 use Rattle.command_answers.specs.declared.answer.Progress.{Progress}
@@ -43,12 +43,12 @@ module _ (options : Options) (base : ℕ) (next : Next) (done : ℕ) where
   -- Asks of keys
 
   keyed_is : (told : Told) (asks : List Asked) (answers : List Answered) → 0 < length asks
-      → keyed_text options.partitions base told next asks answers ≡ asks_text base (wants_numbers next) asks answers
+      → keyed_text options.partitions base told next asks answers ≡ asks_text base (style_of next) asks answers
   keyed_is told [] answers some = absurd (omega (arith, some))
   keyed_is told (asked ∷ asks) answers some = refl
 
   text_is : (told : Told) (answers : List Answered) → is_flush_all next ≡ false → 0 < length (asks_in next)
-      → text_by options base told next answers ≡ asks_text base (wants_numbers next) (asks_in next) answers
+      → text_by options base told next answers ≡ asks_text base (style_of next) (asks_in next) answers
   text_is told answers keyed some =
       ap (λ t. cond t (flush_text (length answers == options.partitions) answers) (keyed_text options.partitions base told next (asks_in next) answers)) keyed
       ∙ keyed_is told (asks_in next) answers some
@@ -65,22 +65,22 @@ module _ (options : Options) (base : ℕ) (next : Next) (done : ℕ) where
 
     pub asks_are_due : IsOpenAt next done → 0 < length (asks_in next) → (e : Exchange) → StandsAt options base next done e
         → due_to options base (longer e answers told)
-        ≡ due_before options base e ++ unless_quiet (is_quiet next) (asks_text base (wants_numbers next) (drop done (asks_in next)) answers)
+        ≡ due_before options base e ++ unless_quiet (is_quiet next) (asks_text base (style_of next) (drop done (asks_in next)) answers)
     asks_are_due stands some e at =
         let quiet = is_quiet next in
-        let unique = wants_numbers next in
+        let style = style_of next in
         let less = is_below next done stands some in
         let not_yet : is_answered options e ≡ false =
         ap (λ n. length e.answers == count_of_answers options n) at.next_is ∙ ap (λ t. length e.answers == cond t options.partitions (length (asks_in next))) keyed
         ∙ ne_eqb (length e.answers) (length (asks_in next)) (λ all. absurd (omega (arith, less, at.count, all))) in
-        let before : due_before options base e ≡ unless_quiet quiet (asks_text base unique (asks_in next) e.answers) =
+        let before : due_before options base e ≡ unless_quiet quiet (asks_text base style (asks_in next) e.answers) =
         ap (λ t. cond t [] (due_to options base e)) not_yet ∙ ap (λ n. unless_quiet (is_quiet n) (text_by options base e.told n e.answers)) at.next_is
         ∙ ap (unless_quiet quiet) (text_is e.told e.answers keyed some) in
-        let after : due_to options base (longer e answers told) ≡ unless_quiet quiet (asks_text base unique (asks_in next) (e.answers ++ answers)) =
+        let after : due_to options base (longer e answers told) ≡ unless_quiet quiet (asks_text base style (asks_in next) (e.answers ++ answers)) =
         ap (λ n. unless_quiet (is_quiet n) (text_by options base told n (e.answers ++ answers))) at.next_is ∙ ap (unless_quiet quiet) (text_is told (e.answers ++ answers) keyed some) in
-        after ∙ ap (unless_quiet quiet) (more_text base unique (asks_in next) e.answers answers) ∙ quiet_both quiet (asks_text base unique (asks_in next) e.answers) (asks_text base unique (drop (length e.answers) (asks_in next)) answers)
-        ∙ ap (λ n. unless_quiet quiet (asks_text base unique (asks_in next) e.answers) ++ unless_quiet quiet (asks_text base unique (drop n (asks_in next)) answers)) at.count
-        ∙ ap (λ text. text ++ unless_quiet quiet (asks_text base unique (drop done (asks_in next)) answers)) (sym before)
+        after ∙ ap (unless_quiet quiet) (more_text base style (asks_in next) e.answers answers) ∙ quiet_both quiet (asks_text base style (asks_in next) e.answers) (asks_text base style (drop (length e.answers) (asks_in next)) answers)
+        ∙ ap (λ n. unless_quiet quiet (asks_text base style (asks_in next) e.answers) ++ unless_quiet quiet (asks_text base style (drop n (asks_in next)) answers)) at.count
+        ∙ ap (λ text. text ++ unless_quiet quiet (asks_text base style (drop done (asks_in next)) answers)) (sym before)
 
   -- Nothing is asked
 
@@ -281,7 +281,7 @@ module _ (options : Options) (is_alone : Bool) (base : ℕ) (next : Next) (done 
 
     pub asks_reply : (limits : Limits) (before after : List ℕ) (count : ℕ) (left : List Asked) → 0 < length (asks_in next)
         → AnswersAsks base (drop done (asks_in next)) answers
-        → RepliesFirst base (is_quiet next) (wants_numbers next) (drop done (asks_in next)) limits answers before after count left
+        → RepliesFirst base (style_of next) (drop done (asks_in next)) limits answers before after count left
         → Replies options base next done limits answers before after (record { done = done + count; is_whole = length left == 0 })
     asks_reply limits before after count left some to_asks r =
         let less = is_below next done stands some in
@@ -289,7 +289,7 @@ module _ (options : Options) (is_alone : Bool) (base : ℕ) (next : Next) (done 
         let len = length-drop done (asks_in next) in
         let fits : done + count ≤ length (asks_in next) = let many = r.many in omega (arith, few, len, less, many) in
         let end : (length left == 0) ≡ (done + count == length (asks_in next)) = ap (λ l. length l == 0) r.left_is ∙ same_end count fits in record {
-          text = unless_quiet (is_quiet next) (asks_text base (wants_numbers next) (drop done (asks_in next)) answers);
+          text = unless_quiet (is_quiet next) (asks_text base (style_of next) (drop done (asks_in next)) answers);
           told = untold;
           appended = r.text;
           due = asks_are_due options base next done untold answers keyed stands some;

@@ -9,9 +9,9 @@ use Rattle.partition_model.specs.declared.write.Outcome.{Outcome}
 use Rattle.partition_model.specs.declared.write.Write.{Write}
 use Rattle.partition_model.specs.Run.{RunStep}
 use Rattle.memcached_text.specs.declared.item.Item.{Item}
-use Rattle.memcached_text.specs.declared.command.Wants.TheVariants.{Whatever, Absent, Present, Numbered}
+use Rattle.memcached_text.specs.declared.command.Wants.TheVariants.{Whatever, Absent, Present, Numbered, AtLeast}
 use Rattle.memcached_commands.specs.declared.ask.Ask.{Ask}
-use Rattle.memcached_commands.specs.declared.ask.Ask.TheVariants.{Get, GetTouch, Store, Join, Count, Touch, Delete, Spoil}
+use Rattle.memcached_commands.specs.declared.ask.Ask.TheVariants.{Get, GetTouch, Leased, Store, Join, Count, Touch, Delete, Mark, Spoil}
 use Rattle.memcached_commands.specs.declared.asks.Asked.{Asked}
 use Rattle.memcached_commands.specs.declared.moment.Moment.{Moment}
 use Rattle.memcached_commands.specs.Moments.{found_in}
@@ -25,7 +25,7 @@ use Rattle.fronts.specs.Answered.{Answered, changed, kept, count_of_writes}
 use Rattle.fronts.specs.Changing.{Becoming, count_of, stays, becomes, goes, write_for, write_by, IsFound, DoesWrite, ComesTo}
 use Rattle.fronts.specs.Looks.{Look}
 use Rattle.fronts.specs.Session.{Sessions, AnswersOne, ChangesOnly}
-use Rattle.fronts.proofs.WhenLaws.{alike, told_all}
+use Rattle.fronts.proofs.WhenLaws.{told_all}
 use Rattle.memcached_decisions.proofs.Becomings.{says_alike}
 use Rattle.command_answers.specs.AskAnswers.{order_of, said_of}
 use Rattle.command_answers.specs.Going.{AnswersAt, value_found}
@@ -38,14 +38,17 @@ blind : (at : Moment) (ask : Ask) (one other : Option Item) → looks ask ≡ fa
 unfolding decided.decide
 blind at Get one other is = absurd (true≢false is)
 blind at (GetTouch lifetime) one other is = absurd (true≢false is)
+blind at (Leased lease) one other is = absurd (true≢false is)
 blind at (Store Whatever flags lifetime value) one other is = refl
 blind at (Store Absent flags lifetime value) one other is = absurd (true≢false is)
 blind at (Store Present flags lifetime value) one other is = absurd (true≢false is)
 blind at (Store (Numbered unique) flags lifetime value) one other is = absurd (true≢false is)
-blind at (Join side more) one other is = absurd (true≢false is)
-blind at (Count direction delta) one other is = absurd (true≢false is)
+blind at (Store (AtLeast unique) flags lifetime value) one other is = absurd (true≢false is)
+blind at (Join side unique more) one other is = absurd (true≢false is)
+blind at (Count direction delta unique lifetime initial) one other is = absurd (true≢false is)
 blind at (Touch lifetime) one other is = absurd (true≢false is)
-blind at Delete one other is = absurd (true≢false is)
+blind at (Delete unique) one other is = absurd (true≢false is)
+blind at (Mark unique lifetime) one other is = absurd (true≢false is)
 blind at Spoil one other is = refl
 
 pub says_stored : (order : Order) (when : When) (found : Option Answer) (buffer : List ℕ) (value : Option (List ℕ)) (outcome : Option Outcome)
@@ -92,7 +95,7 @@ module _ (options : Options) (is_alone : Bool) (base second : ℕ) (asked : Aske
       said : (outcome : Option Outcome) → c.outcome ≡ outcome → says_by order c.when (value_found c.found buffer) c.outcome ≡ says_by order look.when look.value outcome
       said outcome is =
           says_stored order c.when c.found buffer look.value c.outcome comes.found
-          ∙ says_alike order c.when look.when look.value c.outcome (alike becoming c.when look.when comes.tells) ∙ ap (says_by order look.when look.value) is
+          ∙ says_alike order c.when look.when look.value c.outcome comes.tells ∙ ap (says_by order look.when look.value) is
 
       go : (write : Option Write) (outcome : Option Outcome) → write_by becoming asked.key look ≡ write → c.outcome ≡ outcome
           → DoesWrite options is_alone (old (partition_of asked.key options.partitions)) asked.key write outcome c.stamp look (new (partition_of asked.key options.partitions))

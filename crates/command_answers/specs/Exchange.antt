@@ -16,7 +16,9 @@ use Rattle.memcached_commands.specs.declared.asks.Asked.{Asked}
 use Rattle.memcached_commands.specs.Asks as asks
 use Rattle.memcached_commands.specs.Answers.{unless_quiet}
 use Rattle.fronts.specs.Answered.{Answered, accepts}
-use Rattle.command_answers.specs.AskAnswers.{AnswersAsks, asks_text}
+use Rattle.command_answers.specs.AskAnswers.{AnswersAsks, quiet_of, asks_text}
+use Rattle.command_answers.specs.declared.plain.Style.{Style}
+use Rattle.command_answers.specs.declared.plain.Style.TheVariants.{Classic}
 use Rattle.command_answers.specs.FlushAnswers.{FlushesFrom, flush_at}
 use Rattle.memcached_stats.specs.Stats.{Told, stats_text}
 
@@ -66,16 +68,20 @@ abbrev pub asks_stats : Next → Bool
 asks_stats (nexts.Command command len) = is_command_stats command
 asks_stats _ = false
 
--- whether no reply is wanted
-abbrev pub is_quiet : Next → Bool
-is_quiet (nexts.Command command len) = quiets.is_quiet command
-is_quiet (nexts.Refused fault stale quiet len) = quiet
-is_quiet _ = false
-
 -- whether unique numbers are wanted
 abbrev pub wants_numbers : Next → Bool
 wants_numbers (nexts.Command command len) = asks.wants_numbers command
 wants_numbers _ = false
+
+-- how what was said is replied to
+abbrev pub style_of : Next → Style
+style_of (nexts.Command command len) = Classic (quiets.is_quiet command) (asks.wants_numbers command)
+style_of (nexts.Refused fault stale quiet len) = Classic quiet false
+style_of _ = Classic false false
+
+-- whether no reply is wanted
+abbrev pub is_quiet : Next → Bool
+is_quiet next = quiet_of (style_of next)
 
 -- what is due to a command that asks nothing: it is carried out by its reply alone
 abbrev pub plain_command_text : ℕ → Told → Command → List ℕ
@@ -97,7 +103,7 @@ plain_text partitions told nexts.LongLine = reply_text replies.LongLine
 -- what is due where this is asked, or nothing
 abbrev pub keyed_text : ℕ → ℕ → Told → Next → List Asked → List Answered → List ℕ
 keyed_text partitions base told next [] answers = plain_text partitions told next
-keyed_text partitions base told next (asked ∷ later) answers = asks_text base (wants_numbers next) (asked ∷ later) answers
+keyed_text partitions base told next (asked ∷ later) answers = asks_text base (style_of next) (asked ∷ later) answers
 
 -- what is due to a flush of all partitions; one that takes no more writes has no room for it
 abbrev pub flush_text : Bool → List Answered → List ℕ

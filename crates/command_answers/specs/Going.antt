@@ -5,16 +5,16 @@ use Rattle.partition_model.specs.declared.options.Options.{Options}
 use Rattle.partition_model.specs.declared.write.Answer.{Answer}
 use Rattle.partition_model.specs.declared.write.Answer.TheVariants.{Hit}
 use Rattle.memcached_text.specs.declared.next.Next.{Next}
-use Rattle.memcached_text.specs.Answer.{last_text}
 use Rattle.memcached_commands.specs.declared.asks.Asked.{Asked}
 use Rattle.memcached_commands.specs.declared.ask.Says.{Says}
-use Rattle.memcached_commands.specs.Answers.{last_of, unless_quiet}
+use Rattle.memcached_commands.specs.Answers.{unless_quiet}
 use Rattle.fronts.specs.Answered.{Answered}
 use Rattle.fronts.specs.Session.{Sessions, Answers, AnswersInOrder}
 use Rattle.command_answers.specs.declared.answer.Limits.{Limits}
 use Rattle.command_answers.specs.declared.answer.Progress.{Progress}
+use Rattle.command_answers.specs.declared.plain.Style.{Style}
 use Rattle.command_answers.specs.Seconds.{second_in, seconds_of, ToldFrom}
-use Rattle.command_answers.specs.AskAnswers.{AnswersAsk, AnswersAsks, shown_text, asks_text}
+use Rattle.command_answers.specs.AskAnswers.{AnswersAsk, AnswersAsks, quiet_of, shown_text, line_text, asks_text}
 use Rattle.memcached_stats.specs.Stats.{Told}
 use Rattle.command_answers.specs.Exchange.{Exchange, AnswersNext, IsOpenAt, count_of_answers, due_before, due_to, longer}
 
@@ -33,8 +33,8 @@ value_found (Some Hit) buffer = Some buffer
 value_found _ buffer = None
 
 -- the text that is due to it: the item that is shown, and behind the last ask the last line
-abbrev pub ask_text : Bool → Bool → Bool → List ℕ → Says → List ℕ
-ask_text quiet unique is_last key says = unless_quiet quiet (shown_text unique key says ++ (if is_last then last_text (last_of says) else []))
+abbrev pub ask_text : Style → Bool → List ℕ → Says → List ℕ
+ask_text style is_last key says = unless_quiet (quiet_of style) (shown_text style key says ++ (if is_last then line_text style says else []))
 
 -- These asks were answered, as far as the answers go.
 pub record AnswersFirst (options : Options) (is_alone : Bool) (base : ℕ) (asks : List Asked) (old : Sessions) (told : ClockView) (new : Sessions) (tells : ClockView)
@@ -44,11 +44,11 @@ pub record AnswersFirst (options : Options) (is_alone : Bool) (base : ℕ) (asks
   pub to_asks : AnswersAsks base asks answers
 
 -- The text that is due to them was appended. All are answered; or as many are as the limits allow.
-pub record RepliesFirst (base : ℕ) (quiet unique : Bool) (asks : List Asked) (limits : Limits) (answers : List Answered) (old new : List ℕ) (count : ℕ) (left : List Asked)
+pub record RepliesFirst (base : ℕ) (style : Style) (asks : List Asked) (limits : Limits) (answers : List Answered) (old new : List ℕ) (count : ℕ) (left : List Asked)
     : Type 0 where
   pub many : count ≡ length answers
   pub left_is : left ≡ drop count asks
-  pub text : new ≡ old ++ unless_quiet quiet (asks_text base unique asks answers)
+  pub text : new ≡ old ++ unless_quiet (quiet_of style) (asks_text base style asks answers)
   pub stops : (left ≡ []) ⊎ ((count ≡ limits.asks) ⊎ (limits.bytes ≤ length new))
 
 -- An exchange

@@ -185,7 +185,7 @@ fn answer_asks<'a, F: Changes, C: Clock>(
     requires left { limits.asks ≤ F.left front.old }
     ensures answered { (answers : List Answered)
         × AnswersFirst (F.options front.old) F.is_alone base asks.old (F.sessions front.old) (C.view clock.old) (F.sessions front.new) (C.view clock.new) answers
-        × IfOk result (λ count. RepliesFirst base style.quiet style.unique asks.old limits answers out.old.items out.new.items count asks.new)
+        × IfOk result (λ count. RepliesFirst base style asks.old limits answers out.old.items out.new.items count asks.new)
         × (F.left front.old ≤ F.left front.new + count_of_writes answers)
         × (buffers.new.tally ≡ tally_after_all base partitions asks.old answers buffers.old.tally)
         × (length answers ≤ limits.asks) }
@@ -246,6 +246,7 @@ pub fn answer_next<'a, F: Changes, C: Clock>(
     ensures stands { F.stands front.new ≡ F.stands front.old }
 {
     let style = style_of(&next);
+    let quiet = style.is_quiet();
     buffers.tally.count(counter_by(&next));
     if is_flush_all(&next) {
         return answer_flush(
@@ -254,7 +255,7 @@ pub fn answer_next<'a, F: Changes, C: Clock>(
             numbering.partitions,
             flush_due(&next),
             &mut buffers.next,
-            style.quiet,
+            quiet,
             out,
         );
     }
@@ -264,7 +265,7 @@ pub fn answer_next<'a, F: Changes, C: Clock>(
     let line = plain_line(&next);
     let mut asks = Asks::by(next);
     if asks.is_empty() {
-        let Ok(()) = put_line(out, style.quiet, line) else {
+        let Ok(()) = put_line(out, quiet, line) else {
             return Err(NoMemory);
         };
         return Ok(Progress {

@@ -29,17 +29,14 @@ fn put_said(
     key: &[u8],
     says: &Says,
 ) -> Result<(), NoMemory>
-    ensures ok { OnOk result (out.new.items ≡ out.old.items ++ ask_text style.quiet style.unique is_last key.now says.now) }
+    ensures ok { OnOk result (out.new.items ≡ out.old.items ++ ask_text style is_last key.now says.now) }
     ensures err { OnErr result (out.new.items ≡ out.old.items) }
     ensures short { length out.new.items ≤ length out.old.items + length key.now + shown_len says.now + MAX_FRAME_LEN }
 {
-    if style.quiet {
-        return Ok(());
-    }
-    if is_last {
-        put_whole(out, style.unique, key, says)
-    } else {
-        put_part(out, style.unique, key, says)
+    match style {
+        Style::Classic { quiet: true, .. } => Ok(()),
+        Style::Classic { unique, .. } if is_last => put_whole(out, unique, key, says),
+        Style::Classic { unique, .. } => put_part(out, unique, key, says),
     }
 }
 
@@ -100,7 +97,7 @@ pub fn answer_ask<F: Changes, C: Clock>(
     requires left { 0 < F.left front.old }
     ensures answered { (answered : Answered)
         × AnswersAt (F.options front.old) F.is_alone base (C.view clock.new).last (F.sessions front.old) asked.now (F.sessions front.new) answered
-        × OnOk result (out.new.items ≡ out.old.items ++ ask_text style.quiet style.unique is_last asked.now.key (said_of base asked.now answered))
+        × OnOk result (out.new.items ≡ out.old.items ++ ask_text style is_last asked.now.key (said_of base asked.now answered))
         × (F.left front.old ≤ F.left front.new + count_of_writes (answered ∷ []))
         × (buffers.new.tally ≡ tally_after base partitions asked.now answered buffers.old.tally) }
     ensures err { OnErr result (out.new.items ≡ out.old.items) }

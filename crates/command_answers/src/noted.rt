@@ -64,5 +64,9 @@ impl Noted {
 
 // Whether a command uses an item without making a new one.
 fn uses(ask: &Ask) -> bool {
-    matches!(ask, Ask::GetTouch(_) | Ask::Count { .. } | Ask::Touch(_))
+    match ask {
+        Ask::GetTouch(_) | Ask::Count { .. } | Ask::Touch(_) => true,
+        Ask::Leased(lease) => lease.touch.is_some(),
+        _ => false,
+    }
 }

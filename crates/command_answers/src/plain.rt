@@ -3,7 +3,7 @@ ghost use Rattle.std.specs.Prelude.{◌≡◌, ◌≤◌, ◌+◌, ◌++◌, ℕ
 ghost use Rattle.memcached_text.specs.declared.limits.TheConstants.{MAX_FRAME_LEN};
 ghost use Rattle.memcached_commands.specs.Answers.{unless_quiet};
 ghost use Rattle.memcached_stats.specs.Stats.{Told};
-ghost use Rattle.command_answers.specs.Exchange.{asks_stats, is_command_stats, plain_command_text, plain_text, is_quiet, wants_numbers};
+ghost use Rattle.command_answers.specs.Exchange.{asks_stats, is_command_stats, plain_command_text, plain_text, style_of};
 
 use memcached_commands::wants_numbers;
 use memcached_text::{Command, Next, Reply, fault_line, reply_line};
@@ -11,28 +11,43 @@ use outside::NoMemory;
 
 /// How what was said is to be replied to.
 #[derive(Clone, Copy)]
-pub struct Style {
-    /// No reply is wanted.
-    pub quiet: bool,
-    /// Unique numbers are wanted.
-    pub unique: bool,
+pub enum Style {
+    /// As to lines with no flags.
+    Classic {
+        /// No reply is wanted.
+        quiet: bool,
+        /// Unique numbers are wanted.
+        unique: bool,
+    },
+}
+
+impl Style {
+    ghost use Rattle.command_answers.specs.AskAnswers.{quiet_of};
+
+    /// Whether no reply is wanted.
+    pub fn is_quiet(self) -> bool
+        ensures { result ≡ quiet_of self }
+    {
+        match self {
+            Style::Classic { quiet, .. } => quiet,
+        }
+    }
 }
 
 /// How what was said is to be replied to.
 pub fn style_of(next: &Next) -> Style
-    ensures quiet { result.quiet ≡ is_quiet next.now }
-    ensures unique { result.unique ≡ wants_numbers next.now }
+    ensures { result ≡ style_of next.now }
 {
     match next {
-        Next::Command { command, .. } => Style {
+        Next::Command { command, .. } => Style::Classic {
             quiet: command.is_quiet(),
-            unique: memcached_commands::wants_numbers(command),
+            unique: wants_numbers(command),
         },
-        Next::Refused { quiet, .. } => Style {
+        Next::Refused { quiet, .. } => Style::Classic {
             quiet: *quiet,
             unique: false,
         },
-        Next::More | Next::LongLine => Style {
+        Next::More | Next::LongLine => Style::Classic {
             quiet: false,
             unique: false,
         },

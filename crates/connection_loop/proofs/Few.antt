@@ -10,7 +10,7 @@ use Rattle.std.proofs.lemmas.List.Sums.{count_by-le-length, length-filter}
 use Rattle.memcached_text.specs.declared.limits.TheConstants.{MAX_TEXT_LEN, MAX_LINE_LEN}
 use Rattle.memcached_text.specs.declared.lifetime.Lifetime.{Lifetime}
 use Rattle.memcached_text.specs.declared.command.Command.TheVariants as commands
-use Rattle.memcached_text.specs.declared.command.Wants.TheVariants.{Whatever, Absent, Present, Numbered}
+use Rattle.memcached_text.specs.declared.command.Wants.TheVariants.{Whatever, Absent, Present, Numbered, AtLeast}
 use Rattle.memcached_text.specs.declared.command.Direction.{Direction}
 use Rattle.memcached_text.specs.declared.command.Direction.TheVariants.{Up, Down}
 use Rattle.memcached_text.specs.declared.command.Side.TheVariants.{Front, Back}
@@ -249,6 +249,7 @@ module _ (most : ℕ) (some : 1 ≤ most) where
   stale_few (Store Absent) key fault quiet len there = (omega arith, omega arith)
   stale_few (Store Present) key fault quiet len there = (omega arith, omega arith)
   stale_few (Store (Numbered u)) key fault quiet len there = (omega arith, omega arith)
+  stale_few (Store (AtLeast u)) key fault quiet len there = (omega arith, omega arith)
   stale_few (Join side) key fault quiet len there = (omega arith, omega arith)
 
   blocked_few : (item : ItemLine) (quiet : Bool) (len : ℕ) (block : Block) → 1 ≤ len → IsFewNext (blocked item quiet len block)

@@ -8,7 +8,7 @@ ghost use Rattle.option_words.specs.ProgramWords.{words_of};
 ghost use Rattle.daemon.specs.Numbers.{exit_number};
 ghost use Rattle.daemon.specs.Files.{files_facts};
 ghost use Rattle.daemon.specs.Daemon.{daemon_outside};
-ghost use Rattle.daemon.specs.Exit.{first_number, BeginsAbove, DaemonExits};
+ghost use Rattle.daemon.specs.Exit.{first_number, BeginsAbove, BeginsExact, DaemonExits};
 
 use crate::{DaemonStatus, Files, Process, Speaker, daemon};
 use connections::Listeners;
@@ -21,20 +21,27 @@ use std::process::ExitCode;
 use std::sync::Wait;
 use std::thread::Threads;
 
-// Unique numbers of values begin at this many for each second of the clock: a server that starts later begins above the numbers of one before it,
-// as long as each second has no more writes than this.
-const NUMBERS_OF_A_SECOND: u64 = 1 << 24;
+// The beginning of 2024, from which on seconds count for unique numbers.
+const NUMBERS_SINCE: u64 = 1_704_067_200;
 
-// The first unique number of a value where the server starts in this second.
+// Unique numbers of values begin at this many for each second since then: a server that starts later begins above the numbers of one before it,
+// as long as each second has no more writes than this.
+const NUMBERS_OF_A_SECOND: u64 = 1 << 22;
+
+// The first unique number of a value where the server starts in this second. 0 is nobody's number.
 fn first_number(second: u64) -> u64
-    ensures { result ≡ first_number second }
+    ensures number { result ≡ first_number second }
+    ensures some { 1 ≤ result }
 {
-    second.min(1 << 39) * NUMBERS_OF_A_SECOND
+    let seconds = second.saturating_sub(NUMBERS_SINCE).min(1 << 39);
+    (1 + seconds * NUMBERS_OF_A_SECOND).min(1 << 61)
 }
 
-/// Unique numbers from before a restart are below those of after it.
+/// Unique numbers from before a restart are below those of after it, and a server that starts before 2092 begins below 2^53, so that a double holds its
+/// numbers.
 pub fn begins_above()
-    ensures { BeginsAbove }
+    ensures above { BeginsAbove }
+    ensures exact { BeginsExact }
 {}
 
 /// The number of a status.

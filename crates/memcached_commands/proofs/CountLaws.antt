@@ -9,6 +9,7 @@ use Rattle.std.proofs.lemmas.Fmt.{length-decimal-le}
 use Rattle.std.proofs.lemmas.List.{length-replicate}
 use Rattle.std.proofs.lemmas.Nat.{mod_below}
 use Rattle.std.proofs.lemmas.Option.{none-some}
+use Rattle.memcached_text.specs.declared.limits.TheConstants.{MAX_TEXT_LEN}
 use Rattle.memcached_text.specs.declared.command.Direction.{Direction}
 use Rattle.memcached_text.specs.declared.command.Direction.TheVariants.{Up, Down}
 use Rattle.memcached_text.specs.Numbers.{number_of}
@@ -55,6 +56,10 @@ padded_len len n = omega (arith, length-append (decimal n) (replicate (len - len
 
 pub padded_fits : (len most n : ℕ) → n < 2 ^ 64 → len ≤ most → 20 ≤ most → length (padded len n) ≤ most
 padded_fits len most n small fits room = omega (arith, padded_len len n, length-decimal-le 20 n (omega arith) (omega arith) small)
+
+-- the digits of a number are no longer than a value may be
+pub digits_fit : (n : ℕ) → n < 2 ^ 64 → length (decimal n) ≤ MAX_TEXT_LEN
+digits_fit n small = omega (arith, length-decimal-le 20 n (omega arith) (omega arith) small)
 
 digits_end : (digits rest : List ℕ) → all_ascii_digits digits ≡ true → digits_of rest ≡ [] → after_digits rest ≡ rest
     → (digits_of (digits ++ rest) ≡ digits) × (after_digits (digits ++ rest) ≡ rest)

@@ -8,96 +8,63 @@ use Rattle.std.specs.Option.{IfSome}
 use Rattle.mica_words.specs.Item.{StoredFits}
 use Rattle.memcached_text.specs.declared.limits.TheConstants.{HEADER_LEN, MAX_TEXT_LEN}
 use Rattle.memcached_text.specs.declared.command.Direction.{Direction}
-use Rattle.memcached_text.specs.declared.command.Side.{Side}
-use Rattle.memcached_text.specs.declared.command.Side.TheVariants.{Front, Back}
 use Rattle.memcached_text.specs.declared.item.Item.{Item}
 use Rattle.memcached_text.specs.declared.lifetime.Lifetime.{Lifetime}
 use Rattle.memcached_text.specs.declared.lifetime.Lifetime.TheVariants.{Forever, Over, For, Until}
-use Rattle.memcached_text.specs.Item.{item_text, item_in}
-use Rattle.memcached_text.specs.Lifetimes.{IsLifetime}
+use Rattle.memcached_text.specs.Item.{item_text, item_of, item_in}
+use Rattle.memcached_text.specs.Fit.{IsKept as IsFitLifetime}
 use Rattle.memcached_text.proofs.ItemLaws.{one_item}
 use Rattle.memcached_commands.specs.declared.moment.Moment.{Moment}
 use Rattle.memcached_commands.specs.declared.moment.TheConstants.{LAST_SECOND}
-use Rattle.memcached_text.specs.declared.fault.Fault.TheVariants.{TooLarge}
-use Rattle.memcached_text.specs.declared.reply.Reply.TheVariants.{Stored}
-use Rattle.memcached_text.specs.declared.command.Wants.TheVariants.{Whatever, Absent, Present, Numbered}
+use Rattle.memcached_text.specs.declared.reply.Reply.TheVariants.{Exists}
+use Rattle.memcached_text.specs.declared.command.Wants.{Wants}
+use Rattle.memcached_text.specs.declared.command.Wants.TheVariants.{Whatever, Absent, Present, Numbered, AtLeast}
 use Rattle.memcached_commands.specs.Changes.{only_gets, without_dead, ends_with_flush, becoming_of, looks}
 use Rattle.memcached_commands.specs.declared.ask.Says.{Says}
-use Rattle.memcached_commands.specs.declared.ask.Says.TheVariants.{Line, Refusal, Number}
+use Rattle.memcached_commands.specs.declared.ask.Says.TheVariants.{Line, Number}
+use Rattle.memcached_commands.specs.declared.ask.Initial.{Initial}
+use Rattle.memcached_commands.specs.declared.ask.Left.{Left}
 use Rattle.memcached_commands.specs.declared.ask.Ask.{Ask}
-use Rattle.memcached_commands.specs.declared.ask.Ask.TheVariants.{Get, GetTouch, Store, Join, Count, Touch, Delete, Spoil}
+use Rattle.memcached_commands.specs.declared.ask.Ask.TheVariants.{Get, GetTouch, Leased, Store, Join, Count, Touch, Delete, Mark, Spoil}
 use Rattle.memcached_commands.specs.Moments.{end_of, ended_by, is_there, found_in}
 use Rattle.memcached_commands.specs.Counting.{number_in, counted, padded}
-use Rattle.memcached_commands.specs.Decide.{Becoming, stays, becomes, goes, kept_until, joined, count_from, with_value, is_wanted, stored, missed, leaves, decide}
+use Rattle.memcached_commands.specs.Decide.{Becoming, stays, becomes, goes, kept_until, has_number, later_than, counted_item, count_from, leaves, decide}
 use Rattle.memcached_commands.specs.Fit.{IsFitAsk, IsFitStored}
-use Rattle.memcached_commands.specs.Laws.{IsFitItem, IsKept, BecomesKept, Fits, IsFitFound, IsGone, expired, flushed, LateIsNever, EndsAs, NeverLonger, EndsWithFlush, IsSameValue, OneNumberOneValue, CountsOn, CountsWrap, CountsGoOn}
-use Rattle.memcached_commands.proofs.CountLaws.{number_fits, counted_fits, padded_fits, padded_len, padded_reads}
+use Rattle.memcached_commands.specs.Laws.{IsFitItem, IsKept, BecomesKept, Fits, IsFitFound, IsGone, expired, flushed, LateIsNever, EndsAs, EndsAsAsked, asked_lifetime, NeverLonger, EndsWithFlush, IsSameValue, OneNumberOneValue, CountsOn, CountsWrap, CountsGoOn}
+use Rattle.memcached_commands.proofs.CountLaws.{number_fits, counted_fits, padded_len, padded_reads}
+use Rattle.memcached_commands.proofs.Decided.{asked_end, IsFitNext, Keeps, decided}
 
 fit_is_kept : (item : Item) → IsFitItem item → IsKept item
 unfolding item_text
 fit_is_kept item is = record { fit = is; fits = omega (arith, is.value); reads = one_item item is.numbers }
 
--- an item with another end
-later_fit : (item : Item) (end : ℕ) → end < 2 ^ 32 → IsFitItem item → IsKept (record item { expires = end })
-later_fit item end low is = fit_is_kept (record item { expires = end })
-    (record { numbers = record { flags = is.numbers.flags; expires = low; unique = is.numbers.unique }; value = is.value })
+-- one whose end is set
+ended_fit : (item : Item) (end : ℕ) → end < 2 ^ 32 → IsFitNext item → IsKept (record item { expires = end })
+ended_fit item end low is =
+    fit_is_kept (record item { expires = end }) (record { numbers = record { flags = is.flags; expires = low; unique = is.unique }; value = is.value })
 
-kept_fits : (second : ℕ) (lifetime : Lifetime) (item : Item) → IsLifetime lifetime → IsFitItem item → BecomesKept (kept_until (end_of second lifetime) item)
+kept_fits : (at : Moment) (lifetime : Option Lifetime) (found : Option Item) (item : Item) → IsFitLifetime lifetime → IsFitFound found → IsFitNext item
+    → BecomesKept (kept_until (asked_end at lifetime found) item)
 unfolding end_of
-kept_fits second Forever item life is = later_fit item 0 (omega arith) is
-kept_fits second Over item life is = tt
-kept_fits second (For seconds) item life is = later_fit item _ (omega arith) is
-kept_fits second (Until end) item life is = go (nat_le end second)
+kept_fits at None None item life fit is = tt
+kept_fits at None (Some old) item life fit is = ended_fit item old.expires fit.numbers.expires is
+kept_fits at (Some Forever) found item life fit is = ended_fit item 0 (omega arith) is
+kept_fits at (Some Over) found item life fit is = tt
+kept_fits at (Some (For seconds)) found item life fit is = ended_fit item _ (omega arith) is
+kept_fits at (Some (Until end)) found item life fit is = go (nat_le end at.second)
   where
     go : (t : Bool) → BecomesKept (kept_until (cond t None (Some end)) item)
     go true = tt
-    go false = later_fit item end life.1 is
+    go false = ended_fit item end life.1 is
 
-joined_len : (side : Side) (more value : List ℕ) → length (joined side more value) ≡ length value + length more
-joined_len Front more value = omega (arith, length-append more value)
-joined_len Back more value = omega (arith, length-append value more)
-
--- an item with another value
-valued_fit : (at : Moment) (item : Item) (value : List ℕ) → at.unique < 2 ^ 64 → length value ≤ MAX_TEXT_LEN → IsFitItem item
-    → IsKept (record item { unique = at.unique; value = value })
-valued_fit at item value low short is = fit_is_kept (record item { unique = at.unique; value = value })
-    (record { numbers = record { flags = is.numbers.flags; expires = is.numbers.expires; unique = low }; value = short })
-
-count_fits : (at : Moment) (direction : Direction) (delta : ℕ) (item : Item) (number : Option ℕ) → at.unique < 2 ^ 64 → IsFitItem item
-    → number_in item.value ≡ number → BecomesKept (count_from number at direction delta item).becoming
-count_fits at direction delta item None low is read = tt
-count_fits at direction delta item (Some n) low is read =
-    let small = counted_fits direction delta n (number_fits item.value n read) in
-    valued_fit at item _ low (padded_fits (length item.value) MAX_TEXT_LEN _ small is.value (omega arith)) is
-
-decided_fits : (at : Moment) (ask : Ask) (found : Option Item) → at.unique < 2 ^ 64 → IsFitAsk ask → IsFitFound found → BecomesKept (decide at ask found).becoming
-unfolding decide
-decided_fits at Get None low asked found = tt
-decided_fits at Get (Some item) low asked found = tt
-decided_fits at (GetTouch lifetime) None low asked found = tt
-decided_fits at (GetTouch lifetime) (Some item) low asked found = kept_fits at.second lifetime item asked found
-decided_fits at (Store wants flags lifetime value) found low asked is = go (is_wanted wants found)
-  where
-    new : Item
-    new = record { flags = flags; expires = 0; unique = at.unique; value = value }
-
-    go : (t : Bool) → BecomesKept (cond t (stored at flags lifetime value) (leaves (Line (missed wants found)))).becoming
-    go true = kept_fits at.second lifetime new asked.2 (record { numbers = record { flags = asked.1; expires = omega arith; unique = low }; value = asked.3 })
-    go false = tt
-decided_fits at (Join side more) None low asked found = tt
-decided_fits at (Join side more) (Some item) low asked found = go (nat_lt MAX_TEXT_LEN (length item.value + length more)) refl
-  where
-    go : (t : Bool) → nat_lt MAX_TEXT_LEN (length item.value + length more) ≡ t
-        → BecomesKept (cond t (leaves (Refusal TooLarge)) (record { becoming = with_value at (joined side more item.value) item; says = Line Stored })).becoming
-    go true long = tt
-    go false short = valued_fit at item _ low (omega (arith, joined_len side more item.value, ltb-false _ _ short)) found
-decided_fits at (Count direction delta) None low asked found = tt
-decided_fits at (Count direction delta) (Some item) low asked found = count_fits at direction delta item (number_in item.value) low found refl
-decided_fits at (Touch lifetime) None low asked found = tt
-decided_fits at (Touch lifetime) (Some item) low asked found = kept_fits at.second lifetime item asked found
-decided_fits at Delete None low asked found = tt
-decided_fits at Delete (Some item) low asked found = tt
-decided_fits at Spoil found low asked is = tt
+decided_fits : (at : Moment) (ask : Ask) (found : Option Item) → at.unique < 2 ^ 62 → IsFitAsk ask → IsFitFound found → BecomesKept (decide at ask found).becoming
+decided_fits at ask found low asked is = elim (decided at ask found) [
+  | inl left ↦ subst BecomesKept (sym left) tt
+  | inr more ↦ elim more [
+    | inl gone ↦ subst BecomesKept (sym gone) tt
+    | inr keeps ↦ subst BecomesKept (sym keeps.is) (kept_fits at (asked_lifetime ask found) found keeps.next (keeps.lasts asked) is (keeps.fits low asked is))
+  ]
+]
 
 -- and with a flush that waits
 ended_low : (until expires : ℕ) → expires < 2 ^ 32 → ended_by until expires < 2 ^ 32
@@ -110,7 +77,9 @@ ended_low until expires low = go (until == 0) (expires == 0)
 
 flush_fits : (at : Moment) (becoming : Becoming) → BecomesKept becoming → BecomesKept (ends_with_flush at becoming)
 flush_fits at stays is = tt
-flush_fits at (becomes item) is = later_fit item (ended_by at.until item.expires) (ended_low at.until item.expires is.fit.numbers.expires) is.fit
+flush_fits at (becomes item) is =
+    ended_fit item (ended_by at.until item.expires) (ended_low at.until item.expires is.fit.numbers.expires)
+    (record { flags = is.fit.numbers.flags; unique = is.fit.numbers.unique; value = is.fit.value })
 flush_fits at goes is = tt
 
 pub fits : Fits
@@ -138,10 +107,10 @@ unfolding item_in
 value_fits stored is = go (nat_lt (length stored) HEADER_LEN) refl
   where
     whole : Item
-    whole = record { flags = 0; expires = 0; unique = 0; value = stored }
+    whole = record { flags = 0; expires = 0; unique = 0; stale = false; won = false; value = stored }
 
     parted : Item
-    parted = record { flags = from_le_bytes w32 stored; expires = from_le_bytes w32 (drop 4 stored); unique = from_le_bytes w64 (drop 8 stored); value = drop HEADER_LEN stored }
+    parted = item_of (from_le_bytes w32 stored) (from_le_bytes w32 (drop 4 stored)) (from_le_bytes w64 (drop 8 stored)) (drop HEADER_LEN stored)
 
     go : (t : Bool) → nat_lt (length stored) HEADER_LEN ≡ t → length (cond t whole parted).value ≤ MAX_TEXT_LEN
     go true short = omega (arith, ltb-true _ _ short)
@@ -181,49 +150,34 @@ stays_no_item next is = absurd (true≢false (sym (ap is_item is)))
 goes_no_item : {X : Type 0} (next : Item) → goes ≡ becomes next → X
 goes_no_item next is = absurd (true≢false (sym (ap is_item is)))
 
-kept_ends : (second : ℕ) (lifetime : Lifetime) (item next : Item) → IsLifetime lifetime → kept_until (end_of second lifetime) item ≡ becomes next
-    → EndsAs second lifetime next.expires
+kept_ends : (at : Moment) (lifetime : Option Lifetime) (found : Option Item) (item next : Item) → IsFitLifetime lifetime
+    → kept_until (asked_end at lifetime found) item ≡ becomes next → EndsAsAsked at.second lifetime found next.expires
 unfolding end_of
-kept_ends second Forever item next life is = sym (ap (λ (i : Item). i.expires) (one_next _ next is))
-kept_ends second Over item next life is = goes_no_item next is
-kept_ends second (For seconds) item next life is =
+kept_ends at None None item next life is = goes_no_item next is
+kept_ends at None (Some old) item next life is = sym (ap (λ (i : Item). i.expires) (one_next _ next is))
+kept_ends at (Some Forever) found item next life is = sym (ap (λ (i : Item). i.expires) (one_next _ next is))
+kept_ends at (Some Over) found item next life is = goes_no_item next is
+kept_ends at (Some (For seconds)) found item next life is =
     let end = ap (λ (i : Item). i.expires) (one_next _ next is) in (omega (arith, end, life.0), omega (arith, end))
-kept_ends second (Until end) item next life is = go (nat_le end second) refl is
+kept_ends at (Some (Until end)) found item next life is = go (nat_le end at.second) refl is
   where
-    go : (t : Bool) → nat_le end second ≡ t → kept_until (cond t None (Some end)) item ≡ becomes next → EndsAs second (Until end) next.expires
+    go : (t : Bool) → nat_le end at.second ≡ t → kept_until (cond t None (Some end)) item ≡ becomes next → EndsAs at.second (Until end) next.expires
     go true past is = goes_no_item next is
     go false later is =
         let same = ap (λ (i : Item). i.expires) (one_next _ next is) in (omega (arith, same, leb-false _ _ later), sym same)
 
-count_ends : (at : Moment) (direction : Direction) (delta : ℕ) (item next : Item) (number : Option ℕ)
-    → (count_from number at direction delta item).becoming ≡ becomes next → next.expires ≡ item.expires
-count_ends at direction delta item next None is = stays_no_item next is
-count_ends at direction delta item next (Some n) is = sym (ap (λ (i : Item). i.expires) (one_next _ next is))
+-- what becomes an item is one that is kept
+pub keeps_one : (at : Moment) (ask : Ask) (found : Option Item) (next : Item) → (decide at ask found).becoming ≡ becomes next
+    → Keeps at ask found (asked_lifetime ask found) (becomes next)
+keeps_one at ask found next is = elim (decided at ask found) [
+  | inl left ↦ stays_no_item next (sym left ∙ is)
+  | inr more ↦ elim more [ inl gone ↦ goes_no_item next (sym gone ∙ is) | inr keeps ↦ subst (Keeps at ask found (asked_lifetime ask found)) is keeps ]
+]
 
 pub never_longer : NeverLonger
-unfolding decide
-never_longer at Get None next asked is = stays_no_item next is
-never_longer at Get (Some item) next asked is = stays_no_item next is
-never_longer at (GetTouch lifetime) None next asked is = stays_no_item next is
-never_longer at (GetTouch lifetime) (Some item) next asked is = kept_ends at.second lifetime item next asked is
-never_longer at (Store wants flags lifetime value) found next asked is = go (is_wanted wants found) is
-  where
-    go : (t : Bool) → (cond t (stored at flags lifetime value) (leaves (Line (missed wants found)))).becoming ≡ becomes next → EndsAs at.second lifetime next.expires
-    go true is = kept_ends at.second lifetime _ next asked.2 is
-    go false is = stays_no_item next is
-never_longer at (Join side more) None next asked is = stays_no_item next is
-never_longer at (Join side more) (Some item) next asked is = go (nat_lt MAX_TEXT_LEN (length item.value + length more)) is
-  where
-    go : (t : Bool) → (cond t (leaves (Refusal TooLarge)) (record { becoming = with_value at (joined side more item.value) item; says = Line Stored })).becoming ≡ becomes next → next.expires ≡ item.expires
-    go true is = stays_no_item next is
-    go false is = sym (ap (λ (i : Item). i.expires) (one_next _ next is))
-never_longer at (Count direction delta) None next asked is = stays_no_item next is
-never_longer at (Count direction delta) (Some item) next asked is = count_ends at direction delta item next (number_in item.value) is
-never_longer at (Touch lifetime) None next asked is = stays_no_item next is
-never_longer at (Touch lifetime) (Some item) next asked is = kept_ends at.second lifetime item next asked is
-never_longer at Delete None next asked is = stays_no_item next is
-never_longer at Delete (Some item) next asked is = goes_no_item next is
-never_longer at Spoil found next asked is = goes_no_item next is
+never_longer at ask found next asked is =
+    let keeps = keeps_one at ask found next is in
+    kept_ends at (asked_lifetime ask found) found keeps.next next (keeps.lasts asked) (sym keeps.is)
 
 -- what becomes an item is decided so
 alive_item : (reads : Bool) (stored : Option (List ℕ)) (found : Option Item) (becoming : Becoming) (item : Item) → without_dead reads stored found becoming ≡ becomes item → becoming ≡ becomes item
@@ -258,43 +212,16 @@ pub ends_with_it : EndsWithFlush
 ends_with_it at ask stored item some is =
     flush_ends at (decide at ask (found_in at stored)).becoming item some (alive_item (only_gets ask) stored (found_in at stored) _ item is)
 
-kept_same : (end : Option ℕ) (item next : Item) → kept_until end item ≡ becomes next → IsSameValue (Some item) next
-kept_same None item next is = goes_no_item next is
-kept_same (Some end) item next is =
-    let same = sym (one_next _ next is) in
-    (ap (λ (i : Item). i.unique) same, ap (λ (i : Item). i.flags) same, ap (λ (i : Item). i.value) same)
-
-count_is_new : (at : Moment) (direction : Direction) (delta : ℕ) (item next : Item) (number : Option ℕ)
-    → (count_from number at direction delta item).becoming ≡ becomes next → next.unique ≡ at.unique
-count_is_new at direction delta item next None is = stays_no_item next is
-count_is_new at direction delta item next (Some n) is = sym (ap (λ (i : Item). i.unique) (one_next _ next is))
+kept_number : (at : Moment) (found : Option Item) (end : Option ℕ) (item next : Item) → (item.unique ≡ at.unique) ⊎ IsSameValue found item → kept_until end item ≡ becomes next
+    → (next.unique ≡ at.unique) ⊎ IsSameValue found next
+kept_number at found None item next number is = goes_no_item next is
+kept_number at None (Some end) item next number is = subst (λ (i : Item). (i.unique ≡ at.unique) ⊎ IsSameValue None i) (one_next _ next is) number
+kept_number at (Some old) (Some end) item next number is = subst (λ (i : Item). (i.unique ≡ at.unique) ⊎ IsSameValue (Some old) i) (one_next _ next is) number
 
 pub one_number_one_value : OneNumberOneValue
-unfolding decide
-one_number_one_value at Get None next is = stays_no_item next is
-one_number_one_value at Get (Some item) next is = stays_no_item next is
-one_number_one_value at (GetTouch lifetime) None next is = stays_no_item next is
-one_number_one_value at (GetTouch lifetime) (Some item) next is = inr (kept_same (end_of at.second lifetime) item next is)
-one_number_one_value at (Store wants flags lifetime value) found next is = go (is_wanted wants found) is
-  where
-    go : (t : Bool) → (cond t (stored at flags lifetime value) (leaves (Line (missed wants found)))).becoming ≡ becomes next
-        → (next.unique ≡ at.unique) ⊎ IsSameValue found next
-    go true is = inl (kept_same (end_of at.second lifetime) _ next is).0
-    go false is = stays_no_item next is
-one_number_one_value at (Join side more) None next is = stays_no_item next is
-one_number_one_value at (Join side more) (Some item) next is = go (nat_lt MAX_TEXT_LEN (length item.value + length more)) is
-  where
-    go : (t : Bool) → (cond t (leaves (Refusal TooLarge)) (record { becoming = with_value at (joined side more item.value) item; says = Line Stored })).becoming ≡ becomes next
-        → (next.unique ≡ at.unique) ⊎ IsSameValue (Some item) next
-    go true is = stays_no_item next is
-    go false is = inl (sym (ap (λ (i : Item). i.unique) (one_next _ next is)))
-one_number_one_value at (Count direction delta) None next is = stays_no_item next is
-one_number_one_value at (Count direction delta) (Some item) next is = inl (count_is_new at direction delta item next (number_in item.value) is)
-one_number_one_value at (Touch lifetime) None next is = stays_no_item next is
-one_number_one_value at (Touch lifetime) (Some item) next is = inr (kept_same (end_of at.second lifetime) item next is)
-one_number_one_value at Delete None next is = stays_no_item next is
-one_number_one_value at Delete (Some item) next is = goes_no_item next is
-one_number_one_value at Spoil found next is = goes_no_item next is
+one_number_one_value at ask found next is =
+    let keeps = keeps_one at ask found next is in
+    kept_number at found (asked_end at (asked_lifetime ask found) found) keeps.next next keeps.number (sym keeps.is)
 
 around_once : (sum : ℕ) → 2 ^ 64 ≤ sum → sum < 2 ^ 64 + 2 ^ 64 → sum % 2 ^ 64 + 2 ^ 64 ≡ sum
 around_once sum high low =
@@ -311,30 +238,35 @@ counts number delta small few = record {
 }
 
 abbrev number_said : Says → ℕ
-number_said (Number n) = n
+number_said (Number n unique left made) = n
 number_said _ = 0
 
 abbrev is_number : Says → Bool
-is_number (Number n) = true
+is_number (Number n unique left made) = true
 is_number _ = false
 
-said_on : (at : Moment) (direction : Direction) (delta n : ℕ) (item : Item) (read : Option ℕ) → number_in item.value ≡ read
-    → (count_from read at direction delta item).says ≡ Number n → CountsOn at direction delta n item
+said_on : (at : Moment) (direction : Direction) (delta : ℕ) (unique : Option ℕ) (lifetime : Option Lifetime) (initial : Option Initial) (n : ℕ) (told : Option ℕ) (left : Left)
+    (made : Bool) (item : Item) (meant : Bool) (read : Option ℕ) → has_number unique item ≡ meant → number_in item.value ≡ read
+    → (cond meant (count_from read at direction delta lifetime item) (leaves (Line Exists))).says ≡ Number n told left made
+    → CountsOn at (Count direction delta unique lifetime initial) lifetime n item
 unfolding decide
-said_on at direction delta n item None read is = absurd (true≢false (sym (ap is_number is)))
-said_on at direction delta n item (Some m) read is =
+said_on at direction delta unique lifetime initial n told left made item false read meant reads is = absurd (true≢false (sym (ap is_number is)))
+said_on at direction delta unique lifetime initial n told left made item true None meant reads is = absurd (true≢false (sym (ap is_number is)))
+said_on at direction delta unique lifetime initial n told left made item true (Some m) meant reads is =
     let same : counted direction delta m ≡ n = ap number_said is in
-    let small = counted_fits direction delta m (number_fits item.value m read) in
+    let small = counted_fits direction delta m (number_fits item.value m reads) in
     record {
-      next = record item { unique = at.unique; value = padded (length item.value) (counted direction delta m) };
-      becoming = ap (λ r. (count_from r at direction delta item).becoming) read;
+      next = counted_item at direction delta m item;
+      becoming = ap (λ t. (cond t (count_from (number_in item.value) at direction delta lifetime item) (leaves (Line Exists))).becoming) meant
+          ∙ ap (λ r. (count_from r at direction delta lifetime item).becoming) reads;
       reads = padded_reads (length item.value) _ small ∙ ap (λ k. Some k) same;
       len = padded_len (length item.value) _ ∙ ap (λ k. max (length item.value) (length (decimal k))) same;
     }
 
 pub counts_go_on : CountsGoOn
 unfolding decide
-counts_go_on at direction delta n item is = said_on at direction delta n item (number_in item.value) refl is
+counts_go_on at direction delta unique lifetime initial n told left made item is =
+    said_on at direction delta unique lifetime initial n told left made item (has_number unique item) (number_in item.value) refl refl is
 
 -- only what stays is taken away where it is not there
 kept_alive : (at : Moment) (end : Option ℕ) (item : Item) (stored : Option (List ℕ)) (found : Option Item)
@@ -358,13 +290,24 @@ blind (Store Whatever flags lifetime value) is at one other = kept_alive at _ _ 
 blind Spoil is at one other = goes_alive one _ ∙ sym (goes_alive other _)
 blind Get is at one other = absurd (true≢false is)
 blind (GetTouch lifetime) is at one other = absurd (true≢false is)
+blind (Leased lease) is at one other = absurd (true≢false is)
 blind (Store Absent flags lifetime value) is at one other = absurd (true≢false is)
 blind (Store Present flags lifetime value) is at one other = absurd (true≢false is)
 blind (Store (Numbered unique) flags lifetime value) is at one other = absurd (true≢false is)
-blind (Join side more) is at one other = absurd (true≢false is)
-blind (Count direction delta) is at one other = absurd (true≢false is)
+blind (Store (AtLeast unique) flags lifetime value) is at one other = absurd (true≢false is)
+blind (Join side unique more) is at one other = absurd (true≢false is)
+blind (Count direction delta unique lifetime initial) is at one other = absurd (true≢false is)
 blind (Touch lifetime) is at one other = absurd (true≢false is)
-blind Delete is at one other = absurd (true≢false is)
+blind (Delete unique) is at one other = absurd (true≢false is)
+blind (Mark unique lifetime) is at one other = absurd (true≢false is)
+
+-- no later item is found where none is
+pub none_later : (wants : Wants) → later_than wants None ≡ None
+none_later Whatever = refl
+none_later Absent = refl
+none_later Present = refl
+none_later (Numbered unique) = refl
+none_later (AtLeast unique) = refl
 
 -- a command that only reads leaves whatever is stored
 pub left : (ask : Ask) → only_gets ask ≡ true → (at : Moment) (stored : Option (List ℕ)) → becoming_of at ask stored ≡ stays
@@ -375,9 +318,11 @@ left Get is at stored = nothing (found_in at stored)
     nothing None = refl
     nothing (Some item) = refl
 left (GetTouch lifetime) is at stored = absurd (true≢false (sym is))
+left (Leased lease) is at stored = absurd (true≢false (sym is))
 left (Store wants flags lifetime value) is at stored = absurd (true≢false (sym is))
-left (Join side more) is at stored = absurd (true≢false (sym is))
-left (Count direction delta) is at stored = absurd (true≢false (sym is))
+left (Join side unique more) is at stored = absurd (true≢false (sym is))
+left (Count direction delta unique lifetime initial) is at stored = absurd (true≢false (sym is))
 left (Touch lifetime) is at stored = absurd (true≢false (sym is))
-left Delete is at stored = absurd (true≢false (sym is))
+left (Delete unique) is at stored = absurd (true≢false (sym is))
+left (Mark unique lifetime) is at stored = absurd (true≢false (sym is))
 left Spoil is at stored = absurd (true≢false (sym is))

@@ -1,5 +1,7 @@
 pub mod AskLaws
 pub mod CountLaws
+pub mod Decided
 pub mod DecideLaws
+pub mod LeaseLaws
+pub mod MeantLaws
 pub mod SpaceLaws
-pub mod SaysLaws

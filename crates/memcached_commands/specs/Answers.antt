@@ -2,17 +2,17 @@
 use Rattle.std.specs.Prelude.{ℕ, Bool, true, false, List, [], ◌∷◌, length, flat_map, Some, None, if◌then◌else◌}
 use Rattle.memcached_text.specs.declared.item.Item.{Item}
 use Rattle.memcached_text.specs.declared.reply.Reply.{Reply}
-use Rattle.memcached_text.specs.declared.reply.Reply.TheVariants.{End, NoRoom, NoRoomToCount}
+use Rattle.memcached_text.specs.declared.reply.Reply.TheVariants.{Stored, End, NoRoom, NoRoomToCount}
 use Rattle.memcached_text.specs.Answer.{Part, value, Last, line, refusal, number, Answer}
 use Rattle.memcached_text.specs.Replies.{FoundValue}
 use Rattle.memcached_commands.specs.declared.ask.Ask.{Ask}
 use Rattle.memcached_commands.specs.declared.ask.Ask.TheVariants.{Count}
 use Rattle.memcached_commands.specs.declared.ask.Says.{Says}
-use Rattle.memcached_commands.specs.declared.ask.Says.TheVariants.{Line, Refusal, Number, Shows, Nothing}
+use Rattle.memcached_commands.specs.declared.ask.Says.TheVariants.{Line, Refusal, Stores, Number, Shows, Leases, Nothing}
 
 -- what is replied where the write of this found no room
 abbrev pub no_room : Ask → Reply
-no_room (Count direction delta) = NoRoomToCount
+no_room (Count direction delta unique lifetime initial) = NoRoomToCount
 no_room _ = NoRoom
 
 -- what a get tells of the item of a key, with its number where that is asked for
@@ -24,17 +24,20 @@ abbrev pub parts_of : Bool → List ℕ → Says → List Part
 parts_of unique key (Shows item) = value (found_of unique key item) ∷ []
 parts_of unique key _ = []
 
--- the last line, which for a get is its end
+-- the last line, which for a get is its end; lines ask for no lease
 abbrev pub last_of : Says → Last
 last_of (Line reply) = line reply
 last_of (Refusal fault) = refusal fault
-last_of (Number n) = number n
+last_of (Stores unique) = line Stored
+last_of (Number n unique left made) = number n
 last_of (Shows item) = line End
+last_of (Leases item left wins) = line End
 last_of Nothing = line End
 
 -- how many bytes the value has that is shown
 abbrev pub shown_len : Says → ℕ
 shown_len (Shows item) = length item.value
+shown_len (Leases item left wins) = length item.value
 shown_len _ = 0
 
 -- what was said last; nothing, where nothing was asked

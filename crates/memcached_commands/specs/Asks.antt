@@ -18,13 +18,13 @@ abbrev pub get_ask : Option Lifetime → Ask
 get_ask None = Get
 get_ask (Some lifetime) = GetTouch lifetime
 
--- What a command asks, in order. Commands that have no key ask nothing.
+-- What a command asks, in order. Commands that have no key ask nothing. A line tells no number but of a store, and no other field of what may be asked.
 abbrev pub asks_of : Command → List Asked
 asks_of (commands.Get keys unique lifetime) = map (asked (get_ask lifetime)) keys
 asks_of (commands.Store wants key flags lifetime value quiet) = asked (Store wants flags lifetime value) key ∷ []
-asks_of (commands.Join side key value quiet) = asked (Join side value) key ∷ []
-asks_of (commands.Count direction key delta quiet) = asked (Count direction delta) key ∷ []
-asks_of (commands.Delete key quiet) = asked Delete key ∷ []
+asks_of (commands.Join side key value quiet) = asked (Join side None value) key ∷ []
+asks_of (commands.Count direction key delta quiet) = asked (Count direction delta None None None) key ∷ []
+asks_of (commands.Delete key quiet) = asked (Delete None) key ∷ []
 asks_of (commands.Touch key lifetime quiet) = asked (Touch lifetime) key ∷ []
 asks_of _ = []
 

@@ -52,8 +52,11 @@ fn put_last(out: &mut Vec<u8>, says: &Says) -> Result<(), NoMemory>
     match says {
         Says::Line(reply) => put_line(out, reply_line(*reply)),
         Says::Refusal(fault) => put_line(out, fault_line(*fault)),
-        Says::Number(number) => put_number(out, *number),
-        Says::Shows(_) | Says::Nothing => put_line(out, reply_line(Reply::End)),
+        Says::Stores(_) => put_line(out, reply_line(Reply::Stored)),
+        Says::Number { number, .. } => put_number(out, *number),
+        Says::Shows(_) | Says::Leases { .. } | Says::Nothing => {
+            put_line(out, reply_line(Reply::End))
+        }
     }
 }
 

@@ -100,14 +100,30 @@ impl<'a> Asks<'a> {
                 key,
                 value,
                 ..
-            } => Asks::one(key, Ask::Join { side, more: value }),
+            } => Asks::one(
+                key,
+                Ask::Join {
+                    side,
+                    unique: None,
+                    more: value,
+                },
+            ),
             Command::Count {
                 direction,
                 key,
                 delta,
                 ..
-            } => Asks::one(key, Ask::Count { direction, delta }),
-            Command::Delete { key, .. } => Asks::one(key, Ask::Delete),
+            } => Asks::one(
+                key,
+                Ask::Count {
+                    direction,
+                    delta,
+                    unique: None,
+                    lifetime: None,
+                    initial: None,
+                },
+            ),
+            Command::Delete { key, .. } => Asks::one(key, Ask::Delete { unique: None }),
             Command::Touch { key, lifetime, .. } => Asks::one(key, Ask::Touch(lifetime)),
             _ => Asks::none(),
         }

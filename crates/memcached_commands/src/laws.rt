@@ -1,5 +1,5 @@
 //! What a user may rely on, whatever is asked.
-ghost use Rattle.memcached_commands.specs.Laws.{Fits, LateIsNever, NeverLonger, EndsWithFlush, OneNumberOneValue, CountsWrap, CountsGoOn};
+ghost use Rattle.memcached_commands.specs.Laws.{Fits, LateIsNever, NeverLonger, EndsWithFlush, OneNumberOneValue, CountsWrap, CountsGoOn, ChangesWhatIsMeant, TellsNumber, LeavesAlike, WinsOnce, StaysStale};
 
 /// What becomes of an item is taken by the store, and read as it was.
 pub fn fits()
@@ -25,4 +25,25 @@ pub fn one_value()
 pub fn counts()
     ensures around { CountsWrap }
     ensures on { CountsGoOn }
+{}
+
+/// A command that means an item of another unique number changes nothing.
+pub fn what_is_meant()
+    ensures { ChangesWhatIsMeant }
+{}
+
+/// A number that is told of a new item is that of the item which the command left.
+pub fn tells_number()
+    ensures { TellsNumber }
+{}
+
+/// Where a command leaves what it finds, what is decided does not depend on the number that a new value would get.
+pub fn leaves_alike()
+    ensures { LeavesAlike }
+{}
+
+/// Of all who ask for an item of which a newer one is wanted, one is told to store that; and it is wanted until something is stored.
+pub fn leases()
+    ensures once { WinsOnce }
+    ensures stale { StaysStale }
 {}

@@ -11,16 +11,19 @@ mod asks;
 mod change;
 mod counting;
 mod laws;
+mod lease;
 mod moment;
 mod next_item;
 mod says;
 mod wanted;
 
 pub use answer::{put_answer, put_part, put_whole};
-pub use ask::{Ask, Says};
+pub use ask::{Ask, Initial, Lease, Left, Says};
 pub use asks::{Asked, Asks, wants_numbers};
 pub use change::{change_stored, looks, only_gets};
 pub use counting::{counted, number_in};
-pub use laws::{counts, fits, in_time, one_value};
+pub use laws::{
+    counts, fits, in_time, leases, leaves_alike, one_value, tells_number, what_is_meant,
+};
 pub use moment::{LAST_SECOND, Moment, end_of, ended_by, found_in, is_there};
 pub use says::{no_room, says_of};

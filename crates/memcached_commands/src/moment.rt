@@ -14,7 +14,7 @@ pub struct Moment {
     pub second: u64,
     /// Items with a unique number below this one were flushed.
     pub flushed: u64,
-    /// The unique number that a new value gets.
+    /// The unique number that a new value gets, of 62 bits.
     pub unique: u64,
     /// The second of a flush that waits, and 0 where none does.
     pub until: u64,

@@ -4,22 +4,23 @@ ghost use Rattle.mica_words.specs.declared.item.TheConstants.{MAX_STORED_LEN};
 ghost use Rattle.memcached_text.specs.declared.limits.TheConstants.{HEADER_LEN};
 ghost use Rattle.memcached_text.specs.Item.{item_text};
 
+use memcached_text::{Item, marked};
 use partition_model::ItemBuf;
 
 // How many spaces are put at once.
 const SPACES: usize = 64;
 
-// Begins an item: whatever value is put behind is that of an item with these numbers.
+// Begins an item: whatever value is put behind is that of one with its numbers and marks, and with this end.
 #[inline(always)]
 #[tactic(auto, unfolding(memcached_text::specs::Item::item_text))]
-pub fn begin_item(next: &mut ItemBuf, flags: u32, expires: u32, unique: u64)
-    ensures text { (value : List ℕ) → next.new ++ value ≡ item_text (record { flags = flags; expires = expires; unique = unique; value = value }) }
+pub fn begin_item(next: &mut ItemBuf, item: &Item, expires: u32)
+    ensures text { (value : List ℕ) → next.new ++ value ≡ item_text (record item.now { expires = expires; value = value }) }
     ensures len { length next.new ≡ HEADER_LEN }
 {
     next.clear();
-    next.extend(&flags.to_le_bytes());
+    next.extend(&item.flags.to_le_bytes());
     next.extend(&expires.to_le_bytes());
-    next.push_word(unique);
+    next.push_word(marked(item));
 }
 
 // Puts so many spaces last.

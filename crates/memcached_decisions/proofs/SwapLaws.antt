@@ -16,12 +16,12 @@ use Rattle.memcached_text.specs.declared.limits.TheConstants.{HEADER_LEN}
 use Rattle.memcached_text.specs.declared.command.Wants.TheVariants.{Numbered}
 use Rattle.memcached_text.specs.declared.lifetime.Lifetime.{Lifetime}
 use Rattle.memcached_text.specs.declared.item.Item.{Item}
-use Rattle.memcached_text.specs.declared.reply.Reply.TheVariants.{Stored}
-use Rattle.memcached_text.specs.Item.{item_text, item_in}
+use Rattle.memcached_text.specs.Item.{marked, item_text, item_in}
+use Rattle.memcached_text.proofs.ItemLaws.{reads as word_reads}
 use Rattle.memcached_commands.specs.declared.ask.Ask.{Ask}
 use Rattle.memcached_commands.specs.declared.ask.Ask.TheVariants.{Store}
 use Rattle.memcached_commands.specs.declared.ask.Says.{Says}
-use Rattle.memcached_commands.specs.declared.ask.Says.TheVariants.{Line, Shows}
+use Rattle.memcached_commands.specs.declared.ask.Says.TheVariants.{Line, Shows, Stores as StoresOf}
 use Rattle.memcached_commands.specs.declared.moment.Moment.{Moment}
 use Rattle.memcached_commands.specs.Answers.{no_room}
 use Rattle.memcached_commands.specs.Asks.{get_ask}
@@ -38,14 +38,17 @@ use Rattle.memcached_decisions.proofs.Values.{behind, none_at_first}
 
 -- What is read of an item's text
 
-module _ (item : Item) (fits : item.unique < 2 ^ 64) where
+module _ (item : Item) (fits : item.unique < 2 ^ 62) where
   long : nat_lt (length (item_text item)) HEADER_LEN ≡ false
   unfolding item_text
   long = le-ltb _ _ (omega arith)
 
   reads_unique : item.unique ≡ (item_in (item_text item)).unique
   unfolding item_text item_in
-  reads_unique = let unique : from_le_bytes w64 (drop 8 (item_text item)) ≡ item.unique = from_le_bytes-to_le_bytes_8 item.unique fits in rw long (sym unique)
+  reads_unique =
+      let all = word_reads item.unique item.stale item.won fits in
+      let word : from_le_bytes w64 (drop 8 (item_text item)) ≡ marked item = from_le_bytes-to_le_bytes_8 (marked item) all.fits in
+      rw (long, word) (sym all.number_is)
 
   reads_still : item.flags < 2 ^ 32 → IsStill item (Some (item_text item))
   unfolding item_text item_in
@@ -161,7 +164,7 @@ module _ (options : Options) (base : ℕ) (key : List ℕ) (first last : History
       let more_ends = subst (λ (h : History). IsPrefix h last) (sym same) ends in
       subst P same (holds_on P step (now ++ write ∷ []) more (longer first now (write ∷ []) begins) more_ends (step now write begins (shorter (now ++ write ∷ []) more last more_ends) here))
 
-  module _ (N : ℕ → Type 0) (small : (n : ℕ) → N n → n < 2 ^ 64)
+  module _ (N : ℕ → Type 0) (small : (n : ℕ) → N n → n < 2 ^ 62)
       (new : (now : History) (write : Write) → IsPrefix first now → IsPrefix (now ++ write ∷ []) last → N (numbered base (length now))) where
     module _ (now : History) (write : Write) (begins : IsPrefix first now) (ends : IsPrefix (now ++ write ∷ []) last) where
       its_stores : write.key ≡ key → GivesValue write.op → Stores options base now key write.value
@@ -178,7 +181,7 @@ module _ (options : Options) (base : ℕ) (key : List ℕ) (first last : History
           ]))
 
       -- An item stands, or what is there then has a number of these.
-      still_then : (item : Item) → item.flags < 2 ^ 32 → item.unique < 2 ^ 64 → IsStill item (answer_of options now key)
+      still_then : (item : Item) → item.flags < 2 ^ 32 → item.unique < 2 ^ 62 → IsStill item (answer_of options now key)
           → IsStill item (answer_of options (now ++ write ∷ []) key) ⊎ HasNumber N (answer_of options (now ++ write ∷ []) key)
       still_then item flags fits still = behind options now write key (λ v. IsStill item v ⊎ HasNumber N v) (inr tt) (inl still) (λ same gives.
           let it = its_stores same gives in elim it.number [
@@ -195,7 +198,7 @@ module _ (options : Options) (base : ℕ) (key : List ℕ) (first last : History
     number_on = holds_on (λ h. HasNumber N (answer_of options h key)) number_then
 
     -- An item stands where what is there at last has none of these numbers.
-    still_on : (item : Item) → item.flags < 2 ^ 32 → item.unique < 2 ^ 64 → (HasNumber N (answer_of options last key) → ⊥)
+    still_on : (item : Item) → item.flags < 2 ^ 32 → item.unique < 2 ^ 62 → (HasNumber N (answer_of options last key) → ⊥)
         → (now more : History) → IsPrefix first now → IsPrefix (now ++ more) last → IsStill item (answer_of options now key) → IsStill item (answer_of options (now ++ more) key)
     still_on item flags fits lasts = holds_on (λ h. IsStill item (answer_of options h key)) (λ now write begins ends still. elim (still_then now write begins ends item flags fits still) [
       | inl stands ↦ stands
@@ -229,14 +232,14 @@ shows at None (Some old) item says = cc
 shows at (Some lifetime) None item says = cc
 shows at (Some lifetime) (Some old) item says = cc
 
-swaps_one : (at : Moment) (unique flags : ℕ) (lifetime : Lifetime) (value : List ℕ) (found : Option Item) → (decide at (Store (Numbered unique) flags lifetime value) found).says ≡ Line Stored
-    → (item : Item) × (found ≡ Some item) × (unique ≡ item.unique)
+swaps_one : (at : Moment) (unique flags : ℕ) (lifetime : Lifetime) (value : List ℕ) (told : Option ℕ) (found : Option Item)
+    → (decide at (Store (Numbered unique) flags lifetime value) found).says ≡ StoresOf told → (item : Item) × (found ≡ Some item) × (unique ≡ item.unique)
 unfolding decide
-swaps_one at unique flags lifetime value None says = cc
-swaps_one at unique flags lifetime value (Some item) says = (
+swaps_one at unique flags lifetime value told None says = cc
+swaps_one at unique flags lifetime value told (Some item) says = (
   item,
   refl,
-  cond_both (is_wanted (Numbered unique) (Some item)) (stored at flags lifetime value) (leaves (Line (missed (Numbered unique) (Some item)))) (λ d. d.says ≡ Line Stored → unique ≡ item.unique)
+  cond_both (is_wanted (Numbered unique) (Some item)) (stored at flags lifetime value) (leaves (Line (missed (Numbered unique) (Some item)))) (λ d. d.says ≡ StoresOf told → unique ≡ item.unique)
       (λ wanted _. eqb-true unique item.unique (and_parts (unique == item.unique) (nat_lt 0 unique) wanted).0) (λ _ other. cc) says,
 )
 
@@ -244,13 +247,13 @@ still_found : (item : Item) (stored : Option (List ℕ)) → option_map item_in 
 still_found item stored is = subst (λ found. IsSameValue found item) (sym is) (refl, refl, refl)
 
 pub swaps : SwapsWhatStands
-swaps options base key item touched flags lifetime value first now last begins ends numbers drawn commands got swap =
+swaps options base key item touched flags lifetime value told first now last begins ends numbers drawn commands got swap =
     subst (λ (h : History). IsStill item (answer_of options h key)) (sym begins.1)
     (still_on options base key first last commands N (λ n is. is.1) new item numbers.flags numbers.unique lasts first begins.0 (itself first) (subst (λ (h : History). IsPrefix h last) begins.1 ends) stands)
   where
     -- a number behind that of the item
     N : ℕ → Type 0
-    N n = (item.unique < n) × (n < 2 ^ 64)
+    N n = (item.unique < n) × (n < 2 ^ 62)
 
     new : (now : History) (write : Write) → IsPrefix first now → IsPrefix (now ++ write ∷ []) last → N (numbered base (length now))
     new now write is _ = let len = ap length is.1 ∙ length-append first is.0 in (omega (arith, drawn, len), omega arith)
@@ -264,10 +267,10 @@ swaps options base key item touched flags lifetime value first now last begins e
 
     lasts : HasNumber N (answer_of options last key) → ⊥
     lasts has =
-        elim (said_stored options base last key (Store (Numbered item.unique) flags lifetime value) (Line Stored) (λ e. cc) swap).1 [
-          | inl none ↦ let e = (swaps_one _ item.unique flags lifetime value None none).1 in cc
+        elim (said_stored options base last key (Store (Numbered item.unique) flags lifetime value) (StoresOf told) (λ e. cc) swap).1 [
+          | inl none ↦ let e = (swaps_one _ item.unique flags lifetime value told None none).1 in cc
           | inr found ↦
-              let one = swaps_one _ item.unique flags lifetime value _ found in
+              let one = swaps_one _ item.unique flags lifetime value told _ found in
               let above = (its_number N (answer_of options last key) one.0 has (still_found one.0 (answer_of options last key) one.1)).0 in
               omega (arith, above, one.2)
         ]

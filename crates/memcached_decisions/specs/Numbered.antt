@@ -12,6 +12,7 @@ use Rattle.memcached_commands.specs.Moments.{found_in}
 use Rattle.memcached_commands.specs.declared.moment.Moment.{Moment}
 use Rattle.memcached_commands.specs.Changes.{becoming_of}
 use Rattle.memcached_commands.specs.Decide as decided
+use Rattle.memcached_decisions.specs.declared.order.TheConstants.{LAST_UNIQUE}
 use Rattle.fronts.specs.declared.changing.When.{When}
 use Rattle.fronts.specs.Changing.{Becoming, stays, becomes, goes}
 
@@ -20,9 +21,9 @@ pub record Order : Type 0 where
   pub ask : Ask
   pub base : ℕ
 
--- The unique number of the value that is accepted behind so many writes. It would end at the greatest of 64 bits, which no server comes to.
+-- The unique number of the value that is accepted behind so many writes. It would end at the greatest of 62 bits, which no server comes to.
 abbrev pub numbered : ℕ → ℕ → ℕ
-numbered base written = min (base + written) 18446744073709551615
+numbered base written = min (base + written) LAST_UNIQUE
 
 -- When a command is carried out: what is flushed has lower numbers than what came behind it.
 abbrev pub moment_at : ℕ → When → Moment
@@ -61,4 +62,4 @@ says_by order when stored outcome =
 
 -- Values that are accepted one behind another have numbers that rise, so a flush parts those before it from those behind it.
 abbrev pub NumbersRise : Type 0
-NumbersRise = (base earlier later : ℕ) → base + later < 2 ^ 64 → earlier < later → numbered base earlier < numbered base later
+NumbersRise = (base earlier later : ℕ) → base + later < 2 ^ 62 → earlier < later → numbered base earlier < numbered base later

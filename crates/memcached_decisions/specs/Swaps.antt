@@ -8,12 +8,11 @@ use Rattle.partition_model.specs.History.{History, IsPrefix, answer_of}
 use Rattle.memcached_text.specs.declared.command.Wants.TheVariants.{Numbered}
 use Rattle.memcached_text.specs.declared.lifetime.Lifetime.{Lifetime}
 use Rattle.memcached_text.specs.declared.item.Item.{Item}
-use Rattle.memcached_text.specs.declared.reply.Reply.TheVariants.{Stored}
 use Rattle.memcached_text.specs.Item.{item_in, IsItem}
 use Rattle.memcached_commands.specs.declared.ask.Ask.{Ask}
 use Rattle.memcached_commands.specs.declared.ask.Ask.TheVariants.{Store}
 use Rattle.memcached_commands.specs.declared.ask.Says.{Says}
-use Rattle.memcached_commands.specs.declared.ask.Says.TheVariants.{Line, Shows}
+use Rattle.memcached_commands.specs.declared.ask.Says.TheVariants.{Stores, Shows}
 use Rattle.memcached_commands.specs.Asks.{get_ask}
 use Rattle.memcached_commands.specs.Laws.{IsSameValue}
 use Rattle.fronts.specs.Looks.{Look, IsLookAt}
@@ -47,17 +46,17 @@ IsStill item stored = IsSameValue (option_map item_in stored) item
 abbrev pub IsDrawn : ℕ → ℕ → History → Type 0
 IsDrawn base unique history = unique < numbered base (length history)
 
--- A `gets` showed an item, and a later `cas` with its number is answered STORED. Then the key had that item all the time between, but for its end: nobody stored
+-- A `gets` showed an item, and a later `cas` with its number stores. Then the key had that item all the time between, but for its end: nobody stored
 -- anything else under it, and it was never gone.
 abbrev pub SwapsWhatStands : Type 0
-SwapsWhatStands = (options : Options) (base : ℕ) (key : List ℕ) (item : Item) (touched : Option Lifetime) (flags : ℕ) (lifetime : Lifetime) (value : List ℕ)
+SwapsWhatStands = (options : Options) (base : ℕ) (key : List ℕ) (item : Item) (touched : Option Lifetime) (flags : ℕ) (lifetime : Lifetime) (value : List ℕ) (told : Option ℕ)
     (first now last : History) → IsPrefix first now → IsPrefix now last
     → IsItem item → IsDrawn base item.unique first → OnlyCommandsStore options base key first last
     → IsSaid options base first key (get_ask touched) (Shows item)
-    → IsSaid options base last key (Store (Numbered item.unique) flags lifetime value) (Line Stored)
+    → IsSaid options base last key (Store (Numbered item.unique) flags lifetime value) (Stores told)
     → IsStill item (answer_of options now key)
 
 -- The number of an item that commands stored is drawn.
 abbrev pub StoredIsDrawn : Type 0
-StoredIsDrawn = (options : Options) (base : ℕ) (key : List ℕ) (item : Item) (history : History) → base + length history < 2 ^ 64
+StoredIsDrawn = (options : Options) (base : ℕ) (key : List ℕ) (item : Item) (history : History) → base + length history < 2 ^ 62
     → OnlyCommandsStore options base key [] history → IsStill item (answer_of options history key) → IsDrawn base item.unique history

@@ -9,5 +9,5 @@ mod order;
 mod sweep_order;
 
 pub use laws::{gone_stays_gone, numbers_rise, swaps_what_stands};
-pub use order::{CommandOrder, moment_at};
+pub use order::{CommandOrder, LAST_UNIQUE, moment_at};
 pub use sweep_order::{SweepOrder, is_over};

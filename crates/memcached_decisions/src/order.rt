@@ -34,10 +34,13 @@ impl<'a> Model for CommandOrder<'a> {
     ghost invariant = { λ order. IsFitAsk order.ask.now };
 }
 
+/// The greatest unique number, of 62 bits.
+pub const LAST_UNIQUE: u64 = (1 << 62) - 1;
+
 fn numbered(base: u64, written: u64) -> u64
     ensures { result ≡ numbered base written }
 {
-    base.saturating_add(written)
+    base.saturating_add(written).min(LAST_UNIQUE)
 }
 
 /// When a command is carried out, where unique numbers begin at this base.
@@ -88,7 +91,7 @@ impl<'a> CommandOrder<'a> {
             return Says::Line(no_room(self.ask));
         }
         let at = moment_at(self.base, when);
-        says_of(self.ask, found_in(&at, value_in(stored)))
+        says_of(&at, self.ask, found_in(&at, value_in(stored)))
     }
 }
 

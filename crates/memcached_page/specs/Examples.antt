@@ -1,14 +1,15 @@
 -- What two clients of one server said, what was done, and what can't have been.
-use Rattle.std.specs.Prelude.{ℕ, List, [], ◌∷◌, Some, None, codes}
+use Rattle.std.specs.Prelude.{ℕ, false, List, [], ◌∷◌, Some, None, codes}
 use Rattle.partition_model.specs.declared.options.Mode.{Mode}
 use Rattle.partition_model.specs.declared.options.Options.{Options}
 use Rattle.memcached_text.specs.declared.command.Wants.TheVariants.{Whatever}
 use Rattle.memcached_text.specs.declared.command.Direction.TheVariants.{Up}
 use Rattle.memcached_text.specs.declared.lifetime.Lifetime.TheVariants.{Forever}
 use Rattle.memcached_text.specs.declared.item.Item.{Item}
-use Rattle.memcached_text.specs.declared.reply.Reply.TheVariants.{Stored, Deleted, NoRoom}
+use Rattle.memcached_text.specs.declared.reply.Reply.TheVariants.{Deleted, NoRoom}
 use Rattle.memcached_commands.specs.declared.ask.Ask.TheVariants.{Get, Store, Count, Delete}
-use Rattle.memcached_commands.specs.declared.ask.Says.TheVariants.{Line, Number, Shows}
+use Rattle.memcached_commands.specs.declared.ask.Left.{Left}
+use Rattle.memcached_commands.specs.declared.ask.Says.TheVariants.{Line, Stores, Number, Shows}
 use Rattle.memcached_commands.specs.Asks.{asked}
 use Rattle.memcached_page.specs.Course.{Deed, carried, went, Done}
 
@@ -20,13 +21,17 @@ for client deed = record { share = 0; client = Some client; deed = deed }
 abbrev pub itself : Deed → Done
 itself deed = record { share = 0; client = None; deed = deed }
 
--- an item of this number, which is kept for ever
+-- an item of this number, which is kept for ever and has no mark
 abbrev pub item : ℕ → List ℕ → Item
-item unique value = record { flags = 0; expires = 0; unique = unique; value = value }
+item unique value = record { flags = 0; expires = 0; unique = unique; stale = false; won = false; value = value }
+
+-- for ever, before and after
+abbrev pub ever : Left
+ever = record { before = None; after = None }
 
 -- at second 100, with this number for a new value
 abbrev pub sets : ℕ → List ℕ → List ℕ → Deed
-sets number key value = carried 100 number (asked (Store Whatever 0 Forever value) key) (Line Stored)
+sets number key value = carried 100 number (asked (Store Whatever 0 Forever value) key) (Stores (Some number))
 
 abbrev pub shows : ℕ → List ℕ → Item → Deed
 shows number key item = carried 100 number (asked Get key) (Shows item)
@@ -35,7 +40,7 @@ shows number key item = carried 100 number (asked Get key) (Shows item)
 abbrev pub counting : List Done
 counting =
     for 0 (sets 1 (codes "n") (codes "5"))
-    ∷ for 1 (carried 100 2 (asked (Count Up 2) (codes "n")) (Number 7))
+    ∷ for 1 (carried 100 2 (asked (Count Up 2 None None None) (codes "n")) (Number 7 (Some 2) ever false))
     ∷ for 0 (shows 3 (codes "n") (item 2 (codes "7")))
     ∷ []
 
@@ -43,7 +48,7 @@ counting =
 abbrev pub shown_behind_delete : List Done
 shown_behind_delete =
     for 0 (sets 1 (codes "n") (codes "5"))
-    ∷ for 1 (carried 100 2 (asked Delete (codes "n")) (Line Deleted))
+    ∷ for 1 (carried 100 2 (asked (Delete None) (codes "n")) (Line Deleted))
     ∷ for 0 (shows 2 (codes "n") (item 1 (codes "5")))
     ∷ []
 

@@ -1,16 +1,18 @@
 -- What is counted of commands: which counter is raised by what a key was asked and what was said of it.
-use Rattle.std.specs.Prelude.{Option, None, Some}
+use Rattle.std.specs.Prelude.{false, Option, None, Some}
 use Rattle.memcached_text.specs.declared.command.Command.TheVariants as commands
+use Rattle.memcached_text.specs.declared.command.Direction.{Direction}
 use Rattle.memcached_text.specs.declared.command.Direction.TheVariants.{Up, Down}
-use Rattle.memcached_text.specs.declared.command.Wants.TheVariants.{Numbered}
+use Rattle.memcached_text.specs.declared.command.Wants.TheVariants.{Numbered, AtLeast}
 use Rattle.memcached_text.specs.declared.fault.Fault.TheVariants.{BadBlock, TooLarge}
+use Rattle.memcached_text.specs.declared.lifetime.Lifetime.{Lifetime}
 use Rattle.memcached_text.specs.declared.next.Next.{Next}
 use Rattle.memcached_text.specs.declared.next.Next.TheVariants as nexts
-use Rattle.memcached_text.specs.declared.reply.Reply.TheVariants.{Stored, Exists, Deleted, NotFound, NoRoom, Touched}
+use Rattle.memcached_text.specs.declared.reply.Reply.TheVariants.{Exists, Deleted, NotFound, NoRoom, Touched}
 use Rattle.memcached_commands.specs.declared.ask.Ask.{Ask}
-use Rattle.memcached_commands.specs.declared.ask.Ask.TheVariants.{Get, GetTouch, Store, Join, Count, Touch, Delete}
+use Rattle.memcached_commands.specs.declared.ask.Ask.TheVariants.{Get, GetTouch, Leased, Store, Join, Count, Touch, Delete, Mark}
 use Rattle.memcached_commands.specs.declared.ask.Says.{Says}
-use Rattle.memcached_commands.specs.declared.ask.Says.TheVariants.{Line, Number, Shows, Nothing}
+use Rattle.memcached_commands.specs.declared.ask.Says.TheVariants.{Line, Stores, Number, Shows, Leases, Nothing}
 use Rattle.memcached_stats.specs.declared.counter.Counter.{Counter}
 use Rattle.memcached_stats.specs.declared.counter.Counter.TheVariants as counters
 
@@ -19,25 +21,58 @@ abbrev pub counter_of_store : Says → Option Counter
 counter_of_store (Line NoRoom) = Some counters.StoresRefused
 counter_of_store _ = Some counters.Sets
 
--- A get that touches is counted as a touch. A store that wants an item's number is counted by what was found.
+-- by a store that means an item's number, by what was found
+abbrev pub counter_of_swap : Says → Option Counter
+counter_of_swap (Stores unique) = Some counters.CasHits
+counter_of_swap (Line NotFound) = Some counters.CasMisses
+counter_of_swap (Line Exists) = Some counters.CasBadval
+counter_of_swap says = counter_of_store says
+
+abbrev pub counter_of_get : Says → Option Counter
+counter_of_get (Shows item) = Some counters.GetHits
+counter_of_get (Leases item left wins) = Some counters.GetHits
+counter_of_get Nothing = Some counters.GetMisses
+counter_of_get _ = None
+
+abbrev pub counter_of_touch : Says → Option Counter
+counter_of_touch (Shows item) = Some counters.TouchHits
+counter_of_touch (Leases item left wins) = Some counters.TouchHits
+counter_of_touch (Line Touched) = Some counters.TouchHits
+counter_of_touch Nothing = Some counters.TouchMisses
+counter_of_touch (Line NotFound) = Some counters.TouchMisses
+counter_of_touch _ = None
+
+-- by a get that may lead to a newer item: one that touches is counted as a touch
+abbrev pub counter_of_lease : Option Lifetime → Says → Option Counter
+counter_of_lease None says = counter_of_get says
+counter_of_lease (Some lifetime) says = counter_of_touch says
+
+-- a number that was made is no hit
+abbrev pub counter_of_count : Direction → Says → Option Counter
+counter_of_count Up (Number n unique left false) = Some counters.IncrHits
+counter_of_count Up (Line NotFound) = Some counters.IncrMisses
+counter_of_count Down (Number n unique left false) = Some counters.DecrHits
+counter_of_count Down (Line NotFound) = Some counters.DecrMisses
+counter_of_count _ _ = None
+
+abbrev pub counter_of_delete : Says → Option Counter
+counter_of_delete (Line Deleted) = Some counters.DeleteHits
+counter_of_delete (Line NotFound) = Some counters.DeleteMisses
+counter_of_delete _ = None
+
+-- A get that touches is counted as a touch, and an item that is marked but was not there as a delete of none.
 abbrev pub counter_of : Ask → Says → Option Counter
-counter_of Get (Shows item) = Some counters.GetHits
-counter_of Get Nothing = Some counters.GetMisses
-counter_of (GetTouch lifetime) (Shows item) = Some counters.TouchHits
-counter_of (GetTouch lifetime) Nothing = Some counters.TouchMisses
-counter_of (Touch lifetime) (Line Touched) = Some counters.TouchHits
-counter_of (Touch lifetime) (Line NotFound) = Some counters.TouchMisses
-counter_of (Store (Numbered unique) flags lifetime value) (Line Stored) = Some counters.CasHits
-counter_of (Store (Numbered unique) flags lifetime value) (Line NotFound) = Some counters.CasMisses
-counter_of (Store (Numbered unique) flags lifetime value) (Line Exists) = Some counters.CasBadval
+counter_of Get says = counter_of_get says
+counter_of (GetTouch lifetime) says = counter_of_touch says
+counter_of (Leased lease) says = counter_of_lease lease.touch says
+counter_of (Touch lifetime) says = counter_of_touch says
+counter_of (Store (Numbered unique) flags lifetime value) says = counter_of_swap says
+counter_of (Store (AtLeast unique) flags lifetime value) says = counter_of_swap says
 counter_of (Store wants flags lifetime value) says = counter_of_store says
-counter_of (Join side more) says = counter_of_store says
-counter_of (Count Up delta) (Number n) = Some counters.IncrHits
-counter_of (Count Up delta) (Line NotFound) = Some counters.IncrMisses
-counter_of (Count Down delta) (Number n) = Some counters.DecrHits
-counter_of (Count Down delta) (Line NotFound) = Some counters.DecrMisses
-counter_of Delete (Line Deleted) = Some counters.DeleteHits
-counter_of Delete (Line NotFound) = Some counters.DeleteMisses
+counter_of (Join side unique more) says = counter_of_store says
+counter_of (Count direction delta unique lifetime initial) says = counter_of_count direction says
+counter_of (Delete unique) says = counter_of_delete says
+counter_of (Mark unique lifetime) (Line NotFound) = Some counters.DeleteMisses
 counter_of _ _ = None
 
 -- and by what was said, whatever came of it: each flush, a store whose block came with no end behind it, and one of a value that is too long

@@ -1,10 +1,9 @@
 //! What a front counts.
-ghost use Rattle.std.specs.Prelude.{◌≡◌, ℕ, List};
-ghost use Rattle.memcached_text.specs.declared.lifetime.Lifetime.{Lifetime};
-ghost use Rattle.memcached_stats.specs.Counted.{counter_by, counter_of, counter_of_store};
+ghost use Rattle.std.specs.Prelude.{◌≡◌};
+ghost use Rattle.memcached_stats.specs.Counted.{counter_by, counter_of, counter_of_store, counter_of_swap, counter_of_get, counter_of_touch, counter_of_lease, counter_of_count, counter_of_delete};
 
 use memcached_commands::{Ask, Says};
-use memcached_text::{Command, Direction, Fault, Next, Reply, Wants};
+use memcached_text::{Command, Direction, Fault, Lifetime, Next, Reply, Wants};
 
 /// What a front counts.
 #[derive(Clone, Copy)]
@@ -48,38 +47,40 @@ pub const COUNTERS: usize = 23;
 
 // By a get.
 fn get_counter(says: &Says) -> Option<Counter>
-    ensures { result ≡ counter_of Ask.Get says.now }
+    ensures { result ≡ counter_of_get says.now }
 {
     match says {
-        Says::Shows(_) => Some(Counter::GetHits),
+        Says::Shows(_) | Says::Leases { .. } => Some(Counter::GetHits),
         Says::Nothing => Some(Counter::GetMisses),
         _ => None,
     }
 }
 
-// By a get that touches.
-fn get_touch_counter(says: &Says) -> Option<Counter>
-    ensures { (lifetime : Lifetime) → result ≡ counter_of (Ask.GetTouch lifetime) says.now }
+// By a touch, and by a get that touches.
+fn touch_counter(says: &Says) -> Option<Counter>
+    ensures { result ≡ counter_of_touch says.now }
 {
     match says {
-        Says::Shows(_) => Some(Counter::TouchHits),
-        Says::Nothing => Some(Counter::TouchMisses),
+        Says::Shows(_) | Says::Leases { .. } | Says::Line(Reply::Touched) => {
+            Some(Counter::TouchHits)
+        }
+        Says::Nothing | Says::Line(Reply::NotFound) => Some(Counter::TouchMisses),
         _ => None,
     }
 }
 
-fn touch_counter(says: &Says) -> Option<Counter>
-    ensures { (lifetime : Lifetime) → result ≡ counter_of (Ask.Touch lifetime) says.now }
+// By a get that may lead to a newer item.
+fn lease_counter(touch: Option<Lifetime>, says: &Says) -> Option<Counter>
+    ensures { result ≡ counter_of_lease touch says.now }
 {
-    match says {
-        Says::Line(Reply::Touched) => Some(Counter::TouchHits),
-        Says::Line(Reply::NotFound) => Some(Counter::TouchMisses),
-        _ => None,
+    match touch {
+        Some(_) => touch_counter(says),
+        None => get_counter(says),
     }
 }
 
 fn delete_counter(says: &Says) -> Option<Counter>
-    ensures { result ≡ counter_of Ask.Delete says.now }
+    ensures { result ≡ counter_of_delete says.now }
 {
     match says {
         Says::Line(Reply::Deleted) => Some(Counter::DeleteHits),
@@ -89,7 +90,7 @@ fn delete_counter(says: &Says) -> Option<Counter>
 }
 
 // By a store or a join.
-fn counter_of_store(says: &Says) -> Option<Counter>
+fn store_counter(says: &Says) -> Option<Counter>
     ensures { result ≡ counter_of_store says.now }
 {
     match says {
@@ -98,29 +99,27 @@ fn counter_of_store(says: &Says) -> Option<Counter>
     }
 }
 
-fn store_counter(wants: Wants, says: &Says) -> Option<Counter>
-    ensures { (flags : ℕ) (lifetime : Lifetime) (value : List ℕ) → result ≡ counter_of (Ask.Store wants flags lifetime value) says.now }
+// By a store that means an item's number.
+fn swap_counter(says: &Says) -> Option<Counter>
+    ensures { result ≡ counter_of_swap says.now }
 {
-    if !matches!(wants, Wants::Numbered(_)) {
-        return counter_of_store(says);
-    }
     match says {
-        Says::Line(Reply::Stored) => Some(Counter::CasHits),
+        Says::Stores(_) => Some(Counter::CasHits),
         Says::Line(Reply::NotFound) => Some(Counter::CasMisses),
         Says::Line(Reply::Exists) => Some(Counter::CasBadval),
-        _ => counter_of_store(says),
+        _ => store_counter(says),
     }
 }
 
 fn count_counter(direction: Direction, says: &Says) -> Option<Counter>
-    ensures { (delta : ℕ) → result ≡ counter_of (Ask.Count direction delta) says.now }
+    ensures { result ≡ counter_of_count direction says.now }
 {
     let (hits, misses) = match direction {
         Direction::Up => (Counter::IncrHits, Counter::IncrMisses),
         Direction::Down => (Counter::DecrHits, Counter::DecrMisses),
     };
     match says {
-        Says::Number(_) => Some(hits),
+        Says::Number { made: false, .. } => Some(hits),
         Says::Line(Reply::NotFound) => Some(misses),
         _ => None,
     }
@@ -133,13 +132,19 @@ pub fn counter_of(ask: &Ask, says: &Says) -> Option<Counter>
 {
     match ask {
         Ask::Get => get_counter(says),
-        Ask::GetTouch(_) => get_touch_counter(says),
-        Ask::Touch(_) => touch_counter(says),
-        Ask::Delete => delete_counter(says),
-        Ask::Store { wants, .. } => store_counter(*wants, says),
-        Ask::Join { .. } => counter_of_store(says),
+        Ask::GetTouch(_) | Ask::Touch(_) => touch_counter(says),
+        Ask::Leased(lease) => lease_counter(lease.touch, says),
+        Ask::Delete { .. } => delete_counter(says),
+        Ask::Store {
+            wants: Wants::Numbered(_) | Wants::AtLeast(_),
+            ..
+        } => swap_counter(says),
+        Ask::Store { .. } | Ask::Join { .. } => store_counter(says),
         Ask::Count { direction, .. } => count_counter(*direction, says),
-        Ask::Spoil => None,
+        Ask::Mark { .. } if matches!(says, Says::Line(Reply::NotFound)) => {
+            Some(Counter::DeleteMisses)
+        }
+        Ask::Mark { .. } | Ask::Spoil => None,
     }
 }
 

@@ -11,7 +11,7 @@ use Rattle.memcached_text.specs.declared.lifetime.TheConstants.{MAX_SECONDS, LAS
 use Rattle.memcached_text.specs.declared.lifetime.Lifetime.{Lifetime}
 use Rattle.memcached_text.specs.declared.lifetime.Lifetime.TheVariants.{Forever, Over, For, Until}
 use Rattle.memcached_text.specs.declared.command.Command.TheVariants as commands
-use Rattle.memcached_text.specs.declared.command.Wants.TheVariants.{Whatever, Absent, Present, Numbered}
+use Rattle.memcached_text.specs.declared.command.Wants.TheVariants.{Whatever, Absent, Present, Numbered, AtLeast}
 use Rattle.memcached_text.specs.declared.command.Direction.{Direction}
 use Rattle.memcached_text.specs.declared.command.Direction.TheVariants.{Up, Down}
 use Rattle.memcached_text.specs.declared.command.Side.TheVariants.{Front, Back}
@@ -336,6 +336,7 @@ stale_fits (Store Whatever) key fault quiet len fits = fits
 stale_fits (Store Absent) key fault quiet len fits = tt
 stale_fits (Store Present) key fault quiet len fits = tt
 stale_fits (Store (Numbered u)) key fault quiet len fits = tt
+stale_fits (Store (AtLeast u)) key fault quiet len fits = tt
 stale_fits (Join side) key fault quiet len fits = tt
 
 blocked_fits : (item : ItemLine) (quiet : Bool) (len : ℕ) (block : Block) → IsFitItem item → ((value : List ℕ) → block ≡ blocks.Whole value → length value ≤ MAX_TEXT_LEN) → IsFitNext (blocked item quiet len block)

@@ -17,7 +17,7 @@ use Rattle.memcached_text.specs.declared.lifetime.Due.TheVariants.{Now, After, A
 use Rattle.memcached_text.specs.declared.command.Command.{Command}
 use Rattle.memcached_text.specs.declared.command.Command.TheVariants.{Get, Store, Join, Count, Delete, Touch, Flush, Stats, Version, Verbosity, Noop, Quit}
 use Rattle.memcached_text.specs.declared.command.Wants.{Wants}
-use Rattle.memcached_text.specs.declared.command.Wants.TheVariants.{Whatever, Absent, Present, Numbered}
+use Rattle.memcached_text.specs.declared.command.Wants.TheVariants.{Whatever, Absent, Present, Numbered, AtLeast}
 use Rattle.memcached_text.specs.declared.command.Side.{Side}
 use Rattle.memcached_text.specs.declared.command.Side.TheVariants.{Front, Back}
 use Rattle.memcached_text.specs.declared.command.Direction.{Direction}
@@ -40,8 +40,7 @@ use Rattle.memcached_text.specs.ServerLine.{flush_line, stats_line, verbosity_li
 use Rattle.memcached_text.specs.Forms.{line_of}
 use Rattle.memcached_text.specs.Block.{block_at}
 use Rattle.memcached_text.specs.Next.{storing_at, says_at, next_in, is_binary, next_of}
-use Rattle.memcached_text.specs.Fit.{IsWant}
-use Rattle.memcached_text.specs.Spelling.{IsKey, quiet_words, lifetime_text, kept_words, due_words, get_word, store_word, wanted_words, join_word, count_word, joined, command_text, IsCommand, ReadsBack, IsOneCommand}
+use Rattle.memcached_text.specs.Spelling.{IsLineWant, IsKey, quiet_words, lifetime_text, kept_words, due_words, get_word, store_word, wanted_words, join_word, count_word, joined, command_text, IsCommand, ReadsBack, IsOneCommand}
 use Rattle.memcached_text.proofs.LineLaws.{Lacks_append, lacks_all, lacks_is, line_at_fed, without_return_fed}
 use Rattle.memcached_text.proofs.WordLaws.{is_binary_word, text_by_words, words_of_word, words_of_last}
 use Rattle.memcached_text.proofs.NumberLaws.{both, decimal_lacks, decimal_digits, number_of_decimal}
@@ -295,7 +294,7 @@ unfolding cas_line stored numbered_item_of
 cas_meant key flags len unique lifetime quiet is flags_is kept len_is unique_is =
     rw (tail_is (decimal unique) quiet (decimal_asks unique unique_is), number_of_decimal MAX_BLOCK_LEN len (omega arith) (omega arith), number_of_decimal 18446744073709551615 unique (omega arith) unique_is, item_is (verbs.Store (Numbered unique)) key flags lifetime is flags_is kept) refl
 
-store_is_read : (wants : Wants) (key : List ℕ) (flags len : ℕ) (lifetime : Lifetime) (quiet : Bool) → IsWant wants → IsKey key → flags < 2 ^ 32 → IsSaid lifetime → len ≤ MAX_TEXT_LEN
+store_is_read : (wants : Wants) (key : List ℕ) (flags len : ℕ) (lifetime : Lifetime) (quiet : Bool) → IsLineWant wants → IsKey key → flags < 2 ^ 32 → IsSaid lifetime → len ≤ MAX_TEXT_LEN
     → IsRead (store_word wants) (key ∷ decimal flags ∷ lifetime_text lifetime ∷ decimal len ∷ wanted_words wants ++ quiet_words quiet) (lines.Storing (item_told (verbs.Store wants) key flags lifetime) len quiet)
 unfolding line_of
 store_is_read Whatever key flags len lifetime quiet want is flags_is kept len_is =
@@ -307,6 +306,7 @@ store_is_read Present key flags len lifetime quiet want is flags_is kept len_is 
 store_is_read (Numbered unique) key flags len lifetime quiet want is flags_is kept len_is =
     few _ _ _ refl (behind_keys (verbs.Store Present) key flags len lifetime quiet is flags_is kept len_is (decimal unique ∷ quiet_words quiet) (decimal_is_key unique want, quiet_keys quiet)) (omega (arith, quiet_few quiet)) refl
     (rw (cas_meant key flags len unique lifetime quiet is flags_is kept len_is want) refl)
+store_is_read (AtLeast unique) key flags len lifetime quiet want is flags_is kept len_is = absurd want
 
 zero_item : (verb : Verb) (key : List ℕ) → IsKey key → item_of verb key (codes "0") (codes "0") ≡ Some (item_told verb key 0 Forever)
 unfolding item_of lifetime_of number_of

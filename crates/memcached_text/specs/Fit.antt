@@ -5,7 +5,7 @@ use Rattle.memcached_text.specs.declared.limits.TheConstants.{MAX_KEY_LEN, MAX_T
 use Rattle.memcached_text.specs.declared.command.Command.{Command}
 use Rattle.memcached_text.specs.declared.command.Command.TheVariants.{Get, Store, Join, Count, Delete, Touch, Flush}
 use Rattle.memcached_text.specs.declared.command.Wants.{Wants}
-use Rattle.memcached_text.specs.declared.command.Wants.TheVariants.{Numbered}
+use Rattle.memcached_text.specs.declared.command.Wants.TheVariants.{Numbered, AtLeast}
 use Rattle.memcached_text.specs.declared.lifetime.Lifetime.{Lifetime}
 use Rattle.memcached_text.specs.declared.next.Next.{Next}
 use Rattle.memcached_text.specs.declared.next.Next.TheVariants as nexts
@@ -18,6 +18,7 @@ IsFitKey key = (0 < length key) × (length key ≤ MAX_KEY_LEN)
 -- a unique number has 64 bits
 abbrev pub IsWant : Wants → Type 0
 IsWant (Numbered unique) = unique < 2 ^ 64
+IsWant (AtLeast unique) = unique < 2 ^ 64
 IsWant _ = ⊤
 
 -- a lifetime, where there is one

@@ -9,7 +9,7 @@ use Rattle.memcached_text.specs.declared.lifetime.Due.TheVariants.{Now, After, A
 use Rattle.memcached_text.specs.declared.command.Command.{Command}
 use Rattle.memcached_text.specs.declared.command.Command.TheVariants.{Get, Store, Join, Count, Delete, Touch, Flush, Stats, Version, Verbosity, Noop, Quit}
 use Rattle.memcached_text.specs.declared.command.Wants.{Wants}
-use Rattle.memcached_text.specs.declared.command.Wants.TheVariants.{Whatever, Absent, Present, Numbered}
+use Rattle.memcached_text.specs.declared.command.Wants.TheVariants.{Whatever, Absent, Present, Numbered, AtLeast}
 use Rattle.memcached_text.specs.declared.command.Side.{Side}
 use Rattle.memcached_text.specs.declared.command.Side.TheVariants.{Front, Back}
 use Rattle.memcached_text.specs.declared.command.Direction.{Direction}
@@ -68,6 +68,7 @@ store_word Whatever = codes "set"
 store_word Absent = codes "add"
 store_word Present = codes "replace"
 store_word (Numbered unique) = codes "cas"
+store_word (AtLeast unique) = []
 
 -- the unique number that a store wants
 abbrev pub wanted_words : Wants → List (List ℕ)
@@ -124,12 +125,17 @@ abbrev pub HasKeys : Option Lifetime → List (List ℕ) → Type 0
 HasKeys None keys = 0 < length keys
 HasKeys (Some lifetime) keys = IsSaid lifetime
 
+-- what a store may want in a line
+abbrev pub IsLineWant : Wants → Type 0
+IsLineWant (AtLeast unique) = ⊥
+IsLineWant wants = IsWant wants
+
 -- a command that has a text
 abbrev pub IsCommand : Command → Type 0
 IsCommand (Get keys unique lifetime) =
     HasKeys lifetime keys × AllByRecursion IsKey keys × (length (joined (command_words (Get keys unique lifetime))) < MAX_LINE_LEN)
 IsCommand (Store wants key flags lifetime value quiet) =
-    IsWant wants × IsKey key × (flags < 2 ^ 32) × IsSaid lifetime × (length value ≤ MAX_TEXT_LEN)
+    IsLineWant wants × IsKey key × (flags < 2 ^ 32) × IsSaid lifetime × (length value ≤ MAX_TEXT_LEN)
 IsCommand (Join side key value quiet) = IsKey key × (length value ≤ MAX_TEXT_LEN)
 IsCommand (Count direction key delta quiet) = IsKey key × (delta < 2 ^ 64)
 IsCommand (Delete key quiet) = IsKey key

@@ -75,6 +75,8 @@ pub enum Wants {
     Present,
     /// The item of this unique number.
     Numbered(u64),
+    /// That item, or one that came behind it. No line asks for it.
+    AtLeast(u64),
 }
 
 /// Where a join puts its value.

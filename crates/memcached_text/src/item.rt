@@ -1,6 +1,6 @@
 //! What is stored of an item.
-ghost use Rattle.std.specs.Prelude.{◌≡◌, ◌++◌, OnOk, OnErr};
-ghost use Rattle.memcached_text.specs.Item.{item_text, item_in};
+ghost use Rattle.std.specs.Prelude.{◌≡◌, ◌++◌, OnOk, OnErr, if◌then◌else◌};
+ghost use Rattle.memcached_text.specs.Item.{marked, item_text, item_in};
 
 use crate::Text;
 use crate::append::append_parts;
@@ -14,8 +14,33 @@ pub struct Item<'a> {
     pub flags: u32,
     /// The second from which on it is not there, and 0 where it is kept for ever.
     pub expires: u32,
+    /// Its unique number, of 62 bits.
     pub unique: u64,
+    /// A newer one is wanted.
+    pub stale: bool,
+    /// A client was told to store that.
+    pub won: bool,
     pub value: Text<'a>,
+}
+
+// How many unique numbers there are, which is the bit of the first mark.
+const STALE: u64 = 1 << 62;
+
+// The bit of the second mark.
+const WON: u64 = 1 << 63;
+
+// A bit, where it is set.
+fn bit_if(set: bool, bit: u64) -> u64
+    ensures { result ≡ (if set then bit else 0) }
+{
+    if set { bit } else { 0 }
+}
+
+/// The unique number of an item with its marks in the two bits above.
+pub fn marked(item: &Item) -> u64
+    ensures { result ≡ marked item.now }
+{
+    item.unique % STALE + bit_if(item.stale, STALE) + bit_if(item.won, WON)
 }
 
 /// Appends what is stored of an item. Where memory runs out, nothing is appended.
@@ -29,7 +54,7 @@ pub fn put_item(out: &mut Vec<u8>, item: Item) -> Result<(), NoMemory>
         &[
             item.flags.to_le_bytes().as_slice(),
             item.expires.to_le_bytes().as_slice(),
-            item.unique.to_le_bytes().as_slice(),
+            marked(&item).to_le_bytes().as_slice(),
             item.value.bytes(),
         ],
     )
@@ -45,13 +70,18 @@ pub fn read_item(stored: &[u8]) -> Item
             flags: 0,
             expires: 0,
             unique: 0,
+            stale: false,
+            won: false,
             value: stored.into(),
         };
     }
+    let word = LittleEndian::read_u64(&stored[8..]);
     Item {
         flags: LittleEndian::read_u32(stored),
         expires: LittleEndian::read_u32(&stored[4..]),
-        unique: LittleEndian::read_u64(&stored[8..]),
+        unique: word % STALE,
+        stale: word % WON >= STALE,
+        won: word >= WON,
         value: stored[HEADER_LEN..].into(),
     }
 }

@@ -29,7 +29,7 @@ mod words;
 
 pub use command::{Command, Direction, Side, Topic, Wants};
 pub use fault::Fault;
-pub use item::{Item, put_item, read_item};
+pub use item::{Item, marked, put_item, read_item};
 pub use laws::{one_answer, one_command, one_item, one_meaning, one_place, quiet_as_asked};
 pub use lifetime::{Due, Lifetime};
 pub use limits::{

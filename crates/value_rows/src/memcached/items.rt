@@ -111,7 +111,7 @@ impl ItemPlace {
     {
         let stored = stored_in(self.is_stored, &self.item);
         let change = change_stored(&self.at, ask, stored, &mut self.next);
-        let says = says_of(ask, found_in(&self.at, stored));
+        let says = says_of(&self.at, ask, found_in(&self.at, stored));
         put_answer(into, quiet, unique, b"k", &says)?;
         self.change(change);
         Ok(())

@@ -21,6 +21,12 @@ pub fn stored(alloc: Global, bytes: &[u8], into: &mut Vec<u8>) -> Result<(), NoM
         into,
         format!(in alloc; "{flags} {expires} {unique} ")?.as_str(),
     )?;
+    if item.stale {
+        say(into, "stale ")?;
+    }
+    if item.won {
+        say(into, "won ")?;
+    }
     into.extend_from_slice(item.value.bytes())?;
     say(into, "\n")?;
     put_item(
@@ -29,6 +35,8 @@ pub fn stored(alloc: Global, bytes: &[u8], into: &mut Vec<u8>) -> Result<(), NoM
             flags,
             expires,
             unique,
+            stale: item.stale,
+            won: item.won,
             value: item.value,
         },
     )

@@ -10,9 +10,10 @@ use Rattle.memcached_commands.specs.declared.asks.Asked.{Asked}
 use Rattle.memcached_commands.specs.Asks.{asks_in}
 use Rattle.memcached_commands.specs.Answers.{unless_quiet}
 use Rattle.command_answers.specs.declared.answer.Progress.{Progress}
-use Rattle.command_answers.specs.AskAnswers.{AnswersAsks}
+use Rattle.command_answers.specs.AskAnswers.{AnswersAsks, quiet_of}
+use Rattle.command_answers.specs.declared.plain.Style.{Style}
 use Rattle.command_answers.specs.FlushAnswers.{FlushesFrom, flush_at}
-use Rattle.command_answers.specs.Exchange.{IsOpenAt, flush_due, flush_text, is_flush_all, wants_numbers}
+use Rattle.command_answers.specs.Exchange.{IsOpenAt, flush_due, flush_text, is_flush_all}
 use Rattle.command_answers.specs.Going.{AnswersFirst, RepliesFirst, Replies}
 use Rattle.command_answers.proofs.AskLaws.{none_left, some_left, few_answers}
 use Rattle.memcached_stats.specs.Stats.{stats_text}
@@ -51,7 +52,7 @@ returns-then-is_flush_all-clause-answered g c =
       if_ok _ (Replies options c.args.numbering.base next done c.args.limits r.0 c.args.out.now.items c.answer_flush.new.out.items) c.answer_flush.result
           (λ progress all. flush_replies options F.is_alone c.args.numbering.base next done c.requires.open old new told tells flushes r.0 asked c.args.limits c.args.out.now.items
           c.answer_flush.new.out.items progress (r.4 ∙ c.requires.partitions) (all.0 ∙ ap (λ n. progress_of n true) c.requires.partitions)
-          (all.1 ∙ ap (λ q. c.args.out.now.items ++ unless_quiet q (flush_text true r.0)) c.style_of-style.ensures.quiet)) r.5,
+          (all.1 ∙ ap (λ q. c.args.out.now.items ++ unless_quiet q (flush_text true r.0)) (c.is_quiet-quiet.ensures ∙ ap quiet_of c.style_of-style.ensures))) r.5,
       r.6,
       c.count.ensures ∙ ap (λ k. counted k c.args.buffers.now.tally) c.counter_by.ensures
           ∙ sym (counted_flush c.args.numbering.base c.args.numbering.partitions next done r.0 c.args.buffers.now.tally flushes),
@@ -90,7 +91,7 @@ returns-then-is_empty-clause-answered g c =
     let next = c.args.next in
     let keyed : is_flush_all next ≡ false = sym c.is_flush_all.ensures ∙ c.if-is_flush_all.false in
     let none : asks_in next ≡ [] = sym c.by-asks.ensures.asks ∙ none_left c.by-asks.result (sym c.is_empty.ensures ∙ c.if-is_empty.true) in
-    let text = c.in-Ok.ensures.ok ∙ (λ i. c.args.out.now.items ++ unless_quiet (c.style_of-style.ensures.quiet i)
+    let text = c.in-Ok.ensures.ok ∙ (λ i. c.args.out.now.items ++ unless_quiet ((c.is_quiet-quiet.ensures ∙ ap quiet_of c.style_of-style.ensures) i)
     (c.plain_line-line.ensures.text (sym c.is_stats.ensures ∙ c.if-is_stats.false) options.partitions untold i)) in (
       [],
       plain_goes options F.is_alone c.args.numbering.base next c.args.done c.requires.open old old told told keyed none,
@@ -168,11 +169,8 @@ returns-in-Ok-answer_asks-clause-answered g c =
     let some = some_asked next c.by-asks.result c.by-asks.ensures.asks done c.requires.open (sym c.is_empty.ensures ∙ c.if-is_empty.false) in
     let r = c.in-Ok-answer_asks.ensures.answered in
     let first = subst (λ (l : List Asked). AnswersFirst options F.is_alone base l old told new tells r.0) asks_are r.1 in
-    let said = subst (λ (l : List Asked). RepliesFirst base c.style_of-style.result.quiet c.style_of-style.result.unique l c.args.limits r.0 before after count left) asks_are r.2 in
-    let said_so = subst (λ (u : Bool). RepliesFirst base c.style_of-style.result.quiet u (drop done (asks_in next)) c.args.limits r.0 before after count left)
-    c.style_of-style.ensures.unique said in
-    let replies = subst (λ (q : Bool). RepliesFirst base q (wants_numbers next) (drop done (asks_in next)) c.args.limits r.0 before after count left)
-    c.style_of-style.ensures.quiet said_so in (
+    let said = subst (λ (l : List Asked). RepliesFirst base c.style_of-style.result l c.args.limits r.0 before after count left) asks_are r.2 in
+    let replies = subst (λ (s : Style). RepliesFirst base s (drop done (asks_in next)) c.args.limits r.0 before after count left) c.style_of-style.ensures said in (
       r.0,
       asks_go options F.is_alone base next done c.requires.open old new told tells keyed r.0 first,
       subst (λ (w : Bool). Replies options base next done c.args.limits r.0 before after (progress_of (done + count) w)) (sym c.is_empty-in-Ok-answer_asks.ensures)

@@ -12,7 +12,7 @@ returns-in-Ok g c = record {
   read = c.second.ensures.told;
   once = c.second.ensures.once;
   keeps = keeps_behind string_bytes (all_words_of string_bytes c.args.args) c.in-Ok.words.items c.behind_name.result.now _ c.first_number-base.result c.second.result _ _ _ _ c.daemon.result
-      c.in-Ok.ensures (c.behind_name.ensures ∙ ap (drop 1) c.as_slice.ensures.value) c.first_number-base.ensures c.daemon.ensures;
+      c.in-Ok.ensures (c.behind_name.ensures ∙ ap (drop 1) c.as_slice.ensures.value) c.first_number-base.ensures.number c.daemon.ensures;
 }
 
 pub returns-in-Err : goal.returns-in-Err
