@@ -12,7 +12,7 @@ use std::time::{Duration, Instant};
 
 /// What every command of a load is drawn by.
 #[derive(Clone, Copy)]
-struct Mix {
+pub struct Mix {
     is_redis: bool,
     keys: u64,
     value: usize,
@@ -28,6 +28,20 @@ struct Mix {
 }
 
 impl Mix {
+    pub fn of(words: &HashMap<&str, &str>) -> Result<Mix, String> {
+        let number = |name, default| number_of(words, name, default);
+        Ok(Mix {
+            is_redis: words.get("peer") == Some(&"redis"),
+            keys: number("keys", 10_000)?,
+            value: number("value-len", 64)? as usize,
+            gets: number("gets", 100)?,
+            counts: number("counts", 0)?,
+            ends: number("ends", 0)? > 0,
+            swaps: number("swaps", 0)? > 0,
+            per: number("size", 1)? as usize,
+        })
+    }
+
     fn put_key(number: u64, out: &mut Vec<u8>) {
         let start = out.len();
         out.extend_from_slice(b"key0000000000000");
@@ -76,6 +90,14 @@ impl Mix {
         out.extend_from_slice(tail);
     }
 
+    /// A get or a set; whether it is a get.
+    pub fn put_command(&self, draws: &mut Pcg, out: &mut Vec<u8>) -> bool {
+        let (key, kind) = (draws.next() % self.keys, draws.next() % 100);
+        let is_get = kind < self.gets;
+        if is_get { self.put_get(key, out) } else { self.put_set(key, out) }
+        is_get
+    }
+
     fn batch(&self, draws: &mut Pcg, out: &mut Vec<u8>) {
         out.clear();
         for _ in 0..self.per {
@@ -95,7 +117,7 @@ impl Mix {
     }
 
     /// How many bytes the first reply takes, and whether it is a hit; None where not all of it has come.
-    fn reply(&self, bytes: &[u8]) -> Option<(usize, bool)> {
+    pub fn reply(&self, bytes: &[u8]) -> Option<(usize, bool)> {
         let line = bytes.iter().position(|&byte| byte == b'\n')? + 1;
         let is_value = if self.is_redis { bytes[0] == b'$' && bytes[1] != b'-' } else { bytes.starts_with(b"VALUE ") };
         if !is_value {
@@ -206,7 +228,7 @@ impl Connection {
 const FILLED: usize = 128;
 
 /// Stores all keys: zeros, where they are to be counted up.
-fn fill(port: u16, mix: &Mix) -> io::Result<()> {
+pub fn fill(port: u16, mix: &Mix) -> io::Result<()> {
     let mut stream = TcpStream::connect(("127.0.0.1", port))?;
     let (mut text, mut room) = (Vec::new(), [0; 4096]);
     for first in (0..mix.keys).step_by(FILLED) {
@@ -260,16 +282,7 @@ pub fn load(words: &HashMap<&str, &str>) -> Result<Vec<u8>, Box<dyn Error>> {
     let number = |name, default| number_of(words, name, default);
     let (port, fronts) = (number("port", 11_211)? as u16, number("fronts", 1)? as u16);
     let ports: Vec<u16> = (port..port + fronts).collect();
-    let mix = Mix {
-        is_redis: words.get("peer") == Some(&"redis"),
-        keys: number("keys", 10_000)?,
-        value: number("value-len", 64)? as usize,
-        gets: number("gets", 100)?,
-        counts: number("counts", 0)?,
-        ends: number("ends", 0)? > 0,
-        swaps: number("swaps", 0)? > 0,
-        per: number("size", 1)? as usize,
-    };
+    let mix = Mix::of(words)?;
     let (connections, threads) = (number("connections", 1)? as usize, number("threads", 1)? as usize);
     if number("fill", 1)? > 0 {
         fill(port, &mix)?;

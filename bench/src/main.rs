@@ -2,7 +2,8 @@
 //! thread, `rounds` and `queues` run owners and readers in threads over tables of atomic words, `kept` starts these threads
 //! once, `values` does as `queues` over lines that own their bytes, `gen` prints a trace, `image` and `unpack` write and read an
 //! image, `serve` answers datagrams on one thread, `fronts` at many ports with owners in threads, `locked` at many ports whose fronts own
-//! partitions in turn by a lock, `load` sends them, `streams` serves memcached's protocol over connections, and `connect` loads such a server.
+//! partitions in turn by a lock, `load` sends them, `streams` serves memcached's protocol over connections, `connect` loads such a server,
+//! and `latency` asks one at a rate.
 
 mod cache;
 mod commands;
@@ -13,6 +14,7 @@ mod generate;
 mod hash;
 mod image;
 mod kept;
+mod latency;
 mod load;
 mod locked;
 mod machine;
@@ -166,7 +168,7 @@ fn report(command: &str, options: &Options) -> Result<Vec<u8>, Box<dyn Error>> {
 }
 
 fn run(words: &[String]) -> Result<(), Box<dyn Error>> {
-    const COMMANDS: &str = "replay, rounds, queues, kept, values, gen, image, unpack, serve, fronts, locked, streams, load or connect";
+    const COMMANDS: &str = "replay, rounds, queues, kept, values, gen, image, unpack, serve, fronts, locked, streams, load, connect or latency";
     let (command, rest) = words.split_first().ok_or(COMMANDS)?;
     let words = read_options(rest)?;
     let out = match command.as_str() {
@@ -179,6 +181,7 @@ fn run(words: &[String]) -> Result<(), Box<dyn Error>> {
         "unpack" => image::unpacked(&input()?).ok_or("no image")?,
         "load" => load::load(&words)?,
         "connect" => connections::load(&words)?,
+        "latency" => latency::latency(&words)?,
         "replay" | "rounds" | "queues" | "kept" | "values" => report(command, &options_of(&words)?)?,
         "fronts" => fronts::serve(&words, &options_of(&words)?)?,
         "streams" => streams::serve(&words, &options_of(&words)?)?,
