@@ -1,0 +1,5 @@
+pub mod Frames
+pub mod Header
+pub mod Laws
+pub mod Opcodes
+pub mod Replies
