@@ -46,3 +46,17 @@ pub fn memory_of(text: &str) -> Option<u64>
     }
     amount_in(text, 1)
 }
+
+/// How many bytes a text of this form means, whether or not sizes are made for so many.
+pub(crate) fn bytes_of(text: &str) -> Option<u64> {
+    if let Some(digits) = text.strip_suffix('K') {
+        return number_of(digits, 0, u64::MAX)?.checked_mul(1_024);
+    }
+    if let Some(digits) = text.strip_suffix('M') {
+        return number_of(digits, 0, u64::MAX)?.checked_mul(1_048_576);
+    }
+    if let Some(digits) = text.strip_suffix('G') {
+        return number_of(digits, 0, u64::MAX)?.checked_mul(1_073_741_824);
+    }
+    number_of(text, 0, u64::MAX)
+}

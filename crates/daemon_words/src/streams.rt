@@ -35,7 +35,7 @@ fn octet_of(text: &str) -> Option<u8>
 }
 
 /// The IPv4 address that a text writes.
-fn address_of(text: &str) -> Option<Ipv4Addr>
+pub(crate) fn address_of(text: &str) -> Option<Ipv4Addr>
     ensures { result ≡ address_of text.now }
 {
     let (a, behind) = at_dot(text);
