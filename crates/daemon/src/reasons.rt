@@ -2,8 +2,8 @@
 ghost use Rattle.std.specs.Prelude.{◌≡◌};
 ghost use Rattle.partition_model.specs.Options.{IsPossible};
 
-use crate::{DaemonStatus, Files, Speaker, Unbound};
-use daemon_words::refusal_text;
+use crate::{DaemonStatus, Doubt, Files, Speaker, Unbound};
+use daemon_words::{refusal_text, value_given};
 use locked_server::Service;
 use outside::Sink;
 use partition_model::Options;
@@ -21,33 +21,53 @@ fn sentence(alloc: Global, words: &str) -> String {
     }
 }
 
-// How much memory a start takes, and how much is free.
-pub(crate) fn shortage_reason<F: Files>(alloc: Global, files: &F, options: &Options) -> String
+/// How much memory a start takes, and how much is free.
+pub(crate) fn shortage_reason<F: Files>(
+    alloc: Global,
+    files: &F,
+    words: &[String],
+    options: &Options,
+) -> String
     requires { IsPossible options.now }
 {
+    let name = if value_given(words, "--memory").is_some() {
+        "--memory "
+    } else {
+        ""
+    };
+    let amount = value_given(words, "--memory").unwrap_or("too little memory");
     let needed = (start_bytes(options) / MEBIBYTE).saturating_add(1);
     let free = files.free_memory(alloc).unwrap_or(0) / MEBIBYTE;
     match format!(in alloc;
-        "too little memory: its items take {needed} MiB, and {free} MiB are free"
+        "{name}{amount}: its items take {needed} MiB, and the system has {free} MiB free (MemAvailable, or what its control group leaves)"
     ) {
         Ok(text) => text,
         Err(_) => String::new(alloc),
     }
 }
 
-// Why a file gave nothing that fills the partitions.
-pub(crate) fn image_reason(alloc: Global, image: Option<&str>, status: DaemonStatus) -> String {
+/// Notes why a file gave nothing that fills the partitions.
+pub(crate) fn note_image<K: Sink + Drop>(
+    alloc: Global,
+    image: Option<&str>,
+    status: DaemonStatus,
+    speaker: &mut Speaker<K>,
+)
+    ensures { speaker.new.sink ≡ speaker.old.sink }
+{
     let name = image.unwrap_or("");
+    if status == DaemonStatus::ReadFault {
+        speaker.doubt = Doubt::File(sentence(alloc, name));
+    }
     let why = match status {
         DaemonStatus::ReadFault => "it cannot be read",
         DaemonStatus::TraceLong => "it has more than 16777216 bytes",
-        DaemonStatus::ImageRefused => "it is no whole image",
+        DaemonStatus::ImageRefused => "it is no image, as standard output says",
         DaemonStatus::WriteFault => "standard output takes nothing more",
         _ => "there is no memory for it",
     };
-    match format!(in alloc; "--image {name}: {why}") {
-        Ok(text) => text,
-        Err(_) => String::new(alloc),
+    if let Ok(text) = format!(in alloc; "--image {name}: {why}") {
+        speaker.reason = text;
     }
 }
 
@@ -68,7 +88,7 @@ pub(crate) fn note_unbound<K: Sink + Drop>(
 {
     let is_tcp = is_among(port, service.streams.port, service.streams.fronts);
     let address = if is_tcp { address } else { Ipv4Addr::LOCALHOST };
-    speaker.unbound = Some(Unbound {
+    speaker.doubt = Doubt::Port(Unbound {
         address,
         port,
         is_tcp,
@@ -86,10 +106,11 @@ fn plain_reason(status: DaemonStatus) -> &'static str {
         DaemonStatus::TraceLong => "the image has too many bytes",
         DaemonStatus::ReadFault => "the image cannot be read",
         DaemonStatus::WriteFault => "standard output takes nothing more",
-        DaemonStatus::NetFault => "a port failed",
+        DaemonStatus::NetFault =>
+            "its ports stopped: a socket failed, or a partition bears no more writes (--wear)",
         DaemonStatus::ImageRefused =>
             "a partition has no room for all of the image: give more memory",
-        DaemonStatus::UsedUp => "its ports take no more",
+        DaemonStatus::UsedUp => "its ports have taken all that can be counted",
     }
 }
 

@@ -20,6 +20,14 @@ pub struct Unbound {
     pub is_tcp: bool,
 }
 
+/// What the system can be asked once more about: why it gave no port, or no file.
+#[derive(Drop)]
+pub enum Doubt {
+    Nothing,
+    Port(Unbound),
+    File(String),
+}
+
 /// A sink, and the line that says that the ports are had; and for whoever started the server, why it ended.
 #[derive(Drop)]
 pub struct Speaker<K> {
@@ -27,7 +35,7 @@ pub struct Speaker<K> {
     pub line: String,
     /// A sentence, or nothing where there is none.
     pub reason: String,
-    pub unbound: Option<Unbound>,
+    pub doubt: Doubt,
 }
 
 impl<K: Sink + Drop> Speaker<K> {
@@ -39,7 +47,7 @@ impl<K: Sink + Drop> Speaker<K> {
             sink,
             line: String::new(alloc),
             reason: String::new(alloc),
-            unbound: None,
+            doubt: Doubt::Nothing,
         }
     }
 }

@@ -17,7 +17,7 @@ use crate::board::board_of;
 use crate::filling::filling_of;
 use crate::output::{print_totals, write_due};
 use crate::process::Process;
-use crate::reasons::{image_reason, note_unbound, shortage_reason};
+use crate::reasons::{note_image, note_unbound, shortage_reason};
 use crate::speaker::{Speaker, ready_line, unbound_line};
 use crate::{DaemonStatus, Files};
 use connections::Listeners;
@@ -227,7 +227,7 @@ pub fn daemon<
         Err(WordsFault::NoMemory) => return DaemonStatus::NoMemory,
     };
     if !has_memory(process.alloc, files, &options) {
-        speaker.reason = shortage_reason(process.alloc, files, &options);
+        speaker.reason = shortage_reason(process.alloc, files, words, &options);
         return DaemonStatus::NoMemory;
     }
     match filling_of(process.alloc, files, image, &mut speaker.sink) {
@@ -238,7 +238,7 @@ pub fn daemon<
             )
         }
         Err(status) => {
-            speaker.reason = image_reason(process.alloc, image, status);
+            note_image(process.alloc, image, status, speaker);
             status
         }
     }

@@ -1,9 +1,9 @@
 -- memcached's own short words, and the long words that they stand for.
-use Rattle.std.specs.Prelude.{ℕ, Bool, false, true, not, List, [], ◌∷◌, ◌++◌, Option, Some, None, codes, bytes_eq, if◌then◌else◌}
+use Rattle.std.specs.Prelude.{ℕ, ◌==◌, Bool, false, true, not, List, [], ◌∷◌, ◌++◌, Option, Some, None, codes, bytes_eq, if◌then◌else◌}
 use Rattle.std.specs.List.{list_any}
 use Rattle.option_words.specs.Words.{Text, behind_hyphens, is_equals_sign}
 use Rattle.daemon_words.specs.declared.short_words.Waiting.{Waiting}
-use Rattle.daemon_words.specs.declared.short_words.Waiting.TheVariants.{Nothing, Value, Mebibytes, NoPort}
+use Rattle.daemon_words.specs.declared.short_words.Waiting.TheVariants.{Nothing, Value, Mebibytes, NoPort, Aside}
 
 -- a text has no `=`
 abbrev pub names_alone : Option Text → Bool
@@ -23,22 +23,38 @@ spelt word =
     else (if bytes_eq word (codes "-m") then (codes "--memory" ∷ [], Mebibytes)
     else (if bytes_eq word (codes "-M") then (codes "--mode=store" ∷ [], Nothing)
     else (if bytes_eq word (codes "-U") then ([], NoPort)
+    else (if bytes_eq word (codes "-u") then ([], Aside)
+    else (if bytes_eq word (codes "-P") then ([], Aside)
     else (if bytes_eq word (codes "-v") then ([], Nothing)
     else (if bytes_eq word (codes "-vv") then ([], Nothing)
     else (if bytes_eq word (codes "-vvv") then ([], Nothing)
-    else (if wants_value word then (word ∷ [], Value) else (word ∷ [], Nothing))))))))))
+    else (if wants_value word then (word ∷ [], Value) else (word ∷ [], Nothing))))))))))))
 
--- what a word stands for behind the one before it: a number of MiB gets its `M`, and of ports for datagrams there is none, whose number is 0
+-- no option takes this word
+abbrev pub untaken : List Text
+untaken = codes "-U" ∷ []
+
+-- a text begins with a hyphen, which is 45
+abbrev pub begins_with_hyphen : Text → Bool
+begins_with_hyphen [] = false
+begins_with_hyphen (x ∷ xs) = x == 45
+
+-- what a word stands for behind the one before it: a number of MiB gets its `M`, of ports for datagrams there is none, whose number is 0, and
+-- what says nothing of the server goes
 abbrev pub step : Waiting → Text → List Text × Waiting
 step Nothing word = spelt word
 step Value word = (word ∷ [], Nothing)
 step Mebibytes word = ((word ++ codes "M") ∷ [], Nothing)
-step NoPort word = if bytes_eq word (codes "0") then ([], Nothing) else (codes "-U" ∷ [], Nothing)
+step NoPort word = if bytes_eq word (codes "0") then ([], Nothing) else (untaken, Nothing)
+step Aside word = if begins_with_hyphen word then (untaken, Nothing) else ([], Nothing)
 
--- what stands at the end for a word that still waits: no option takes `-U`
+-- what stands at the end for a word that still waits
 abbrev pub left_over : Waiting → List Text
-left_over NoPort = codes "-U" ∷ []
-left_over _ = []
+left_over Nothing = []
+left_over Value = []
+left_over Mebibytes = []
+left_over NoPort = untaken
+left_over Aside = untaken
 
 -- what words stand for, behind one before them
 abbrev pub long_after : Waiting → List Text → List Text

@@ -19,6 +19,7 @@ pub(crate) enum Values {
     File,
     /// The number that says that there is no port of memcached's datagrams.
     NoPort,
+    User,
 }
 
 impl Values {
@@ -35,6 +36,7 @@ impl Values {
             Values::Address => address_of(text).is_some(),
             Values::File => true,
             Values::NoPort => text == "0",
+            Values::User => true,
         }
     }
 
@@ -44,6 +46,7 @@ impl Values {
             Values::Mode => "store",
             Values::Number(what, _, _) => match *what {
                 "a port" => "11211",
+                "a port of datagrams" => "9000",
                 _ => "1024",
             },
             Values::PowerOfTwo(_) => "1024",
@@ -51,6 +54,7 @@ impl Values {
             Values::Address => "127.0.0.1",
             Values::File => "items.image",
             Values::NoPort => "0",
+            Values::User => "memcache",
         }
     }
 }
@@ -62,7 +66,7 @@ impl fmt::Display for Values {
             Values::Number(what, least, most) => write!(f, "{what} is {least} to {most}"),
             Values::PowerOfTwo(most) => write!(f, "it is a power of two, 1 to {most}"),
             Values::Memory => f.write_str(
-                "it is a number of bytes, or of K, M or G with that letter behind it, from 64M to 512G",
+                "it is 64M to 512G: a number of bytes, or with K, M or G behind it of KiB, MiB or GiB",
             ),
             Values::Address => f.write_str(
                 "it is one IPv4 address, as 127.0.0.1 or 0.0.0.0; names and IPv6 are not taken",
@@ -71,6 +75,7 @@ impl fmt::Display for Values {
             Values::NoPort => f.write_str(
                 "memcached's clients are served over TCP alone, so it is 0",
             ),
+            Values::User => f.write_str("it is who runs it"),
         }
     }
 }
@@ -94,16 +99,19 @@ pub(crate) static NAMES: [&str; 15] = [
     "--wear",
 ];
 
+/// The long names of questions.
+pub(crate) static ASKING: [&str; 2] = ["--help", "--version"];
+
 /// The values of the option of this long name.
 pub(crate) fn values_of(name: &str) -> Option<Values> {
     match name {
         "--mode" => Some(Values::Mode),
-        "--memcached" => Some(Values::Number("a port", 1_024, 65_000)),
+        "--memcached" => Some(Values::Number("a port", 1, 65_535)),
         "--memory" => Some(Values::Memory),
         "--memcached-fronts" => Some(Values::Number("it", 1, u64::from(MOST_FRONTS))),
         "--listen" => Some(Values::Address),
         "--connections" => Some(Values::Number("it", 1, 65_536)),
-        "--port" => Some(Values::Number("a port", 1_024, 65_000)),
+        "--port" => Some(Values::Number("a port of datagrams", 1_024, 65_000)),
         "--fronts" => Some(Values::Number("it", 1, u64::from(MOST_FRONTS))),
         "--image" => Some(Values::File),
         "--partitions" => Some(Values::Number("it", 1, u64::from(MOST_PARTITIONS))),
@@ -133,6 +141,8 @@ pub(crate) fn values_behind(word: &str) -> Option<Values> {
     match word {
         "-m" => Some(Values::Number("the number of MiB", 64, 524_288)),
         "-U" => Some(Values::NoPort),
+        "-u" => Some(Values::User),
+        "-P" => Some(Values::File),
         "-M" => None,
         _ => values_of(long_of(word)),
     }
@@ -144,8 +154,8 @@ pub(crate) fn instead_of(name: &str) -> Option<&'static str> {
         "-t" | "--threads" => "each thread has a port of its own: take --memcached-fronts N",
         "-d" | "--daemon" =>
             "it stays in the foreground: take Type=exec of a unit, or & of a shell",
-        "-u" | "--user" => "start it as that user: User= of a unit, or setpriv",
-        "-P" | "--pidfile" => "no such file is written: what starts it knows its number",
+        "--user" => "take -u, and start it as that user: User= of a unit, or setpriv",
+        "--pidfile" => "take -P",
         "-s" | "--unix-socket" | "-a" | "--unix-mask" =>
             "there are no Unix sockets: take -l and -p",
         "-A" | "--enable-shutdown" => "there is no command shutdown: end it by SIGTERM",

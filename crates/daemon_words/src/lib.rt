@@ -6,6 +6,7 @@
 #![tactic(auto)]
 
 mod about;
+mod at_start;
 mod known;
 mod memory;
 mod options;
@@ -13,10 +14,14 @@ mod question;
 mod refusal;
 mod short_words;
 mod streams;
+mod wrong_together;
+mod wrong_word;
 
 pub use about::{VERSION, answer_to};
+pub use at_start::verbosity;
 pub use options::{DaemonOptions, read_daemon};
 pub use question::{Question, question_of};
 pub use refusal::refusal_text;
 pub use short_words::{Waiting, long_words};
 pub use streams::StreamOptions;
+pub use wrong_together::value_given;

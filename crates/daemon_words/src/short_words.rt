@@ -1,6 +1,6 @@
 //! memcached's own short words, spelt as the long words that they stand for.
-ghost use Rattle.std.specs.Prelude.{◌≡◌, ◌++◌, ◌∷◌, [], map, string_bytes, codes, IfOk, OnOk};
-ghost use Rattle.daemon_words.specs.ShortWords.{wants_value, spelt, step, left_over, long_words};
+ghost use Rattle.std.specs.Prelude.{◌≡◌, ◌++◌, ◌∷◌, [], map, string_bytes, codes, IfOk, OnOk, if◌then◌else◌};
+ghost use Rattle.daemon_words.specs.ShortWords.{wants_value, spelt, untaken, begins_with_hyphen, step, left_over, long_words};
 
 use outside::NoMemory;
 use std::alloc::Global;
@@ -16,6 +16,8 @@ pub enum Waiting {
     Mebibytes,
     /// The number that says that there is no port of memcached's datagrams.
     NoPort,
+    /// A name that says nothing of the server: of who runs it, or of a file for the number of its process.
+    Aside,
 }
 
 fn add(alloc: Global, long: &mut Vec<String>, word: &str) -> Result<(), NoMemory>
@@ -59,12 +61,30 @@ fn spell(alloc: Global, long: &mut Vec<String>, word: &str) -> Result<Waiting, N
         "-m" => add_before(alloc, long, "--memory", Waiting::Mebibytes),
         "-M" => add_before(alloc, long, "--mode=store", Waiting::Nothing),
         "-U" => Ok(Waiting::NoPort),
+        "-u" => Ok(Waiting::Aside),
+        "-P" => Ok(Waiting::Aside),
         "-v" => Ok(Waiting::Nothing),
         "-vv" => Ok(Waiting::Nothing),
         "-vvv" => Ok(Waiting::Nothing),
         _ if wants_value(word) => add_before(alloc, long, word, Waiting::Value),
         _ => add_before(alloc, long, word, Waiting::Nothing),
     }
+}
+
+// Adds a word that no option takes, unless all is well.
+fn add_unless(alloc: Global, long: &mut Vec<String>, is_well: bool) -> Result<Waiting, NoMemory>
+    ensures { IfOk result (λ next. (map string_bytes long.new.items ≡ map string_bytes long.old.items ++ (if is_well then [] else untaken)) × (next ≡ Waiting.Nothing)) }
+{
+    if !is_well {
+        add(alloc, long, "-U")?;
+    }
+    Ok(Waiting::Nothing)
+}
+
+fn begins_with_hyphen(word: &str) -> bool
+    ensures { result ≡ begins_with_hyphen word.now }
+{
+    matches!(word.as_bytes(), [b'-', ..])
 }
 
 // Adds what a word stands for behind the one before it.
@@ -85,12 +105,8 @@ fn step(
             long.push(amount)?;
             Ok(Waiting::Nothing)
         }
-        Waiting::NoPort => {
-            if word != "0" {
-                add(alloc, long, "-U")?;
-            }
-            Ok(Waiting::Nothing)
-        }
+        Waiting::NoPort => add_unless(alloc, long, word == "0"),
+        Waiting::Aside => add_unless(alloc, long, !begins_with_hyphen(word)),
     }
 }
 
@@ -103,8 +119,7 @@ pub fn long_words(alloc: Global, words: &[String]) -> Result<Vec<String>, NoMemo
     for word in words {
         waiting = step(alloc, &mut long, waiting, word.as_str())?;
     }
-    if waiting == Waiting::NoPort {
-        add(alloc, &mut long, "-U")?;
-    }
+    let is_well = !matches!(waiting, Waiting::NoPort | Waiting::Aside);
+    add_unless(alloc, &mut long, is_well)?;
     Ok(long)
 }

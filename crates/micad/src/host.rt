@@ -8,8 +8,9 @@ ghost use Rattle.daemon.specs.Numbers.{ending_number};
 ghost use Rattle.daemon.specs.Exit.{IsAsked};
 ghost use Rattle.server_words.specs.declared.limits.TheConstants.{MOST_FRONTS};
 
+use crate::host_causes::doubt_text;
 use crate::host_files::HostFiles;
-use crate::host_ports::cause_of;
+use crate::host_start::begin;
 use daemon::{DaemonStatus, Ending, Process, Speaker, exit_code, run_daemon};
 use host_outside::{StdClock, StdSink, UdpNet};
 use locked_server::Left;
@@ -19,7 +20,7 @@ use std::alloc::Global;
 use std::env::Args;
 use std::net::{Ipv4Addr, Net as Sockets};
 use std::process::ExitCode;
-use std::rt::Files;
+use std::rt::{Env, Files};
 use std::sync::Wait;
 use std::sync::atomic::AtomicBool;
 use std::thread::Threads;
@@ -38,26 +39,27 @@ fn clocks_of<'a, R: time::Clock>(rt: &'a R, alloc: Global) -> Result<Vec<StdCloc
 }
 
 /// Says on standard error why the program ends, where there is a reason. What can't be said is left out.
-fn say_why<R: Print + Sockets, K>(rt: &R, speaker: &Speaker<K>) {
+fn say_why<R: Print + Sockets + Files, K>(rt: &R, speaker: &Speaker<K>) {
     if speaker.reason.is_empty() {
         return;
     }
     let reason = speaker.reason.as_str();
-    let _ = match &speaker.unbound {
-        Some(unbound) => eprintln!(rt; "micad: {reason}: {}", cause_of(rt, unbound)),
+    let _ = match doubt_text(rt, &speaker.doubt) {
+        Some(cause) => eprintln!(rt; "micad: {reason}: {cause}"),
         None => eprintln!(rt; "micad: {reason}"),
     };
 }
 
 /// The program as `main` runs it, with the words that it was started with and the number of its process. It ends with 0 only where these ask a question.
-pub fn run_on_host<R: Threads + Wait + Sync + AllocGlobal + Files + Print + Sockets + time::Clock>(
-    rt: &R,
-    args: io::Result<Args>,
-    pid: u32,
-) -> ExitCode
+pub fn run_on_host<
+    R: Threads + Wait + Sync + AllocGlobal + Env + Files + Print + Sockets + time::Clock,
+>(rt: &R, args: io::Result<Args>, pid: u32) -> ExitCode
     ensures number { (ending : Ending) × (exit_status result ≡ ending_number ending) }
     ensures zero { exit_status result ≡ 0 → IsAsked (words_of string_bytes args) }
 {
+    if !begin(rt, pid) {
+        return exit_code(Ending::Ended(DaemonStatus::Usage));
+    }
     let alloc = rt.alloc();
     let Ok(clocks) = clocks_of(rt, alloc) else {
         return exit_code(Ending::Ended(DaemonStatus::NoMemory));

@@ -3,8 +3,9 @@
 #![tactic(auto)]
 
 mod host;
+mod host_causes;
 mod host_files;
-mod host_ports;
+mod host_start;
 
 use host::run_on_host;
 use std::env;
