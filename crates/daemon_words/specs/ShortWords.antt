@@ -1,7 +1,7 @@
 -- memcached's own short words, and the long words that they stand for.
-use Rattle.std.specs.Prelude.{ℕ, ◌==◌, Bool, false, true, not, List, [], ◌∷◌, ◌++◌, Option, Some, None, codes, bytes_eq, if◌then◌else◌}
+use Rattle.std.specs.Prelude.{ℕ, Bool, false, true, not, List, [], ◌∷◌, ◌++◌, Option, Some, None, codes, bytes_eq, if◌then◌else◌}
 use Rattle.std.specs.List.{list_any}
-use Rattle.option_words.specs.Words.{Text, behind_hyphens, is_equals_sign}
+use Rattle.option_words.specs.Words.{Text, begins_with_hyphen, behind_hyphens, is_equals_sign}
 use Rattle.daemon_words.specs.declared.short_words.Waiting.{Waiting}
 use Rattle.daemon_words.specs.declared.short_words.Waiting.TheVariants.{Nothing, Value, Mebibytes, NoPort, Aside}
 
@@ -33,11 +33,6 @@ spelt word =
 -- no option takes this word
 abbrev pub untaken : List Text
 untaken = codes "-U" ∷ []
-
--- a text begins with a hyphen, which is 45
-abbrev pub begins_with_hyphen : Text → Bool
-begins_with_hyphen [] = false
-begins_with_hyphen (x ∷ xs) = x == 45
 
 -- what a word stands for behind the one before it: a number of MiB gets its `M`, of ports for datagrams there is none, whose number is 0, and
 -- what says nothing of the server goes

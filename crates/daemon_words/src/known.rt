@@ -1,4 +1,4 @@
-//! The options of `micad`, for whoever is told which words it knows; and memcached's other words, with what to do instead.
+//! The options of `micad`, for whoever is told which words it knows.
 
 use crate::memory::memory_of;
 use crate::streams::address_of;
@@ -80,8 +80,8 @@ impl fmt::Display for Values {
     }
 }
 
-/// The long names of all options.
-pub(crate) static NAMES: [&str; 15] = [
+/// The long names of all options, and of questions.
+pub(crate) static NAMES: [&str; 17] = [
     "--mode",
     "--memcached",
     "--memory",
@@ -97,10 +97,9 @@ pub(crate) static NAMES: [&str; 15] = [
     "--words",
     "--tries",
     "--wear",
+    "--help",
+    "--version",
 ];
-
-/// The long names of questions.
-pub(crate) static ASKING: [&str; 2] = ["--help", "--version"];
 
 /// The values of the option of this long name.
 pub(crate) fn values_of(name: &str) -> Option<Values> {
@@ -146,44 +145,4 @@ pub(crate) fn values_behind(word: &str) -> Option<Values> {
         "-M" => None,
         _ => values_of(long_of(word)),
     }
-}
-
-/// What to do instead of a word of memcached's that is not taken.
-pub(crate) fn instead_of(name: &str) -> Option<&'static str> {
-    let instead = match name {
-        "-t" | "--threads" => "each thread has a port of its own: take --memcached-fronts N",
-        "-d" | "--daemon" =>
-            "it stays in the foreground: take Type=exec of a unit, or & of a shell",
-        "--user" => "take -u, and start it as that user: User= of a unit, or setpriv",
-        "--pidfile" => "take -P",
-        "-s" | "--unix-socket" | "-a" | "--unix-mask" =>
-            "there are no Unix sockets: take -l and -p",
-        "-A" | "--enable-shutdown" => "there is no command shutdown: end it by SIGTERM",
-        "-F" | "--disable-flush-all" =>
-            "flush_all is always taken: keep its ports to those who may",
-        "-I" | "--max-item-size" => "a value has 8176 bytes at most: leave it out",
-        "-r" | "--enable-coredumps" =>
-            "set it where it is started: LimitCORE= of a unit, or ulimit -c",
-        "-k" | "--lock-memory" => "no memory is locked: leave it out, or switch swap off",
-        "-S" | "--enable-sasl" | "-Y" | "--auth-file" =>
-            "there are no passwords: keep its ports to those who may",
-        "-Z" | "--enable-ssl" => "there is no TLS: put a proxy before it",
-        "-e" | "--memory-file" => "no items stay over a restart: leave it out",
-        "-o" | "--extended" => "none of these settings has a part here: leave it out",
-        "-f" | "--slab-growth-factor" | "-n" | "--slab-min-size" =>
-            "there are no slabs: leave it out",
-        "-L" | "--enable-largepages" | "-b" | "--listen-backlog" =>
-            "there is no such setting: leave it out",
-        "-R" | "--max-reqs-per-event" => "turns have a bound of their own: leave it out",
-        "-B" | "--protocol" => "the text protocol is the only one: leave it out",
-        "-C" | "--disable-cas" => "cas is always there: leave it out",
-        "-D" | "--enable-detail" => "there are no numbers by prefix: leave it out",
-        "-i" | "--license" => "take --help or --version",
-        "--udp-port" => "memcached's clients are served over TCP alone: leave it out, or take -U 0",
-        "--memory-limit" => "take --memory SIZE, or -m and a number of MiB",
-        "--conn-limit" => "take --connections N, or -c",
-        "--disable-evictions" => "take --mode store, or -M",
-        _ => return None,
-    };
-    Some(instead)
 }

@@ -7,6 +7,7 @@
 
 mod about;
 mod at_start;
+mod foreign;
 mod known;
 mod memory;
 mod options;

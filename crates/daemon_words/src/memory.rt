@@ -17,8 +17,8 @@ fn before_letter(text: &str, letter: char) -> Option<&str>
 
 // The text before one of two last letters, where it ends so.
 fn before_either(text: &str, letter: char, other: char) -> Option<&str>
-    requires { letter < 128 }
-    requires { other < 128 }
+    requires letter { letter < 128 }
+    requires other { other < 128 }
     ensures { option_map (λ digits. digits.now) result ≡ before_either letter other text.now }
 {
     match before_letter(text, letter) {
@@ -42,8 +42,8 @@ fn without_bytes(text: &str) -> &str
 
 // The text before a unit of this letter: as `M`, `m`, `MB` or `MiB`.
 fn before_unit(text: &str, letter: char, small: char) -> Option<&str>
-    requires { letter < 128 }
-    requires { small < 128 }
+    requires letter { letter < 128 }
+    requires small { small < 128 }
     ensures { option_map (λ digits. digits.now) result ≡ before_unit letter small text.now }
 {
     before_either(without_bytes(text), letter, small)

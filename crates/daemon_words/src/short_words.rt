@@ -1,6 +1,8 @@
 //! memcached's own short words, spelt as the long words that they stand for.
 ghost use Rattle.std.specs.Prelude.{◌≡◌, ◌++◌, ◌∷◌, [], map, string_bytes, codes, IfOk, OnOk, if◌then◌else◌};
-ghost use Rattle.daemon_words.specs.ShortWords.{wants_value, spelt, untaken, begins_with_hyphen, step, left_over, long_words};
+ghost use Rattle.std.specs.List.{list_any};
+ghost use Rattle.option_words.specs.Words.{begins_with_hyphen, is_equals_sign};
+ghost use Rattle.daemon_words.specs.ShortWords.{wants_value, spelt, untaken, step, left_over, long_words};
 
 use outside::NoMemory;
 use std::alloc::Global;
@@ -40,12 +42,23 @@ fn add_before(
     Ok(next)
 }
 
+fn has_equals_sign(text: &[u8]) -> bool
+    ensures { result ≡ list_any is_equals_sign text.now }
+{
+    for byte in text {
+        if *byte == b'=' {
+            return true;
+        }
+    }
+    false
+}
+
 // Whether the next word is the value of this one: it is `--name`, and no `--name=value`.
 fn wants_value(word: &str) -> bool
     ensures { result ≡ wants_value word.now }
 {
     match word.as_bytes() {
-        [b'-', b'-', text @ ..] => !text.iter().any(|byte| *byte == b'='),
+        [b'-', b'-', text @ ..] => !has_equals_sign(text),
         _ => false,
     }
 }

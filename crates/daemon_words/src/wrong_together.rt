@@ -98,7 +98,8 @@ fn doubled(words: &[String]) -> Option<Refusal<'static>> {
 // Whether the last port for memcached's clients would have no number.
 fn are_high(words: &[String]) -> bool {
     let first = number_given(words, "--memcached", 11_211);
-    has_streams(words) && first + number_given(words, "--memcached-fronts", 1) > 65_536
+    let behind = first.saturating_add(number_given(words, "--memcached-fronts", 1));
+    has_streams(words) && behind > 65_536
 }
 
 /// Why words are refused each of which is right alone.

@@ -1,6 +1,7 @@
 //! What is wrong with a word, whatever stands beside it.
 
-use crate::known::{ASKING, NAMES, Values, instead_of, values_behind, values_of};
+use crate::foreign::instead_of;
+use crate::known::{NAMES, Values, values_behind, values_of};
 use crate::memory::bytes_of;
 use crate::refusal::Refusal;
 use outside::NoMemory;
@@ -8,18 +9,29 @@ use partition_sizes::{LEAST_MEMORY, MOST_MEMORY};
 use std::alloc::Global;
 use strsim::osa_distance;
 
-// The option whose name is like this one, or nothing where none is.
-fn nearest(alloc: Global, name: &str) -> Result<&'static str, NoMemory> {
-    let mut best = "";
+// The place of the name that is like this one, or none where none is.
+fn nearest(alloc: Global, name: &str) -> Result<Option<usize>, NoMemory> {
+    let mut best = None;
     let mut least = name.len() / 3 + 1;
-    for known in NAMES.iter().chain(ASKING.iter()) {
+    for (place, known) in NAMES.iter().enumerate() {
         let distance = osa_distance(alloc, name, known)?;
         if distance < least {
             least = distance;
-            best = *known;
+            best = Some(place);
         }
     }
     Ok(best)
+}
+
+// Why no option has this name.
+fn unknown<'a>(alloc: Global, name: &'a str) -> Result<Refusal<'a>, NoMemory> {
+    match nearest(alloc, name)? {
+        Some(place) => match NAMES.get(place) {
+            Some(near) => Ok(Refusal::Unknown(name, *near)),
+            None => Ok(Refusal::Unknown(name, "")),
+        },
+        None => Ok(Refusal::Unknown(name, "")),
+    }
 }
 
 // Why a value is refused.
@@ -49,7 +61,7 @@ fn wrong_name<'a>(alloc: Global, word: &'a str) -> Result<Refusal<'a>, NoMemory>
         return Ok(Refusal::Foreign(name, instead));
     }
     match word.as_bytes() {
-        [b'-', b'-', _, ..] => Ok(Refusal::Unknown(name, nearest(alloc, name)?)),
+        [b'-', b'-', _, ..] => unknown(alloc, name),
         [b'-', b'p' | b'm' | b'c' | b'l' | b'U' | b'u' | b'P', _, ..] => Ok(Refusal::Attached(
             word,
         )),
