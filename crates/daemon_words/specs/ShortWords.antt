@@ -14,6 +14,17 @@ names_alone (Some text) = not (list_any is_equals_sign text)
 abbrev pub wants_value : Text → Bool
 wants_value word = names_alone (behind_hyphens word)
 
+-- what a word adds that asks nothing of the server, or is no short one, and what the next one is
+abbrev pub spelt_plainly : Text → List Text × Waiting
+spelt_plainly word =
+    if bytes_eq word (codes "-U") then ([], NoPort)
+    else (if bytes_eq word (codes "-u") then ([], Aside)
+    else (if bytes_eq word (codes "-P") then ([], Aside)
+    else (if bytes_eq word (codes "-v") then ([], Nothing)
+    else (if bytes_eq word (codes "-vv") then ([], Nothing)
+    else (if bytes_eq word (codes "-vvv") then ([], Nothing)
+    else (if wants_value word then (word ∷ [], Value) else (word ∷ [], Nothing)))))))
+
 -- what a word stands for that is no value, and what the next one is
 abbrev pub spelt : Text → List Text × Waiting
 spelt word =
@@ -22,13 +33,7 @@ spelt word =
     else (if bytes_eq word (codes "-l") then (codes "--listen" ∷ [], Value)
     else (if bytes_eq word (codes "-m") then (codes "--memory" ∷ [], Mebibytes)
     else (if bytes_eq word (codes "-M") then (codes "--mode=store" ∷ [], Nothing)
-    else (if bytes_eq word (codes "-U") then ([], NoPort)
-    else (if bytes_eq word (codes "-u") then ([], Aside)
-    else (if bytes_eq word (codes "-P") then ([], Aside)
-    else (if bytes_eq word (codes "-v") then ([], Nothing)
-    else (if bytes_eq word (codes "-vv") then ([], Nothing)
-    else (if bytes_eq word (codes "-vvv") then ([], Nothing)
-    else (if wants_value word then (word ∷ [], Value) else (word ∷ [], Nothing))))))))))))
+    else spelt_plainly word))))
 
 -- no option takes this word
 abbrev pub untaken : List Text

@@ -1,5 +1,5 @@
 //! The words of a server that stays up.
-ghost use Rattle.std.specs.Prelude.{◌≡◌, map, string_bytes, option_map};
+ghost use Rattle.std.specs.Prelude.{◌≡◌, ◌+◌, nat_le, map, string_bytes, option_map};
 ghost use Rattle.clap.specs.Matches.{first_value, found_of};
 ghost use Rattle.daemon_words.specs.DaemonWords.{sizes_by_words, gives_size, sizes_given, mode_given, service_options, lasting_ports, ports_given, are_possible, daemon_given, daemon_of, service_of, IsDaemonReading};
 
@@ -137,13 +137,21 @@ fn ports_given(found: &ArgMatches<'_>) -> Option<PortOptions>
     })
 }
 
+// Whether so many ports from a first one on have numbers.
+fn have_numbers(port: u16, fronts: u32) -> bool
+    ensures { result ≡ nat_le (port + fronts) 65536 }
+{
+    u64::from(port) + u64::from(fronts) <= 65_536
+}
+
 // Whether there is a front, there are not too many, and the last port of connections has a number.
 fn are_possible(ports: &PortOptions, streams: &StreamOptions) -> bool
     ensures { result ≡ are_possible ports.now streams.now }
 {
     let all = u64::from(ports.fronts) + u64::from(streams.ports.fronts);
-    let behind = u64::from(streams.ports.port) + u64::from(streams.ports.fronts);
-    1 <= all && all <= u64::from(MOST_FRONTS) && behind <= 65_536
+    1 <= all
+        && all <= u64::from(MOST_FRONTS)
+        && have_numbers(streams.ports.port, streams.ports.fronts)
 }
 
 // What a server that stays up is to do, by the texts of its options. An image fills a store, and no cache.

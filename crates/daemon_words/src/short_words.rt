@@ -2,7 +2,7 @@
 ghost use Rattle.std.specs.Prelude.{◌≡◌, ◌++◌, ◌∷◌, [], map, string_bytes, codes, IfOk, OnOk, if◌then◌else◌};
 ghost use Rattle.std.specs.List.{list_any};
 ghost use Rattle.option_words.specs.Words.{begins_with_hyphen, is_equals_sign};
-ghost use Rattle.daemon_words.specs.ShortWords.{wants_value, spelt, untaken, step, left_over, long_words};
+ghost use Rattle.daemon_words.specs.ShortWords.{wants_value, spelt_plainly, spelt, untaken, step, left_over, long_words};
 
 use outside::NoMemory;
 use std::alloc::Global;
@@ -63,6 +63,22 @@ fn wants_value(word: &str) -> bool
     }
 }
 
+// Adds what a word stands for that asks nothing of the server, or is no short one.
+fn spell_plainly(alloc: Global, long: &mut Vec<String>, word: &str) -> Result<Waiting, NoMemory>
+    ensures { IfOk result (λ next. (map string_bytes long.new.items ≡ map string_bytes long.old.items ++ (spelt_plainly word.now).0) × (next ≡ (spelt_plainly word.now).1)) }
+{
+    match word {
+        "-U" => Ok(Waiting::NoPort),
+        "-u" => Ok(Waiting::Aside),
+        "-P" => Ok(Waiting::Aside),
+        "-v" => Ok(Waiting::Nothing),
+        "-vv" => Ok(Waiting::Nothing),
+        "-vvv" => Ok(Waiting::Nothing),
+        _ if wants_value(word) => add_before(alloc, long, word, Waiting::Value),
+        _ => add_before(alloc, long, word, Waiting::Nothing),
+    }
+}
+
 // Adds what a word stands for that is no value.
 fn spell(alloc: Global, long: &mut Vec<String>, word: &str) -> Result<Waiting, NoMemory>
     ensures { IfOk result (λ next. (map string_bytes long.new.items ≡ map string_bytes long.old.items ++ (spelt word.now).0) × (next ≡ (spelt word.now).1)) }
@@ -73,14 +89,7 @@ fn spell(alloc: Global, long: &mut Vec<String>, word: &str) -> Result<Waiting, N
         "-l" => add_before(alloc, long, "--listen", Waiting::Value),
         "-m" => add_before(alloc, long, "--memory", Waiting::Mebibytes),
         "-M" => add_before(alloc, long, "--mode=store", Waiting::Nothing),
-        "-U" => Ok(Waiting::NoPort),
-        "-u" => Ok(Waiting::Aside),
-        "-P" => Ok(Waiting::Aside),
-        "-v" => Ok(Waiting::Nothing),
-        "-vv" => Ok(Waiting::Nothing),
-        "-vvv" => Ok(Waiting::Nothing),
-        _ if wants_value(word) => add_before(alloc, long, word, Waiting::Value),
-        _ => add_before(alloc, long, word, Waiting::Nothing),
+        _ => spell_plainly(alloc, long, word),
     }
 }
 
