@@ -2,7 +2,7 @@
 ghost use Rattle.std.specs.Prelude.{◌≡◌, ◌++◌, ◌∷◌, [], map, string_bytes, codes, IfOk, OnOk, if◌then◌else◌};
 ghost use Rattle.std.specs.List.{list_any};
 ghost use Rattle.option_words.specs.Words.{begins_with_hyphen, is_equals_sign};
-ghost use Rattle.daemon_words.specs.ShortWords.{wants_value, spelt_plainly, spelt, untaken, step, left_over, long_words};
+ghost use Rattle.daemon_words.specs.ShortWords.{wants_value, spelt_plainly, spelt_for_items, spelt, untaken, step, left_over, long_words};
 
 use outside::NoMemory;
 use std::alloc::Global;
@@ -79,6 +79,17 @@ fn spell_plainly(alloc: Global, long: &mut Vec<String>, word: &str) -> Result<Wa
     }
 }
 
+// Adds what a word stands for that says how much memory there is, or the mode.
+fn spell_for_items(alloc: Global, long: &mut Vec<String>, word: &str) -> Result<Waiting, NoMemory>
+    ensures { IfOk result (λ next. (map string_bytes long.new.items ≡ map string_bytes long.old.items ++ (spelt_for_items word.now).0) × (next ≡ (spelt_for_items word.now).1)) }
+{
+    match word {
+        "-m" => add_before(alloc, long, "--memory", Waiting::Mebibytes),
+        "-M" => add_before(alloc, long, "--mode=store", Waiting::Nothing),
+        _ => spell_plainly(alloc, long, word),
+    }
+}
+
 // Adds what a word stands for that is no value.
 fn spell(alloc: Global, long: &mut Vec<String>, word: &str) -> Result<Waiting, NoMemory>
     ensures { IfOk result (λ next. (map string_bytes long.new.items ≡ map string_bytes long.old.items ++ (spelt word.now).0) × (next ≡ (spelt word.now).1)) }
@@ -87,9 +98,7 @@ fn spell(alloc: Global, long: &mut Vec<String>, word: &str) -> Result<Waiting, N
         "-p" => add_before(alloc, long, "--memcached", Waiting::Value),
         "-c" => add_before(alloc, long, "--connections", Waiting::Value),
         "-l" => add_before(alloc, long, "--listen", Waiting::Value),
-        "-m" => add_before(alloc, long, "--memory", Waiting::Mebibytes),
-        "-M" => add_before(alloc, long, "--mode=store", Waiting::Nothing),
-        _ => spell_plainly(alloc, long, word),
+        _ => spell_for_items(alloc, long, word),
     }
 }
 
