@@ -11,4 +11,4 @@ mod sizes;
 
 pub use bytes::{bytes_of, start_bytes};
 pub use laws::sizes_fit;
-pub use sizes::{LEAST_MEMORY, MOST_MEMORY, Sizes, sizes_for};
+pub use sizes::{ITEM_WORDS, LEAST_MEMORY, MOST_MEMORY, Sizes, sizes_for};
