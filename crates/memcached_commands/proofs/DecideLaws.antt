@@ -1,8 +1,8 @@
 -- What follows from what is decided.
-use Rattle.std.proofs.Common.{◌≡◌, ◌<◌, ◌≤◌, ◌+◌, ◌-◌, ◌%◌, ◌^◌, ◌==◌, ℕ, List, Bool, true, false, true≢false, Option, Some, None, cond, length, drop, length-drop, max, min, zero, suc, subst, decimal, nat_le, nat_lt, refl, sym, ap, ◌∙◌, arith, length-append, ◌⊎◌, inl, inr}
+use Rattle.std.proofs.Common.{◌≡◌, ◌<◌, ◌≤◌, ◌+◌, ◌-◌, ◌%◌, ◌^◌, ◌==◌, ℕ, List, Bool, true, false, true≢false, Option, Some, None, cond, length, drop, length-drop, max, min, zero, suc, subst, decimal, nat_le, nat_lt, refl, sym, ap, ◌∙◌, arith, ◌⊎◌, inl, inr}
 use Rattle.std.proofs.Math.Bool.{and-false}
 use Rattle.std.proofs.Math.Nat.{mod-eq_of_lt, mod-eq-sub-mod}
-use Rattle.std.proofs.lemmas.Bool.{leb-false, ltb-false, ltb-true, le-ltb, lt-leb, eqb-true}
+use Rattle.std.proofs.lemmas.Bool.{leb-false, ltb-true, le-ltb, lt-leb, eqb-true}
 use Rattle.std.specs.Int.{w32, w64, from_le_bytes}
 use Rattle.std.specs.Option.{IfSome}
 use Rattle.mica_words.specs.Item.{StoredFits}
@@ -27,7 +27,7 @@ use Rattle.memcached_commands.specs.declared.ask.Left.{Left}
 use Rattle.memcached_commands.specs.declared.ask.Ask.{Ask}
 use Rattle.memcached_commands.specs.declared.ask.Ask.TheVariants.{Get, GetTouch, Leased, Store, Join, Count, Touch, Delete, Mark, Spoil}
 use Rattle.memcached_commands.specs.Moments.{end_of, ended_by, is_there, found_in}
-use Rattle.memcached_commands.specs.Counting.{number_in, counted, padded}
+use Rattle.memcached_commands.specs.Counting.{number_in, counted}
 use Rattle.memcached_commands.specs.Decide.{Becoming, stays, becomes, goes, kept_until, has_number, later_than, counted_item, count_from, leaves, decide}
 use Rattle.memcached_commands.specs.Fit.{IsFitAsk, IsFitStored}
 use Rattle.memcached_commands.specs.Laws.{IsFitItem, IsKept, BecomesKept, Fits, IsFitFound, IsGone, expired, flushed, LateIsNever, EndsAs, EndsAsAsked, asked_lifetime, NeverLonger, EndsWithFlush, IsSameValue, OneNumberOneValue, CountsOn, CountsWrap, CountsGoOn}

@@ -5,7 +5,6 @@ use Rattle.memcached_text.specs.declared.limits.TheConstants.{MAX_TEXT_LEN}
 use Rattle.memcached_text.specs.declared.command.Direction.{Direction}
 use Rattle.memcached_text.specs.declared.command.Side.{Side}
 use Rattle.memcached_text.specs.declared.command.Side.TheVariants.{Front, Back}
-use Rattle.memcached_text.specs.declared.command.Wants.{Wants}
 use Rattle.memcached_text.specs.declared.command.Wants.TheVariants.{Whatever, Absent, Present, Numbered, AtLeast}
 use Rattle.memcached_text.specs.declared.item.Item.{Item}
 use Rattle.memcached_text.specs.declared.lifetime.Lifetime.{Lifetime}
@@ -19,7 +18,7 @@ use Rattle.memcached_commands.specs.declared.ask.Says.TheVariants.{Line, Refusal
 use Rattle.memcached_text.specs.declared.fault.Fault.TheVariants.{TooLarge}
 use Rattle.memcached_text.specs.declared.reply.Reply.TheVariants.{Exists, Deleted}
 use Rattle.memcached_commands.specs.Moments.{end_of}
-use Rattle.memcached_commands.specs.Counting.{number_in, counted}
+use Rattle.memcached_commands.specs.Counting.{number_in}
 use Rattle.memcached_commands.specs.Decide.{Becoming, stays, becomes, goes, Decision, leaves, kept_until, end_by, has_number, if_meant, is_wanted, missed, later_than, stored, stored_over, joined, joined_item, new_item, joins, counted_item, count_from, begun, leased_item, wins, vivified, outdated, decide}
 use Rattle.memcached_commands.specs.Fit.{IsFitAsk, IsFitInitial}
 use Rattle.memcached_commands.specs.Laws.{IsFitItem, IsFitFound, IsSameValue, asked_lifetime}

@@ -1,5 +1,5 @@
 -- Who wins, and how long an item is stale.
-use Rattle.std.proofs.Common.{◌≡◌, ℕ, Bool, true, false, true≢false, cond, ◌||◌, ◌&&◌, not, Option, Some, None, refl, sym, ap, ◌∙◌, subst}
+use Rattle.std.proofs.Common.{◌≡◌, ℕ, Bool, true, false, true≢false, ◌||◌, ◌&&◌, not, Option, Some, None, refl, sym, ap, subst}
 use Rattle.std.proofs.lemmas.Bool.{cond_both}
 use Rattle.memcached_text.specs.declared.item.Item.{Item}
 use Rattle.memcached_text.specs.declared.lifetime.Lifetime.{Lifetime}
