@@ -11,7 +11,6 @@ import os
 import pathlib
 import random
 import re
-import shutil
 import socket
 import subprocess
 import sys
@@ -158,6 +157,8 @@ def main(suite):
     asked.add_argument("--show", action="store_true")
     asked = asked.parse_args()
     SHOWN = asked.show
+    if not MICAD.is_file():
+        sys.exit(f"{MICAD} is not there")
     installed(["memcached", *suite.packages])
     there = results(suite, None)
     print(f"{suite.name}, memcached: {counts(there)}", flush=True)
