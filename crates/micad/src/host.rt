@@ -39,7 +39,7 @@ fn clocks_of<'a, R: time::Clock>(rt: &'a R, alloc: Global) -> Result<Vec<StdCloc
 }
 
 /// Says on standard error why the program ends, where there is a reason. What can't be said is left out.
-fn say_why<R: Print + Sockets + Files, K>(rt: &R, speaker: &Speaker<K>) {
+fn say_why<R: Eprint + Sockets + Files, K>(rt: &R, speaker: &Speaker<K>) {
     if speaker.reason.is_empty() {
         return;
     }
@@ -52,7 +52,7 @@ fn say_why<R: Print + Sockets + Files, K>(rt: &R, speaker: &Speaker<K>) {
 
 /// The program as `main` runs it, with the words that it was started with and the number of its process. It ends with 0 only where these ask a question.
 pub fn run_on_host<
-    R: Threads + Wait + Sync + AllocGlobal + Env + Files + Print + Sockets + time::Clock,
+    R: Threads + Wait + Sync + AllocGlobal + Env + Eprint + Files + Print + Sockets + time::Clock,
 >(rt: &R, args: io::Result<Args>, pid: u32) -> ExitCode
     ensures number { (ending : Ending) × (exit_status result ≡ ending_number ending) }
     ensures zero { exit_status result ≡ 0 → IsAsked (words_of string_bytes args) }

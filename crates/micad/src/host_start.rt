@@ -10,7 +10,7 @@ use std::rt::{Env, Files};
 use std::{env, fs};
 
 // Whether the process has the rights of the user that words name, where they name one. Else it says so.
-fn has_user<R: Files + Print>(
+fn has_user<R: Eprint + Files>(
     rt: &R,
     alloc: Global,
     system: &HostFiles<'_, R>,
@@ -28,7 +28,7 @@ fn has_user<R: Files + Print>(
 }
 
 // Writes the number of the process into the file that words name for it.
-fn write_process<R: Files + Print>(rt: &R, alloc: Global, words: &[String], process: u32) {
+fn write_process<R: Eprint + Files>(rt: &R, alloc: Global, words: &[String], process: u32) {
     let Some(name) = value_given(words, "-P") else {
         return;
     };
@@ -42,7 +42,7 @@ fn write_process<R: Files + Print>(rt: &R, alloc: Global, words: &[String], proc
 }
 
 /// Says what a server begins with, where words give one, and writes its number where they want it. Whether it may begin.
-pub fn begin<R: AllocGlobal + Env + Files + Print>(rt: &R, process: u32) -> bool {
+pub fn begin<R: AllocGlobal + Env + Eprint + Files>(rt: &R, process: u32) -> bool {
     let alloc = rt.alloc();
     let words = match all_words(alloc, env::args(rt)) {
         Ok(words) => words,
