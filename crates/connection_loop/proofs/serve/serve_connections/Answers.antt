@@ -15,20 +15,20 @@ use Rattle.connection_loop.proofs.serve.serve_connections.Goals as goal
 
 pub serve_event-count-requires-clause-clients : goal.serve_event-count-requires-clause-clients
 serve_event-count-requires-clause-clients g c =
-    let before = g.C.Connections.log c.loop.connections in
+    let before = g.C.Connections.log c.loop-alloc.connections in
     let after = g.C.Connections.log c.next.new.self in
     let reports = subst (λ got. IfSome got (λ event. IfSome before (λ l. ReportsNext l event after))) c.in-Some.is c.in_ok-event.ensures.next in
-    all_kept c.loop.clients.held.items before after c.loop.invariant.1 c.in_ok-event.ensures.told (tells_keeps c.in-Some.event before after reports)
+    all_kept c.loop-alloc.clients.held.items before after c.loop-alloc.invariant.1 c.in_ok-event.ensures.told (tells_keeps c.in-Some.event before after reports)
 
 pub serve_event-count-requires-clause-event : goal.serve_event-count-requires-clause-event
 serve_event-count-requires-clause-event g c =
-    let before = g.C.Connections.log c.loop.connections in
+    let before = g.C.Connections.log c.loop-alloc.connections in
     let after = g.C.Connections.log c.next.new.self in
     let reports = subst (λ got. IfSome got (λ event. IfSome before (λ l. ReportsNext l event after))) c.in-Some.is c.in_ok-event.ensures.next in
     tells_opened c.in-Some.event before after c.in_ok-event.ensures.told reports
 
-pub loop-init : goal.loop-init
-loop-init g c =
+pub loop-alloc-init : goal.loop-alloc-init
+loop-alloc-init g c =
     let log = g.C.Connections.log c.args.connections.now in
     let options = g.F.Front.options c.args.front.now in (
       c.in_ok-desk.ensures,
@@ -45,8 +45,8 @@ loop-init g c =
           c.new-clients.result.held.items c.new-clients.ensures log,
     )
 
-pub loop-preserved : goal.loop-preserved
-loop-preserved g c =
+pub loop-alloc-preserved : goal.loop-alloc-preserved
+loop-alloc-preserved g c =
     let F = g.F.Front in
     let view = g.K.Clock.view in
     let log = g.C.Connections.log in
@@ -55,8 +55,8 @@ loop-preserved g c =
     let left = F.left c.args.front.now in
     let told = view c.args.clock.now in
     let base = c.args.numbering.base in
-    let inv = c.loop.invariant in
-    let before = log c.loop.connections in
+    let inv = c.loop-alloc.invariant in
+    let before = log c.loop-alloc.connections in
     let after = log c.next.new.self in
     let next = c.in_ok-event.ensures in
     let served = c.serve_event-count.ensures in
@@ -66,14 +66,14 @@ loop-preserved g c =
     let reports = subst (λ got. IfSome got (λ event. IfSome before (λ l. ReportsNext l event after))) c.in-Some.is next.next in
     let on = subst (λ got. g.C.Connections.has_ended c.next.new.self ≡ is_none got) c.in-Some.is next.ended in
     let same = served.front.same_options ∙ inv.6 in
-    let more = subst (λ (o : Options). GoesBy o F.is_alone (F.sessions c.loop.front) (F.left c.loop.front) (view c.loop.clock) (F.sessions then.front) (F.left then.front) (view then.clock)) inv.6
+    let more = subst (λ (o : Options). GoesBy o F.is_alone (F.sessions c.loop-alloc.front) (F.left c.loop-alloc.front) (view c.loop-alloc.clock) (F.sessions then.front) (F.left then.front) (view then.clock)) inv.6
     served.front.goes in
     let swept = subst (λ (o : Options). SweepsBy o F.is_alone base MOST_SWEPT (F.sessions then.front) (F.left then.front) (view then.clock) (F.sessions now.front) (F.left now.front) (view now.clock)) same sweep.swept in (
       served.room,
       served.clients,
       served.port.ended ∙ on,
       by_both options F.is_alone old (F.sessions then.front) (F.sessions now.front) left (F.left then.front) (F.left now.front) told (view then.clock) (view now.clock)
-          (by_both options F.is_alone old (F.sessions c.loop.front) (F.sessions then.front) left (F.left c.loop.front) (F.left then.front) told (view c.loop.clock) (view then.clock) inv.3 more)
+          (by_both options F.is_alone old (F.sessions c.loop-alloc.front) (F.sessions then.front) left (F.left c.loop-alloc.front) (F.left then.front) told (view c.loop-alloc.clock) (view then.clock) inv.3 more)
           (by_sweeps swept),
       (let first = inv.4 in let second = next.never_fall in let third = served.port.no_fault in omega (arith, first, second, third)),
       served.port.same_port ∙ next.port ∙ inv.5,
@@ -81,14 +81,14 @@ loop-preserved g c =
       sweep.number ∙ served.front.same_number ∙ inv.7,
       sweep.stands ∙ served.front.same_stands ∙ inv.8,
       served.port.told ∙ next.told ∙ inv.9,
-      since_then options F.is_alone base old left told c.args.lacked.now c.loop.clients.held.items then.clients.held.items c.in-Some.event c.loop.lacked c.serve_event-count.result _ (search rules)
-          (log c.args.connections.now) before after (log then.connections) inv.10 next.told reports (F.options c.loop.front) inv.6 served.serves (F.options then.front) same sweep.swept served.clients,
+      since_then options F.is_alone base old left told c.args.lacked.now c.loop-alloc.clients.held.items then.clients.held.items c.in-Some.event c.loop-alloc.lacked c.serve_event-count.result _ (search rules)
+          (log c.args.connections.now) before after (log then.connections) inv.10 next.told reports (F.options c.loop-alloc.front) inv.6 served.serves (F.options then.front) same sweep.swept served.clients,
     )
 
-pub loop-smaller : goal.loop-smaller
-loop-smaller g c =
+pub loop-alloc-smaller : goal.loop-alloc-smaller
+loop-alloc-smaller g c =
     let reports = g.C.Connections.reports in
-    let fewer = subst (λ got. IfSome got (λ _. reports c.next.new.self < reports c.loop.connections)) c.in-Some.is c.in_ok-event.ensures.fewer in
+    let fewer = subst (λ got. IfSome got (λ _. reports c.next.new.self < reports c.loop-alloc.connections)) c.in-Some.is c.in_ok-event.ensures.fewer in
     omega (arith, fewer, c.serve_event-count.ensures.port.no_more)
 
 pub returns-in_err-desk-clause-serves : goal.returns-in_err-desk-clause-serves
@@ -120,33 +120,33 @@ returns-in_err-event-clause-serves g c =
     let log = g.C.Connections.log in
     let ended = g.C.Connections.has_ended in
     since_called (g.F.Front.options c.args.front.now) g.F.Front.is_alone c.args.numbering.base (g.F.Front.sessions c.args.front.now) (g.F.Front.left c.args.front.now) (g.K.Clock.view c.args.clock.now)
-    c.args.lacked.now (ended c.args.connections.now) (ended c.next.new.self) (g.F.Front.sessions c.loop.front) (g.F.Front.left c.loop.front) (g.K.Clock.view c.loop.clock) c.loop.lacked
-    c.loop.clients.held.items c.in_err-event.ensures.still_open (log c.args.connections.now) (log c.loop.connections) (log c.next.new.self) c.loop.invariant.10 c.in_err-event.ensures.unmoved
+    c.args.lacked.now (ended c.args.connections.now) (ended c.next.new.self) (g.F.Front.sessions c.loop-alloc.front) (g.F.Front.left c.loop-alloc.front) (g.K.Clock.view c.loop-alloc.clock) c.loop-alloc.lacked
+    c.loop-alloc.clients.held.items c.in_err-event.ensures.still_open (log c.args.connections.now) (log c.loop-alloc.connections) (log c.next.new.self) c.loop-alloc.invariant.10 c.in_err-event.ensures.unmoved
 
 pub returns-in_err-event-clause-last_failed : goal.returns-in_err-event-clause-last_failed
 returns-in_err-event-clause-last_failed g c is =
-    failed_last (g.C.Connections.log c.loop.connections) (g.C.Connections.log c.next.new.self) c.in_err-event.ensures.unmoved c.in_err-event.ensures.foretold
+    failed_last (g.C.Connections.log c.loop-alloc.connections) (g.C.Connections.log c.next.new.self) c.in_err-event.ensures.unmoved c.in_err-event.ensures.foretold
 
 pub returns-then-writes_left-least-clause-serves : goal.returns-then-writes_left-least-clause-serves
 returns-then-writes_left-least-clause-serves g c =
     let log = g.C.Connections.log in
     let ended = g.C.Connections.has_ended in
     since_serves (g.F.Front.options c.args.front.now) g.F.Front.is_alone c.args.numbering.base (g.F.Front.sessions c.args.front.now) (g.F.Front.left c.args.front.now) (g.K.Clock.view c.args.clock.now)
-    c.args.lacked.now (ended c.args.connections.now) (ended c.loop.connections) (g.F.Front.sessions c.loop.front) (g.F.Front.left c.loop.front) (g.K.Clock.view c.loop.clock) c.loop.lacked
-    c.loop.clients.held.items c.loop.invariant.2 (log c.args.connections.now) (log c.loop.connections) c.loop.invariant.10
+    c.args.lacked.now (ended c.args.connections.now) (ended c.loop-alloc.connections) (g.F.Front.sessions c.loop-alloc.front) (g.F.Front.left c.loop-alloc.front) (g.K.Clock.view c.loop-alloc.clock) c.loop-alloc.lacked
+    c.loop-alloc.clients.held.items c.loop-alloc.invariant.2 (log c.args.connections.now) (log c.loop-alloc.connections) c.loop-alloc.invariant.10
 
 pub returns-in_default-clause-serves : goal.returns-in_default-clause-serves
 returns-in_default-clause-serves g c =
     let log = g.C.Connections.log in
     let ended = g.C.Connections.has_ended in
     since_over (g.F.Front.options c.args.front.now) g.F.Front.is_alone c.args.numbering.base (g.F.Front.sessions c.args.front.now) (g.F.Front.left c.args.front.now) (g.K.Clock.view c.args.clock.now)
-    c.args.lacked.now (ended c.args.connections.now) (ended c.next.new.self) (g.F.Front.sessions c.loop.front) (g.F.Front.left c.loop.front) (g.K.Clock.view c.loop.clock) c.loop.lacked
-    c.loop.clients.held.items (log c.args.connections.now) (log c.loop.connections) (log c.next.new.self) c.loop.invariant.10
-    (subst (λ got. IfNone got (IfSome (log c.loop.connections) (λ l. IsOver l (log c.next.new.self)))) c.in_default.is c.in_ok-event.ensures.end)
+    c.args.lacked.now (ended c.args.connections.now) (ended c.next.new.self) (g.F.Front.sessions c.loop-alloc.front) (g.F.Front.left c.loop-alloc.front) (g.K.Clock.view c.loop-alloc.clock) c.loop-alloc.lacked
+    c.loop-alloc.clients.held.items (log c.args.connections.now) (log c.loop-alloc.connections) (log c.next.new.self) c.loop-alloc.invariant.10
+    (subst (λ got. IfNone got (IfSome (log c.loop-alloc.connections) (λ l. IsOver l (log c.next.new.self)))) c.in_default.is c.in_ok-event.ensures.end)
 
 pub returns-then-writes_left-least-clause-ends : goal.returns-then-writes_left-least-clause-ends
 returns-then-writes_left-least-clause-ends g c =
-    let same = ap (λ (o : Options). o.partitions) c.loop.invariant.6 in
+    let same = ap (λ (o : Options). o.partitions) c.loop-alloc.invariant.6 in
     inr (omega (arith, c.if-writes_left-least.true, c.writes_left.ensures, c.most_writes-least.ensures, c.requires.partitions, same))
 
 pub returns-in_default-clause-ends : goal.returns-in_default-clause-ends

@@ -7,8 +7,8 @@ use Rattle.connection_loop.specs.Open.{OnLogs}
 use Rattle.connection_loop.proofs.Since.{StandsSince}
 use Rattle.connection_loop.proofs.serve.serve_connections.Given as goal
 
-abbrev pub invariant-loop : goal.invariant-loop
-invariant-loop g l =
+abbrev pub invariant-loop-alloc : goal.invariant-loop-alloc
+invariant-loop-alloc g l =
     (vec_len l.desk.room ≡ MAX_WAITING_LEN)
     × AreOpen l.clients.held.items (g.C.Connections.log l.connections)
     × (g.C.Connections.has_ended l.connections ≡ false)
@@ -22,5 +22,5 @@ invariant-loop g l =
     × OnLogs (StandsSince (g.F.Front.options l.initial.front) g.F.Front.is_alone l.numbering.base (g.F.Front.sessions l.initial.front) (g.F.Front.left l.initial.front) (g.K.Clock.view l.initial.clock)
     l.initial.lacked (g.F.Front.sessions l.front) (g.F.Front.left l.front) (g.K.Clock.view l.clock) l.lacked l.clients.held.items) (g.C.Connections.log l.initial.connections) (g.C.Connections.log l.connections)
 
-abbrev pub decreases-loop : goal.decreases-loop
-decreases-loop g l = g.C.Connections.reports l.connections
+abbrev pub decreases-loop-alloc : goal.decreases-loop-alloc
+decreases-loop-alloc g l = g.C.Connections.reports l.connections
