@@ -1,14 +1,13 @@
 -- What the text of an amount of memory means.
-use Rattle.std.proofs.Common.{◌≡◌, ◌≢◌, ◌==◌, ℕ, ◌≤◌, ◌<◌, ◌*◌, ◌/◌, List, [], ◌∷◌, ◌++◌, Option, Some, None, Bool, true, false, nat_le, option_map, unwrap_or, ap, refl, sym, ◌∙◌, subst, if◌then◌else◌, arith, Bor, MatchOption}
+use Rattle.std.proofs.Common.{◌≡◌, ◌≢◌, ◌==◌, ℕ, ◌≤◌, ◌<◌, ◌*◌, ◌/◌, [], ◌∷◌, ◌++◌, Option, Some, None, Bool, true, false, nat_le, option_map, unwrap_or, ap, refl, sym, ◌∙◌, subst, if◌then◌else◌, arith, Bor, MatchOption}
 use Rattle.std.proofs.Math.Nat.{le-div_iff_mul-le}
 use Rattle.std.proofs.lemmas.Bool.{leb-true}
 use Rattle.std.proofs.lemmas.Bool.Decides.{nat_tests}
 use Rattle.std.proofs.lemmas.Option.{none-some}
-use Rattle.std.proofs.lemmas.Grind.{common_steps}
 use Rattle.partition_model.specs.Options.{InRange}
 use Rattle.partition_sizes.specs.declared.sizes.TheConstants.{LEAST_MEMORY, MOST_MEMORY}
 use Rattle.option_words.specs.Words.{Text}
-use Rattle.option_words.specs.Settings.{number_of, ◌>>=◌}
+use Rattle.option_words.specs.Settings.{number_of}
 use Rattle.daemon_words.specs.Memory.{before_letter, before_unit, amount_in, amount_or, memory_of}
 use Rattle.option_words.proofs.ValueLemmas.{both_told, number_bounds}
 

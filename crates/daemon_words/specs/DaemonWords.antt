@@ -1,5 +1,5 @@
 -- The words of a server that stays up: its partitions, by their sizes or by how much memory they may take, its ports, and an image.
-use Rattle.std.specs.Prelude.{◌≡◌, ⊤, ℕ, ◌+◌, Bool, ◌||◌, ◌&&◌, true, nat_le, List, [], ◌∷◌, ◌++◌, Option, Some, None, is_none, is_some, option_map, codes, Result, Ok, Err, if◌then◌else◌}
+use Rattle.std.specs.Prelude.{◌≡◌, ⊤, ℕ, ◌+◌, Bool, ◌||◌, ◌&&◌, true, nat_le, List, ◌∷◌, Option, Some, None, is_none, is_some, option_map, codes, Result, Ok, Err, if◌then◌else◌}
 use Rattle.std.specs.Int.{is_in_range}
 use Rattle.partition_model.specs.declared.options.Options.{Options}
 use Rattle.partition_model.specs.declared.options.Mode.{Mode}

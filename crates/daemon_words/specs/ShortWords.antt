@@ -1,5 +1,5 @@
 -- memcached's own short words, and the long words that they stand for.
-use Rattle.std.specs.Prelude.{ℕ, Bool, false, true, not, List, [], ◌∷◌, ◌++◌, Option, Some, None, codes, bytes_eq, if◌then◌else◌}
+use Rattle.std.specs.Prelude.{Bool, false, not, List, [], ◌∷◌, ◌++◌, Option, Some, None, codes, bytes_eq, if◌then◌else◌}
 use Rattle.std.specs.List.{list_any}
 use Rattle.option_words.specs.Words.{Text, begins_with_hyphen, behind_hyphens, is_equals_sign}
 use Rattle.daemon_words.specs.declared.short_words.Waiting.{Waiting}
