@@ -18,7 +18,7 @@ touch_empty version want value short is =
     nil_from_length value (omega arith)
 
 pub reply_to_write-requires-in-Del-clause-value : goal.reply_to_write-requires-in-Del-clause-value
-reply_to_write-requires-in-Del-clause-value g c κs within = del_empty _ _ _ c.requires.request.value (sym c.want.ensures ∙ c.in-Del.is)
+reply_to_write-requires-in-Del-clause-value g c = del_empty _ _ _ c.requires.request.value (sym c.want.ensures ∙ c.in-Del.is)
 
 pub reply_to_write-requires-in-Touch-clause-value : goal.reply_to_write-requires-in-Touch-clause-value
-reply_to_write-requires-in-Touch-clause-value g c κs within = touch_empty _ _ _ c.requires.request.value (sym c.want.ensures ∙ c.in-Touch.is)
+reply_to_write-requires-in-Touch-clause-value g c = touch_empty _ _ _ c.requires.request.value (sym c.want.ensures ∙ c.in-Touch.is)

@@ -24,7 +24,7 @@ next_request-request-requires g c =
     record { some = one_left (F.options c.args.front.now) F.is_alone (c.loop-number.invariant.each c.requires.some.0 c.requires.some.1) c.loop-number-test.true }
 
 pub reply_to-requires-clause-request : goal.reply_to-requires-clause-request
-reply_to-requires-clause-request g c κs within =
+reply_to-requires-clause-request g c =
     let F = g.F.Front in
     let options = F.options c.args.front.now in
     let inv = c.loop-number.invariant in
