@@ -25,8 +25,8 @@ impl<'r, R: Wait> WaitingFront<'r, R> {
 
     /// Sends its end to each owner.
     pub fn end(self) -> Vec<FrontPart>
-        ensures front { IsQueueFront self.front }
-        ensures ended { result.items ≡ map (ended_part self.front.number) self.front.parts }
+        ensures front { IsQueueFront self.entry.front }
+        ensures ended { result.items ≡ map (ended_part self.entry.front.number) self.entry.front.parts }
     {
         self.front.end(self.rt)
     }
