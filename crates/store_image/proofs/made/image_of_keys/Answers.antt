@@ -48,7 +48,7 @@ put_pair-requires-clause-value g c =
     let some = c.requires.valid.partitions.0 in
     let key = (get_or c.args.keys.now c.loop-key.key-index none).now in
     let found = part_answers g.P.Partition.owner c.args.parts.now.items c.loop-key.parts.items c.args.options.now.partitions _ _ key (omega arith) c.requires.many c.loop-key.invariant.same c.key_hash.ensures c.partition_of-partition.ensures c.index_mut-part.result.now c.index_mut-part.ensures.value in
-    (c.requires.values key c.value.result.now (found ∙ c.if-finds.ensures.answer ∙ ap Some (sym c.value.ensures.value))).0
+    (c.requires.values key c.value-then-finds.result.now (found ∙ c.if-finds.ensures.answer ∙ ap Some (sym c.value-then-finds.ensures.value))).0
 
 pub overflow_add-count : goal.overflow_add-count
 overflow_add-count g c =
