@@ -21,7 +21,7 @@ mod process;
 mod program;
 mod reasons;
 mod speaker;
-mod start_text;
+mod start_lines;
 mod status;
 mod top;
 
@@ -33,6 +33,6 @@ pub use proc_files::is_run_by;
 pub use process::Process;
 pub use program::{answer_or_serve, begins_above, ending_number, exit_code, run_daemon};
 pub use speaker::{Doubt, Speaker, Unbound};
-pub use start_text::start_text;
+pub use start_lines::start_text;
 pub use status::{DaemonStatus, Ending};
 pub use top::daemon;
