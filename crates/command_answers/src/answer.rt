@@ -19,11 +19,12 @@ ghost use Rattle.command_answers.specs.Going.{AnswersFirst, RepliesFirst, GoesOn
 use crate::ask::answer_ask;
 use crate::buffers::Buffers;
 use crate::flush::{ask_flush, flush_all};
-use crate::plain::{Style, plain_line, put_line, style_of};
+use crate::plain::{Style, put_flush_reply, put_plain_reply, style_of};
 use fronts::Changes;
 use memcached_commands::Asks;
-use memcached_stats::counter_by;
-use memcached_text::{Command, Due, Next, Reply, Topic, reply_line};
+use memcached_frames::{FrameCommand, Next, asks_by};
+use memcached_stats::{Form, counter_by};
+use memcached_text::{Command, Due, Topic};
 use outside::{Clock, NoMemory};
 use partition_model::ItemBuf;
 
@@ -57,6 +58,10 @@ fn is_stats(next: &Next) -> bool
         Next::Command {
             command: Command::Stats { topic },
             ..
+        }
+        | Next::Frame {
+            command: FrameCommand::Stats(topic),
+            ..
         } => *topic == Topic::Server,
         _ => false,
     }
@@ -67,6 +72,7 @@ fn answer_stats<C: Clock>(
     clock: &C,
     partitions: u32,
     buffers: &mut Buffers,
+    form: Form,
     done: usize,
     out: &mut Vec<u8>,
 ) -> Result<Progress, NoMemory>
@@ -77,7 +83,7 @@ fn answer_stats<C: Clock>(
     ensures tally { buffers.new.tally ≡ buffers.old.tally }
 {
     buffers.show();
-    buffers.board.put_stats(clock.present(), partitions, out)?;
+    buffers.board.put_stats(clock.present(), partitions, form, out)?;
     Ok(Progress {
         done,
         is_whole: true,
@@ -91,7 +97,36 @@ fn is_flush_all(next: &Next) -> bool
         Next::Command {
             command: Command::Flush { .. },
             ..
+        }
+        | Next::Frame {
+            command: FrameCommand::Flush(_),
+            ..
         } => true,
+        _ => false,
+    }
+}
+
+// Whether anything is asked of a key.
+fn asks_keys(next: &Next) -> bool {
+    match next {
+        Next::Command { command, .. } => command_asks(command),
+        Next::Frame {
+            command: FrameCommand::Key(_),
+            ..
+        } => true,
+        Next::Refused { stale, .. } | Next::Dropped { stale, .. } => stale.is_some(),
+        _ => false,
+    }
+}
+
+fn command_asks(command: &Command) -> bool {
+    match command {
+        Command::Get { keys, .. } => keys.again().next_word().is_some(),
+        Command::Store { .. }
+        | Command::Join { .. }
+        | Command::Count { .. }
+        | Command::Delete { .. }
+        | Command::Touch { .. } => true,
         _ => false,
     }
 }
@@ -104,20 +139,12 @@ fn flush_due(next: &Next) -> Due
         Next::Command {
             command: Command::Flush { due, .. },
             ..
+        }
+        | Next::Frame {
+            command: FrameCommand::Flush(due),
+            ..
         } => *due,
         _ => Due::Now,
-    }
-}
-
-// The line of a flush, by whether all partitions took it.
-fn flush_line(took: bool) -> &'static [u8]
-    ensures text { (answers : List Answered) → took ≡ list_all accepts answers → result.now ≡ flush_text true answers }
-    ensures short { length result.now ≤ MAX_FRAME_LEN }
-{
-    if took {
-        reply_line(Reply::Done)
-    } else {
-        reply_line(Reply::NoRoom)
     }
 }
 
@@ -128,7 +155,7 @@ fn answer_flush<F: Changes, C: Clock>(
     partitions: u32,
     due: Due,
     key: &mut ItemBuf,
-    quiet: bool,
+    style: Style,
     out: &mut Vec<u8>,
 ) -> Result<Progress, NoMemory>
     requires due { IsDue due }
@@ -149,7 +176,7 @@ fn answer_flush<F: Changes, C: Clock>(
 {
     let flush = ask_flush(clock, partitions, due);
     let took = flush_all(front, partitions, flush, key);
-    let Ok(()) = put_line(out, quiet, flush_line(took)) else {
+    let Ok(()) = put_flush_reply(out, style, took) else {
         return Err(NoMemory);
     };
     Ok(Progress {
@@ -246,7 +273,6 @@ pub fn answer_next<'a, F: Changes, C: Clock>(
     ensures stands { F.stands front.new ≡ F.stands front.old }
 {
     let style = style_of(&next);
-    let quiet = style.is_quiet();
     buffers.tally.count(counter_by(&next));
     if is_flush_all(&next) {
         return answer_flush(
@@ -255,24 +281,22 @@ pub fn answer_next<'a, F: Changes, C: Clock>(
             numbering.partitions,
             flush_due(&next),
             &mut buffers.next,
-            quiet,
+            style,
             out,
         );
     }
     if is_stats(&next) {
-        return answer_stats(clock, numbering.partitions, buffers, done, out);
+        let form = style.form();
+        return answer_stats(clock, numbering.partitions, buffers, form, done, out);
     }
-    let line = plain_line(&next);
-    let mut asks = Asks::by(next);
-    if asks.is_empty() {
-        let Ok(()) = put_line(out, quiet, line) else {
-            return Err(NoMemory);
-        };
+    if !asks_keys(&next) {
+        put_plain_reply(out, &next)?;
         return Ok(Progress {
             done,
             is_whole: true,
         });
     }
+    let mut asks = asks_by(next);
     skip(&mut asks, done);
     let start = out.len();
     match answer_asks(

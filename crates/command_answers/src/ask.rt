@@ -37,6 +37,7 @@ fn put_said(
         Style::Classic { quiet: true, .. } => Ok(()),
         Style::Classic { unique, .. } if is_last => put_whole(out, unique, key, says),
         Style::Classic { unique, .. } => put_part(out, unique, key, says),
+        Style::Frame(echo) => memcached_frames::put_said(out, echo, key, says),
     }
 }
 

@@ -13,7 +13,7 @@ ghost use Rattle.connection_loop.specs.Reached.{GoesOnTo, ReachesAfter, SpokeFro
 use crate::next::{is_last, len_of, said_next};
 use command_answers::{Buffers, Limits, Numbering, answer_next};
 use fronts::CountsWrites;
-use memcached_text::Next;
+use memcached_frames::Next;
 use outside::{Clock, NoMemory};
 
 /// The most commands that are answered at one look, so that no connection holds up the others. One that gets no answer and no reply is not counted.

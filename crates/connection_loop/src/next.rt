@@ -5,7 +5,8 @@ ghost use Rattle.memcached_text.specs.Next.{next_of};
 ghost use Rattle.memcached_text.specs.Stream.{len_of, is_last};
 ghost use Rattle.memcached_commands.specs.Asks.{asks_in};
 
-use memcached_text::{Command, Next, next_command};
+use memcached_frames::{FrameCommand, Next, next_command};
+use memcached_text::Command;
 
 /// What the bytes begin with. Its keys can be counted.
 #[inline(always)]
@@ -22,8 +23,11 @@ pub fn len_of(next: &Next) -> usize
     ensures { result ≡ len_of next.now }
 {
     match next {
-        Next::Command { len, .. } | Next::Refused { len, .. } => *len,
-        Next::More | Next::LongLine => 0,
+        Next::Command { len, .. }
+        | Next::Refused { len, .. }
+        | Next::Frame { len, .. }
+        | Next::Dropped { len, .. } => *len,
+        Next::More | Next::LongLine | Next::Over { .. } => 0,
     }
 }
 
@@ -36,7 +40,12 @@ pub fn is_last(next: &Next) -> bool
             command: Command::Quit,
             ..
         }
-        | Next::LongLine => true,
+        | Next::Frame {
+            command: FrameCommand::Quit,
+            ..
+        }
+        | Next::LongLine
+        | Next::Over { .. } => true,
         _ => false,
     }
 }

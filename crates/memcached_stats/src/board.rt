@@ -5,7 +5,7 @@ ghost use Rattle.memcached_stats.specs.Stats.{Told, stats_text};
 
 use crate::counter::COUNTERS;
 use crate::figures::{About, Counts, Wear};
-use crate::lines::put_stats;
+use crate::lines::{Form, put_stats};
 use crate::tally::{MOST_NUMBERS, Tally, place_of_partition};
 use mica_words::tail_of;
 use outside::NoMemory;
@@ -164,13 +164,20 @@ impl Board {
     }
 
     /// Appends what the server tells of itself at this second. When out of memory, nothing is appended.
-    pub fn put_stats(&self, second: u64, partitions: u32, out: &mut Vec<u8>) -> Result<(), NoMemory>
+    pub fn put_stats(
+        &self,
+        second: u64,
+        partitions: u32,
+        form: Form,
+        out: &mut Vec<u8>,
+    ) -> Result<(), NoMemory>
         ensures ok { OnOk result ((told : Told) × (out.new.items ≡ out.old.items ++ stats_text partitions told)) }
         ensures short { OnOk result (length out.new.items ≤ length out.old.items + MAX_REPLY_LEN) }
         ensures err { OnErr result (out.new.items ≡ out.old.items) }
     {
         put_stats(
             out,
+            form,
             partitions,
             &self.about(second),
             &self.counts(),

@@ -3,7 +3,8 @@ ghost use Rattle.std.specs.Prelude.{◌≡◌};
 ghost use Rattle.memcached_stats.specs.Counted.{counter_by, counter_of, counter_of_store, counter_of_swap, counter_of_get, counter_of_touch, counter_of_lease, counter_of_count, counter_of_delete};
 
 use memcached_commands::{Ask, Says};
-use memcached_text::{Command, Direction, Fault, Lifetime, Next, Reply, Wants};
+use memcached_frames::{FrameCommand, FrameFault, Next};
+use memcached_text::{Command, Direction, Fault, Lifetime, Reply, Wants};
 
 /// What a front counts.
 #[derive(Clone, Copy)]
@@ -156,6 +157,10 @@ pub fn counter_by(next: &Next) -> Option<Counter>
         Next::Command {
             command: Command::Flush { .. },
             ..
+        }
+        | Next::Frame {
+            command: FrameCommand::Flush(_),
+            ..
         } => Some(Counter::Flushes),
         Next::Refused {
             fault: Fault::BadBlock,
@@ -163,6 +168,10 @@ pub fn counter_by(next: &Next) -> Option<Counter>
         } => Some(Counter::Sets),
         Next::Refused {
             fault: Fault::TooLarge,
+            ..
+        }
+        | Next::Dropped {
+            fault: FrameFault::TooLarge,
             ..
         } => Some(Counter::StoresTooLarge),
         _ => None,

@@ -14,4 +14,5 @@ mod tally;
 pub use board::{Board, Server};
 pub use counter::{COUNTERS, Counter, counter_by, counter_of};
 pub use figures::{About, Counts, Wear};
+pub use lines::{Form, put_end};
 pub use tally::Tally;

@@ -8,6 +8,7 @@ ghost use Rattle.memcached_stats.specs.Stats.{about_stats, command_stats, line_o
 use crate::counter::Counter;
 use crate::figures::{About, Counts, Wear};
 use itoa::Buffer;
+use memcached_frames::{Echo, put_count};
 use memcached_text::{Reply, reply_line};
 use outside::NoMemory;
 use partition_model::MOST_PARTITIONS;
@@ -17,6 +18,14 @@ use partition_model::MOST_PARTITIONS;
 pub struct Line {
     pub name: &'static [u8],
     pub number: u64,
+}
+
+/// In which protocol something is told.
+#[derive(Clone, Copy)]
+pub enum Form {
+    Lines,
+    /// As replies to this request.
+    Frames(Echo),
 }
 
 fn told(name: &'static [u8], number: u64) -> Line
@@ -37,24 +46,32 @@ fn put_parts(out: &mut Vec<u8>, parts: &[&[u8]]) -> Result<(), NoMemory>
     Ok(())
 }
 
+// Appends a name and its value. When out of memory, some of it may be appended.
+fn put_named(out: &mut Vec<u8>, form: Form, name: &[u8], value: &[u8]) -> Result<(), NoMemory> {
+    match form {
+        Form::Lines => put_parts(out, &[b"STAT ", name, b" ", value, b"\r\n"]),
+        Form::Frames(echo) => put_count(out, echo, name, value),
+    }
+}
+
 #[tactic(auto, unfolding(memcached_text::specs::Replies::stat_text))]
-fn put_line(out: &mut Vec<u8>, line: &Line) -> Result<(), NoMemory>
+fn put_line(out: &mut Vec<u8>, form: Form, line: &Line) -> Result<(), NoMemory>
     ensures ok { OnOk result (out.new.items ≡ out.old.items ++ line_of (stat_in line.now)) }
     ensures short { OnOk result (length out.new.items ≤ length out.old.items + most_len (stat_in line.now)) }
     ensures more { (text : List ℕ) × (out.new.items ≡ out.old.items ++ text) }
 {
     let mut digits = Buffer::new();
     let number = digits.format(line.number).as_bytes();
-    put_parts(out, &[b"STAT ", line.name, b" ", number, b"\r\n"])
+    put_named(out, form, line.name, number)
 }
 
-fn put_lines(out: &mut Vec<u8>, lines: &[Line]) -> Result<(), NoMemory>
+fn put_lines(out: &mut Vec<u8>, form: Form, lines: &[Line]) -> Result<(), NoMemory>
     ensures ok { OnOk result (out.new.items ≡ out.old.items ++ flat_map line_of (map stat_in lines.now)) }
     ensures short { OnOk result (length out.new.items ≤ length out.old.items + sum_by most_len (map stat_in lines.now)) }
     ensures more { (text : List ℕ) × (out.new.items ≡ out.old.items ++ text) }
 {
     for line in lines {
-        put_line(out, line)?;
+        put_line(out, form, line)?;
     }
     Ok(())
 }
@@ -120,8 +137,32 @@ fn command_lines(counts: &Counts) -> [Line; 19]
     ]
 }
 
+// The most bytes of a name of a partition's number.
+const NAME_LEN: usize = 64;
+
+// Appends one number of a partition.
+fn put_partition(
+    out: &mut Vec<u8>,
+    form: Form,
+    place: &[u8],
+    what: &[u8],
+    number: &[u8],
+) -> Result<(), NoMemory> {
+    let mut name = [0; NAME_LEN];
+    let mut len = 0;
+    for part in &[b"partition:".as_slice(), place, what] {
+        for byte in part.iter() {
+            if let Some(slot) = name.get_mut(len) {
+                *slot = *byte;
+                len += 1;
+            }
+        }
+    }
+    put_named(out, form, &name[..len.min(NAME_LEN)], number)
+}
+
 #[tactic(auto, unfolding(memcached_text::specs::Replies::stat_text))]
-fn put_wear(out: &mut Vec<u8>, partition: u32, wear: Wear) -> Result<(), NoMemory>
+fn put_wear(out: &mut Vec<u8>, form: Form, partition: u32, wear: Wear) -> Result<(), NoMemory>
     ensures ok { OnOk result (out.new.items ≡ out.old.items ++ flat_map line_of (wear_stats partition wear)) }
     ensures short { OnOk result (length out.new.items ≤ length out.old.items + 115) }
     ensures more { (text : List ℕ) × (out.new.items ≡ out.old.items ++ text) }
@@ -130,20 +171,8 @@ fn put_wear(out: &mut Vec<u8>, partition: u32, wear: Wear) -> Result<(), NoMemor
     let place = place.format(partition).as_bytes();
     let writes = writes.format(wear.writes).as_bytes();
     let left = left.format(wear.writes_left).as_bytes();
-    put_parts(
-        out,
-        &[
-            b"STAT partition:",
-            place,
-            b":writes ",
-            writes,
-            b"\r\nSTAT partition:",
-            place,
-            b":writes_left ",
-            left,
-            b"\r\n",
-        ],
-    )
+    put_partition(out, form, place, b":writes", writes)?;
+    put_partition(out, form, place, b":writes_left", left)
 }
 
 // That of a partition, where it is known.
@@ -157,21 +186,30 @@ fn wear_at(wears: &[Wear], partition: u32) -> Wear
     wears.get(partition as usize).copied().unwrap_or(none)
 }
 
-fn put_wears(out: &mut Vec<u8>, partitions: u32, wears: &[Wear]) -> Result<(), NoMemory>
+fn put_wears(out: &mut Vec<u8>, form: Form, partitions: u32, wears: &[Wear]) -> Result<(), NoMemory>
     ensures ok { OnOk result (out.new.items ≡ out.old.items ++ wear_text 0 partitions (wear_in wears.now)) }
     ensures short { OnOk result (length out.new.items ≤ length out.old.items + 115 * partitions) }
     ensures more { (text : List ℕ) × (out.new.items ≡ out.old.items ++ text) }
 {
     for partition in 0..partitions {
-        put_wear(out, partition, wear_at(wears, partition))?;
+        put_wear(out, form, partition, wear_at(wears, partition))?;
     }
     Ok(())
+}
+
+/// Appends the end of what is told. When out of memory, nothing is appended.
+pub fn put_end(out: &mut Vec<u8>, form: Form) -> Result<(), NoMemory> {
+    match form {
+        Form::Lines => Ok(out.extend_from_slice(reply_line(Reply::End))?),
+        Form::Frames(echo) => put_count(out, echo, b"", b""),
+    }
 }
 
 // Appends all lines. When out of memory, some of them may be appended.
 #[tactic(auto, unfolding(crate::specs::Stats::stats_text))]
 fn put_all(
     out: &mut Vec<u8>,
+    form: Form,
     partitions: u32,
     about: &About,
     counts: &Counts,
@@ -182,16 +220,17 @@ fn put_all(
     ensures more { (text : List ℕ) × (out.new.items ≡ out.old.items ++ text) }
 {
     let version = &reply_line(Reply::Version)[8..];
-    put_parts(out, &[b"STAT version ", version])?;
-    put_lines(out, &about_lines(about, counts))?;
-    put_lines(out, &command_lines(counts))?;
-    put_wears(out, partitions.min(MOST_PARTITIONS), wears)?;
-    Ok(out.extend_from_slice(reply_line(Reply::End))?)
+    put_named(out, form, b"version", &version[..version.len() - 2])?;
+    put_lines(out, form, &about_lines(about, counts))?;
+    put_lines(out, form, &command_lines(counts))?;
+    put_wears(out, form, partitions.min(MOST_PARTITIONS), wears)?;
+    put_end(out, form)
 }
 
 /// Appends what a server tells of itself. When out of memory, nothing is appended.
 pub fn put_stats(
     out: &mut Vec<u8>,
+    form: Form,
     partitions: u32,
     about: &About,
     counts: &Counts,
@@ -202,7 +241,7 @@ pub fn put_stats(
     ensures err { OnErr result (out.new.items ≡ out.old.items) }
 {
     let start = out.len();
-    let put = put_all(out, partitions, about, counts, wears);
+    let put = put_all(out, form, partitions, about, counts, wears);
     if put.is_err() {
         out.truncate(start);
     }
