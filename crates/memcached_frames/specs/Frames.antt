@@ -1,5 +1,5 @@
 -- What a frame says, and what a client's bytes begin with.
-use Rattle.std.specs.Prelude.{ℕ, ◌+◌, ◌-◌, ◌==◌, ◌&&◌, ◌||◌, Bool, List, length, take, drop, nat_lt, Option, Some, None, if◌then◌else◌}
+use Rattle.std.specs.Prelude.{◌≡◌, ⊤, true, ℕ, ◌+◌, ◌-◌, ◌==◌, ◌&&◌, ◌||◌, Bool, List, length, take, drop, nat_lt, Option, Some, None, if◌then◌else◌}
 use Rattle.memcached_text.specs.declared.limits.TheConstants.{MAX_KEY_LEN}
 use Rattle.memcached_frames.specs.declared.opcode.Verb.{Verb}
 use Rattle.memcached_frames.specs.declared.opcode.Verb.TheVariants as verbs
@@ -70,3 +70,8 @@ frame_at most header body =
 -- What bytes begin with that are a request, where a value may have so many bytes. Its header is the first that stand there.
 unfoldable pub frame_next : ℕ → List ℕ → FrameNext
 frame_next most bytes = if nat_lt (length bytes) FRAME_LEN then More else frame_at most (header_in (take FRAME_LEN bytes)) (drop FRAME_LEN bytes)
+
+-- a request has the extras that its verb has
+abbrev pub HasExtras : FrameNext → Type 0
+HasExtras (Whole request echo len) = fits_extras request.opcode.verb (length request.extras) ≡ true
+HasExtras _ = ⊤

@@ -1,5 +1,9 @@
+pub mod Commands
 pub mod Frames
 pub mod Header
 pub mod Laws
+pub mod MeaningLaws
+pub mod Next
 pub mod Opcodes
 pub mod Replies
+pub mod Said

@@ -1,6 +1,6 @@
 //! What a client's bytes begin with.
 ghost use Rattle.std.specs.Prelude.{◌≡◌, ◌<◌, ◌≤◌, ◌+◌, length};
-ghost use Rattle.memcached_frames.specs.Frames.{echo_of, fits, stale_of, request_in, frame_by, frame_of, frame_at, frame_next};
+ghost use Rattle.memcached_frames.specs.Frames.{echo_of, fits, stale_of, request_in, frame_by, frame_of, frame_at, frame_next, HasExtras};
 ghost use Rattle.memcached_frames.specs.Header.{frame_len};
 ghost use Rattle.memcached_frames.specs.Laws.{EndsAtOnce, FramesStay, FramesWait, KeepsFrames};
 
@@ -181,7 +181,8 @@ fn frame_at<'a>(most: usize, header: &Header, body: &'a [u8]) -> FrameNext<'a>
 /// it is `More`.
 #[tactic(auto, unfolding(crate::specs::Frames::frame_next))]
 pub fn next_frame(from: &[u8], most: usize) -> FrameNext
-    ensures { result ≡ frame_next most from.now }
+    ensures next { result ≡ frame_next most from.now }
+    ensures extras { HasExtras result }
 {
     match read_header(from) {
         Some((header, body)) => frame_at(most, &header, body),

@@ -1,6 +1,8 @@
 //! What a client's bytes begin with, in either protocol.
 ghost use Rattle.std.specs.Prelude.{◌≡◌, ◌<◌, length};
 ghost use Rattle.memcached_text.specs.declared.limits.TheConstants.{MAX_WAITING_LEN};
+ghost use Rattle.memcached_frames.specs.Frames.{HasExtras};
+ghost use Rattle.memcached_frames.specs.MeaningLaws.{NextStays};
 ghost use Rattle.memcached_frames.specs.Next.{is_frame, of_line, of_frame, asks_in, next_of};
 
 use crate::command::{FrameCommand, command_in};
@@ -82,6 +84,7 @@ fn of_line<'a>(next: memcached_text::Next<'a>) -> Next<'a>
 }
 
 fn of_frame<'a>(next: FrameNext<'a>) -> Next<'a>
+    requires { HasExtras next }
     ensures { result ≡ of_frame next.entry }
 {
     match next {
@@ -108,6 +111,7 @@ fn of_frame<'a>(next: FrameNext<'a>) -> Next<'a>
 
 /// What the bytes begin with. It stays so whatever bytes follow, unless it is `More`. Each command stands in the protocol of its first byte.
 #[inline(always)]
+#[tactic(auto, unfolding(crate::specs::Next::next_of))]
 pub fn next_command(from: &[u8]) -> Next
     ensures next { result ≡ next_of from.now }
     ensures waits { result ≡ Next.More → length from.now < MAX_WAITING_LEN }
@@ -141,3 +145,8 @@ pub fn asks_by<'a>(next: Next<'a>) -> Asks<'a>
         _ => Asks::of(Command::Noop),
     }
 }
+
+/// What bytes begin with stays so whatever follows, in either protocol.
+pub fn one_next()
+    ensures { NextStays }
+{}

@@ -1,9 +1,12 @@
 //! The replies to requests.
-ghost use Rattle.std.specs.Prelude.{◌≡◌, ◌≤◌, ◌+◌, ◌++◌, length, OnOk, OnErr};
-ghost use Rattle.std.specs.Int.{w32, w64, to_be_bytes};
-ghost use Rattle.memcached_text.specs.declared.limits.TheConstants.{MAX_FRAME_LEN};
+ghost use Rattle.std.specs.Prelude.{◌≡◌, ◌==◌, ◌&&◌, ◌≤◌, ◌+◌, ◌++◌, length, OnOk, OnErr};
+ghost use Rattle.std.specs.Int.{w64, to_be_bytes};
+ghost use Rattle.memcached_text.specs.declared.limits.TheConstants.{MAX_FRAME_LEN, MAX_KEY_LEN, MAX_TEXT_LEN};
 ghost use Rattle.memcached_commands.specs.Answers.{shown_len};
-ghost use Rattle.memcached_frames.specs.Said.{done, failed, fault_frame, line_frame, not_stored_frame, said_frame, is_hidden, plain_frame, said_text, plain_text, fault_text, stat_text};
+ghost use Rattle.memcached_frames.specs.Opcodes.{opcode_of};
+ghost use Rattle.memcached_frames.specs.Replies.{reply_text};
+ghost use Rattle.memcached_frames.specs.Said.{IsShort, done, failed, not_found, exists, too_large, fault_frame, refusal_frame, not_stored_frame, line_frame, missed_frame, found_frame, shown_value, told_number, unless_hidden, version_name, is_quiet, plain_frame, said_text, plain_text, flushed_text, fault_text, count_text};
+ghost use Rattle.memcached_frames.specs.MeaningLaws.{IsTold, NeverHidesFaults};
 
 use crate::command::FrameCommand;
 use crate::frame::{Echo, FrameFault};
@@ -16,8 +19,13 @@ use outside::NoMemory;
 /// The unique number that is told of an item that was to be gone at once. No item has it, and it is not 0, which a client would send back as no number.
 pub const NO_ITEM: u64 = u64::MAX;
 
+// The most bytes of a version's name.
+const NAME_LEN: usize = 6;
+
 // All went as asked, and no more is told than this.
-fn done<'a>(value: &'a [u8], unique: u64) -> FrameReply<'a> {
+fn done<'a>(value: &'a [u8], unique: u64) -> FrameReply<'a>
+    ensures { result ≡ done value.now unique }
+{
     FrameReply {
         status: 0,
         unique,
@@ -28,7 +36,9 @@ fn done<'a>(value: &'a [u8], unique: u64) -> FrameReply<'a> {
 }
 
 // It did not: a status, with its words.
-fn failed<'a>(status: u16, words: &'static [u8]) -> FrameReply<'a> {
+fn failed<'a>(status: u16, words: &'static [u8]) -> FrameReply<'a>
+    ensures { result ≡ failed status words.now }
+{
     FrameReply {
         status,
         unique: 0,
@@ -38,20 +48,29 @@ fn failed<'a>(status: u16, words: &'static [u8]) -> FrameReply<'a> {
     }
 }
 
-fn not_found<'a>() -> FrameReply<'a> {
+fn not_found<'a>() -> FrameReply<'a>
+    ensures { result ≡ not_found }
+{
     failed(1, b"Not found")
 }
 
-fn exists<'a>() -> FrameReply<'a> {
+fn exists<'a>() -> FrameReply<'a>
+    ensures { result ≡ exists }
+{
     failed(2, b"Data exists for key.")
 }
 
-fn too_large<'a>() -> FrameReply<'a> {
+fn too_large<'a>() -> FrameReply<'a>
+    ensures { result ≡ too_large }
+{
     failed(3, b"Too large.")
 }
 
-// What is refused.
-fn refusal_frame<'a>(fault: Fault) -> FrameReply<'a> {
+// What is refused of a key.
+fn refusal_frame<'a>(fault: Fault) -> FrameReply<'a>
+    ensures is { result ≡ refusal_frame fault }
+    ensures short { IsShort result }
+{
     match fault {
         Fault::TooLarge => too_large(),
         Fault::NotNumber => failed(6, b"Non-numeric server-side value for incr or decr"),
@@ -59,7 +78,10 @@ fn refusal_frame<'a>(fault: Fault) -> FrameReply<'a> {
     }
 }
 
-fn fault_frame<'a>(fault: FrameFault) -> FrameReply<'a> {
+fn fault_frame<'a>(fault: FrameFault) -> FrameReply<'a>
+    ensures is { result ≡ fault_frame fault }
+    ensures short { IsShort result }
+{
     match fault {
         FrameFault::Unknown => failed(129, b"Unknown command"),
         FrameFault::Invalid => failed(4, b"Invalid arguments"),
@@ -67,8 +89,11 @@ fn fault_frame<'a>(fault: FrameFault) -> FrameReply<'a> {
     }
 }
 
-// A store that was not wanted: what it found, by what it wanted. Of a join no more is told than that nothing was stored.
-fn not_stored_frame<'a>(verb: Verb) -> FrameReply<'a> {
+// A store that was not wanted.
+fn not_stored_frame<'a>(verb: Verb) -> FrameReply<'a>
+    ensures is { result ≡ not_stored_frame verb }
+    ensures short { IsShort result }
+{
     match verb {
         Verb::Add => exists(),
         Verb::Replace => not_found(),
@@ -76,7 +101,10 @@ fn not_stored_frame<'a>(verb: Verb) -> FrameReply<'a> {
     }
 }
 
-fn line_frame<'a>(verb: Verb, reply: Reply) -> FrameReply<'a> {
+fn line_frame<'a>(verb: Verb, reply: Reply) -> FrameReply<'a>
+    ensures is { result ≡ line_frame verb reply }
+    ensures short { IsShort result }
+{
     match reply {
         Reply::NotStored => not_stored_frame(verb),
         Reply::Exists => exists(),
@@ -86,8 +114,10 @@ fn line_frame<'a>(verb: Verb, reply: Reply) -> FrameReply<'a> {
     }
 }
 
-// A get that found nothing tells its key where that is wanted, and then no words.
-fn missed_frame<'a>(named: bool, key: &'a [u8]) -> FrameReply<'a> {
+// A get that found nothing.
+fn missed_frame<'a>(named: bool, key: &'a [u8]) -> FrameReply<'a>
+    ensures { result ≡ missed_frame named key.now }
+{
     if !named {
         return not_found();
     }
@@ -100,83 +130,32 @@ fn missed_frame<'a>(named: bool, key: &'a [u8]) -> FrameReply<'a> {
     }
 }
 
-// One that found an item. A touch shows no value.
-fn found_frame<'a>(
-    opcode: Opcode,
-    key: &'a [u8],
-    flags: &'a [u8],
-    item: &'a Item,
-) -> FrameReply<'a> {
-    FrameReply {
-        status: 0,
-        unique: item.unique,
-        extras: flags.into(),
-        key: if opcode.named {
-            key.into()
-        } else {
-            b"".as_slice().into()
-        },
-        value: match opcode.verb {
-            Verb::Touch => b"".as_slice().into(),
-            _ => item.value.bytes().into(),
-        },
-    }
+// The unique number that is told.
+fn told_number(unique: Option<u64>) -> u64
+    ensures { result ≡ told_number unique }
+{
+    unique.unwrap_or(NO_ITEM)
 }
 
-// Numbers of a reply as bytes: the flags of an item, and what a count gave.
-#[derive(Clone, Copy)]
-struct Numbers {
-    flags: [u8; 4],
-    count: [u8; 8],
-}
-
-fn numbers_of(says: &Says) -> Numbers {
-    match says {
-        Says::Shows(item) | Says::Leases { item, .. } => Numbers {
-            flags: item.flags.to_be_bytes(),
-            count: [0; 8],
-        },
-        Says::Number { number, .. } => Numbers {
-            flags: [0; 4],
-            count: number.to_be_bytes(),
-        },
-        _ => Numbers {
-            flags: [0; 4],
-            count: [0; 8],
-        },
-    }
-}
-
-// What is replied to what was said of a key.
-fn said_frame<'a>(
-    opcode: Opcode,
-    key: &'a [u8],
-    says: &'a Says,
-    numbers: &'a Numbers,
-) -> FrameReply<'a> {
-    match says {
-        Says::Line(reply) => line_frame(opcode.verb, *reply),
-        Says::Refusal(fault) => refusal_frame(*fault),
-        Says::Stores(unique) => done(b"", unique.unwrap_or(NO_ITEM)),
-        Says::Number { unique, .. } => done(numbers.count.as_slice(), unique.unwrap_or(NO_ITEM)),
-        Says::Shows(item) | Says::Leases { item, .. } => {
-            found_frame(opcode, key, numbers.flags.as_slice(), item)
-        }
-        Says::Nothing => missed_frame(opcode.named, key),
-    }
-}
-
-// What a quiet request is not told: that all went as asked, or that a get found nothing. An item that a get found is told.
-fn is_hidden(says: &Says, status: u16) -> bool {
-    match says {
-        Says::Shows(_) | Says::Leases { .. } => false,
-        Says::Nothing => true,
-        _ => status == 0,
+// A touch shows no value.
+fn shown_value<'a>(verb: Verb, value: &'a [u8]) -> &'a [u8]
+    ensures shown { result.now ≡ shown_value verb value.now }
+    ensures short { length result.now ≤ length value.now }
+{
+    match verb {
+        Verb::Touch => b"".as_slice(),
+        _ => value,
     }
 }
 
 // Appends a reply. When out of memory, nothing is appended.
-fn put_frame(out: &mut Vec<u8>, echo: Echo, reply: &FrameReply) -> Result<(), NoMemory> {
+fn put_frame(out: &mut Vec<u8>, echo: Echo, reply: &FrameReply) -> Result<(), NoMemory>
+    requires extras { length reply.now.extras ≤ 4 }
+    requires key { length reply.now.key ≤ MAX_KEY_LEN }
+    requires value { length reply.now.value ≤ MAX_TEXT_LEN }
+    ensures ok { OnOk result (out.new.items ≡ out.old.items ++ reply_text echo reply.now) }
+    ensures err { OnErr result (out.new.items ≡ out.old.items) }
+{
     let start = out.len();
     if put_reply(out, echo, reply).is_err() {
         out.truncate(start);
@@ -185,57 +164,153 @@ fn put_frame(out: &mut Vec<u8>, echo: Echo, reply: &FrameReply) -> Result<(), No
     Ok(())
 }
 
-/// Appends what is replied to a request, by what was said of its key. When out of memory, nothing is appended.
-pub fn put_said(
+// Appends a reply of words alone, which a quiet request is told only where it did not go as asked.
+fn put_words(
     out: &mut Vec<u8>,
     echo: Echo,
-    key: &[u8],
-    says: &Says,
-) -> Result<(), NoMemory> {
-    let Some(opcode) = opcode_of(echo.opcode) else {
-        return Ok(());
-    };
-    let numbers = numbers_of(says);
-    let reply = said_frame(opcode, key, says, &numbers);
-    if opcode.quiet && is_hidden(says, reply.status) {
+    quiet: bool,
+    reply: &FrameReply,
+) -> Result<(), NoMemory>
+    requires short { IsShort reply.now }
+    ensures ok { OnOk result (out.new.items ≡ out.old.items ++ unless_hidden (quiet && (reply.now.status == 0)) echo reply.now) }
+    ensures err { OnErr result (out.new.items ≡ out.old.items) }
+{
+    if quiet && reply.status == 0 {
         return Ok(());
     }
+    put_frame(out, echo, reply)
+}
+
+// Appends the reply to a get that found an item.
+fn put_found(
+    out: &mut Vec<u8>,
+    echo: Echo,
+    opcode: Opcode,
+    key: &[u8],
+    item: &Item,
+) -> Result<(), NoMemory>
+    requires key { length key.now ≤ MAX_KEY_LEN }
+    requires value { length item.now.value ≤ MAX_TEXT_LEN }
+    ensures ok { OnOk result (out.new.items ≡ out.old.items ++ reply_text echo (found_frame opcode key.now item.now)) }
+    ensures err { OnErr result (out.new.items ≡ out.old.items) }
+{
+    let flags = item.flags.to_be_bytes();
+    let key = if opcode.named { key } else { b"".as_slice() };
+    let reply = FrameReply {
+        status: 0,
+        unique: item.unique,
+        extras: flags.as_slice().into(),
+        key: key.into(),
+        value: shown_value(opcode.verb, item.value.bytes()).into(),
+    };
     put_frame(out, echo, &reply)
 }
 
-// What is replied to a request that asks nothing of a key, but for what the server counts.
-fn plain_frame<'a>(command: &FrameCommand) -> FrameReply<'a> {
+// Appends the number that a count gave.
+fn put_counted(
+    out: &mut Vec<u8>,
+    echo: Echo,
+    quiet: bool,
+    number: u64,
+    unique: Option<u64>,
+) -> Result<(), NoMemory>
+    ensures ok { OnOk result (out.new.items ≡ out.old.items ++ unless_hidden (quiet && (0 == 0)) echo (done (to_be_bytes w64 number) (told_number unique))) }
+    ensures err { OnErr result (out.new.items ≡ out.old.items) }
+{
+    let bytes = number.to_be_bytes();
+    let reply = done(bytes.as_slice(), told_number(unique));
+    put_words(out, echo, quiet, &reply)
+}
+
+/// Appends what is replied to a request, by what was said of its key. When out of memory, nothing is appended.
+#[tactic(auto, unfolding(crate::specs::Said::said_frame, crate::specs::Said::said_text))]
+pub fn put_said(out: &mut Vec<u8>, echo: Echo, key: &[u8], says: &Says) -> Result<(), NoMemory>
+    requires key { length key.now ≤ MAX_KEY_LEN }
+    requires value { shown_len says.now ≤ MAX_TEXT_LEN }
+    ensures ok { OnOk result (out.new.items ≡ out.old.items ++ said_text echo key.now says.now) }
+    ensures err { OnErr result (out.new.items ≡ out.old.items) }
+{
+    let Some(opcode) = opcode_of(echo.opcode) else {
+        return Ok(());
+    };
+    let quiet = opcode.quiet;
+    match says {
+        Says::Line(reply) => put_words(out, echo, quiet, &line_frame(opcode.verb, *reply)),
+        Says::Refusal(fault) => put_words(out, echo, quiet, &refusal_frame(*fault)),
+        Says::Stores(unique) => put_words(out, echo, quiet, &done(b"", told_number(*unique))),
+        Says::Number { number, unique, .. } => put_counted(out, echo, quiet, *number, *unique),
+        Says::Shows(item) | Says::Leases { item, .. } => put_found(out, echo, opcode, key, item),
+        Says::Nothing if quiet => Ok(()),
+        Says::Nothing => put_frame(out, echo, &missed_frame(opcode.named, key)),
+    }
+}
+
+// The name of a version, as its line tells it.
+fn version_name() -> &'static [u8]
+    ensures { result.now ≡ version_name }
+{
+    let (_, name) = reply_line(Reply::Version).split_at(8);
+    let (name, _) = name.split_at(NAME_LEN);
+    name
+}
+
+fn plain_frame<'a>(command: &FrameCommand) -> FrameReply<'a>
+    ensures is { result ≡ plain_frame command.now }
+    ensures short { IsShort result }
+{
     match command {
-        FrameCommand::Version => {
-            let line = reply_line(Reply::Version);
-            done(&line[8..line.len() - 2], 0)
-        }
+        FrameCommand::Version => done(version_name(), 0),
         FrameCommand::NoStats => not_found(),
         _ => done(b"", 0),
     }
 }
 
-/// Appends the reply to a request that asks nothing of a key, but for a flush and what the server counts. When out of memory, nothing is appended.
-pub fn put_plain(out: &mut Vec<u8>, echo: Echo, command: &FrameCommand) -> Result<(), NoMemory> {
-    match opcode_of(echo.opcode) {
-        Some(opcode) if opcode.quiet => Ok(()),
-        _ => put_frame(out, echo, &plain_frame(command)),
+// Whether a request of an opcode is quiet.
+fn is_quiet(code: u8) -> bool
+    ensures { result ≡ is_quiet (opcode_of code) }
+{
+    match opcode_of(code) {
+        Some(opcode) => opcode.quiet,
+        None => false,
     }
 }
 
-/// Appends the reply to a flush, by whether all took it. When out of memory, nothing is appended.
-pub fn put_flushed(out: &mut Vec<u8>, echo: Echo, took: bool) -> Result<(), NoMemory> {
+/// Appends the reply to a request that asks nothing of a key, but for a flush and what the server counts. When out of memory, nothing is appended.
+#[tactic(auto, unfolding(crate::specs::Said::plain_text))]
+pub fn put_plain(out: &mut Vec<u8>, echo: Echo, command: &FrameCommand) -> Result<(), NoMemory>
+    ensures ok { OnOk result (out.new.items ≡ out.old.items ++ plain_text echo command.now) }
+    ensures err { OnErr result (out.new.items ≡ out.old.items) }
+{
+    if is_quiet(echo.opcode) {
+        return Ok(());
+    }
+    put_frame(out, echo, &plain_frame(command))
+}
+
+/// Appends the reply to a flush, by whether all partitions took it. When out of memory, nothing is appended.
+pub fn put_flushed(out: &mut Vec<u8>, echo: Echo, took: bool) -> Result<(), NoMemory>
+    ensures ok { OnOk result (out.new.items ≡ out.old.items ++ flushed_text echo took) }
+    ensures err { OnErr result (out.new.items ≡ out.old.items) }
+{
     let reply = if took { Reply::Done } else { Reply::NoRoom };
     put_said(out, echo, b"", &Says::Line(reply))
 }
 
 /// Appends the reply to what is refused, quiet or not. When out of memory, nothing is appended.
-pub fn put_fault(out: &mut Vec<u8>, echo: Echo, fault: FrameFault) -> Result<(), NoMemory> {
+pub fn put_fault(out: &mut Vec<u8>, echo: Echo, fault: FrameFault) -> Result<(), NoMemory>
+    ensures ok { OnOk result (out.new.items ≡ out.old.items ++ fault_text echo fault) }
+    ensures err { OnErr result (out.new.items ≡ out.old.items) }
+{
     put_frame(out, echo, &fault_frame(fault))
 }
 
 /// Appends one thing that is counted; and behind the last, one with neither. When out of memory, nothing is appended.
-pub fn put_count(out: &mut Vec<u8>, echo: Echo, name: &[u8], value: &[u8]) -> Result<(), NoMemory> {
+pub fn put_count(out: &mut Vec<u8>, echo: Echo, name: &[u8], value: &[u8]) -> Result<(), NoMemory>
+    requires name { length name.now ≤ MAX_KEY_LEN }
+    requires value { length value.now ≤ MAX_TEXT_LEN }
+    ensures ok { OnOk result (out.new.items ≡ out.old.items ++ count_text echo name.now value.now) }
+    ensures err { OnErr result (out.new.items ≡ out.old.items) }
+{
     let reply = FrameReply {
         status: 0,
         unique: 0,
@@ -245,3 +320,9 @@ pub fn put_count(out: &mut Vec<u8>, echo: Echo, name: &[u8], value: &[u8]) -> Re
     };
     put_frame(out, echo, &reply)
 }
+
+/// Whoever is quiet is told what goes wrong, and whoever is not is told all.
+pub fn told_replies()
+    ensures faults { NeverHidesFaults }
+    ensures told { IsTold }
+{}
