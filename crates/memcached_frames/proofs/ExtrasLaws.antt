@@ -1,18 +1,17 @@
 -- A request has the extras that its verb has.
 use Rattle.std.specs.Prelude.{⊤, if◌then◌else◌}
-use Rattle.std.proofs.Common.{◌≡◌, ℕ, ◌+◌, ◌<◌, ◌≤◌, ◌&&◌, Bool, true, false, List, length, take, drop, Option, Some, None, nat_lt, refl, sym, subst, ap, ◌∙◌, arith}
+use Rattle.std.proofs.Common.{◌≡◌, ℕ, ◌+◌, ◌<◌, ◌≤◌, ◌&&◌, Bool, true, false, List, length, Option, Some, None, nat_lt, refl, sym, subst, ap, ◌∙◌, arith}
 use Rattle.std.proofs.lemmas.List.{length-take-le}
 use Rattle.std.proofs.lemmas.Bool.{ltb-false}
 use Rattle.memcached_text.specs.declared.limits.TheConstants.{MAX_KEY_LEN}
 use Rattle.memcached_frames.specs.declared.opcode.Opcode.{Opcode}
-use Rattle.memcached_frames.specs.declared.header.TheConstants.{FRAME_LEN}
 use Rattle.memcached_frames.specs.declared.header.Header.{Header}
 use Rattle.memcached_frames.specs.declared.frame.FrameFault.TheVariants.{Unknown, Invalid, TooLarge}
 use Rattle.memcached_frames.specs.declared.frame.FrameNext.{FrameNext}
 use Rattle.memcached_frames.specs.declared.frame.FrameNext.TheVariants.{Whole, More, Over}
 use Rattle.memcached_frames.specs.Opcodes.{opcode_of, fits_extras}
-use Rattle.memcached_frames.specs.Header.{header_in, frame_len}
-use Rattle.memcached_frames.specs.Frames.{echo_of, value_len, request_in, fits, stale_of, dropped, frame_by, frame_of, frame_at, frame_next, HasExtras}
+use Rattle.memcached_frames.specs.Header.{frame_len}
+use Rattle.memcached_frames.specs.Frames.{echo_of, value_len, request_in, fits, stale_of, dropped, frame_by, frame_of, frame_at, HasExtras}
 
 either : (t : Bool) (one two : FrameNext) → HasExtras one → HasExtras two → HasExtras (if t then one else two)
 either true one two here there = here
@@ -51,7 +50,7 @@ of_fits most (Some opcode) header body lengths = go (fits opcode.verb header) re
     go true is = by_fits most opcode header body lengths (first_of _ _ (first_of _ _ is))
     go false is = tt
 
-at_fits : (most : ℕ) (header : Header) (body : List ℕ) → HasExtras (frame_at most header body)
+pub at_fits : (most : ℕ) (header : Header) (body : List ℕ) → HasExtras (frame_at most header body)
 unfolding frame_at
 at_fits most header body = go (nat_lt header.body_len (header.extras_len + header.key_len)) refl
   where
@@ -61,8 +60,3 @@ at_fits most header body = go (nat_lt header.body_len (header.extras_len + heade
     go true is = tt
     go false is =
         either (nat_lt MAX_KEY_LEN header.key_len) _ _ tt (of_fits most (opcode_of header.opcode) header body (ltb-false _ _ is))
-
-pub has_extras : (most : ℕ) (bytes : List ℕ) → HasExtras (frame_next most bytes)
-unfolding frame_next
-has_extras most bytes =
-    either (nat_lt (length bytes) FRAME_LEN) More _ tt (at_fits most (header_in (take FRAME_LEN bytes)) (drop FRAME_LEN bytes))

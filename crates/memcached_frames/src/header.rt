@@ -1,5 +1,5 @@
 //! The header that every frame begins with.
-ghost use Rattle.std.specs.Prelude.{◌≡◌, ◌<◌, ◌≤◌, ◌++◌, length, take, drop, OnOk, IfSome, IfNone};
+ghost use Rattle.std.specs.Prelude.{◌≡◌, ◌<◌, ◌≤◌, ◌++◌, length, take, drop, OnOk, OnErr, IfSome, IfNone};
 ghost use Rattle.memcached_frames.specs.Header.{header_in, header_text, IsOneHeader};
 
 use std::alloc::AllocError;
@@ -82,6 +82,7 @@ pub fn read_header(from: &[u8]) -> Option<(Header, &[u8])>
 #[tactic(auto, unfolding(crate::specs::Header::header_text))]
 pub fn put_header(out: &mut Vec<u8>, magic: u8, header: Header) -> Result<(), AllocError>
     ensures text { OnOk result (out.new.items ≡ out.old.items ++ header_text magic header) }
+    ensures err { OnErr result (out.new.items ≡ out.old.items) }
 {
     let [k0, k1] = header.key_len.to_be_bytes();
     let [s0, s1] = header.status.to_be_bytes();

@@ -1,5 +1,5 @@
 //! The replies to frames.
-ghost use Rattle.std.specs.Prelude.{◌≡◌, ◌^◌, ◌<◌, ◌++◌, length, OnOk};
+ghost use Rattle.std.specs.Prelude.{◌≡◌, ◌^◌, ◌<◌, ◌++◌, length, flat_map, OnOk, OnErr};
 ghost use Rattle.memcached_frames.specs.Replies.{IsOneReply, parts_len, reply_header, reply_text};
 
 use crate::frame::Echo;
@@ -38,18 +38,42 @@ fn reply_header(echo: Echo, reply: &FrameReply) -> Header
     }
 }
 
-/// Appends a reply to the request of these.
+// Appends parts. When out of memory, nothing is appended.
+fn put_parts(out: &mut Vec<u8>, parts: &[&[u8]]) -> Result<(), AllocError>
+    ensures text { OnOk result (out.new.items ≡ out.old.items ++ flat_map (λ part. part.now) parts.now) }
+    ensures err { OnErr result (out.new.items ≡ out.old.items) }
+{
+    let start = out.len();
+    for part in parts {
+        if let Err(error) = out.extend_from_slice(part) {
+            out.truncate(start);
+            return Err(error);
+        }
+    }
+    Ok(())
+}
+
+/// Appends a reply to the request of these. When out of memory, nothing is appended.
 #[tactic(auto, unfolding(crate::specs::Replies::reply_text))]
 pub fn put_reply(out: &mut Vec<u8>, echo: Echo, reply: &FrameReply) -> Result<(), AllocError>
     requires extras { length reply.now.extras < 2 ^ 8 }
     requires key { length reply.now.key < 2 ^ 16 }
     requires body { parts_len reply.now < 2 ^ 32 }
     ensures text { OnOk result (out.new.items ≡ out.old.items ++ reply_text echo reply.now) }
+    ensures err { OnErr result (out.new.items ≡ out.old.items) }
 {
+    let start = out.len();
     put_header(out, REPLY, reply_header(echo, reply))?;
-    out.extend_from_slice(reply.extras.bytes())?;
-    out.extend_from_slice(reply.key.bytes())?;
-    out.extend_from_slice(reply.value.bytes())
+    let parts = [
+        reply.extras.bytes(),
+        reply.key.bytes(),
+        reply.value.bytes(),
+    ];
+    if let Err(error) = put_parts(out, parts.as_slice()) {
+        out.truncate(start);
+        return Err(error);
+    }
+    Ok(())
 }
 
 /// No reply begins another.

@@ -156,12 +156,7 @@ fn put_frame(out: &mut Vec<u8>, echo: Echo, reply: &FrameReply) -> Result<(), No
     ensures ok { OnOk result (out.new.items ≡ out.old.items ++ reply_text echo reply.now) }
     ensures err { OnErr result (out.new.items ≡ out.old.items) }
 {
-    let start = out.len();
-    if put_reply(out, echo, reply).is_err() {
-        out.truncate(start);
-        return Err(NoMemory);
-    }
-    Ok(())
+    Ok(put_reply(out, echo, reply)?)
 }
 
 // Appends a reply of words alone, which a quiet request is told only where it did not go as asked.
