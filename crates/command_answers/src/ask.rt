@@ -1,6 +1,6 @@
 //! One ask of a command.
 ghost use Rattle.std.specs.Prelude.{◌≡◌, ◌<◌, ◌≤◌, ◌+◌, ◌++◌, ◌∷◌, [], length, option_copied, OnOk, OnErr};
-ghost use Rattle.memcached_text.specs.declared.limits.TheConstants.{MAX_FRAME_LEN, MAX_REPLY_LEN};
+ghost use Rattle.memcached_text.specs.declared.limits.TheConstants.{MAX_FRAME_LEN, MAX_REPLY_LEN, MAX_TEXT_LEN};
 ghost use Rattle.memcached_commands.specs.Answers.{shown_len};
 ghost use Rattle.memcached_commands.specs.Fit.{IsFitAsked};
 ghost use Rattle.fronts.specs.Answered.{Answered, count_of_writes};
@@ -81,6 +81,47 @@ fn note_write(
     }
 }
 
+/// Decides of one look what is asked of a key, and does it with nothing between, at the second that the clock tells. What came of it is counted.
+pub fn decide_ask<'b, F: Changes, C: Clock>(
+    front: &mut F,
+    clock: &mut C,
+    base: u64,
+    partitions: u32,
+    buffers: &'b mut Buffers,
+    asked: &Asked,
+) -> Says<'b>
+    requires fit { IsFitAsked asked.now }
+    requires left { 0 < F.left front.old }
+    ensures answered { (answered : Answered)
+        × AnswersAt (F.options front.old) F.is_alone base (C.view clock.new).last (F.sessions front.old) asked.now (F.sessions front.new) answered
+        × (result ≡ said_of base asked.now answered)
+        × (F.left front.old ≤ F.left front.new + count_of_writes (answered ∷ []))
+        × (buffers.new.tally ≡ tally_after base partitions asked.now answered buffers.old.tally) }
+    ensures short { shown_len result ≤ MAX_TEXT_LEN }
+    ensures read { ToldFrom (C.view clock.old) ((C.view clock.new).last ∷ []) (C.view clock.new) }
+    ensures left { F.left front.old ≤ F.left front.new + 1 }
+    ensures options { F.options front.new ≡ F.options front.old }
+    ensures number { F.number front.new ≡ F.number front.old }
+    ensures stands { F.stands front.new ≡ F.stands front.old }
+{
+    let Buffers {
+        found,
+        next,
+        noted,
+        tally,
+        ..
+    } = buffers;
+    let second = clock.second();
+    let order = CommandOrder::new(&asked.ask, base);
+    let key = asked.key.bytes();
+    let changed = front.change(second, key, &order, found, next);
+    let stored = value_found(changed.found, found);
+    let says = order.says(changed.when, stored, changed.outcome);
+    tally.count(counter_of(&asked.ask, &says));
+    note_write(tally, noted, partitions, &asked.ask, key, &changed);
+    says
+}
+
 /// Decides of one look what is asked of a key, and does it with nothing between, at the second that the clock tells. It appends the text that is due to it. What came of it is counted. When out of memory, nothing is appended, and it is done all the same.
 pub fn answer_ask<F: Changes, C: Clock>(
     front: &mut F,
@@ -108,20 +149,6 @@ pub fn answer_ask<F: Changes, C: Clock>(
     ensures number { F.number front.new ≡ F.number front.old }
     ensures stands { F.stands front.new ≡ F.stands front.old }
 {
-    let Buffers {
-        found,
-        next,
-        noted,
-        tally,
-        ..
-    } = buffers;
-    let second = clock.second();
-    let order = CommandOrder::new(&asked.ask, base);
-    let key = asked.key.bytes();
-    let changed = front.change(second, key, &order, found, next);
-    let stored = value_found(changed.found, found);
-    let says = order.says(changed.when, stored, changed.outcome);
-    tally.count(counter_of(&asked.ask, &says));
-    note_write(tally, noted, partitions, &asked.ask, key, &changed);
-    put_said(out, style, is_last, key, &says)
+    let says = decide_ask(front, clock, base, partitions, buffers, asked);
+    put_said(out, style, is_last, asked.key.bytes(), &says)
 }

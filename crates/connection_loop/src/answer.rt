@@ -10,9 +10,11 @@ ghost use Rattle.connection_loop.specs.Turns.{most_answers, most_to_one};
 ghost use Rattle.connection_loop.specs.Going.{GoesBySome};
 ghost use Rattle.connection_loop.specs.Reached.{GoesOnTo, ReachesAfter, SpokeFrom, HaltsAs, position_at, position_in};
 
+use crate::meta::answer_one_meta;
 use crate::next::{is_last, len_of, said_next};
 use command_answers::{Buffers, Limits, Numbering, answer_next};
 use fronts::CountsWrites;
+use memcached_meta::next_meta;
 use memcached_text::Next;
 use outside::{Clock, NoMemory};
 
@@ -114,6 +116,9 @@ fn answer_one<F: CountsWrites, K: Clock>(
     ensures number { F.number front.new ≡ F.number front.old }
     ensures stands { F.stands front.new ≡ F.stands front.old }
 {
+    if let Some(next) = next_meta(bytes) {
+        return answer_one_meta(front, clock, numbering, buffers, next, out);
+    }
     let next = said_next(bytes);
     if let Next::More = next {
         return Ok(Said::Nothing);

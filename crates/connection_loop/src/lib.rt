@@ -41,6 +41,7 @@ mod clients;
 mod desk;
 mod kept;
 mod look;
+mod meta;
 mod next;
 mod serve;
 mod unsent;

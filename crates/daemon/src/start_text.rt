@@ -28,6 +28,7 @@ fn items_of(options: &Options) -> u64 {
 }
 
 // The lines of a start.
+#[derive(Drop)]
 struct StartText<'a> {
     asked: &'a DaemonOptions<'a>,
     /// As it was typed, where it was.
