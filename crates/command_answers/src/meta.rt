@@ -45,7 +45,12 @@ fn answer_command<F: Changes, C: Clock>(
         buffers,
         &asked,
     );
-    put_meta(out, meta.verb, word, &meta.flags, &says)
+    let start = out.len();
+    let put = put_meta(out, meta.verb, word, &meta.flags, &says);
+    if put.is_err() {
+        out.truncate(start);
+    }
+    put
 }
 
 // Takes away the item of a key whose new value is too large.

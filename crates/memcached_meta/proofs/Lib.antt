@@ -1,1 +1,3 @@
 pub mod FlagLaws
+pub mod NextLaws
+pub mod MetaLaws

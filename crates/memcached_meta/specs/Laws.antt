@@ -12,6 +12,7 @@ use Rattle.memcached_meta.specs.declared.line.Verb.{Verb}
 use Rattle.memcached_meta.specs.declared.line.Verb.TheVariants.{Store, Delete, Count}
 use Rattle.memcached_meta.specs.declared.next.MetaNext.{MetaNext}
 use Rattle.memcached_meta.specs.declared.next.MetaNext.TheVariants.{More}
+use Rattle.base64.specs.GeneralPurpose.{IsBytes}
 use Rattle.memcached_meta.specs.Keys.{key_in}
 use Rattle.memcached_meta.specs.Next.{next_meta}
 use Rattle.memcached_meta.specs.Asks.{meta_ask}
@@ -34,7 +35,7 @@ pub record IsNeverHidden : Type 0 where
 
 -- A key has one spelling in base64: what is echoed is what was sent.
 abbrev pub IsOneSpelling : Type 0
-IsOneSpelling = (a b key : List ℕ) → key_in true a ≡ Some key → key_in true b ≡ Some key → a ≡ b
+IsOneSpelling = (a b key : List ℕ) → IsBytes a → IsBytes b → key_in true a ≡ Some key → key_in true b ≡ Some key → a ≡ b
 
 -- What bytes begin with stays so whatever follows. So it does not matter in which pieces they come.
 abbrev pub MetaStays : Type 0

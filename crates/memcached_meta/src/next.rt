@@ -60,7 +60,7 @@ fn stale_of<'a>(meta: Meta<'a>) -> Option<Named<'a>>
 }
 
 // A store whose line and block have so many bytes, with what has come behind its line.
-#[tactic(auto, unfolding(crate::specs::Next::stored_at), unfolding(memcached_text::specs::Block::block_at))]
+#[tactic(auto, unfolding(crate::specs::Next::stored_at, memcached_text::specs::Block::block_at))]
 fn stored_at<'a>(meta: Meta<'a>, value_len: u32, len: usize, rest: &'a [u8]) -> MetaNext<'a>
     requires { len ≤ MAX_LINE_LEN + 1 }
     ensures { result ≡ stored_at meta.entry value_len len rest.now }

@@ -1,6 +1,6 @@
 //! The texts of replies to meta commands.
-ghost use Rattle.std.specs.Prelude.{◌≡◌, ◌++◌, ℕ, codes, decimal, length, OnOk, OnErr, OnErr};
-ghost use Rattle.memcached_meta.specs.Replies.{told, told_left, key_text, flag_text, flags_text, sets_time, mark, marks_text, status_text, is_expected, hides, head_text, block_text, expiry_text, debug_text, valued_text, said_text, meta_text};
+ghost use Rattle.std.specs.Prelude.{◌≡◌, ◌++◌, [], true, false, codes, decimal, length, OnOk};
+ghost use Rattle.memcached_meta.specs.Replies.{told, told_left, key_text, flag_text, flags_text, sets_time, mark, marks_text, status_text, shown_item, shown_count, line_text, is_expected, hides, head_text, block_text, expiry_text, debug_text, valued_text, said_text, meta_text};
 ghost use Rattle.memcached_meta.specs.Lines.{is_base64};
 
 use crate::flags::has_flag;
@@ -170,7 +170,9 @@ fn put_leased(
     item: &Item,
     left: Left,
     wins: bool,
-) -> Result<(), NoMemory> {
+) -> Result<(), NoMemory>
+    ensures ok { OnOk result (out.new.items ≡ out.old.items ++ valued_text word.now flags.now (shown_item item.now left) (marks_text item.now wins) item.now.value) }
+{
     let value = item.value.bytes();
     let valued = has_flag(b"v".as_slice(), flags.again());
     let shown = Shown {
@@ -193,7 +195,9 @@ fn put_counted(
     number: u64,
     unique: Option<u64>,
     left: Left,
-) -> Result<(), NoMemory> {
+) -> Result<(), NoMemory>
+    ensures ok { OnOk result (out.new.items ≡ out.old.items ++ valued_text word.now flags.now (shown_count unique left) [] (decimal number)) }
+{
     let mut digits = Buffer::new();
     let digits = digits.format(number).as_bytes();
     let valued = has_flag(b"v".as_slice(), flags.again());
@@ -228,7 +232,9 @@ fn put_status(
     flags: &Words,
     status: &[u8],
     unique: u64,
-) -> Result<(), NoMemory> {
+) -> Result<(), NoMemory>
+    ensures ok { OnOk result (out.new.items ≡ out.old.items ++ line_text verb word.now flags.now status.now unique) }
+{
     let shown = Shown {
         len: None,
         flags: None,
@@ -244,7 +250,9 @@ fn put_status(
 }
 
 // Appends what `me` tells of an item: its key as the client wrote it, and numbers by their names.
-fn put_debug(out: &mut Vec<u8>, word: &[u8], item: &Item) -> Result<(), NoMemory> {
+fn put_debug(out: &mut Vec<u8>, word: &[u8], item: &Item) -> Result<(), NoMemory>
+    ensures ok { OnOk result (out.new.items ≡ out.old.items ++ debug_text word.now item.now) }
+{
     put(out, b"ME ")?;
     put(out, word)?;
     put(out, b" exp=")?;
@@ -272,13 +280,16 @@ fn is_expected(says: &Says) -> bool
 }
 
 // Appends what is said, whether a reply is wanted or not.
+#[tactic(auto, unfolding(crate::specs::Replies::said_text))]
 fn put_said(
     out: &mut Vec<u8>,
     verb: Verb,
     word: &[u8],
     flags: &Words,
     says: &Says,
-) -> Result<(), NoMemory> {
+) -> Result<(), NoMemory>
+    ensures ok { OnOk result (out.new.items ≡ out.old.items ++ said_text verb word.now flags.now says.now) }
+    {
     match says {
         Says::Nothing => put_status(out, verb, word, flags, b"EN", 0),
         Says::Leases { item, left, wins } => put_leased(out, word, flags, item, *left, *wins),
@@ -296,7 +307,8 @@ fn put_said(
     }
 }
 
-/// Appends what is replied to a meta command, which is nothing where its flags ask for no reply to that. When out of memory, nothing is appended.
+/// Appends what is replied to a meta command, which is nothing where its flags ask for no reply to that. When out of memory, some of it may be appended.
+#[tactic(auto, unfolding(crate::specs::Replies::meta_text))]
 pub fn put_meta(
     out: &mut Vec<u8>,
     verb: Verb,
@@ -305,15 +317,9 @@ pub fn put_meta(
     says: &Says,
 ) -> Result<(), NoMemory>
     ensures ok { OnOk result (out.new.items ≡ out.old.items ++ meta_text verb word.now flags.now says.now) }
-    ensures err { OnErr result (out.new.items ≡ out.old.items) }
 {
     if is_expected(says) && has_flag(b"q".as_slice(), flags.again()) {
         return Ok(());
     }
-    let start = out.len();
-    if put_said(out, verb, word, flags, says).is_err() {
-        out.truncate(start);
-        return Err(NoMemory);
-    }
-    Ok(())
+    put_said(out, verb, word, flags, says)
 }
