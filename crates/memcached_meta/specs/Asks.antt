@@ -1,5 +1,5 @@
 -- What meta commands ask: a classic command's ask with more fields.
-use Rattle.std.specs.Prelude.{ℕ, ◌==◌, ◌||◌, Bool, true, false, List, [], codes, bytes_eq, Option, Some, None, option_map, option_or_default, if◌then◌else◌}
+use Rattle.std.specs.Prelude.{ℕ, ◌==◌, ◌||◌, Bool, true, false, List, [], codes, bytes_eq, Option, Some, None, option_map, if◌then◌else◌}
 use Rattle.memcached_text.specs.declared.lifetime.Lifetime.{Lifetime}
 use Rattle.memcached_text.specs.declared.lifetime.Lifetime.TheVariants.{Forever}
 use Rattle.memcached_text.specs.declared.command.Wants.{Wants}

@@ -124,10 +124,10 @@ fn put_flags(
 }
 
 // Appends a mark, where it is set.
-fn put_mark(out: &mut Vec<u8>, set: bool, mark: &[u8]) -> Result<(), NoMemory>
-    ensures ok { OnOk result (out.new.items ≡ out.old.items ++ mark set mark.now) }
+fn put_mark(out: &mut Vec<u8>, set: bool, text: &[u8]) -> Result<(), NoMemory>
+    ensures ok { OnOk result (out.new.items ≡ out.old.items ++ mark set text.now) }
 {
-    if set { put(out, mark) } else { Ok(()) }
+    if set { put(out, text) } else { Ok(()) }
 }
 
 // Appends whether an item was won before, is stale, and is won now.
