@@ -1,5 +1,6 @@
 pub mod Seconds
 pub mod AskAnswers
+pub mod MetaAnswers
 pub mod FlushAnswers
 pub mod Exchange
 pub mod Spells

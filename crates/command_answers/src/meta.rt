@@ -1,5 +1,13 @@
 //! A meta command, answered.
-ghost use Rattle.std.specs.Prelude.{◌≡◌, ◌<◌, ◌≤◌, ◌+◌, OnErr};
+ghost use Rattle.std.specs.Prelude.{◌≡◌, ◌<◌, ◌≤◌, ◌+◌, ◌++◌, ◌∷◌, [], List, OnOk, OnErr};
+ghost use Rattle.memcached_text.specs.Fit.{IsFitKey};
+ghost use Rattle.memcached_meta.specs.Fit.{IsFitMeta, IsFitMetaNext};
+ghost use Rattle.memcached_meta.specs.Replies.{meta_text};
+ghost use Rattle.fronts.specs.Answered.{Answered, count_of_writes};
+ghost use Rattle.fronts.specs.Session.{AnswersInOrder};
+ghost use Rattle.command_answers.specs.AskAnswers.{AnswersAsks, said_of};
+ghost use Rattle.command_answers.specs.Going.{AnswersAt, AnswersFirst};
+ghost use Rattle.command_answers.specs.MetaAnswers.{asked_of, meta_asks, meta_due, stored_key};
 
 use crate::answer::Numbering;
 use crate::ask::decide_ask;
@@ -20,7 +28,11 @@ fn answer_command<F: Changes, C: Clock>(
     meta: &Meta,
     out: &mut Vec<u8>,
 ) -> Result<(), NoMemory>
+    requires fit { IsFitMeta meta.now }
     requires left { 0 < F.left front.old }
+    ensures answered { (answered : Answered)
+        × AnswersAt (F.options front.old) F.is_alone numbering.base (C.view clock.new).last (F.sessions front.old) (asked_of meta.now) (F.sessions front.new) answered
+        × OnOk result (out.new.items ≡ out.old.items ++ meta_text meta.now.verb meta.now.word meta.now.flags (said_of numbering.base (asked_of meta.now) answered)) }
     ensures err { OnErr result (out.new.items ≡ out.old.items) }
     ensures left { F.left front.old ≤ F.left front.new + 1 }
     ensures options { F.options front.new ≡ F.options front.old }
@@ -94,7 +106,11 @@ pub fn answer_meta<F: Changes, C: Clock>(
     next: MetaNext,
     out: &mut Vec<u8>,
 ) -> Result<(), NoMemory>
+    requires fit { IsFitMetaNext next }
     requires left { 0 < F.left front.old }
+    ensures answered { (answers : List Answered)
+        × AnswersFirst (F.options front.old) F.is_alone numbering.base (meta_asks next.entry) (F.sessions front.old) (C.view clock.old) (F.sessions front.new) (C.view clock.new) answers
+        × OnOk result (out.new.items ≡ out.old.items ++ meta_due numbering.base next.entry answers) }
     ensures err { OnErr result (out.new.items ≡ out.old.items) }
     ensures left { F.left front.old ≤ F.left front.new + 1 }
     ensures options { F.options front.new ≡ F.options front.old }
