@@ -41,12 +41,13 @@ mode_fault Store (Some mode) = if is_store_mode mode then None else Some faults.
 mode_fault Count (Some mode) = if is_count_mode mode then None else Some faults.CountMode
 mode_fault verb mode = None
 
--- `md` and `ma` tell one fault of all flags but an opaque
+-- `md` and `ma` tell one fault of all flags but an opaque, and `me` tells one of all
 abbrev pub told_fault : Verb → MetaFault → MetaFault
 told_fault Delete faults.LongOpaque = faults.LongOpaque
 told_fault Count faults.LongOpaque = faults.LongOpaque
 told_fault Delete fault = faults.BadFlag
 told_fault Count fault = faults.BadFlag
+told_fault Debug fault = faults.Line Format
 told_fault verb fault = fault
 
 abbrev pub told_by : Verb → Option MetaFault → Option MetaFault
@@ -94,9 +95,15 @@ unfoldable pub storing_line : List ℕ → List (List ℕ) → MetaLine
 storing_line word [] = Refused (faults.Line Format) None
 storing_line word (len ∷ flags) = stored_line word flags (block_len len)
 
+-- the flags of `me`: its first one, where that is `b`; all others are of no effect
+abbrev pub debug_flags : List (List ℕ) → List (List ℕ)
+debug_flags [] = []
+debug_flags (word ∷ words) = if bytes_eq word (codes "b") then codes "b" ∷ [] else []
+
 -- a line of this verb, by the words behind its name
 unfoldable pub line_of : Verb → List (List ℕ) → MetaLine
 line_of Debug [] = Refused (faults.Line Format) None
 line_of verb [] = Refused (faults.Line Unknown) None
 line_of Store (word ∷ words) = storing_line word words
+line_of Debug (word ∷ words) = keyed_line Debug word (debug_flags words)
 line_of verb (word ∷ words) = keyed_line verb word words

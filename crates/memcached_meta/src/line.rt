@@ -1,7 +1,7 @@
 //! What the line of a meta command says by itself.
 ghost use Rattle.std.specs.Prelude.{◌≡◌, ◌∷◌, length, option_copied, []};
 ghost use Rattle.memcached_text.specs.Line.{is_key};
-ghost use Rattle.memcached_meta.specs.Lines.{verb_of, told_fault, told_by, key_fault, is_store_mode, is_count_mode, mode_fault, meta_fault, is_base64, keyed_line, block_len, storing_line, line_of};
+ghost use Rattle.memcached_meta.specs.Lines.{verb_of, told_fault, told_by, key_fault, is_store_mode, is_count_mode, mode_fault, meta_fault, is_base64, keyed_line, block_len, storing_line, debug_flags, line_of};
 
 use crate::MetaFault;
 use crate::flags::{argument_of, flags_fault, has_flag};
@@ -64,13 +64,14 @@ pub fn verb_of(name: &[u8]) -> Option<Verb>
     }
 }
 
-// `md` and `ma` tell one fault of all flags but an opaque.
+// `md` and `ma` tell one fault of all flags but an opaque, and `me` tells one of all.
 fn told_fault(verb: Verb, fault: MetaFault) -> MetaFault
     ensures { result ≡ told_fault verb fault }
 {
     match (verb, fault) {
         (Verb::Delete | Verb::Count, MetaFault::LongOpaque) => MetaFault::LongOpaque,
         (Verb::Delete | Verb::Count, _) => MetaFault::BadFlag,
+        (Verb::Debug, _) => MetaFault::Line(Fault::Format),
         _ => fault,
     }
 }
@@ -184,6 +185,16 @@ fn storing_line<'a>(word: &'a [u8], mut words: Words<'a>) -> MetaLine<'a>
     }
 }
 
+// The flags of `me`: its first one, where that is `b`. All others are of no effect.
+fn debug_flags<'a>(mut words: Words<'a>) -> Words<'a>
+    ensures { result ≡ debug_flags words.entry }
+{
+    match words.next_word() {
+        Some(b"b") => Words::one(b"b".as_slice()),
+        _ => Words::of(b"".as_slice()),
+    }
+}
+
 // What a line of this verb says, with these words behind its name.
 #[tactic(auto, unfolding(crate::specs::Lines::line_of))]
 pub fn line_of<'a>(verb: Verb, mut words: Words<'a>) -> MetaLine<'a>
@@ -193,6 +204,7 @@ pub fn line_of<'a>(verb: Verb, mut words: Words<'a>) -> MetaLine<'a>
         (Verb::Debug, None) => MetaLine::Refused(MetaFault::Line(Fault::Format), None),
         (_, None) => MetaLine::Refused(MetaFault::Line(Fault::Unknown), None),
         (Verb::Store, Some(word)) => storing_line(word, words),
+        (Verb::Debug, Some(word)) => keyed_line(verb, word, debug_flags(words)),
         (_, Some(word)) => keyed_line(verb, word, words),
     }
 }

@@ -1,7 +1,8 @@
 //! What a client's bytes begin with, where that is the line of a meta command.
-ghost use Rattle.std.specs.Prelude.{◌≡◌, ◌∷◌, ◌++◌, ◌+◌, MatchOption};
+ghost use Rattle.std.specs.Prelude.{◌≡◌, ◌≤◌, ◌∷◌, ◌++◌, ◌+◌, MatchOption};
+ghost use Rattle.memcached_text.specs.declared.limits.TheConstants.{MAX_LINE_LEN};
 ghost use Rattle.memcached_text.specs.Lines.{Lacks, without_return};
-ghost use Rattle.memcached_meta.specs.Next.{begins_meta, replaces_all, stale_of, stored_at, line_next, next_meta, IsWithin};
+ghost use Rattle.memcached_meta.specs.Next.{begins_meta, replaces_all, stale_of, stored_at, line_next, next_meta};
 
 use crate::MetaFault;
 use crate::flags::{argument_of, has_flag};
