@@ -1,5 +1,7 @@
 //! What a meta command asks of its key.
-ghost use Rattle.std.specs.Prelude.{◌≡◌, length};
+ghost use Rattle.std.specs.Prelude.{◌≡◌, ◌≤◌, length};
+ghost use Rattle.memcached_text.specs.declared.limits.TheConstants.{MAX_TEXT_LEN};
+ghost use Rattle.memcached_commands.specs.Fit.{IsFitAsk};
 ghost use Rattle.memcached_meta.specs.Asks.{mode_of, lease_of, unless_zero, wants_of, store_of, delete_of, direction_of, count_of, meta_ask};
 
 use crate::flags::{argument_of, flag_lifetime, flag_number, flag_short, has_flag, is_late, vivified};
@@ -119,8 +121,10 @@ fn count_of<'a>(flags: &Words) -> Ask<'a>
 }
 
 /// What a meta command asks of its key.
+#[tactic(auto, using(crate::proofs::AskLaws::ask_fits))]
 pub fn meta_ask<'a>(meta: &Meta<'a>) -> Ask<'a>
-    ensures { result ≡ meta_ask meta.now.verb meta.now.flags meta.now.value }
+    ensures asks { result ≡ meta_ask meta.now.verb meta.now.flags meta.now.value }
+    ensures fit { length meta.now.value ≤ MAX_TEXT_LEN → IsFitAsk result }
 {
     match meta.verb {
         Verb::Get => Ask::Leased(lease_of(&meta.flags)),

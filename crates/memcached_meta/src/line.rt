@@ -190,7 +190,7 @@ fn debug_flags<'a>(mut words: Words<'a>) -> Words<'a>
     ensures { result ≡ debug_flags words.entry }
 {
     match words.next_word() {
-        Some(b"b") => Words::one(b"b".as_slice()),
+        Some(word) if word == b"b".as_slice() => Words::one(b"b".as_slice()),
         _ => Words::of(b"".as_slice()),
     }
 }

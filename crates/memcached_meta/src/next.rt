@@ -1,7 +1,8 @@
 //! What a client's bytes begin with, where that is the line of a meta command.
-ghost use Rattle.std.specs.Prelude.{◌≡◌, ◌≤◌, ◌∷◌, ◌++◌, ◌+◌, MatchOption};
+ghost use Rattle.std.specs.Prelude.{◌≡◌, ◌≤◌, ◌∷◌, ◌++◌, ◌+◌, IfSome, MatchOption};
 ghost use Rattle.memcached_text.specs.declared.limits.TheConstants.{MAX_LINE_LEN};
 ghost use Rattle.memcached_text.specs.Lines.{Lacks, without_return};
+ghost use Rattle.memcached_meta.specs.Fit.{IsFitMetaNext};
 ghost use Rattle.memcached_meta.specs.Next.{begins_meta, replaces_all, stale_of, stored_at, line_next, next_meta};
 
 use crate::MetaFault;
@@ -149,9 +150,10 @@ fn begins_meta(from: &[u8]) -> bool
 
 /// What the bytes begin with. None where that is no line of a meta command, or none that has come. It stays so whatever bytes follow, unless it is
 /// `More`.
-#[tactic(auto, unfolding(crate::specs::Next::next_meta), using(memcached_text::proofs::LineLaws::line_at_fed, memcached_text::proofs::LineLaws::line_at_none))]
+#[tactic(auto, unfolding(crate::specs::Next::next_meta), using(memcached_text::proofs::LineLaws::line_at_fed, memcached_text::proofs::LineLaws::line_at_none, crate::proofs::FitLaws::next_fits))]
 pub fn next_meta(from: &[u8]) -> Option<MetaNext>
-    ensures { result ≡ next_meta from.now }
+    ensures next { result ≡ next_meta from.now }
+    ensures fit { IfSome result IsFitMetaNext }
 {
     if !begins_meta(from) {
         return None;
