@@ -1,5 +1,5 @@
 //! What the line of a meta command says by itself.
-ghost use Rattle.std.specs.Prelude.{◌≡◌, ◌∷◌, length, option_copied, []};
+ghost use Rattle.std.specs.Prelude.{◌≡◌, ◌<◌, ◌∷◌, length, option_copied, []};
 ghost use Rattle.memcached_text.specs.Line.{is_key};
 ghost use Rattle.memcached_meta.specs.Lines.{verb_of, told_fault, told_by, key_fault, is_store_mode, is_count_mode, mode_fault, meta_fault, is_base64, keyed_line, block_len, storing_line, debug_flags, line_of};
 
@@ -115,6 +115,7 @@ pub fn is_base64(flags: Words) -> bool
 
 // Whether a word may be a key.
 fn is_key(word: &[u8]) -> bool
+    requires { 0 < length word.now }
     ensures { result ≡ is_key word.now }
 {
     Words::one(word).are_keys()
