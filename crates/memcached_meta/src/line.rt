@@ -190,9 +190,13 @@ fn storing_line<'a>(word: &'a [u8], mut words: Words<'a>) -> MetaLine<'a>
 fn debug_flags<'a>(mut words: Words<'a>) -> Words<'a>
     ensures { result ≡ debug_flags words.entry }
 {
-    match words.next_word() {
-        Some(word) if word == b"b".as_slice() => Words::one(b"b".as_slice()),
-        _ => Words::of(b"".as_slice()),
+    let Some(word) = words.next_word() else {
+        return words;
+    };
+    if word == b"b".as_slice() {
+        Words::one(word)
+    } else {
+        Words::of(b"".as_slice())
     }
 }
 
