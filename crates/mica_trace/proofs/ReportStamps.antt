@@ -3,7 +3,7 @@ use Rattle.std.proofs.Common.{◌≡◌, ℕ, zero, suc, ◌<◌, ◌≤◌, Lis
 use Rattle.std.specs.List.{AllByRecursion, AllZip, cons_option}
 use Rattle.std.proofs.lemmas.List.{append-nil}
 use Rattle.mica_words.proofs.Hashes.{partition_of-below}
-use Rattle.mica_words.specs.Item.{ValueFits, StoredFits}
+use Rattle.mica_words.proofs.Sizes.{short_stored}
 use Rattle.mica_words.specs.Packing.{AreBytes}
 use Rattle.partition_model.specs.declared.options.Options.{Options}
 use Rattle.partition_model.specs.declared.write.Op.TheVariants.{Put as PutOp, Add as AddOp, Touch as TouchOp, Del as DelOp}
@@ -38,17 +38,13 @@ visible : (low : ℕ) (bytes : List ℕ) → AllByRecursion (λ x. (low ≤ x) �
 visible low [] all = tt
 visible low (x ∷ bytes) all = (all.0.1, visible low bytes all.1)
 
--- what a trace may have as a value is one
-fits : (value : List ℕ) → ValueFits value → StoredFits value
-fits value short = omega arith
-
 pub line_write : (op : TraceOp) (key value : List ℕ) (write : Write) → HasFields op key value → write_by op key value ≡ Some write → IsWrite write
 line_write Put key value write fields is =
     let e : record { op = PutOp; key = key; value = value } ≡ write = cc in
-    subst IsWrite e (record { key = fields.0.0; key_bytes = low_bytes key (visible 33 key fields.0.1); value = fits value fields.1.0; value_bytes = low_bytes value (visible 32 value fields.1.1) })
+    subst IsWrite e (record { key = fields.0.0; key_bytes = low_bytes key (visible 33 key fields.0.1); value = short_stored value fields.1.0; value_bytes = low_bytes value (visible 32 value fields.1.1) })
 line_write Add key value write fields is =
     let e : record { op = AddOp; key = key; value = value } ≡ write = cc in
-    subst IsWrite e (record { key = fields.0.0; key_bytes = low_bytes key (visible 33 key fields.0.1); value = fits value fields.1.0; value_bytes = low_bytes value (visible 32 value fields.1.1) })
+    subst IsWrite e (record { key = fields.0.0; key_bytes = low_bytes key (visible 33 key fields.0.1); value = short_stored value fields.1.0; value_bytes = low_bytes value (visible 32 value fields.1.1) })
 line_write Del key value write fields is =
     let e : record { op = DelOp; key = key; value = value } ≡ write = cc in
     subst IsWrite e (record { key = fields.0.0; key_bytes = low_bytes key (visible 33 key fields.0.1); value = fields.1; value_bytes = subst AreBytes (sym fields.1) (low_bytes [] tt) })

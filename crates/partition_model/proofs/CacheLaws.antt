@@ -16,7 +16,6 @@ use Rattle.partition_model.specs.declared.options.Mode.{Mode}
 use Rattle.partition_model.specs.declared.write.Write.{Write}
 use Rattle.partition_model.specs.declared.write.Op.{Op}
 use Rattle.partition_model.specs.declared.write.Op.TheVariants.{Put, Add, Touch, Del}
-use Rattle.partition_model.specs.Limits.{most_added}
 use Rattle.partition_model.specs.declared.write.Outcome.{Outcome}
 use Rattle.partition_model.specs.Write.{GivesValue, IsWrite, is_accepted, size_of}
 use Rattle.partition_model.specs.Cache.{Record, Cache, has_key, record_of, value_in, is_live}
@@ -26,7 +25,6 @@ use Rattle.partition_model.specs.History.{Allows, History, State, cache_state, s
 use Rattle.partition_model.proofs.Found as found
 use Rattle.partition_model.proofs.Laid as laid
 use Rattle.partition_model.proofs.CacheKept.{others_lack, count_map, IsRecord, IsKept, KeepsPut, keeps_put, start_kept, after_kept, after_write_is, begin_of, offset_of, rewritten, rewritten_key, left_of, live_of, here_of}
-use Rattle.partition_model.proofs.Histories.{accepted_is_length}
 use Rattle.partition_model.proofs.Rises.{after_rises}
 
 -- Every state of a lawful history is kept.
@@ -303,6 +301,3 @@ module _ (options : Options) (s : Cache) (kept : IsKept options s) (write : Writ
 pub tail_rises : (options : Options) (s : Cache) (write : Write) → tail_of s.stamp ≤ tail_of (cs.after options s write).stamp
 tail_rises options s write = let more = after_rises options (cache_state s) write in omega arith
 
--- the stamp stays far below the limit of a word
-pub stamp_bound : (options : Options) (history : History) → AllOf IsWrite history → (s : Cache) → state_of options history ≡ cache_state s → s.stamp ≤ length history * most_added
-stamp_bound options history writes s at = grind (arith, common_steps, kept_in options history writes s at, accepted_is_length options history)

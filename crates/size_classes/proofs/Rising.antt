@@ -62,9 +62,6 @@ large_rises a b least le limit = search (rules, halves, bit_at-lt, highest_rises
 pub rises : (a b : ℕ) → 1 ≤ a → a ≤ b → b < 2 ^ 32 → class_of a ≤ class_of b
 rises a b some le limit = grind (arith, class_small a, class_small b, class_large b, class_large a, large_rises a b)
 
-pub below_sixty_four : (words : ℕ) → class_of words < 64
-below_sixty_four words = grind (arith, class_small words, class_large words)
-
 -- from 1,024 on the highest bit has ten below it, and with the next three makes 8 to 15
 record Eighths (words : ℕ) : Type 0 where
   ten : 10 ≤ highest_bit words
