@@ -300,4 +300,3 @@ module _ (options : Options) (s : Cache) (kept : IsKept options s) (write : Writ
 -- the tail never falls
 pub tail_rises : (options : Options) (s : Cache) (write : Write) → tail_of s.stamp ≤ tail_of (cs.after options s write).stamp
 tail_rises options s write = let more = after_rises options (cache_state s) write in omega arith
-
