@@ -80,14 +80,17 @@ fn is_among(port: u16, first: u16, count: u32) -> bool {
 pub(crate) fn note_unbound<K: Sink + Drop>(
     alloc: Global,
     service: &Service,
-    address: Ipv4Addr,
     port: u16,
     speaker: &mut Speaker<K>,
 )
     ensures { speaker.new.sink ≡ speaker.old.sink }
 {
     let is_tcp = is_among(port, service.streams.port, service.streams.fronts);
-    let address = if is_tcp { address } else { Ipv4Addr::LOCALHOST };
+    let address = if is_tcp {
+        speaker.address
+    } else {
+        Ipv4Addr::LOCALHOST
+    };
     speaker.doubt = Doubt::Port(Unbound {
         address,
         port,

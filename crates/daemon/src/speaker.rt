@@ -33,6 +33,8 @@ pub enum Doubt {
 pub struct Speaker<K> {
     pub sink: K,
     pub line: String,
+    /// That of the ports of connections.
+    pub address: Ipv4Addr,
     /// A sentence, or nothing where there is none.
     pub reason: String,
     pub doubt: Doubt,
@@ -46,6 +48,7 @@ impl<K: Sink + Drop> Speaker<K> {
         Speaker {
             sink,
             line: String::new(alloc),
+            address: Ipv4Addr::LOCALHOST,
             reason: String::new(alloc),
             doubt: Doubt::Nothing,
         }

@@ -30,7 +30,6 @@ use partition_model::Options;
 use partition_sizes::start_bytes;
 use server_words::PortOptions;
 use std::alloc::Global;
-use std::net::Ipv4Addr;
 use std::sync::Wait;
 use std::thread::Threads;
 
@@ -64,7 +63,6 @@ fn serve_aloud<
     G: Gate,
 >(
     shared: &Shared<W, G>,
-    address: Ipv4Addr,
     start: Start<C>,
     speaker: &mut Speaker<K>,
     net: &mut N,
@@ -90,7 +88,7 @@ fn serve_aloud<
             DaemonStatus::ImageRefused,
         ),
         Err(Stop::Unbound(port)) => {
-            note_unbound(shared.alloc, &shared.service, address, port, speaker);
+            note_unbound(shared.alloc, &shared.service, port, speaker);
             write_unbound(shared.alloc, port, &mut speaker.sink)
         }
         Err(Stop::Fault(fault)) => write_fault(fault, &mut speaker.sink),
@@ -143,6 +141,7 @@ fn stay_up<
     match ready_line(process.alloc, ports, &streams.ports) {
         Ok(line) => {
             speaker.line = line;
+            speaker.address = streams.address;
             listeners.set_place(streams.address, streams.connections);
             let mut start = start;
             start.clocks.truncate(streams.ports.fronts as usize);
@@ -160,15 +159,7 @@ fn stay_up<
                 gate: process.gate,
                 ended: process.ended,
             };
-            serve_aloud(
-                &shared,
-                streams.address,
-                start,
-                speaker,
-                net,
-                listeners,
-                left,
-            )
+            serve_aloud(&shared, start, speaker, net, listeners, left)
         }
         Err(NoMemory) => DaemonStatus::NoMemory,
     }
