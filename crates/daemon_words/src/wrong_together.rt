@@ -15,26 +15,27 @@ fn count_of(words: &[String], name: &str) -> u32 {
     count
 }
 
-/// The value that words give an option, as it was typed.
+/// The value that words give an option, as it was typed: the last one, where there are several.
 pub fn value_given<'a>(words: &'a [String], name: &str) -> Option<&'a str> {
+    let mut given = None;
     let mut waits = false;
     for word in words {
         let word = word.as_str();
-        if waits {
-            return Some(word);
-        }
         let (typed, value) = parts_of(word);
-        if long_of(typed) == name {
+        if waits {
+            given = Some(word);
+            waits = false;
+        } else if long_of(typed) == name {
             if typed == "-M" {
-                return Some("store");
+                given = Some("store");
+            } else if value.is_some() {
+                given = value;
+            } else {
+                waits = true;
             }
-            if value.is_some() {
-                return value;
-            }
-            waits = true;
         }
     }
-    None
+    given
 }
 
 fn gives(words: &[String], name: &str) -> bool {
