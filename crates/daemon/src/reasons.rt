@@ -71,9 +71,10 @@ pub(crate) fn note_image<K: Sink + Drop>(
     }
 }
 
-// Whether a port is among so many from a first one on.
-fn is_among(port: u16, first: u16, count: u32) -> bool {
-    first <= port && u32::from(port - first) < count
+// Which one a port is among so many from a first one on, if it is.
+fn place_among(port: u16, first: u16, count: u32) -> Option<u32> {
+    let place = u32::from(port.checked_sub(first)?);
+    if place < count { Some(place) } else { None }
 }
 
 /// Notes which port was not had, and of which address it is.
@@ -85,16 +86,19 @@ pub(crate) fn note_unbound<K: Sink + Drop>(
 )
     ensures { speaker.new.sink ≡ speaker.old.sink }
 {
-    let is_tcp = is_among(port, service.streams.port, service.streams.fronts);
-    let address = if is_tcp {
-        speaker.address
-    } else {
-        Ipv4Addr::LOCALHOST
+    let streams = &service.streams;
+    let (address, before) = match place_among(port, streams.port, streams.fronts) {
+        Some(place) => (speaker.address, place.saturating_mul(2).saturating_add(1)),
+        None => (
+            Ipv4Addr::LOCALHOST,
+            u32::from(port.saturating_sub(service.ports.port)),
+        ),
     };
     speaker.doubt = Doubt::Port(Unbound {
         address,
         port,
-        is_tcp,
+        is_tcp: streams.fronts > 0,
+        before,
     });
     if let Ok(text) = format!(in alloc; "{address}:{port} not bound") {
         speaker.reason = text;

@@ -18,6 +18,8 @@ pub struct Unbound {
     pub port: u16,
     /// Whether it is of connections, and none of datagrams.
     pub is_tcp: bool,
+    /// How many descriptors are had before its own: those of the ports before it, each of connections with a second one, for what is ready there.
+    pub before: u32,
 }
 
 /// What the system can be asked once more about: why it gave no port, or no file.

@@ -39,7 +39,7 @@ fn clocks_of<'a, R: time::Clock>(rt: &'a R, alloc: Global) -> Result<Vec<StdCloc
 }
 
 /// Says on standard error why the program ends, where there is a reason. What can't be said is left out.
-fn say_why<R: Eprint + Sockets + Files, K>(rt: &R, speaker: &Speaker<K>) {
+fn say_why<R: AllocGlobal + Eprint + Sockets + Files, K>(rt: &R, speaker: &Speaker<K>) {
     if speaker.reason.is_empty() {
         return;
     }
