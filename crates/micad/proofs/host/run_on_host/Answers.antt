@@ -11,7 +11,7 @@ pub returns-in_default-clause-zero : goal.returns-in_default-clause-zero
 returns-in_default-clause-zero g c = λ zero. absurd (not_zero NoMemory _ c.exit_code-in_default.ensures zero)
 
 pub returns-clause-number : goal.returns-clause-number
-returns-clause-number g c = ends_so _ _ _ _ _ _ _ _ _ c.run_daemon.ensures
+returns-clause-number g c = ends_so _ _ _ _ _ _ _ _ _ c.run_daemon-code.ensures
 
 pub returns-clause-zero : goal.returns-clause-zero
-returns-clause-zero g c = λ zero. zero_asked _ _ _ _ _ _ _ _ _ c.run_daemon.ensures zero
+returns-clause-zero g c = λ zero. zero_asked _ _ _ _ _ _ _ _ _ c.run_daemon-code.ensures zero
