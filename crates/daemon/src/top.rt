@@ -17,6 +17,7 @@ use crate::board::board_of;
 use crate::filling::filling_of;
 use crate::output::{print_totals, write_due};
 use crate::process::Process;
+use crate::reasons::{note_image, note_unbound, shortage_reason};
 use crate::speaker::{Speaker, ready_line, unbound_line};
 use crate::{DaemonStatus, Files};
 use connections::Listeners;
@@ -86,7 +87,10 @@ fn serve_aloud<
             b"pair refused\n",
             DaemonStatus::ImageRefused,
         ),
-        Err(Stop::Unbound(port)) => write_unbound(shared.alloc, port, &mut speaker.sink),
+        Err(Stop::Unbound(port)) => {
+            note_unbound(shared.alloc, &shared.service, port, speaker);
+            write_unbound(shared.alloc, port, &mut speaker.sink)
+        }
         Err(Stop::Fault(fault)) => write_fault(fault, &mut speaker.sink),
         Err(Stop::Unannounced) => DaemonStatus::WriteFault,
     }
@@ -137,6 +141,7 @@ fn stay_up<
     match ready_line(process.alloc, ports, &streams.ports) {
         Ok(line) => {
             speaker.line = line;
+            speaker.address = streams.address;
             listeners.set_place(streams.address, streams.connections);
             let mut start = start;
             start.clocks.truncate(streams.ports.fronts as usize);
@@ -209,14 +214,11 @@ pub fn daemon<
         image,
     } = match read_daemon(process.alloc, words) {
         Ok(read) => read,
-        Err(WordsFault::Usage) => return write_due(
-            &mut speaker.sink,
-            b"usage\n",
-            DaemonStatus::Usage,
-        ),
+        Err(WordsFault::Usage) => return DaemonStatus::Usage,
         Err(WordsFault::NoMemory) => return DaemonStatus::NoMemory,
     };
     if !has_memory(process.alloc, files, &options) {
+        speaker.reason = shortage_reason(process.alloc, files, words, &options);
         return DaemonStatus::NoMemory;
     }
     match filling_of(process.alloc, files, image, &mut speaker.sink) {
@@ -226,6 +228,9 @@ pub fn daemon<
                 process, base, &options, &ports, &streams, start, speaker, net, listeners, left,
             )
         }
-        Err(status) => status,
+        Err(status) => {
+            note_image(process.alloc, image, status, speaker);
+            status
+        }
     }
 }
