@@ -77,31 +77,30 @@ fn place_among(port: u16, first: u16, count: u32) -> Option<u32> {
     if place < count { Some(place) } else { None }
 }
 
-/// Notes which port was not had, and of which address it is.
-pub(crate) fn note_unbound<K: Sink + Drop>(
-    alloc: Global,
-    service: &Service,
-    port: u16,
-    speaker: &mut Speaker<K>,
-)
-    ensures { speaker.new.sink ≡ speaker.old.sink }
-{
+/// A port that was not had, where those of connections are at this address.
+pub(crate) fn unbound_at(service: &Service, address: Ipv4Addr, port: u16) -> Unbound {
     let streams = &service.streams;
     let (address, before) = match place_among(port, streams.port, streams.fronts) {
-        Some(place) => (speaker.address, place.saturating_mul(2).saturating_add(1)),
+        Some(place) => (address, place.saturating_mul(2).saturating_add(1)),
         None => (
             Ipv4Addr::LOCALHOST,
             u32::from(port.saturating_sub(service.ports.port)),
         ),
     };
-    speaker.doubt = Doubt::Port(Unbound {
+    Unbound {
         address,
         port,
         is_tcp: streams.fronts > 0,
         before,
-    });
-    if let Ok(text) = format!(in alloc; "{address}:{port} not bound") {
-        speaker.reason = text;
+    }
+}
+
+/// Names it.
+pub(crate) fn unbound_reason(alloc: Global, unbound: Unbound) -> String {
+    let Unbound { address, port, .. } = unbound;
+    match format!(in alloc; "{address}:{port} not bound") {
+        Ok(text) => text,
+        Err(_) => String::new(alloc),
     }
 }
 

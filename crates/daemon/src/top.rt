@@ -17,9 +17,9 @@ use crate::board::board_of;
 use crate::filling::filling_of;
 use crate::output::{print_totals, write_due};
 use crate::process::Process;
-use crate::reasons::{note_image, note_unbound, shortage_reason};
+use crate::reasons::{note_image, shortage_reason, unbound_at, unbound_reason};
 use crate::speaker::{Speaker, ready_line, unbound_line};
-use crate::{DaemonStatus, Files};
+use crate::{DaemonStatus, Doubt, Files};
 use connections::Listeners;
 use daemon_words::{DaemonOptions, StreamOptions, read_daemon};
 use fronts::ServeFault;
@@ -88,7 +88,9 @@ fn serve_aloud<
             DaemonStatus::ImageRefused,
         ),
         Err(Stop::Unbound(port)) => {
-            note_unbound(shared.alloc, &shared.service, port, speaker);
+            let unbound = unbound_at(&shared.service, speaker.address, port);
+            speaker.reason = unbound_reason(shared.alloc, unbound);
+            speaker.doubt = Doubt::Port(unbound);
             write_unbound(shared.alloc, port, &mut speaker.sink)
         }
         Err(Stop::Fault(fault)) => write_fault(fault, &mut speaker.sink),
