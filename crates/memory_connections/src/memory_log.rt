@@ -13,7 +13,9 @@ use std::marker::Model;
 pub enum Note<'a> {
     Opened(u32),
     Reported(u32),
+    TurnedAway,
     Met,
+    Second(u64),
     Received(usize, &'a [u8]),
     Asked(usize),
     Closed(usize),

@@ -33,6 +33,9 @@ const MOST_DROPPED: usize = 64 * 1_024;
 /// So many of them are dropped at once.
 const SCRATCH_LEN: usize = 4_096;
 
+/// What a connection is told that is turned away.
+const TOO_MANY: &[u8] = b"ERROR Too many open connections\r\n";
+
 /// How often a read or a write that was interrupted is tried. A socket that never blocks is hardly interrupted at all.
 const MOST_TRIES: u32 = 64;
 
@@ -56,7 +59,7 @@ enum Accepting {
     Refused,
 }
 
-/// A TCP port and its connections, at most so many at a time: more wait to be accepted.
+/// A TCP port and its connections, at most so many at a time: more are turned away.
 #[derive(Drop)]
 pub(crate) struct TcpPort<'a> {
     most: usize,
@@ -247,7 +250,7 @@ impl<'a> TcpPort<'a> {
 
     /// How long to wait: not at all where something is to be reported or accepted, and not for long where ports fail together.
     fn timeout(&self) -> Option<Duration> {
-        if !self.queue.is_empty() || self.may_accept() {
+        if !self.queue.is_empty() || self.accepting == Accepting::Ready {
             Some(Duration::ZERO)
         } else if self.accepting == Accepting::Refused {
             Some(Duration::from_millis(PAUSE_MILLIS))
@@ -310,6 +313,23 @@ impl<'a> TcpPort<'a> {
         Some(number)
     }
 
+    /// Turns a connection away, where one waits that there is no room for, and says whether it did. What it is told may get lost.
+    fn turn_away(&mut self) -> bool {
+        if self.accepting != Accepting::Ready || self.slots.len() < self.most {
+            return false;
+        }
+        match self.listener.accept() {
+            Ok((stream, _)) => {
+                let _unheeded = (&stream).write(TOO_MANY);
+                true
+            }
+            Err(_) => {
+                self.accepting = Accepting::Idle;
+                false
+            }
+        }
+    }
+
     /// The next report, if there is one at hand or comes with one look: those of a round, and after each round one connection that waits to be accepted.
     pub(crate) fn step(&mut self) -> io::Result<Option<Event>> {
         if !self.round.is_empty() {
@@ -320,6 +340,9 @@ impl<'a> TcpPort<'a> {
         }
         if self.may_open {
             self.may_open = false;
+            if self.turn_away() {
+                return Ok(Some(Event::TurnedAway));
+            }
             return Ok(match self.accept() {
                 Some(number) => Some(Event::Opened(number)),
                 None => None,

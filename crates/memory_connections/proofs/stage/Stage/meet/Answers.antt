@@ -1,9 +1,11 @@
-use Rattle.std.proofs.Common.{rules, ◌≡◌, sym, arith}
+use Rattle.std.proofs.Common.{rules, ◌≡◌, refl, sym, arith}
 use Rattle.std.specs.Prelude.{slice_get, Some}
 use Rattle.connections.specs.declared.schedule.Step.TheVariants.{Happens}
 use Rattle.std.proofs.Math.ListN.{drop_of_length-le}
-use Rattle.memory_connections.proofs.Pending.{got}
+use Rattle.memory_connections.proofs.Pending.{got, next_pending}
 use Rattle.memory_connections.proofs.Stages.{stays, stage_met, meets_none}
+use Rattle.connections.specs.State.{met}
+use Rattle.memory_connections.proofs.Timing.{timed_as, timed_met, passes_by}
 use Rattle.memory_connections.proofs.stage.Stage.meet.Goals as goal
 
 pub invariant_of-self : goal.invariant_of-self
