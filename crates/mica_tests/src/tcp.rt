@@ -128,9 +128,9 @@ fn a_shut_window_and_a_reset_are_told(rt: HostRuntime) -> Result<(), Fail> {
     expect_said(&rt, &mut share, &mut one, first, b"still here")
 }
 
-// A port is of its address alone, and of nobody else.
+// A place is of its address alone, and of nobody else.
 #[test]
-fn a_port_is_of_one_address(rt: HostRuntime) -> Result<(), Fail> {
+fn a_place_is_of_one_address(rt: HostRuntime) -> Result<(), Fail> {
     let flags = Flags::new();
     let (_share, port) = new_share(&rt, StdClock::new(&rt), &flags, 8);
     assert!(&rt; TcpStream::connect(&rt, ("127.0.0.2", port)).is_err());
@@ -138,9 +138,9 @@ fn a_port_is_of_one_address(rt: HostRuntime) -> Result<(), Fail> {
     Ok(())
 }
 
-// A port that waits fails once another has.
+// A share that waits fails once another has.
 #[test]
-fn ports_fail_together(rt: HostRuntime) -> Result<(), Fail> {
+fn shares_fail_together(rt: HostRuntime) -> Result<(), Fail> {
     let flags = Flags::new();
     let (mut share, _) = new_share(&rt, StdClock::new(&rt), &flags, 8);
     let (reported, ()) = join(
