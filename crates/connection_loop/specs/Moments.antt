@@ -6,9 +6,10 @@ use Rattle.std.specs.Prelude.{◌≡◌, ℕ, ◌<◌, ◌⊎◌, ⊤, List, [],
 use Rattle.partition_model.specs.declared.options.Options.{Options}
 use Rattle.connections.specs.declared.schedule.Step.{Step}
 use Rattle.connections.specs.State.{Entry, closed, state_after}
-use Rattle.connections.specs.Log.{received_of, sent_of}
+use Rattle.connections.specs.Log.{received_of, second_of, sent_of}
 use Rattle.fronts.specs.Answered.{Answered}
-use Rattle.connection_loop.specs.Given.{Given, given_to, ByThen}
+use Rattle.command_answers.specs.Seconds.{AreAt}
+use Rattle.connection_loop.specs.Given.{Given, given_to, answers_in}
 use Rattle.connection_loop.specs.Talk.{TalksKept, TalksWith}
 use Rattle.connection_loop.specs.Closing.{MayClose, IsSettled}
 use Rattle.connection_loop.specs.Traffic.{IsToCome}
@@ -35,13 +36,18 @@ IsCaused options base schedule lacking (closed c) entries all =
     (λ connection. MayClose options base connection (received_of c entries) (sent_of c entries) (given_to c all))
 IsCaused options base schedule lacking _ entries all = ⊤
 
+-- These had been given as an entry was made, where all were given in the end. Those between were given at the second that was told last; so what was received is
+-- answered at a second that was looked at behind it, and a client that asks again is answered at none before.
+abbrev pub GivenSince : Options → List Entry → List Given → List Given → Type 0
+GivenSince options entries first all = (later : List Given) × (all ≡ first ++ later) × AreAt options (second_of entries) (answers_in later)
+
 -- At each moment the front had talked with each client, by answers that begin those of the next moment. So what was sent to one client is due to an answer
 -- that stands before the answers to all that was received later, from whichever client.
 abbrev pub TalksThrough : Options → ℕ → ℕ → List Step → List ℕ → List Entry → List Given → Type 0
 TalksThrough options base most schedule lacking [] all = TalksWithAll options base most lacking [] all
 TalksThrough options base most schedule lacking (entry ∷ entries) all =
     TalksWithAll options base most lacking (entry ∷ entries) all
-    × ((first : List Given) × ByThen first all × IsCaused options base schedule lacking entry entries first
+    × ((first : List Given) × GivenSince options (entry ∷ entries) first all × IsCaused options base schedule lacking entry entries first
     × TalksThrough options base most schedule lacking entries first)
 
 -- The front has caught up, where a call moves so many bytes at most, and some: each connection that was made is settled, or a report of it is to come.

@@ -1,9 +1,8 @@
 -- What stands between a front and all its clients at one moment, and what a report makes of that.
 use Rattle.std.specs.Prelude.{◌≡◌, ⊤, ℕ, ◌+◌, ◌*◌, ◌≤◌, Bool, List, [], ◌++◌, length, slice_get, Option, None, Some}
-use Rattle.outside.specs.Seconds.{ClockView}
 use Rattle.partition_model.specs.declared.options.Options.{Options}
 use Rattle.connections.specs.declared.connections.Event.{Event}
-use Rattle.connections.specs.declared.connections.Event.TheVariants.{Opened, Ready}
+use Rattle.connections.specs.declared.connections.Event.TheVariants.{Opened, TurnedAway, Ready}
 use Rattle.connections.specs.State.{Entry, held}
 use Rattle.connections.specs.Log.{Log, state_of, connections_of, received_of, sent_of}
 use Rattle.fronts.specs.Session.{Sessions}
@@ -43,6 +42,7 @@ StandsBut options base lacking count log all clients = (more : List ℕ) × (len
 -- nothing was done yet with a connection that is reported as new
 abbrev pub IsNew : Event → Log → List Given → Type 0
 IsNew (Opened number) log all = (c : ℕ) → held number (connections_of log) ≡ Some c → IsUntouched c log.entries all
+IsNew TurnedAway log all = ⊤
 IsNew (Ready number) log all = ⊤
 
 -- Whatever stood as this was reported, stands after it was served, with these answers more, where memory lacked for so many connections. Few calls were made,
@@ -60,6 +60,6 @@ pub record StandsOn (options : Options) (base : ℕ) (event : Event) (clients : 
       → TendsBut event old.script.piece (state_of old) clients → Tends old.script.piece (state_of new) now
 
 -- They went on by some answers, of which it is told to whom they were given, and of these P holds.
-abbrev pub GoesByGiven : Options → Bool → Sessions → ℕ → ClockView → Sessions → ℕ → ClockView → (List Given → Type 0) → Type 0
-GoesByGiven options is_alone old left told new left_after tells P =
-    (given : List Given) × GoesByThese options is_alone old left told (answers_in given) new left_after tells × P given
+abbrev pub GoesByGiven : Options → Bool → Sessions → ℕ → Sessions → ℕ → (List Given → Type 0) → Type 0
+GoesByGiven options is_alone old left new left_after P =
+    (given : List Given) × GoesByThese options is_alone old left (answers_in given) new left_after × P given
