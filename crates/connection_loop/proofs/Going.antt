@@ -10,6 +10,8 @@ use Rattle.fronts.proofs.InOrder.{answers_append}
 use Rattle.memcached_text.specs.declared.next.Next.{Next}
 use Rattle.command_answers.specs.Going.{GoesOn}
 use Rattle.command_answers.specs.Seconds.{second_in, AreAt}
+use Rattle.connection_loop.specs.declared.hand.Hand.{Hand}
+use Rattle.connection_loop.specs.Calls.{KeepsHand}
 use Rattle.connection_loop.specs.Given.{Given, answers_in}
 use Rattle.connection_loop.specs.Going.{GoesBy, GoesByThese, GoesBySome, NeverFall, Rise, seconds_of}
 
@@ -98,6 +100,12 @@ module _ (options : Options) (is_alone : Bool) where
       → GoesBy options is_alone old left new left_after
   some_goes some = record { answers = some.0; in_order = some.1.in_order; seconds = these_rise some.1; few = some.1.few }
 
+  -- where it was the same second behind them, they are at it
+  pub these_at : {old : Sessions} {left told : ℕ} {answers : List Answered} {new : Sessions} {left_after tells : ℕ} (second : ℕ) → told ≡ second → tells ≡ told
+      → GoesByThese options is_alone old left told answers new left_after tells → AreAt options second answers
+  these_at {told = told} {answers = answers} {tells = tells} second is same these =
+      subst (λ s. AreAt options s answers) is (rise_at options told answers (subst (λ t. Rise told (seconds_of options answers) t) same these.seconds))
+
   -- and no fewer writes are left, where there were none
   pub none_fewer : {old : Sessions} {left : ℕ} {told : ℕ} {answers : List Answered} {new : Sessions} {left_after : ℕ} {tells : ℕ}
       → GoesByThese options is_alone old left told answers new left_after tells → answers ≡ [] → left ≤ left_after
@@ -114,3 +122,17 @@ module _ (options : Options) (is_alone : Bool) where
       → GoesByThese options is_alone old left told answers new left_after tells → GoesByThese options is_alone old left told (answers_in given) new left_after tells
   these_given {old} {left} {told} {new} {left_after} {tells} answers given same these =
       subst (λ a. GoesByThese options is_alone old left told a new left_after tells) (sym same) these
+
+-- What is at hand
+
+pub hand_same : {Front Stand : Type 0} (options : Front → Options) (number : Front → ℕ) (stands : Front → List Stand) (hand : Hand Front) → KeepsHand options number stands hand hand
+hand_same options number stands hand = record { same_options = refl; same_number = refl; same_stands = refl; same_numbering = refl }
+
+pub hand_then : {Front Stand : Type 0} {options : Front → Options} {number : Front → ℕ} {stands : Front → List Stand} {old between new : Hand Front} → KeepsHand options number stands old between
+    → KeepsHand options number stands between new → KeepsHand options number stands old new
+hand_then first then = record {
+  same_options = then.same_options ∙ first.same_options;
+  same_number = then.same_number ∙ first.same_number;
+  same_stands = then.same_stands ∙ first.same_stands;
+  same_numbering = then.same_numbering ∙ first.same_numbering;
+}
