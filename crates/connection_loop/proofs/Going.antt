@@ -1,6 +1,6 @@
 -- Answers that were given one after another.
 use Rattle.std.proofs.Common.{◌≡◌, ◌+◌, ◌<◌, ◌≤◌, ℕ, Bool, List, [], ◌∷◌, ◌++◌, length, refl, sym, ap, ◌∙◌, subst, arith, length-append}
-use Rattle.std.specs.Prelude.{Option, None, Some, IfSome}
+use Rattle.std.specs.Prelude.{⊤, Option, None, Some, IfSome}
 use Rattle.std.specs.List.{cons_option}
 use Rattle.std.proofs.lemmas.List.Elements.{filter_map-append}
 use Rattle.partition_model.specs.declared.options.Options.{Options}
@@ -96,7 +96,7 @@ module _ (options : Options) (is_alone : Bool) where
       → NeverFall (seconds_of options answers)
   these_rise {told = told} {answers = answers} {tells = tells} these = (tells, rise_from 0 told tells (seconds_of options answers) (omega arith) these.seconds)
 
-  pub some_goes : {old : Sessions} {left told : ℕ} {new : Sessions} {left_after tells : ℕ} {P : List Answered → Type 0} → GoesBySome options is_alone old left told new left_after tells P
+  pub some_goes : {old : Sessions} {left told : ℕ} {new : Sessions} {left_after tells : ℕ} → GoesBySome options is_alone old left told new left_after tells (λ answers. ⊤)
       → GoesBy options is_alone old left new left_after
   some_goes some = record { answers = some.0; in_order = some.1.in_order; seconds = these_rise some.1; few = some.1.few }
 

@@ -150,7 +150,7 @@ module _ (options : Options) (base : ℕ) where
         looked_by : (r : Halt × Option Input) → AreAt options (second_of log.entries) answers → Stage options base most c schedule lacking log all [] → EndsBy r.1 c log
             → HaltsAs options base MAX_WAITING_LEN r.0 (position_of now) (received_of c log.entries) (given_to c all ++ answers) (sent_of c log.entries ++ replies)
             → Looked schedule lacking log all answers replies now r
-        looked_by r when here ends stands = record { stage = stage_answered options base most c r.0 answers when here is_now few stands; stands = stands; ends = ends }
+        looked_by r told here ends stands = record { stage = stage_answered options base most c r.0 answers told here is_now few stands; stands = stands; ends = ends }
 
         pub looked : (r : Halt × Option Input) → Looks options base client answers replies now (Ok r) c mid log → Looked schedule lacking log all answers replies now r
         looked r looks = elim looks as (λ _. Looked schedule lacking log all answers replies now r) [

@@ -9,7 +9,7 @@ use Rattle.connection_loop.specs.Clients.{AreOpen}
 use Rattle.connection_loop.specs.Given.{answers_in}
 use Rattle.connection_loop.specs.Open.{OnLogs}
 use Rattle.connection_loop.specs.Standing.{StandsOn, GoesByGiven}
-use Rattle.connection_loop.proofs.Going.{these_none, these_then, these_within, hand_same, hand_then}
+use Rattle.connection_loop.proofs.Going.{these_none, these_then, these_within, some_goes, hand_same, hand_then}
 use Rattle.connection_loop.proofs.Opening.{tells_keeps, tells_opened}
 use Rattle.connection_loop.proofs.Holding.{all_kept, none_held}
 use Rattle.connection_loop.proofs.Since.{since_none, since_then, since_serves, since_called, since_over, failed_last}
@@ -136,6 +136,15 @@ returns-in_err-event-clause-serves g c =
     since_called (g.F.Front.options c.args.hand.now.front) g.F.Front.is_alone c.args.hand.now.numbering.base (g.F.Front.sessions c.args.hand.now.front) (g.F.Front.left c.args.hand.now.front) (g.C.Connections.last c.args.connections.now)
     c.args.lacked.now (ended c.args.connections.now) (ended c.next.new.self) (g.F.Front.sessions c.loop-alloc.hand.front) (g.F.Front.left c.loop-alloc.hand.front) (g.C.Connections.last c.loop-alloc.connections) c.loop-alloc.lacked
     c.loop-alloc.clients.held.items c.in_err-event.ensures.still_open (log c.args.connections.now) (log c.loop-alloc.connections) (log c.next.new.self) c.loop-alloc.invariant.8 c.in_err-event.ensures.unmoved
+
+pub returns-in_err-event-clause-goes : goal.returns-in_err-event-clause-goes
+returns-in_err-event-clause-goes g c = some_goes (g.F.Front.options c.args.hand.now.front) g.F.Front.is_alone c.loop-alloc.invariant.3
+
+pub returns-then-writes_left-least-clause-goes : goal.returns-then-writes_left-least-clause-goes
+returns-then-writes_left-least-clause-goes g c = some_goes (g.F.Front.options c.args.hand.now.front) g.F.Front.is_alone c.loop-alloc.invariant.3
+
+pub returns-in_default-clause-goes : goal.returns-in_default-clause-goes
+returns-in_default-clause-goes g c = some_goes (g.F.Front.options c.args.hand.now.front) g.F.Front.is_alone c.loop-alloc.invariant.3
 
 pub returns-in_err-event-clause-last_failed : goal.returns-in_err-event-clause-last_failed
 returns-in_err-event-clause-last_failed g c is =
