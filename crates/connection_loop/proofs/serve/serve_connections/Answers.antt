@@ -67,6 +67,7 @@ loop-clients-preserved g c =
     let now = c.sweep.new in
     let sweep = c.sweep.ensures in
     let s = c.second-hand.result in
+    let told = last then.connections in
     let reports = subst (λ got. IfSome got (λ event. IfSome before (λ l. ReportsNext l event after))) c.in-Some.is next.next in
     let on = subst (λ got. g.C.Connections.has_ended c.next.new.self ≡ is_none got) c.in-Some.is next.ended in
     let hand = hand_then inv.6 served.same in
@@ -78,8 +79,9 @@ loop-clients-preserved g c =
       served.port.ended ∙ on,
       (
         (inv.3.0 ++ answers_in serves.0) ++ swept.answers,
-        these_then options F.is_alone (these_then options F.is_alone inv.3.1 (these_within options F.is_alone next.rises (omega arith) serves.1))
-            (these_within options F.is_alone (omega (arith, c.second-hand.ensures.last)) (omega (arith, c.second-hand.ensures.last)) (these_sweeps swept)),
+        these_then options F.is_alone {then_told = told} (these_then options F.is_alone {then_told = last c.loop-clients.connections} inv.3.1
+            (these_within options F.is_alone {earlier = last c.loop-clients.connections} {told = last c.next.new.self} {tells = told} {later = told} next.rises (omega arith) serves.1))
+            (these_within options F.is_alone {earlier = told} {told = s} {tells = s} {later = told} (omega (arith, c.second-hand.ensures.last)) (omega (arith, c.second-hand.ensures.last)) (these_sweeps swept)),
         tt,
       ),
       (let first = inv.4 in let second = next.never_fall in let third = served.port.no_fault in omega (arith, first, second, third)),
