@@ -1,4 +1,4 @@
-use Rattle.std.proofs.Common.{rules, ◌≡◌, ◌<◌, ◌≤◌, [], ◌++◌, refl, inl, inr, ap, sym, ◌∙◌, subst, arith}
+use Rattle.std.proofs.Common.{rules, ◌≡◌, ◌<◌, [], ◌++◌, refl, inl, inr, ap, sym, ◌∙◌, subst, arith}
 use Rattle.std.specs.Prelude.{is_none, IfSome, IfNone}
 use Rattle.partition_model.specs.declared.options.Options.{Options}
 use Rattle.connections.specs.Calls.{ReportsNext, IsOver}
