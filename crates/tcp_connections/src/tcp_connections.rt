@@ -1,5 +1,5 @@
 //! The TCP connections of one share of a place.
-ghost use Rattle.std.specs.Prelude.{◌≡◌, ◌<◌, None, IfOk, IfSome};
+ghost use Rattle.std.specs.Prelude.{◌≡◌, ◌<◌, ◌≤◌, false, None, IfOk, IfSome};
 
 use crate::tcp_port::TcpPort;
 use connections::{Broken, Connections, Event, Input};
@@ -24,6 +24,13 @@ pub struct TcpConnections<'a, R, K> {
     /// How many reports it gives at most before it fails: so many that no machine comes to the end.
     left: u64,
     faults: u64,
+}
+
+/// The present second, which is not before this one.
+fn later<K: Clock>(clock: &mut K, second: u64) -> u64
+    ensures { second ≤ result }
+{
+    second.max(clock.second())
 }
 
 impl<'a, R: Wait, K: Clock> TcpConnections<'a, R, K> {
@@ -93,7 +100,7 @@ impl<'a, R: Wait, K: Clock + Drop> Connections for TcpConnections<'a, R, K> {
             if event.is_some() {
                 self.left -= 1;
             }
-            self.second = self.second.max(self.clock.second());
+            self.second = later(&mut self.clock, self.second);
             return Ok(event);
         }
         self.faults = self.faults.saturating_add(1);
@@ -107,7 +114,7 @@ impl<'a, R: Wait, K: Clock + Drop> Connections for TcpConnections<'a, R, K> {
 
     fn read(&mut self, number: u32, out: &mut [u8]) -> Result<Input, Broken> {
         let input = self.sockets.read(number, out);
-        self.second = self.second.max(self.clock.second());
+        self.second = later(&mut self.clock, self.second);
         input
     }
 
