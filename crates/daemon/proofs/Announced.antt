@@ -12,6 +12,7 @@ use Rattle.locked_server.specs.declared.stop.Stop.{Stop}
 use Rattle.locked_server.specs.declared.stop.Stop.TheVariants.{Refused, Unbound, Unannounced, Fault}
 use Rattle.locked_server.specs.Causes.{HasAnnounced, Leaves, PortFacts}
 use Rattle.daemon.specs.declared.status.DaemonStatus.{DaemonStatus}
+use Rattle.daemon.specs.declared.status.DaemonStatus.TheVariants.{Usage}
 use Rattle.option_words.specs.Words.{Text}
 use Rattle.daemon_words.specs.declared.streams.StreamOptions.{StreamOptions}
 use Rattle.daemon_words.specs.DaemonWords.{Service}
@@ -75,3 +76,8 @@ pub unwritten : (given : Option Service) (clocks : List ClockView) (base : ℕ) 
     → KeepsUp given clocks base files files old new status
 unwritten None clocks base files old new status none same = (inl none, same, refl)
 unwritten (Some service) clocks base files old new status none same = (inr (inl none, same), kept_files service.image files)
+
+-- where words are refused, nothing is touched
+pub refused : (given : Option Service) (clocks : List ClockView) (base : ℕ) (files : FilesFacts) (outside : DaemonOutside) → given ≡ None → KeepsUp given clocks base files files outside outside Usage
+refused given clocks base files outside none =
+    subst (λ (g : Option Service). KeepsUp g clocks base files files outside outside Usage) (sym none) (inr (refl, refl), record { ports = refl; tables = refl; lacked = refl }, refl)

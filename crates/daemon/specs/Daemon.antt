@@ -111,7 +111,11 @@ FillsAndServes service clocks base before after old new status =
     × ServesPlaced service.options service.ports service.streams clocks base writes old new status)
     ⊎ (WritesDue (IsDueOfFile before after service.image) old.sink new.sink status × BindsNothing old new)
 
--- What a run promises by its words: it served as they ask, or said that they are none of its own.
+-- words are refused, and nothing is written; or there was no memory to read them
+abbrev pub IsRefused : SinkFacts → SinkFacts → DaemonStatus → Type 0
+IsRefused old new status = IsUnwritten old new status ⊎ ((status ≡ Usage) × (new ≡ old))
+
+-- What a run promises by its words: it served as they ask, or refused them.
 abbrev pub KeepsUp : Option Service → List ClockView → ℕ → FilesFacts → FilesFacts → DaemonOutside → DaemonOutside → DaemonStatus → Type 0
 KeepsUp (Some service) clocks base before after old new status = FillsAndServes service clocks base before after old new status × KeepsFiles service.image before after
-KeepsUp None clocks base before after old new status = IsTold Usage (with_line_feed (codes "usage")) old.sink new.sink status × BindsNothing old new × KeepsFiles None before after
+KeepsUp None clocks base before after old new status = IsRefused old.sink new.sink status × BindsNothing old new × KeepsFiles None before after

@@ -1,14 +1,22 @@
 -- How the process of a server that stays up ends.
-use Rattle.std.specs.Prelude.{◌≡◌, ◌+◌, ◌-◌, ◌*◌, ◌^◌, ◌<◌, ◌≤◌, ℕ, List, min, max, Option, Some, None}
+use Rattle.std.specs.Prelude.{◌≡◌, ◌≢◌, ◌⊎◌, ◌+◌, ◌-◌, ◌*◌, ◌^◌, ◌<◌, ◌≤◌, ℕ, List, min, max, Option, Some, None}
+use Rattle.std.specs.Io.KnownBytes.{Appends}
+use Rattle.outside.specs.Faults.{Rose}
 use Rattle.outside.specs.Seconds.{ClockView, IsReading, once_read}
 use Rattle.option_words.specs.Words.{Text}
+use Rattle.server_words.specs.Output.{SinkFacts}
+use Rattle.daemon_words.specs.declared.question.Question.{Question}
+use Rattle.daemon_words.specs.Questions.{question_of}
+use Rattle.daemon_words.specs.ShortWords.{long_words}
 use Rattle.daemon_words.specs.DaemonWords.{daemon_of}
-use Rattle.daemon.specs.declared.status.DaemonStatus.{DaemonStatus}
-use Rattle.daemon.specs.declared.status.DaemonStatus.TheVariants.{NoMemory}
-use Rattle.daemon.specs.Numbers.{exit_number}
+use Rattle.daemon.specs.declared.status.DaemonStatus.TheVariants.{NoMemory, WriteFault}
+use Rattle.daemon.specs.declared.status.Ending.{Ending}
+use Rattle.daemon.specs.declared.status.Ending.TheVariants.{Answered, Ended}
+use Rattle.daemon.specs.Numbers.{ending_number}
 use Rattle.daemon.specs.declared.program.TheConstants.{NUMBERS_SINCE, NUMBERS_OF_A_SECOND}
+use Rattle.daemon.specs.Written.{IsUnwritten}
 use Rattle.daemon.specs.Files.{FilesFacts}
-use Rattle.daemon.specs.Daemon.{DaemonOutside, KeepsUp}
+use Rattle.daemon.specs.Daemon.{DaemonOutside, BindsNothing, KeepsUp}
 
 -- The first unique number of a value where the server starts in this second. It is never 0, and ends at 2 ^ 61.
 abbrev pub first_number : ℕ → ℕ
@@ -24,16 +32,32 @@ BeginsAbove = (before later written : ℕ) → later ≤ 2 ^ 39 → written < NU
 abbrev pub BeginsExact : Type 0
 BeginsExact = (second : ℕ) → second < NUMBERS_SINCE + 2 ^ 31 → first_number second < 2 ^ 53
 
--- A run keeps what these words ask for; or there was no memory for words, and it touched nothing.
-abbrev pub KeepsUpFor : Option (List Text) → List ClockView → ℕ → FilesFacts → FilesFacts → DaemonOutside → DaemonOutside → DaemonStatus → Type 0
-KeepsUpFor None clocks base before after old new status = (status ≡ NoMemory) × (new ≡ old) × (after ≡ before)
-KeepsUpFor (Some words) clocks base before after old new status = KeepsUp (daemon_of words) clocks base before after old new status
+-- The sink took an answer, or a write of it failed; or there was no memory for words.
+abbrev pub AnswersAlone : SinkFacts → SinkFacts → Ending → Type 0
+AnswersAlone old new Answered = (text : List ℕ) × Appends old.taken new.taken text
+AnswersAlone old new (Ended status) = IsUnwritten old new status ⊎ ((status ≡ WriteFault) × Rose old.faults new.faults)
 
--- The process ends with the number of the status with which a run keeps these words. Its clock was read once, and unique numbers begin at those of the second that it gave.
+-- What words came to. A question of theirs was answered, and nothing was served; or their server ran, with each short word as the long one that it stands for.
+abbrev pub ComesTo : Option Question → List Text → List ClockView → ℕ → FilesFacts → FilesFacts → DaemonOutside → DaemonOutside → Ending → Type 0
+ComesTo (Some question) words clocks base before after old new ending = AnswersAlone old.sink new.sink ending × BindsNothing old new × (after ≡ before)
+ComesTo None words clocks base before after old new Answered = ⊥
+ComesTo None words clocks base before after old new (Ended status) = KeepsUp (daemon_of (long_words words)) clocks base before after old new status
+
+-- A run comes to what these words ask for; or there was no memory for words, and it touched nothing.
+abbrev pub ComesToFor : Option (List Text) → List ClockView → ℕ → FilesFacts → FilesFacts → DaemonOutside → DaemonOutside → Ending → Type 0
+ComesToFor None clocks base before after old new ending = (ending ≡ Ended NoMemory) × (new ≡ old) × (after ≡ before)
+ComesToFor (Some words) clocks base before after old new ending = ComesTo (question_of words) words clocks base before after old new ending
+
+-- The process ends with the number of what these words come to. Its clock was read once, and unique numbers begin at those of the second that it gave.
 pub record DaemonExits (words : Option (List Text)) (told tells : ClockView) (clocks : List ClockView) (before after : FilesFacts) (old new : DaemonOutside) (number : ℕ) : Type 0 where
-  pub status : DaemonStatus
-  pub ends : number ≡ exit_number status
+  pub ending : Ending
+  pub ends : number ≡ ending_number ending
   pub second : ℕ
   pub read : IsReading told second
   pub once : tells ≡ once_read second told
-  pub keeps : KeepsUpFor words clocks (first_number second) before after old new status
+  pub comes : ComesToFor words clocks (first_number second) before after old new ending
+
+-- words ask a question
+abbrev pub IsAsked : Option (List Text) → Type 0
+IsAsked None = ⊥
+IsAsked (Some words) = question_of words ≢ None

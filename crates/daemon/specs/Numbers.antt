@@ -1,6 +1,8 @@
--- The number that the process of a server that stays up ends with.
+-- The number that the process ends with.
 use Rattle.std.specs.Prelude.{ℕ}
 use Rattle.daemon.specs.declared.status.DaemonStatus.{DaemonStatus}
+use Rattle.daemon.specs.declared.status.Ending.{Ending}
+use Rattle.daemon.specs.declared.status.Ending.TheVariants.{Answered, Ended}
 use Rattle.daemon.specs.declared.status.DaemonStatus.TheVariants.{Usage, NoMemory, TraceLong, ReadFault, WriteFault, NetFault, ImageRefused, UsedUp}
 
 -- of a status; none is 0
@@ -13,3 +15,8 @@ exit_number WriteFault = 6
 exit_number NetFault = 7
 exit_number ImageRefused = 12
 exit_number UsedUp = 13
+
+-- of what words came to: 0 exactly where a question of theirs was answered
+abbrev pub ending_number : Ending → ℕ
+ending_number Answered = 0
+ending_number (Ended status) = exit_number status

@@ -1,20 +1,23 @@
 //! The whole program: its words, the second at which it starts, and the number that it ends with.
-ghost use Rattle.std.specs.Prelude.{◌≡◌, ◌≤◌, [], length, map, string_bytes};
+ghost use Rattle.std.specs.Prelude.{◌≡◌, ◌≤◌, [], None, length, map, string_bytes};
 ghost use Rattle.std.specs.Process.{exit_status};
 ghost use Rattle.locked_server.specs.Causes.{ports_at};
 ghost use Rattle.server_words.specs.declared.limits.TheConstants.{MOST_FRONTS};
 ghost use Rattle.server_words.specs.Output.{sink_facts};
 ghost use Rattle.option_words.specs.ProgramWords.{words_of};
-ghost use Rattle.daemon.specs.Numbers.{exit_number};
+ghost use Rattle.daemon_words.specs.Questions.{question_of};
+ghost use Rattle.daemon.specs.Numbers.{ending_number};
 ghost use Rattle.daemon.specs.Files.{files_facts};
 ghost use Rattle.daemon.specs.Daemon.{daemon_outside};
-ghost use Rattle.daemon.specs.Exit.{first_number, BeginsAbove, BeginsExact, DaemonExits};
+ghost use Rattle.daemon.specs.Exit.{first_number, BeginsAbove, BeginsExact, AnswersAlone, ComesTo, DaemonExits};
 
-use crate::{DaemonStatus, Files, Process, Speaker, daemon};
+use crate::reasons::note_reason;
+use crate::{DaemonStatus, Ending, Files, Process, Speaker, daemon};
 use connections::Listeners;
+use daemon_words::{Question, answer_to, long_words, question_of};
 use locked_server::Left;
 use option_words::{all_words, behind_name};
-use outside::{Clock, Gate, Net, NoMemory, Sink};
+use outside::{Clock, Gate, Net, NoMemory, Sink, write_all};
 use std::env::Args;
 use std::io;
 use std::process::ExitCode;
@@ -44,14 +47,118 @@ pub fn begins_above()
     ensures exact { BeginsExact }
 {}
 
-/// The number of a status.
-pub fn exit_code(status: DaemonStatus) -> ExitCode
-    ensures { exit_status result ≡ exit_number status }
+/// The number that the process ends with.
+pub fn ending_number(ending: Ending) -> u8
+    ensures { result ≡ ending_number ending }
 {
-    ExitCode::from(status as u8)
+    match ending {
+        Ending::Answered => 0,
+        Ending::Ended(status) => status as u8,
+    }
 }
 
-/// Runs the server that the program's words give, which are `env::args(&rt)` in `main`, and ends with the number of its status. The clock says in which second it
+/// The same, as the system takes it.
+pub fn exit_code(ending: Ending) -> ExitCode
+    ensures { exit_status result ≡ ending_number ending }
+{
+    ExitCode::from(ending_number(ending))
+}
+
+// Writes the answer to a question of the words.
+fn answer<K: Sink>(question: Question, sink: &mut K) -> Ending
+    ensures { AnswersAlone (sink_facts K.Sink sink.old) (sink_facts K.Sink sink.new) result }
+{
+    match write_all(sink, answer_to(question).as_bytes()) {
+        Ok(()) => Ending::Answered,
+        Err(_) => Ending::Ended(DaemonStatus::WriteFault),
+    }
+}
+
+// Runs the server that words give which ask no question.
+fn serve_words<
+    W: Threads + Wait + Sync,
+    F: Files,
+    K: Sink + Drop,
+    N: Net,
+    L: Listeners,
+    C: Clock + Drop + Send,
+    G: Gate,
+>(
+    process: &Process<W, G>,
+    base: u64,
+    words: &[String],
+    clocks: Vec<C>,
+    files: &mut F,
+    speaker: &mut Speaker<K>,
+    net: &mut N,
+    listeners: &mut L,
+    left: &mut Left,
+) -> Ending
+    requires net { N.binds net.old ≡ 0 }
+    requires clocks { MOST_FRONTS ≤ length clocks.items }
+    requires tables { left.old.tables ≡ [] }
+    requires uncounted { left.old.lacked ≡ 0 }
+    ensures { ComesTo None (map string_bytes words.now) (map C.view clocks.items) base (files_facts F.file F.free F.faults files.old) (files_facts F.file F.free F.faults files.new)
+        (daemon_outside (sink_facts K.Sink speaker.old.sink) (ports_at N.Net L.Listeners net.old listeners.old) left.old.tables left.old.lacked)
+        (daemon_outside (sink_facts K.Sink speaker.new.sink) (ports_at N.Net L.Listeners net.new listeners.new) left.new.tables left.new.lacked) result }
+{
+    match long_words(process.alloc, words) {
+        Ok(long) => {
+            let status = daemon(
+                process,
+                base,
+                long.as_slice(),
+                clocks,
+                files,
+                speaker,
+                net,
+                listeners,
+                left,
+            );
+            note_reason(process.alloc, words, status, &mut speaker.reason);
+            Ending::Ended(status)
+        }
+        Err(NoMemory) => Ending::Ended(DaemonStatus::NoMemory),
+    }
+}
+
+/// Answers the question that the words ask, or runs the server that they give. Why that ended stands in `speaker.reason`.
+pub fn answer_or_serve<
+    W: Threads + Wait + Sync,
+    F: Files,
+    K: Sink + Drop,
+    N: Net,
+    L: Listeners,
+    C: Clock + Drop + Send,
+    G: Gate,
+>(
+    process: &Process<W, G>,
+    base: u64,
+    words: &[String],
+    clocks: Vec<C>,
+    files: &mut F,
+    speaker: &mut Speaker<K>,
+    net: &mut N,
+    listeners: &mut L,
+    left: &mut Left,
+) -> Ending
+    requires net { N.binds net.old ≡ 0 }
+    requires clocks { MOST_FRONTS ≤ length clocks.items }
+    requires tables { left.old.tables ≡ [] }
+    requires uncounted { left.old.lacked ≡ 0 }
+    ensures { ComesTo (question_of (map string_bytes words.now)) (map string_bytes words.now) (map C.view clocks.items) base (files_facts F.file F.free F.faults files.old) (files_facts F.file F.free F.faults files.new)
+        (daemon_outside (sink_facts K.Sink speaker.old.sink) (ports_at N.Net L.Listeners net.old listeners.old) left.old.tables left.old.lacked)
+        (daemon_outside (sink_facts K.Sink speaker.new.sink) (ports_at N.Net L.Listeners net.new listeners.new) left.new.tables left.new.lacked) result }
+{
+    match question_of(words) {
+        Some(question) => answer(question, &mut speaker.sink),
+        None => serve_words(
+            process, base, words, clocks, files, speaker, net, listeners, left,
+        ),
+    }
+}
+
+/// Answers what the program's words ask, which are `env::args(&rt)` in `main`, or runs the server that they give, and ends with the number of that. The clock says in which second it
 /// starts; each front of connections takes one of `clocks`. Only an `rt` that may start threads, as in `main`, serves.
 pub fn run_daemon<
     W: Threads + Wait + Sync,
@@ -82,7 +189,7 @@ pub fn run_daemon<
 {
     let base = first_number(clock.second());
     match all_words(process.alloc, args) {
-        Ok(words) => exit_code(daemon(
+        Ok(words) => exit_code(answer_or_serve(
             process,
             base,
             behind_name(words.as_slice()),
@@ -93,6 +200,6 @@ pub fn run_daemon<
             listeners,
             left,
         )),
-        Err(NoMemory) => exit_code(DaemonStatus::NoMemory),
+        Err(NoMemory) => exit_code(Ending::Ended(DaemonStatus::NoMemory)),
     }
 }

@@ -9,12 +9,47 @@ use locked_server::{Announce, Untold};
 use outside::{Datagrams, NoMemory, Sink, write_all};
 use server_words::{PortOptions, StreamPorts};
 use std::alloc::Global;
+use std::net::Ipv4Addr;
 
-/// A sink, and the line that says that the ports are had.
+/// A port that was not had.
+#[derive(Clone, Copy)]
+pub struct Unbound {
+    pub address: Ipv4Addr,
+    pub port: u16,
+    /// Whether it is of connections, and none of datagrams.
+    pub is_tcp: bool,
+}
+
+/// What the system can be asked once more about: why it gave no port, or no file.
+#[derive(Drop)]
+pub enum Doubt {
+    Nothing,
+    Port(Unbound),
+    File(String),
+}
+
+/// A sink, and the line that says that the ports are had; and for whoever started the server, why it ended.
 #[derive(Drop)]
 pub struct Speaker<K> {
     pub sink: K,
     pub line: String,
+    /// A sentence, or nothing where there is none.
+    pub reason: String,
+    pub doubt: Doubt,
+}
+
+impl<K: Sink + Drop> Speaker<K> {
+    /// One that has said nothing.
+    pub fn new(alloc: Global, sink: K) -> Speaker<K>
+        ensures { result.sink ≡ sink }
+    {
+        Speaker {
+            sink,
+            line: String::new(alloc),
+            reason: String::new(alloc),
+            doubt: Doubt::Nothing,
+        }
+    }
 }
 
 impl<K: Sink + Drop> Announce for Speaker<K> {

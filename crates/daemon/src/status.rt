@@ -17,3 +17,10 @@ pub enum DaemonStatus {
     /// It can take no more.
     UsedUp = 13,
 }
+
+/// What words came to: a question of theirs was answered, or a server ended.
+#[derive(Clone, Copy, PartialEq, Eq)]
+pub enum Ending {
+    Answered,
+    Ended(DaemonStatus),
+}

@@ -17,6 +17,7 @@ use crate::board::board_of;
 use crate::filling::filling_of;
 use crate::output::{print_totals, write_due};
 use crate::process::Process;
+use crate::reasons::{note_image, note_unbound, shortage_reason};
 use crate::speaker::{Speaker, ready_line, unbound_line};
 use crate::{DaemonStatus, Files};
 use connections::Listeners;
@@ -29,6 +30,7 @@ use partition_model::Options;
 use partition_sizes::start_bytes;
 use server_words::PortOptions;
 use std::alloc::Global;
+use std::net::Ipv4Addr;
 use std::sync::Wait;
 use std::thread::Threads;
 
@@ -62,6 +64,7 @@ fn serve_aloud<
     G: Gate,
 >(
     shared: &Shared<W, G>,
+    address: Ipv4Addr,
     start: Start<C>,
     speaker: &mut Speaker<K>,
     net: &mut N,
@@ -86,7 +89,10 @@ fn serve_aloud<
             b"pair refused\n",
             DaemonStatus::ImageRefused,
         ),
-        Err(Stop::Unbound(port)) => write_unbound(shared.alloc, port, &mut speaker.sink),
+        Err(Stop::Unbound(port)) => {
+            note_unbound(shared.alloc, &shared.service, address, port, speaker);
+            write_unbound(shared.alloc, port, &mut speaker.sink)
+        }
         Err(Stop::Fault(fault)) => write_fault(fault, &mut speaker.sink),
         Err(Stop::Unannounced) => DaemonStatus::WriteFault,
     }
@@ -154,7 +160,15 @@ fn stay_up<
                 gate: process.gate,
                 ended: process.ended,
             };
-            serve_aloud(&shared, start, speaker, net, listeners, left)
+            serve_aloud(
+                &shared,
+                streams.address,
+                start,
+                speaker,
+                net,
+                listeners,
+                left,
+            )
         }
         Err(NoMemory) => DaemonStatus::NoMemory,
     }
@@ -209,14 +223,11 @@ pub fn daemon<
         image,
     } = match read_daemon(process.alloc, words) {
         Ok(read) => read,
-        Err(WordsFault::Usage) => return write_due(
-            &mut speaker.sink,
-            b"usage\n",
-            DaemonStatus::Usage,
-        ),
+        Err(WordsFault::Usage) => return DaemonStatus::Usage,
         Err(WordsFault::NoMemory) => return DaemonStatus::NoMemory,
     };
     if !has_memory(process.alloc, files, &options) {
+        speaker.reason = shortage_reason(process.alloc, files, words, &options);
         return DaemonStatus::NoMemory;
     }
     match filling_of(process.alloc, files, image, &mut speaker.sink) {
@@ -226,6 +237,9 @@ pub fn daemon<
                 process, base, &options, &ports, &streams, start, speaker, net, listeners, left,
             )
         }
-        Err(status) => status,
+        Err(status) => {
+            note_image(process.alloc, image, status, speaker);
+            status
+        }
     }
 }

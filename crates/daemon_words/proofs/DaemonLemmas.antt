@@ -1,5 +1,5 @@
 -- What the words of a server that stays up give is possible.
-use Rattle.std.proofs.Common.{◌≡◌, ℕ, List, Option, Some, None, Err, sym, ◌∙◌, Bool, true, false, ◌&&◌, is_some, option_map, unwrap_or, ap, refl, subst, if◌then◌else◌, arith}
+use Rattle.std.proofs.Common.{◌≡◌, ◌≤◌, ℕ, List, Option, Some, None, Err, sym, ◌∙◌, Bool, true, false, ◌&&◌, is_some, option_map, unwrap_or, ap, refl, subst, if◌then◌else◌, arith}
 use Rattle.std.proofs.lemmas.Bool.{leb-true}
 use Rattle.std.proofs.lemmas.Option.{none-some}
 use Rattle.partition_model.specs.declared.options.TheConstants.{MOST_PARTITIONS, MOST_SPARES, MOST_WORDS, MOST_WEAR}
@@ -12,14 +12,13 @@ use Rattle.partition_sizes.specs.Sizes.{with_sizes, sizes_for}
 use Rattle.partition_sizes.proofs.Fitting as fitting
 use Rattle.server_words.specs.declared.limits.TheConstants.{MAX_BATCHES, MOST_FRONTS}
 use Rattle.server_words.specs.declared.ports.PortOptions.{PortOptions}
-use Rattle.server_words.specs.StreamPorts.{IsPossibleStreams}
 use Rattle.daemon_words.specs.declared.streams.StreamOptions.{StreamOptions}
 use Rattle.option_words.specs.declared.words_fault.WordsFault.{WordsFault}
 use Rattle.option_words.specs.declared.words_fault.WordsFault.TheVariants.{Usage, NoMemory}
 use Rattle.option_words.specs.Words.{Text, given_by, text_of}
 use Rattle.option_words.specs.Settings.{mode, tries, port, value_of, ◌>>=◌}
 use Rattle.daemon_words.specs.Memory.{memory_of}
-use Rattle.daemon_words.specs.StreamWords.{memcached, memcached_fronts, listen, connections, no_streams, gives_more, some_streams, streams_by, streams_given}
+use Rattle.daemon_words.specs.StreamWords.{memcached, memcached_fronts, listen, connections, no_streams, gives_more, some_streams, has_streams, streams_by, streams_given}
 use Rattle.daemon_words.specs.DaemonWords.{Service, partitions, buckets, spares, words, wear, memory_name, sizes_by_words, sizes_by, sizes_given, mode_given, service_options, image_name, fronts, lasting_ports, no_ports, ports_by, ports_given, are_possible, may_fill, daemon_names, daemon_given, daemon_of, gives_size, ArePossibleFronts, IsDaemonReading}
 use Rattle.option_words.proofs.ValueLemmas.{both_told, value_bounds, power_value, one_kilo, required_bounds}
 use Rattle.option_words.proofs.StrayWords.{and_left, and_right}
@@ -72,8 +71,16 @@ by_memory : (given : Text → Option Text) (text : Text) (sizes : Sizes) (option
 by_memory given text sizes options true is rest = absurd (none-some sizes is)
 by_memory given text sizes options false is rest = for_amount (memory_of text) sizes options (memory_bounds text) is rest
 
+by_default : (given : Text → Option Text) (sizes : Sizes) (options : Options) (one : Bool) → (if one then sizes_by_words given else Some (sizes_for options.mode LEAST_MEMORY)) ≡ Some sizes
+    → IsPossible options → IsPossible (with_sizes sizes options)
+by_default given sizes options true is rest = by_words given sizes is options rest
+by_default given sizes options false is rest = for_amount (Some LEAST_MEMORY) sizes options least is rest
+  where
+    least : (n : ℕ) → Some LEAST_MEMORY ≡ Some n → InRange LEAST_MEMORY MOST_MEMORY n
+    least n same = subst (InRange LEAST_MEMORY MOST_MEMORY) (ap (λ o. unwrap_or o 0) same) (omega arith, omega arith)
+
 by_either : (given : Text → Option Text) (memory : Option Text) (sizes : Sizes) (options : Options) → sizes_by options.mode given memory ≡ Some sizes → IsPossible options → IsPossible (with_sizes sizes options)
-by_either given None sizes options is rest = by_words given sizes is options rest
+by_either given None sizes options is rest = by_default given sizes options (gives_size given) is rest
 by_either given (Some text) sizes options is rest = by_memory given text sizes options (gives_size given) is rest
 
 service_possible : (given : Text → Option Text) (options : Options) → service_options given ≡ Some options → IsPossible options
@@ -114,32 +121,31 @@ ports_valid given None ports is =
     ] is
 ports_valid given (Some text) ports is = lasting_valid given ports is
 
-some_streams_valid : (given : Text → Option Text) (streams : StreamOptions) → some_streams given ≡ Some streams → IsPossibleStreams streams.ports
+some_streams_valid : (given : Text → Option Text) (streams : StreamOptions) → some_streams given ≡ Some streams → streams.ports.fronts ≤ MOST_FRONTS
 some_streams_valid given streams is =
     let p = both_told (value_of memcached given) _ streams is in
     let f = both_told (value_of memcached_fronts given) _ streams p.2 in
     let l = both_told (value_of listen given) _ streams f.2 in
     let c = both_told (value_of connections given) _ streams l.2 in
     let made : StreamOptions = record { ports = record { port = p.0; fronts = f.0 }; address = l.0; connections = c.0 } in
-    let first = required_bounds memcached.name 1024 65000 (given memcached.name) p.0 p.1 in
     let few = value_bounds memcached_fronts.name 1 MOST_FRONTS 1 (given memcached_fronts.name) f.0 (omega arith, omega arith) f.1 in
-    subst (λ (s : StreamOptions). IsPossibleStreams s.ports) (ap (λ o. unwrap_or o made) c.2) (record { numbers = omega (arith, first.1, few.1); fronts = few.1 })
+    subst (λ (s : StreamOptions). s.ports.fronts ≤ MOST_FRONTS) (ap (λ o. unwrap_or o made) c.2) few.1
 
-streams_valid : (given : Text → Option Text) (first : Option Text) (streams : StreamOptions) → streams_by given first ≡ Some streams → IsPossibleStreams streams.ports
-streams_valid given None streams is =
-    elim (gives_more given) as (λ b. (if b then None else Some no_streams) ≡ Some streams → IsPossibleStreams streams.ports) [
+streams_valid : (given : Text → Option Text) (some : Bool) (streams : StreamOptions) → streams_by given some ≡ Some streams → streams.ports.fronts ≤ MOST_FRONTS
+streams_valid given false streams is =
+    elim (gives_more given) as (λ b. (if b then None else Some no_streams) ≡ Some streams → streams.ports.fronts ≤ MOST_FRONTS) [
       | true ↦ λ none. absurd (none-some streams none)
-      | false ↦ λ same. subst (λ (s : StreamOptions). IsPossibleStreams s.ports) (ap (λ o. unwrap_or o no_streams) same) (record { numbers = omega arith; fronts = omega arith })
+      | false ↦ λ same. subst (λ (s : StreamOptions). s.ports.fronts ≤ MOST_FRONTS) (ap (λ o. unwrap_or o no_streams) same) (omega arith)
     ] is
-streams_valid given (Some text) streams is = some_streams_valid given streams is
+streams_valid given true streams is = some_streams_valid given streams is
 
-both_valid : (ports : PortOptions) (streams : StreamOptions) → ArePorts ports → IsPossibleStreams streams.ports → are_possible ports streams ≡ true → ArePossibleFronts ports streams.ports
-both_valid ports streams p s is = record {
+both_valid : (ports : PortOptions) (streams : StreamOptions) → ArePorts ports → streams.ports.fronts ≤ MOST_FRONTS → are_possible ports streams ≡ true → ArePossibleFronts ports streams.ports
+both_valid ports streams p few is = let a = and_left _ _ is in record {
   port = p.port;
   fronts = p.fronts;
   batches = p.batches;
-  stream_ports = s;
-  all = (leb-true 1 _ (and_left _ _ is), leb-true _ MOST_FRONTS (and_right _ _ is));
+  stream_ports = record { numbers = leb-true _ 65536 (and_right _ _ is); fronts = few };
+  all = (leb-true 1 _ (and_left _ _ a), leb-true _ MOST_FRONTS (and_right _ _ a));
 }
 
 pub service_valid : (given : Text → Option Text) (service : Service) → daemon_given given ≡ Some service → IsPossible service.options × ArePossibleFronts service.ports service.streams.ports
@@ -148,9 +154,9 @@ service_valid given service is =
     let p = both_told (ports_given given) _ service o.2 in
     let s = both_told (streams_given given) _ service p.2 in
     let made : Service = record { options = o.0; ports = p.0; streams = s.0; image = given image_name } in
-    told made (are_possible p.0 s.0) (may_fill o.0.mode (given image_name)) refl (service_possible given o.0 o.1) (ports_valid given (given port.name) p.0 p.1) (streams_valid given (given memcached.name) s.0 s.1) s.2
+    told made (are_possible p.0 s.0) (may_fill o.0.mode (given image_name)) refl (service_possible given o.0 o.1) (ports_valid given (given port.name) p.0 p.1) (streams_valid given (has_streams given) s.0 s.1) s.2
   where
-    told : (made : Service) (possible fills : Bool) → are_possible made.ports made.streams ≡ possible → IsPossible made.options → ArePorts made.ports → IsPossibleStreams made.streams.ports
+    told : (made : Service) (possible fills : Bool) → are_possible made.ports made.streams ≡ possible → IsPossible made.options → ArePorts made.ports → made.streams.ports.fronts ≤ MOST_FRONTS
         → (if possible && fills then Some made else None) ≡ Some service → IsPossible service.options × ArePossibleFronts service.ports service.streams.ports
     told made true true possible o p s same = subst (λ (s : Service). IsPossible s.options × ArePossibleFronts s.ports s.streams.ports) (ap (λ s. unwrap_or s made) same) (o, both_valid made.ports made.streams p s possible)
     told made true false possible o p s none = absurd (none-some service none)

@@ -1,15 +1,14 @@
 -- What the text of an amount of memory means.
-use Rattle.std.proofs.Common.{◌≡◌, ◌≢◌, ◌==◌, ℕ, ◌≤◌, ◌<◌, ◌*◌, ◌/◌, List, [], ◌∷◌, ◌++◌, Option, Some, None, Bool, true, false, nat_le, option_map, unwrap_or, ap, refl, sym, ◌∙◌, subst, if◌then◌else◌, arith, Bor, MatchOption}
+use Rattle.std.proofs.Common.{◌≡◌, ◌≢◌, ◌==◌, ℕ, ◌≤◌, ◌<◌, ◌*◌, ◌/◌, [], ◌∷◌, ◌++◌, Option, Some, None, Bool, true, false, nat_le, option_map, unwrap_or, ap, refl, sym, ◌∙◌, subst, if◌then◌else◌, arith, Bor, MatchOption}
 use Rattle.std.proofs.Math.Nat.{le-div_iff_mul-le}
 use Rattle.std.proofs.lemmas.Bool.{leb-true}
 use Rattle.std.proofs.lemmas.Bool.Decides.{nat_tests}
 use Rattle.std.proofs.lemmas.Option.{none-some}
-use Rattle.std.proofs.lemmas.Grind.{common_steps}
 use Rattle.partition_model.specs.Options.{InRange}
 use Rattle.partition_sizes.specs.declared.sizes.TheConstants.{LEAST_MEMORY, MOST_MEMORY}
 use Rattle.option_words.specs.Words.{Text}
-use Rattle.option_words.specs.Settings.{number_of, ◌>>=◌}
-use Rattle.daemon_words.specs.Memory.{before_letter, amount_in, amount_or, memory_of}
+use Rattle.option_words.specs.Settings.{number_of}
+use Rattle.daemon_words.specs.Memory.{before_letter, before_unit, amount_in, amount_or, memory_of}
 use Rattle.option_words.proofs.ValueLemmas.{both_told, number_bounds}
 
 -- a text that ends with the letter
@@ -53,7 +52,7 @@ either_bounds unit None other n some rest is = rest n is
 either_bounds unit (Some digits) other n some rest is = amount_bounds unit digits n some is
 
 pub memory_bounds : (text : Text) (n : ℕ) → memory_of text ≡ Some n → InRange LEAST_MEMORY MOST_MEMORY n
-memory_bounds text n = either_bounds 1024 (before_letter 75 text) _ n (omega arith)
-    (λ m. either_bounds 1048576 (before_letter 77 text) _ m (omega arith)
-    (λ k. either_bounds 1073741824 (before_letter 71 text) _ k (omega arith)
+memory_bounds text n = either_bounds 1024 (before_unit 75 107 text) _ n (omega arith)
+    (λ m. either_bounds 1048576 (before_unit 77 109 text) _ m (omega arith)
+    (λ k. either_bounds 1073741824 (before_unit 71 103 text) _ k (omega arith)
     (λ j. amount_bounds 1 text j (omega arith))))

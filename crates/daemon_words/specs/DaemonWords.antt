@@ -1,5 +1,5 @@
 -- The words of a server that stays up: its partitions, by their sizes or by how much memory they may take, its ports, and an image.
-use Rattle.std.specs.Prelude.{◌≡◌, ⊤, ℕ, ◌+◌, Bool, ◌||◌, ◌&&◌, true, List, [], ◌∷◌, ◌++◌, Option, Some, None, is_none, is_some, option_map, codes, Result, Ok, Err, if◌then◌else◌}
+use Rattle.std.specs.Prelude.{◌≡◌, ⊤, ℕ, ◌+◌, Bool, ◌||◌, ◌&&◌, true, nat_le, List, ◌∷◌, Option, Some, None, is_none, is_some, option_map, codes, Result, Ok, Err, if◌then◌else◌}
 use Rattle.std.specs.Int.{is_in_range}
 use Rattle.partition_model.specs.declared.options.Options.{Options}
 use Rattle.partition_model.specs.declared.options.Mode.{Mode}
@@ -7,6 +7,7 @@ use Rattle.partition_model.specs.declared.options.Mode.TheVariants.{Cache, Store
 use Rattle.partition_model.specs.declared.options.TheConstants.{MOST_PARTITIONS, MOST_SPARES, MOST_WORDS, MOST_WEAR}
 use Rattle.partition_model.specs.Options.{InRange, IsPossible}
 use Rattle.partition_sizes.specs.declared.sizes.Sizes.{Sizes}
+use Rattle.partition_sizes.specs.declared.sizes.TheConstants.{LEAST_MEMORY}
 use Rattle.partition_sizes.specs.Sizes.{sizes_for}
 use Rattle.server_words.specs.declared.limits.TheConstants.{MAX_BATCHES, MOST_FRONTS}
 use Rattle.server_words.specs.declared.ports.PortOptions.{PortOptions}
@@ -19,7 +20,7 @@ use Rattle.daemon_words.specs.declared.streams.StreamOptions.{StreamOptions}
 use Rattle.option_words.specs.Words.{Text}
 use Rattle.daemon_words.specs.Memory.{memory_of}
 use Rattle.option_words.specs.Settings.{Setting, number, power_of_two, mode, tries, port, value_of, read_as, ◌>>=◌}
-use Rattle.daemon_words.specs.StreamWords.{memcached, stream_names, streams_given}
+use Rattle.daemon_words.specs.StreamWords.{stream_names, has_streams, streams_given}
 
 -- its options for partitions have the names of those of `serve`, and all the values that partitions can be made of
 abbrev pub partitions : Setting ℕ
@@ -54,17 +55,17 @@ sizes_by_words given =
 abbrev pub gives_size : (Text → Option Text) → Bool
 gives_size given = is_some (given partitions.name) || is_some (given buckets.name) || is_some (given spares.name) || is_some (given words.name)
 
--- the sizes for the memory that is given, beside which none of them may be
+-- the sizes for the memory that is given, beside which none of them may be; with nothing given, for the least
 abbrev pub sizes_by : Mode → (Text → Option Text) → Option Text → Option Sizes
-sizes_by chosen given None = sizes_by_words given
+sizes_by chosen given None = if gives_size given then sizes_by_words given else Some (sizes_for chosen LEAST_MEMORY)
 sizes_by chosen given (Some text) = if gives_size given then None else option_map (sizes_for chosen) (memory_of text)
 
 abbrev pub sizes_given : Mode → (Text → Option Text) → Option Sizes
 sizes_given mode given = sizes_by mode given (given memory_name)
 
--- the mode, which is that of a cache where none is given beside a port for memcached's clients
+-- the mode, which is that of a cache where none is given and there are fronts for memcached's clients
 abbrev pub mode_given : (Text → Option Text) → Option Mode
-mode_given given = if is_none (given mode.name) && is_some (given memcached.name) then Some Cache else value_of mode given
+mode_given given = if is_none (given mode.name) && has_streams given then Some Cache else value_of mode given
 
 -- its partitions, which one reader a front reads
 abbrev pub service_options : (Text → Option Text) → Option Options
@@ -115,9 +116,9 @@ ports_by given (Some text) = lasting_ports given
 abbrev pub ports_given : (Text → Option Text) → Option PortOptions
 ports_given given = ports_by given (given port.name)
 
--- the number of fronts of both kinds is possible
+-- the number of fronts of both kinds is possible, and the last port of connections has a number
 abbrev pub are_possible : PortOptions → StreamOptions → Bool
-are_possible ports streams = is_in_range 1 MOST_FRONTS (ports.fronts + streams.ports.fronts)
+are_possible ports streams = is_in_range 1 MOST_FRONTS (ports.fronts + streams.ports.fronts) && nat_le (streams.ports.port + streams.ports.fronts) 65536
 
 -- what it is to do: its partitions, its ports of datagrams and of connections, and the file whose image fills it, if one does
 pub record Service : Type 0 where

@@ -1,3 +1,5 @@
 pub mod Memory
 pub mod StreamWords
 pub mod DaemonWords
+pub mod Questions
+pub mod ShortWords

@@ -1,5 +1,5 @@
--- The text of an amount of memory: a number of bytes, or of as many times 1024 of them as its last letter says.
-use Rattle.std.specs.Prelude.{ℕ, ◌*◌, ◌/◌, ◌==◌, nat_le, [], ◌∷◌, Option, Some, None, option_map, if◌then◌else◌}
+-- The text of an amount of memory: a number of bytes, or of as many times 1024 of them as the unit behind it says.
+use Rattle.std.specs.Prelude.{ℕ, ◌*◌, ◌/◌, ◌==◌, nat_le, [], ◌∷◌, Option, Some, None, option_map, unwrap_or, if◌then◌else◌}
 use Rattle.partition_sizes.specs.declared.sizes.TheConstants.{LEAST_MEMORY, MOST_MEMORY}
 use Rattle.option_words.specs.Words.{Text}
 use Rattle.option_words.specs.Settings.{number_of, ◌>>=◌}
@@ -10,6 +10,26 @@ before_letter letter [] = None
 before_letter letter (x ∷ []) = if x == letter then Some [] else None
 before_letter letter (x ∷ y ∷ ys) = option_map (λ text. x ∷ text) (before_letter letter (y ∷ ys))
 
+abbrev pub or_before : Option Text → Option Text → Option Text
+or_before None other = other
+or_before (Some front) other = Some front
+
+-- the text before one of two last letters, where it ends so
+abbrev pub before_either : ℕ → ℕ → Text → Option Text
+before_either letter other text = or_before (before_letter letter text) (before_letter other text)
+
+-- the text without `B` or `iB` at its end: `B` is 66, `b` 98 and `i` 105
+abbrev pub without_bytes : Text → Text
+without_bytes text = front_of text (before_either 66 98 text)
+  where
+    front_of : Text → Option Text → Text
+    front_of text None = text
+    front_of text (Some front) = unwrap_or (before_letter 105 front) front
+
+-- the text before a unit of this letter, as `M`, `m`, `MB` or `MiB`
+abbrev pub before_unit : ℕ → ℕ → Text → Option Text
+before_unit letter small text = before_either letter small (without_bytes text)
+
 -- so many units, where they are an amount that sizes are made for
 abbrev pub amount_in : ℕ → Text → Option ℕ
 amount_in unit digits = number_of 1 (MOST_MEMORY / unit) digits >>= λ count. if nat_le LEAST_MEMORY (count * unit) then Some (count * unit) else None
@@ -19,10 +39,10 @@ abbrev pub amount_or : ℕ → Option Text → Option ℕ → Option ℕ
 amount_or unit None other = other
 amount_or unit (Some digits) other = amount_in unit digits
 
--- `K` is 75, `M` 77 and `G` 71
+-- `K` is 75, `M` 77 and `G` 71, and the small letters are 32 above these
 abbrev pub memory_of : Text → Option ℕ
 memory_of text =
-    amount_or 1024 (before_letter 75 text)
-    (amount_or 1048576 (before_letter 77 text)
-    (amount_or 1073741824 (before_letter 71 text)
+    amount_or 1024 (before_unit 75 107 text)
+    (amount_or 1048576 (before_unit 77 109 text)
+    (amount_or 1073741824 (before_unit 71 103 text)
     (amount_in 1 text)))

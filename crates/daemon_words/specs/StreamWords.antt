@@ -1,11 +1,11 @@
 -- The words of fronts behind connections: their ports, the address that these are of, and how many connections each has at most.
-use Rattle.std.specs.Prelude.{ℕ, ◌==◌, ◌||◌, Bool, List, [], ◌∷◌, Option, Some, None, is_some, codes, if◌then◌else◌}
+use Rattle.std.specs.Prelude.{ℕ, ◌==◌, ◌||◌, Bool, true, false, List, [], ◌∷◌, Option, Some, None, is_none, is_some, codes, if◌then◌else◌}
 use Rattle.std.specs.List.{before_first, after_first}
 use Rattle.std.specs.declared.net.ipv4_addr.Ipv4Addr.{Ipv4Addr}
 use Rattle.server_words.specs.declared.limits.TheConstants.{MOST_FRONTS}
 use Rattle.daemon_words.specs.declared.streams.StreamOptions.{StreamOptions}
 use Rattle.option_words.specs.Words.{Text}
-use Rattle.option_words.specs.Settings.{Setting, number, required_number, number_of, value_of, ◌>>=◌}
+use Rattle.option_words.specs.Settings.{Setting, number, port, number_of, value_of, ◌>>=◌}
 
 abbrev pub is_dot : ℕ → Bool
 is_dot x = x == 46
@@ -33,9 +33,9 @@ address_of text =
     octet_of (behind_dot (behind_dot (behind_dot text))) >>= λ d.
     Some (address a b c d)
 
--- the first port, and how many fronts there are
+-- the first port, which is memcached's own where none is given, and how many fronts there are
 abbrev pub memcached : Setting ℕ
-memcached = required_number (codes "memcached") 1024 65000
+memcached = number (codes "memcached") 1 65535 11211
 
 abbrev pub memcached_fronts : Setting ℕ
 memcached_fronts = number (codes "memcached-fronts") 1 MOST_FRONTS 1
@@ -69,10 +69,14 @@ some_streams given =
     value_of connections given >>= λ connections.
     Some (record { ports = record { port = port; fronts = fronts }; address = address; connections = connections })
 
--- There are such fronts where their first port is given, and nothing more is said of them where it is not.
-abbrev pub streams_by : (Text → Option Text) → Option Text → Option StreamOptions
-streams_by given None = if gives_more given then None else Some no_streams
-streams_by given (Some text) = some_streams given
+-- there are such fronts: their first port is given, or no port of datagrams is
+abbrev pub has_streams : (Text → Option Text) → Bool
+has_streams given = is_some (given memcached.name) || is_none (given port.name)
+
+-- where there are none, nothing more is said of them
+abbrev pub streams_by : (Text → Option Text) → Bool → Option StreamOptions
+streams_by given true = some_streams given
+streams_by given false = if gives_more given then None else Some no_streams
 
 abbrev pub streams_given : (Text → Option Text) → Option StreamOptions
-streams_given given = streams_by given (given memcached.name)
+streams_given given = streams_by given (has_streams given)

@@ -1,14 +1,14 @@
 //! The words of a server that stays up.
-ghost use Rattle.std.specs.Prelude.{◌≡◌, map, string_bytes, option_map};
+ghost use Rattle.std.specs.Prelude.{◌≡◌, ◌+◌, nat_le, map, string_bytes, option_map};
 ghost use Rattle.clap.specs.Matches.{first_value, found_of};
 ghost use Rattle.daemon_words.specs.DaemonWords.{sizes_by_words, gives_size, sizes_given, mode_given, service_options, lasting_ports, ports_given, are_possible, daemon_given, daemon_of, service_of, IsDaemonReading};
 
 use crate::memory::memory_of;
-use crate::streams::{StreamOptions, streams_given};
+use crate::streams::{StreamOptions, has_streams, streams_given};
 use clap::ArgMatches;
 use option_words::{WordsFault, count, matches_of, mode, number, power_of_two, required};
 use partition_model::{MOST_PARTITIONS, MOST_SPARES, MOST_WEAR, MOST_WORDS, Mode, Options};
-use partition_sizes::{Sizes, sizes_for};
+use partition_sizes::{LEAST_MEMORY, Sizes, sizes_for};
 use server_words::{MAX_BATCHES, MOST_FRONTS, PortOptions};
 use std::alloc::Global;
 
@@ -64,12 +64,15 @@ fn gives_size(found: &ArgMatches<'_>) -> bool
         || found.get_str("words").is_some()
 }
 
-// The sizes that are given one by one, or those for the memory that is given.
+// The sizes that are given one by one, or those for the memory that is given, or for the least.
 fn sizes_given(found: &ArgMatches<'_>, mode: Mode) -> Option<Sizes>
     ensures { result ≡ sizes_given mode (first_value (found_of found.now)) }
 {
     let Some(text) = found.get_str("memory") else {
-        return sizes_by_words(found);
+        if gives_size(found) {
+            return sizes_by_words(found);
+        }
+        return Some(sizes_for(mode, LEAST_MEMORY));
     };
     if gives_size(found) {
         return None;
@@ -78,11 +81,11 @@ fn sizes_given(found: &ArgMatches<'_>, mode: Mode) -> Option<Sizes>
     Some(sizes_for(mode, memory))
 }
 
-// The mode, which is that of a cache where none is given beside a port for memcached's clients.
+// The mode, which is that of a cache where none is given and there are fronts for memcached's clients.
 fn mode_given(found: &ArgMatches<'_>) -> Option<Mode>
     ensures { result ≡ mode_given (first_value (found_of found.now)) }
 {
-    if found.get_str("mode").is_none() && found.get_str("memcached").is_some() {
+    if found.get_str("mode").is_none() && has_streams(found) {
         return Some(Mode::Cache);
     }
     mode(found)
@@ -134,12 +137,21 @@ fn ports_given(found: &ArgMatches<'_>) -> Option<PortOptions>
     })
 }
 
-// Whether there is a front, and there are not too many.
+// Whether so many ports from a first one on have numbers.
+fn have_numbers(port: u16, fronts: u32) -> bool
+    ensures { result ≡ nat_le (port + fronts) 65536 }
+{
+    u64::from(port) + u64::from(fronts) <= 65_536
+}
+
+// Whether there is a front, there are not too many, and the last port of connections has a number.
 fn are_possible(ports: &PortOptions, streams: &StreamOptions) -> bool
     ensures { result ≡ are_possible ports.now streams.now }
 {
     let all = u64::from(ports.fronts) + u64::from(streams.ports.fronts);
-    1 <= all && all <= u64::from(MOST_FRONTS)
+    1 <= all
+        && all <= u64::from(MOST_FRONTS)
+        && have_numbers(streams.ports.port, streams.ports.fronts)
 }
 
 // What a server that stays up is to do, by the texts of its options. An image fills a store, and no cache.

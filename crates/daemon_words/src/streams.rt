@@ -2,10 +2,10 @@
 ghost use Rattle.std.specs.Prelude.{◌≡◌};
 ghost use Rattle.clap.specs.Matches.{first_value, found_of};
 ghost use Rattle.option_words.specs.Settings.{value_of};
-ghost use Rattle.daemon_words.specs.StreamWords.{before_dot, behind_dot, octet_of, address_of, listen, gives_more, some_streams, streams_given};
+ghost use Rattle.daemon_words.specs.StreamWords.{before_dot, behind_dot, octet_of, address_of, listen, gives_more, some_streams, has_streams, streams_given};
 
 use clap::ArgMatches;
-use option_words::{count, number_of, required};
+use option_words::{count, number_of};
 use server_words::{MOST_FRONTS, StreamPorts};
 use std::net::Ipv4Addr;
 
@@ -35,7 +35,7 @@ fn octet_of(text: &str) -> Option<u8>
 }
 
 /// The IPv4 address that a text writes.
-fn address_of(text: &str) -> Option<Ipv4Addr>
+pub(crate) fn address_of(text: &str) -> Option<Ipv4Addr>
     ensures { result ≡ address_of text.now }
 {
     let (a, behind) = at_dot(text);
@@ -67,7 +67,7 @@ fn gives_more(found: &ArgMatches<'_>) -> bool
 fn some_streams(found: &ArgMatches<'_>) -> Option<StreamOptions>
     ensures { result ≡ some_streams (first_value (found_of found.now)) }
 {
-    let port = required(found, "memcached", 1_024, 65_000)? as u16;
+    let port = count(found, "memcached", 1, 65_535, 11_211)? as u16;
     let fronts = count(found, "memcached-fronts", 1, MOST_FRONTS, 1)?;
     let address = listen(found)?;
     let connections = count(found, "connections", 1, 65_536, 1_024)?;
@@ -78,11 +78,18 @@ fn some_streams(found: &ArgMatches<'_>) -> Option<StreamOptions>
     })
 }
 
-/// The fronts behind connections. There are some where their first port is given; else nothing more may be said of them.
+/// Whether there are such fronts: their first port is given, or no port of datagrams is.
+pub(crate) fn has_streams(found: &ArgMatches<'_>) -> bool
+    ensures { result ≡ has_streams (first_value (found_of found.now)) }
+{
+    found.get_str("memcached").is_some() || found.get_str("port").is_none()
+}
+
+/// The fronts behind connections. Where there are none, nothing more may be said of them.
 pub fn streams_given(found: &ArgMatches<'_>) -> Option<StreamOptions>
     ensures { result ≡ streams_given (first_value (found_of found.now)) }
 {
-    if found.get_str("memcached").is_some() {
+    if has_streams(found) {
         return some_streams(found);
     }
     if gives_more(found) {

@@ -3,11 +3,14 @@
 #![tactic(auto)]
 
 mod host;
+mod host_causes;
 mod host_files;
+mod host_start;
 
 use host::run_on_host;
+use std::env;
 use std::process::{self, ExitCode};
 
 fn main(rt: HostRuntime) -> ExitCode {
-    run_on_host(&rt, process::id(rt.process()))
+    run_on_host(&rt, env::args(&rt), process::id(rt.process()))
 }

@@ -6,7 +6,7 @@ ghost use Rattle.server_words.specs.declared.limits.TheConstants.{MOST_FRONTS};
 use crate::overheard::{Overheard, OverheardListeners};
 use anyhow::Result;
 use connections::{Change, Step};
-use daemon::{MemFiles, Process, Speaker, daemon, free_by};
+use daemon::{MemFiles, Process, Speaker, answer_or_serve, ending_number, free_by};
 use locked_server::Left;
 use memory_outside::{MemClock, MemNet, MemSink};
 use outside::{Bytes, NoMemory};
@@ -17,11 +17,12 @@ use std::sync::Wait;
 use std::sync::atomic::AtomicBool;
 use std::thread::Threads;
 
-/// How a run ended, what it wrote, for how many connections there was no memory, and the net, the gate and what was heard that it leaves.
+/// How a run ended, what it wrote, why it ended, for how many connections there was no memory, and the net, the gate and what was heard that it leaves.
 #[derive(Drop)]
 struct End {
     status: u32,
     sink: MemSink,
+    reason: String,
     lacked: u64,
     net: MemNet,
     gate: RowGate,
@@ -173,15 +174,13 @@ fn run(
     let mut listeners = listeners_of(alloc, ports.as_slice())?;
     let mut net = net_of(alloc, row)?;
     let gate = RowGate::new(row);
-    let mut speaker = Speaker {
-        sink: MemSink::new(
-            alloc,
-            row.number("sink", 3, 2_000_000),
-            at_least_one(row.number("sink", 1, 5)),
-            &[row.number("sink", 2, 0)],
-        )?,
-        line: String::new(alloc),
-    };
+    let sink = MemSink::new(
+        alloc,
+        row.number("sink", 3, 2_000_000),
+        at_least_one(row.number("sink", 1, 5)),
+        &[row.number("sink", 2, 0)],
+    )?;
+    let mut speaker = Speaker::new(alloc, sink);
     let process = Process {
         rt,
         alloc,
@@ -190,7 +189,7 @@ fn run(
         pid: 1,
     };
     let mut left = Left::nothing();
-    let status = daemon(
+    let ending = answer_or_serve(
         &process,
         1,
         words,
@@ -202,8 +201,9 @@ fn run(
         &mut left,
     );
     Ok(End {
-        status: status as u32,
+        status: u32::from(ending_number(ending)),
         sink: speaker.sink,
+        reason: speaker.reason,
         lacked: left.lacked,
         net,
         gate,
@@ -236,6 +236,9 @@ fn difference(end: &End, row: &Row) -> Option<&'static str> {
         }
         if entry.is("ends") && !is_one_of(end.sink.taken(), &entries[at..]) {
             return Some("another text");
+        }
+        if entry.is("why") && end.reason.as_bytes() != entry.text() {
+            return Some("another reason");
         }
         if entry.is("connections") && !is_heard(end, entry.port(1), behind) {
             return Some("other replies");

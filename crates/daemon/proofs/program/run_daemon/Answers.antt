@@ -1,26 +1,27 @@
 use Rattle.std.proofs.Common.{◌∙◌, ap, drop, string_bytes}
 use Rattle.daemon.specs.declared.status.DaemonStatus.TheVariants.{NoMemory}
+use Rattle.daemon.specs.declared.status.Ending.TheVariants.{Ended}
 use Rattle.option_words.specs.ProgramWords.{all_words_of, words_of}
-use Rattle.daemon.proofs.Exiting.{keeps_behind, no_memory_keeps}
+use Rattle.daemon.proofs.Exiting.{comes_behind, no_memory_comes}
 use Rattle.daemon.proofs.program.run_daemon.Goals as goal
 
 pub returns-in-Ok : goal.returns-in-Ok
 returns-in-Ok g c = record {
-  status = c.daemon.result;
+  ending = c.answer_or_serve.result;
   ends = c.exit_code.ensures;
   second = c.second.result;
   read = c.second.ensures.told;
   once = c.second.ensures.once;
-  keeps = keeps_behind string_bytes (all_words_of string_bytes c.args.args) c.in-Ok.words.items c.behind_name.result.now _ c.first_number-base.result c.second.result _ _ _ _ c.daemon.result
-      c.in-Ok.ensures (c.behind_name.ensures ∙ ap (drop 1) c.as_slice.ensures.value) c.first_number-base.ensures.number c.daemon.ensures;
+  comes = comes_behind string_bytes (all_words_of string_bytes c.args.args) c.in-Ok.words.items c.behind_name.result.now _ c.first_number-base.result c.second.result _ _ _ _ c.answer_or_serve.result
+      c.in-Ok.ensures (c.behind_name.ensures ∙ ap (drop 1) c.as_slice.ensures.value) c.first_number-base.ensures.number c.answer_or_serve.ensures;
 }
 
 pub returns-in-Err : goal.returns-in-Err
 returns-in-Err g c = record {
-  status = NoMemory;
+  ending = Ended NoMemory;
   ends = c.exit_code-in-Err.ensures;
   second = c.second.result;
   read = c.second.ensures.told;
   once = c.second.ensures.once;
-  keeps = no_memory_keeps (words_of string_bytes c.args.args) _ _ _ _;
+  comes = no_memory_comes (words_of string_bytes c.args.args) _ _ _ _;
 }

@@ -1,6 +1,6 @@
 use Rattle.std.proofs.Common.{refl}
 use Rattle.std.proofs.KnownBytes.{Keeps-refl}
-use Rattle.daemon.proofs.Announced.{unwritten}
+use Rattle.daemon.proofs.Announced.{unwritten, refused}
 use Rattle.daemon.proofs.top.daemon.Goals as goal
 
 pub returns-in-Err-NoMemory : goal.returns-in-Err-NoMemory
@@ -8,3 +8,6 @@ returns-in-Err-NoMemory g c = unwritten _ _ _ _ _ _ _ (refl, Keeps-refl (g.K.Sin
 
 pub returns-then-not-has_memory : goal.returns-then-not-has_memory
 returns-then-not-has_memory g c = unwritten _ _ _ _ _ _ _ (refl, Keeps-refl (g.K.Sink.taken c.args.speaker.now.sink)) (record { ports = refl; tables = refl; lacked = refl })
+
+pub returns-in-Err-Usage : goal.returns-in-Err-Usage
+returns-in-Err-Usage g c = refused _ _ _ _ _ c.in-Err-Usage.ensures

@@ -1,4 +1,4 @@
-use Rattle.std.proofs.Common.{◌≤◌, ◌*◌, ◌/◌, sym, arith}
+use Rattle.std.proofs.Common.{◌/◌, sym, arith}
 use Rattle.partition_sizes.specs.declared.sizes.TheConstants.{MOST_MEMORY}
 use Rattle.option_words.proofs.ValueLemmas.{number_bounds}
 use Rattle.daemon_words.proofs.MemoryLemmas.{units_few}

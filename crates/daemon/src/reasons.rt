@@ -1,0 +1,134 @@
+//! Why a server that stays up ends, in a sentence for whoever started it. Where there is no memory for one, it is empty.
+ghost use Rattle.std.specs.Prelude.{◌≡◌};
+ghost use Rattle.partition_model.specs.Options.{IsPossible};
+
+use crate::{DaemonStatus, Doubt, Files, Speaker, Unbound};
+use daemon_words::{refusal_text, value_given};
+use locked_server::Service;
+use outside::Sink;
+use partition_model::Options;
+use partition_sizes::start_bytes;
+use std::alloc::Global;
+use std::net::Ipv4Addr;
+
+const MEBIBYTE: u64 = 1_048_576;
+
+// A sentence of these words.
+fn sentence(alloc: Global, words: &str) -> String {
+    match String::from_str(alloc, words) {
+        Ok(text) => text,
+        Err(_) => String::new(alloc),
+    }
+}
+
+/// How much memory a start takes, and how much is free.
+pub(crate) fn shortage_reason<F: Files>(
+    alloc: Global,
+    files: &F,
+    words: &[String],
+    options: &Options,
+) -> String
+    requires { IsPossible options.now }
+{
+    let name = if value_given(words, "--memory").is_some() {
+        "--memory "
+    } else {
+        ""
+    };
+    let amount = value_given(words, "--memory").unwrap_or("too little memory");
+    let needed = (start_bytes(options) / MEBIBYTE).saturating_add(1);
+    let free = files.free_memory(alloc).unwrap_or(0) / MEBIBYTE;
+    match format!(in alloc;
+        "{name}{amount}: its items take {needed} MiB, and the system has {free} MiB free (MemAvailable, or what its control group leaves)"
+    ) {
+        Ok(text) => text,
+        Err(_) => String::new(alloc),
+    }
+}
+
+/// Notes why a file gave nothing that fills the partitions.
+pub(crate) fn note_image<K: Sink + Drop>(
+    alloc: Global,
+    image: Option<&str>,
+    status: DaemonStatus,
+    speaker: &mut Speaker<K>,
+)
+    ensures { speaker.new.sink ≡ speaker.old.sink }
+{
+    let name = image.unwrap_or("");
+    if status == DaemonStatus::ReadFault {
+        speaker.doubt = Doubt::File(sentence(alloc, name));
+    }
+    let why = match status {
+        DaemonStatus::ReadFault => "it cannot be read",
+        DaemonStatus::TraceLong => "it has more than 16777216 bytes",
+        DaemonStatus::ImageRefused => "it is no image, as standard output says",
+        DaemonStatus::WriteFault => "standard output takes nothing more",
+        _ => "there is no memory for it",
+    };
+    if let Ok(text) = format!(in alloc; "--image {name}: {why}") {
+        speaker.reason = text;
+    }
+}
+
+// Whether a port is among so many from a first one on.
+fn is_among(port: u16, first: u16, count: u32) -> bool {
+    first <= port && u32::from(port - first) < count
+}
+
+/// Notes which port was not had, and of which address it is.
+pub(crate) fn note_unbound<K: Sink + Drop>(
+    alloc: Global,
+    service: &Service,
+    address: Ipv4Addr,
+    port: u16,
+    speaker: &mut Speaker<K>,
+)
+    ensures { speaker.new.sink ≡ speaker.old.sink }
+{
+    let is_tcp = is_among(port, service.streams.port, service.streams.fronts);
+    let address = if is_tcp { address } else { Ipv4Addr::LOCALHOST };
+    speaker.doubt = Doubt::Port(Unbound {
+        address,
+        port,
+        is_tcp,
+    });
+    if let Ok(text) = format!(in alloc; "{address}:{port} not bound") {
+        speaker.reason = text;
+    }
+}
+
+// Why it ended with a status of which nothing more is known.
+fn plain_reason(status: DaemonStatus) -> &'static str {
+    match status {
+        DaemonStatus::Usage => "its words give no server",
+        DaemonStatus::NoMemory => "out of memory, or of threads",
+        DaemonStatus::TraceLong => "the image has too many bytes",
+        DaemonStatus::ReadFault => "the image cannot be read",
+        DaemonStatus::WriteFault => "standard output takes nothing more",
+        DaemonStatus::NetFault =>
+            "its ports stopped: a socket failed, or a partition bears no more writes (--wear)",
+        DaemonStatus::ImageRefused =>
+            "a partition has no room for all of the image: give more memory",
+        DaemonStatus::UsedUp => "its ports have taken all that can be counted",
+    }
+}
+
+/// Why words came to a status, where nothing was noted of it yet.
+pub(crate) fn note_reason(
+    alloc: Global,
+    words: &[String],
+    status: DaemonStatus,
+    reason: &mut String,
+) {
+    if !reason.is_empty() {
+        return;
+    }
+    if status == DaemonStatus::Usage {
+        if let Ok(text) = refusal_text(alloc, words) {
+            *reason = text;
+            return;
+        }
+    }
+    *reason = sentence(alloc, plain_reason(status));
+}

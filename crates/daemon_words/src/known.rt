@@ -1,0 +1,148 @@
+//! The options of `micad`, for whoever is told which words it knows.
+
+use crate::memory::memory_of;
+use crate::streams::address_of;
+use option_words::number_of;
+use partition_model::{MOST_PARTITIONS, MOST_SPARES, MOST_WEAR, MOST_WORDS};
+use server_words::MOST_FRONTS;
+use std::fmt;
+
+/// What the values of an option are.
+#[derive(Clone, Copy)]
+pub(crate) enum Values {
+    Mode,
+    /// A number, and what it is of.
+    Number(&'static str, u64, u64),
+    PowerOfTwo(u64),
+    Memory,
+    Address,
+    File,
+    /// The number that says that there is no port of memcached's datagrams.
+    NoPort,
+    User,
+}
+
+impl Values {
+    /// Whether a text is one of them.
+    pub(crate) fn has(&self, text: &str) -> bool {
+        match self {
+            Values::Mode => text == "cache" || text == "store",
+            Values::Number(_, least, most) => number_of(text, *least, *most).is_some(),
+            Values::PowerOfTwo(most) => match number_of(text, 1, *most) {
+                Some(number) => number.is_power_of_two(),
+                None => false,
+            },
+            Values::Memory => memory_of(text).is_some(),
+            Values::Address => address_of(text).is_some(),
+            Values::File => true,
+            Values::NoPort => text == "0",
+            Values::User => true,
+        }
+    }
+
+    /// One of them.
+    pub(crate) fn example(&self) -> &'static str {
+        match self {
+            Values::Mode => "store",
+            Values::Number(what, _, _) => match *what {
+                "a port" => "11211",
+                "a port of datagrams" => "9000",
+                _ => "1024",
+            },
+            Values::PowerOfTwo(_) => "1024",
+            Values::Memory => "1G",
+            Values::Address => "127.0.0.1",
+            Values::File => "items.image",
+            Values::NoPort => "0",
+            Values::User => "memcache",
+        }
+    }
+}
+
+impl fmt::Display for Values {
+    fn fmt<W: fmt::Write>(&self, f: &mut fmt::Formatter<W>) -> fmt::Result {
+        match self {
+            Values::Mode => f.write_str("it is cache or store"),
+            Values::Number(what, least, most) => write!(f, "{what} is {least} to {most}"),
+            Values::PowerOfTwo(most) => write!(f, "it is a power of two, 1 to {most}"),
+            Values::Memory => f.write_str(
+                "it is 64M to 512G: a number of bytes, or with K, M or G behind it of KiB, MiB or GiB",
+            ),
+            Values::Address => f.write_str(
+                "it is one IPv4 address, as 127.0.0.1 or 0.0.0.0; names and IPv6 are not taken",
+            ),
+            Values::File => f.write_str("it is a file"),
+            Values::NoPort => f.write_str(
+                "memcached's clients are served over TCP alone, so it is 0",
+            ),
+            Values::User => f.write_str("it is who runs it"),
+        }
+    }
+}
+
+/// The long names of all options, and of questions.
+pub(crate) static NAMES: [&str; 17] = [
+    "--mode",
+    "--memcached",
+    "--memory",
+    "--memcached-fronts",
+    "--listen",
+    "--connections",
+    "--port",
+    "--fronts",
+    "--image",
+    "--partitions",
+    "--buckets",
+    "--spares",
+    "--words",
+    "--tries",
+    "--wear",
+    "--help",
+    "--version",
+];
+
+/// The values of the option of this long name.
+pub(crate) fn values_of(name: &str) -> Option<Values> {
+    match name {
+        "--mode" => Some(Values::Mode),
+        "--memcached" => Some(Values::Number("a port", 1, 65_535)),
+        "--memory" => Some(Values::Memory),
+        "--memcached-fronts" => Some(Values::Number("it", 1, u64::from(MOST_FRONTS))),
+        "--listen" => Some(Values::Address),
+        "--connections" => Some(Values::Number("it", 1, 65_536)),
+        "--port" => Some(Values::Number("a port of datagrams", 1_024, 65_000)),
+        "--fronts" => Some(Values::Number("it", 1, u64::from(MOST_FRONTS))),
+        "--image" => Some(Values::File),
+        "--partitions" => Some(Values::Number("it", 1, u64::from(MOST_PARTITIONS))),
+        "--buckets" => Some(Values::PowerOfTwo(16_777_216)),
+        "--spares" => Some(Values::Number("it", 0, u64::from(MOST_SPARES))),
+        "--words" => Some(Values::Number("it", 256, u64::from(MOST_WORDS))),
+        "--tries" => Some(Values::Number("it", 1, 1_000)),
+        "--wear" => Some(Values::Number("it", 1, MOST_WEAR)),
+        _ => None,
+    }
+}
+
+/// The long name that a name stands for.
+pub(crate) fn long_of(name: &str) -> &str {
+    match name {
+        "-p" => "--memcached",
+        "-l" => "--listen",
+        "-c" => "--connections",
+        "-m" => "--memory",
+        "-M" => "--mode",
+        _ => name,
+    }
+}
+
+/// The values behind a word that stands alone: an option's name, or one of memcached's short words.
+pub(crate) fn values_behind(word: &str) -> Option<Values> {
+    match word {
+        "-m" => Some(Values::Number("the number of MiB", 64, 524_288)),
+        "-U" => Some(Values::NoPort),
+        "-u" => Some(Values::User),
+        "-P" => Some(Values::File),
+        "-M" => None,
+        _ => values_of(long_of(word)),
+    }
+}

@@ -1,0 +1,59 @@
+//! Why this machine gives no port, or no file.
+
+use daemon::{Doubt, Unbound};
+use std::fs;
+use std::io::{self, ErrorKind};
+use std::net::{Net as Sockets, TcpListener, UdpSocket};
+use std::rt::Files;
+
+// What the system answers to one more try of a port.
+fn tried_port<R: Sockets>(rt: &R, unbound: &Unbound) -> io::Result<()> {
+    let place = (unbound.address, unbound.port);
+    if unbound.is_tcp {
+        TcpListener::bind(rt, place)?;
+    } else {
+        UdpSocket::bind(rt, place)?;
+    }
+    Ok(())
+}
+
+// What it answers to one more try of a file.
+fn tried_file<R: Files>(rt: &R, name: &str) -> io::Result<()> {
+    fs::open(rt, name)?;
+    Ok(())
+}
+
+// What an error is, for whoever reads the journal.
+fn cause_of(error: &io::Error) -> &'static str {
+    match error.raw_os_error() {
+        // the numbers that say so of a process, and of the system
+        Some(24) => return "too many open files: see LimitNOFILE= or ulimit -n",
+        Some(23) => return "too many open files in the system",
+        _ => {}
+    }
+    match error.kind() {
+        ErrorKind::AddrInUse => "in use",
+        ErrorKind::AddrNotAvailable => "no such address here",
+        ErrorKind::PermissionDenied => "not permitted",
+        ErrorKind::OutOfMemory => "no memory",
+        ErrorKind::NotFound => "no such file",
+        ErrorKind::NotADirectory => "no such file",
+        _ => "the system refuses it",
+    }
+}
+
+/// Why the system refused what is in doubt, as it says once more.
+pub fn doubt_text<R: Sockets + Files>(rt: &R, doubt: &Doubt) -> Option<&'static str> {
+    let tried = match doubt {
+        Doubt::Nothing => return None,
+        Doubt::Port(unbound) => tried_port(rt, unbound),
+        Doubt::File(name) => tried_file(rt, name.as_str()),
+    };
+    match tried {
+        Ok(()) => match doubt {
+            Doubt::Port(_) => Some("it is free again"),
+            _ => Some("it is a directory, or a read of it failed"),
+        },
+        Err(error) => Some(cause_of(&error)),
+    }
+}
