@@ -20,6 +20,26 @@ pub struct Unbound {
     pub is_tcp: bool,
 }
 
+impl Unbound {
+    /// One of datagrams.
+    pub(crate) fn datagrams(port: u16) -> Unbound {
+        Unbound {
+            address: Ipv4Addr::LOCALHOST,
+            port,
+            is_tcp: false,
+        }
+    }
+
+    /// One of connections.
+    pub(crate) fn connections(address: Ipv4Addr, port: u16) -> Unbound {
+        Unbound {
+            address,
+            port,
+            is_tcp: true,
+        }
+    }
+}
+
 /// What the system can be asked once more about: why it gave no port, or no file.
 #[derive(Drop)]
 pub enum Doubt {
@@ -64,7 +84,7 @@ impl<K: Sink + Drop> Announce for Speaker<K> {
     fn ready<D: Datagrams, C: Connections>(
         &mut self,
         _ports: &PortOptions,
-        _streams: &StreamPorts,
+        _places: u32,
         _ends: &[D],
         _connections: &[C],
     ) -> Result<(), Untold> {
