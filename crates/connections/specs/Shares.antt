@@ -1,5 +1,5 @@
 -- The shares of places where connections come, as listeners give them out.
-use Rattle.std.specs.Prelude.{◌≡◌, ◌<◌, ℕ, ◌+◌, Bool, false, List, [], ◌++◌, length, slice_get, nat_lt, ◌==◌, Option, None, Some, is_none, IfSome, if◌then◌else◌}
+use Rattle.std.specs.Prelude.{◌≡◌, ℕ, zero, suc, ◌+◌, ◌&&◌, Bool, true, false, List, [], ◌++◌, length, slice_get, nat_lt, ◌==◌, Option, None, Some, is_some, IfSome, if◌then◌else◌}
 use Rattle.connections.specs.Log.{Log}
 
 -- the log of each share that was not given out yet
@@ -14,9 +14,10 @@ without_shares first count shares = λ n. if nat_lt n first then shares n else i
 abbrev pub with_share : ℕ → Option Log → ShareLogs → ShareLogs
 with_share share log shares = λ n. if n == share then log else shares n
 
--- something waits at so many shares from this one on
-abbrev pub AreAwaited : ℕ → ℕ → ShareLogs → Type 0
-AreAwaited first count shares = (k : ℕ) → k < count → is_none (shares (first + k)) ≡ false
+-- something waits at each of so many shares from this one on
+abbrev pub are_awaited : ℕ → ℕ → ShareLogs → Bool
+are_awaited first zero shares = true
+are_awaited first (suc count) shares = is_some (shares first) && are_awaited (suc first) count shares
 
 -- what contracts see of a share at one moment
 pub record ShareFacts : Type 0 where

@@ -1,7 +1,7 @@
 //! What listens at the places of a server.
-ghost use Rattle.std.specs.Prelude.{◌≡◌, ◌+◌, ◌<◌, ◌≤◌, ◌++◌, ◌∷◌, [], ℕ, List, Option, length, map, option_map, is_err, vec_len, vec_capacity, IfSome, OnOk, OnErr};
+ghost use Rattle.std.specs.Prelude.{◌≡◌, ◌+◌, ◌<◌, ◌≤◌, ◌++◌, ◌∷◌, [], ℕ, List, Option, length, map, option_map, not, is_err, vec_len, vec_capacity, IfSome, OnOk, OnErr};
 ghost use Rattle.outside.specs.Faults.{Rose, faults_after};
-ghost use Rattle.connections.specs.Shares.{ShareLogs, GivesShares, share_facts, with_share, without_shares};
+ghost use Rattle.connections.specs.Shares.{ShareLogs, GivesShares, are_awaited, share_facts, with_share, without_shares};
 
 use crate::Connections;
 use outside::Failed;
@@ -32,26 +32,24 @@ pub trait Listeners {
     /// The places that the words name.
     ghost places: { Self → List Place };
 
-    /// How many connections there are at most at a time, at all places.
+    /// How many connections each share has at most at a time.
     ghost most: { Self → ℕ };
 
-    /// The places that were listened at, one after another, by their numbers.
+    /// The places that were listened at since they were named, one after another, by their numbers from 0.
     ghost heard: { Self → List ℕ };
 
     /// How many shares were given out.
     ghost given: { Self → ℕ };
 
-    /// From now on these are the places, for at most so many connections. Nothing was listened at yet.
-    fn set_places(&mut self, places: &[Place], most: u32) -> Result<(), Failed>
-        requires none { heard self.old ≡ [] }
-        ensures places { OnOk result (places self.new ≡ places.now) }
-        ensures most { OnOk result (most self.new ≡ most) }
-        ensures cause { OnErr result (Rose (faults self.old) (faults self.new)) }
-        ensures counted { faults self.new ≡ faults_after (is_err result) (faults self.old) }
-        ensures heard { heard self.new ≡ heard self.old }
+    /// From now on these are the places that are named, and each share has at most so many connections at a time. Nothing was listened at of them yet.
+    fn set_places(&mut self, named: Vec<Place>, limit: u32)
+        ensures places { places self.new ≡ named.items }
+        ensures most { most self.new ≡ limit }
+        ensures unheard { heard self.new ≡ [] }
         ensures given { given self.new ≡ given self.old }
         ensures waits { waits self.new ≡ waits self.old }
-        ensures released { released self.new ≡ released self.old };
+        ensures released { released self.new ≡ released self.old }
+        ensures faults { faults self.new ≡ faults self.old };
 
     /// Listens at a place, and puts its shares behind the others: all of them, or none. Nothing was reported of any yet.
     fn listen(&mut self, place: u32, shares: u32, out: &mut Vec<Self::Port>) -> Result<(), Failed>
@@ -73,7 +71,9 @@ pub trait Listeners {
         ensures most { most self.new ≡ most self.old }
         ensures released { released self.new ≡ released self.old }
         ensures cause { OnErr result (Rose (faults self.old) (faults self.new)) }
-        ensures counted { faults self.new ≡ faults_after (is_err result) (faults self.old) };
+        ensures never_fall { faults self.old ≤ faults self.new }
+        ensures counted { faults self.new ≡ faults_after (is_err result) (faults self.old) }
+        ensures foretold { IfSome (waits self.old) (λ all. is_err result ≡ not (are_awaited (given self.old) shares all)) };
 
     /// Lets a share go: nobody is served there any more, and what was left of its connections is told. Once all shares of a place were let go, nobody listens there.
     fn release(&mut self, connections: Self::Port)
