@@ -3,7 +3,6 @@ ghost use Rattle.std.specs.Prelude.{◌≡◌, ◌<◌, ◌≤◌, ◌+◌, ◌^
 ghost use Rattle.std.specs.List.{AllByRecursion, list_all};
 ghost use Rattle.memcached_text.specs.declared.limits.TheConstants.{MAX_FRAME_LEN, MAX_REPLY_LEN};
 ghost use Rattle.memcached_text.specs.Fit.{IsFitNext};
-ghost use Rattle.memcached_text.specs.Lifetimes.{IsDue};
 ghost use Rattle.memcached_commands.specs.Answers.{unless_quiet};
 ghost use Rattle.memcached_commands.specs.Asks.{asks_in};
 ghost use Rattle.memcached_commands.specs.Fit.{IsFitAsked};
@@ -13,7 +12,6 @@ ghost use Rattle.memcached_stats.specs.Stats.{Told, stats_text};
 ghost use Rattle.command_answers.specs.Counting.{tally_after_all, tally_after_next};
 ghost use Rattle.command_answers.specs.Exchange.{IsOpenAt, asks_stats, flush_due, flush_text, is_flush_all};
 ghost use Rattle.command_answers.specs.FlushAnswers.{FlushesFrom, flush_at};
-ghost use Rattle.command_answers.specs.Seconds.{AreAt};
 ghost use Rattle.command_answers.specs.Going.{AnswersFirst, RepliesFirst, GoesOn, Replies};
 
 use crate::ask::answer_ask;
@@ -131,11 +129,10 @@ fn answer_flush<F: Changes>(
     quiet: bool,
     out: &mut Vec<u8>,
 ) -> Result<Progress, NoMemory>
-    requires due { IsDue due }
     requires partitions { partitions ≡ (F.options front.old).partitions }
     requires left { partitions ≤ F.left front.old }
     ensures flushed { (answers : List Answered) × AnswersInOrder (F.options front.old) F.is_alone (F.sessions front.old) answers (F.sessions front.new)
-        × AreAt (F.options front.old) second answers × FlushesFrom (F.options front.old) (flush_at second due) 0 answers × (length answers ≡ partitions)
+        × FlushesFrom (F.options front.old) (flush_at second due) 0 answers × (length answers ≡ partitions)
         × IfOk result (λ progress. (progress ≡ record { done = partitions; is_whole = true })
         × (out.new.items ≡ out.old.items ++ unless_quiet quiet (flush_text true answers)))
         × (F.left front.old ≤ F.left front.new + count_of_writes answers) }
@@ -146,7 +143,7 @@ fn answer_flush<F: Changes>(
     ensures number { F.number front.new ≡ F.number front.old }
     ensures stands { F.stands front.new ≡ F.stands front.old }
 {
-    let flush = ask_flush(second, partitions, due);
+    let flush = ask_flush(second, due);
     let took = flush_all(front, partitions, flush, key);
     let Ok(()) = put_line(out, quiet, flush_line(took)) else {
         return Err(NoMemory);

@@ -1,9 +1,8 @@
 //! A flush of all partitions.
-ghost use Rattle.std.specs.Prelude.{◌≡◌, ◌<◌, ◌≤◌, ◌+◌, ◌++◌, ◌∷◌, [], ℕ, true, List, length, IfSome};
+ghost use Rattle.std.specs.Prelude.{◌≡◌, ◌<◌, ◌≤◌, ◌+◌, ◌++◌, ◌∷◌, [], ℕ, true, List, length};
 ghost use Rattle.std.specs.List.{list_all};
 ghost use Rattle.mica_words.specs.Hash.{bucket_of, fnv1a, partition_of};
 ghost use Rattle.mica_words.specs.Item.{KeyFits};
-ghost use Rattle.memcached_text.specs.Lifetimes.{IsDue};
 ghost use Rattle.fronts.specs.Answered.{Answered, accepts, count_of_writes};
 ghost use Rattle.fronts.specs.Flushes.{begins_with_feed, flush_in};
 ghost use Rattle.fronts.specs.Session.{Answers, AnswersInOrder};
@@ -15,7 +14,6 @@ use partition_model::ItemBuf;
 
 /// The flush that is asked for at this second.
 pub fn ask_flush(second: u64, due: Due) -> Flush
-    requires due { IsDue due }
     ensures { result ≡ flush_at second due }
 {
     match due {

@@ -2,7 +2,6 @@
 ghost use Rattle.std.specs.Prelude.{◌≤◌};
 ghost use Rattle.command_answers.specs.declared.pace.TheConstants.{LONG_STRETCH};
 
-
 /// The fewest places that one sweep looks at: so many where the last one found nothing to take away.
 const LEAST_STRETCH: u32 = 1;
 
