@@ -1,7 +1,6 @@
 -- Answers that were given one after another.
 use Rattle.std.proofs.Common.{◌≡◌, ◌+◌, ◌<◌, ◌≤◌, ℕ, Bool, List, [], ◌∷◌, ◌++◌, length, refl, sym, ap, ◌∙◌, subst, arith, length-append}
 use Rattle.std.proofs.lemmas.List.Elements.{filter_map-append}
-use Rattle.outside.specs.Seconds.{ClockView}
 use Rattle.partition_model.specs.declared.options.Options.{Options}
 use Rattle.fronts.specs.Answered.{Answered, step_in, steps_of, count_of_writes}
 use Rattle.fronts.specs.Session.{Sessions}
@@ -16,10 +15,10 @@ writes_append : (one two : List Answered) → count_of_writes (one ++ two) ≡ c
 writes_append one two = ap length (filter_map-append step_in one two) ∙ length-append (steps_of one) (steps_of two)
 
 module _ (options : Options) (is_alone : Bool) where
-  pub by_none : (old : Sessions) (left : ℕ) (told : ClockView) → GoesBy options is_alone old left told old left told
+  pub by_none : (old : Sessions) (left : ℕ) (told : ℕ) → GoesBy options is_alone old left told old left told
   by_none old left told = record { answers = []; in_order = λ q. refl; seconds = refl; few = omega arith }
 
-  pub by_both : (old between new : Sessions) (left then_left left_after : ℕ) (told then_told tells : ClockView) → GoesBy options is_alone old left told between then_left then_told
+  pub by_both : (old between new : Sessions) (left then_left left_after : ℕ) (told then_told tells : ℕ) → GoesBy options is_alone old left told between then_left then_told
       → GoesBy options is_alone between then_left then_told new left_after tells → GoesBy options is_alone old left told new left_after tells
   by_both old between new left then_left left_after told then_told tells first second = record {
     answers = first.answers ++ second.answers;
@@ -28,10 +27,10 @@ module _ (options : Options) (is_alone : Bool) where
     few = omega (arith, first.few, second.few, writes_append first.answers second.answers);
   }
 
-  pub these_none : (old : Sessions) (left : ℕ) (told : ClockView) → GoesByThese options is_alone old left told [] old left told
+  pub these_none : (old : Sessions) (left : ℕ) (told : ℕ) → GoesByThese options is_alone old left told [] old left told
   these_none old left told = record { in_order = λ q. refl; seconds = refl; few = omega arith }
 
-  pub these_then : {old between new : Sessions} {left then_left left_after : ℕ} {told then_told tells : ClockView} {one two : List Answered}
+  pub these_then : {old between new : Sessions} {left then_left left_after : ℕ} {told then_told tells : ℕ} {one two : List Answered}
       → GoesByThese options is_alone old left told one between then_left then_told → GoesByThese options is_alone between then_left then_told two new left_after tells
       → GoesByThese options is_alone old left told (one ++ two) new left_after tells
   these_then {old} {between} {new} {told = told} {then_told = then_told} {tells = tells} {one = one} {two = two} first second = record {
@@ -40,28 +39,28 @@ module _ (options : Options) (is_alone : Bool) where
     few = omega (arith, first.few, second.few, writes_append one two);
   }
 
-  pub these_of : {old : Sessions} {left : ℕ} {told : ClockView} {new : Sessions} {left_after : ℕ} {tells : ClockView} {base : ℕ} {next : Next} {done : ℕ} {answers : List Answered}
+  pub these_of : {old : Sessions} {left : ℕ} {told : ℕ} {new : Sessions} {left_after : ℕ} {tells : ℕ} {base : ℕ} {next : Next} {done : ℕ} {answers : List Answered}
       → GoesOn options is_alone base next done old told new tells answers → left ≤ left_after + count_of_writes answers
       → GoesByThese options is_alone old left told answers new left_after tells
   these_of goes few = record { in_order = goes.in_order; seconds = goes.seconds; few = few }
 
-  pub these_goes : {old : Sessions} {left : ℕ} {told : ClockView} {answers : List Answered} {new : Sessions} {left_after : ℕ} {tells : ClockView}
+  pub these_goes : {old : Sessions} {left : ℕ} {told : ℕ} {answers : List Answered} {new : Sessions} {left_after : ℕ} {tells : ℕ}
       → GoesByThese options is_alone old left told answers new left_after tells → GoesBy options is_alone old left told new left_after tells
   these_goes {answers = answers} these = record { answers = answers; in_order = these.in_order; seconds = these.seconds; few = these.few }
 
   -- and no fewer writes are left, where there were none
-  pub none_fewer : {old : Sessions} {left : ℕ} {told : ClockView} {answers : List Answered} {new : Sessions} {left_after : ℕ} {tells : ClockView}
+  pub none_fewer : {old : Sessions} {left : ℕ} {told : ℕ} {answers : List Answered} {new : Sessions} {left_after : ℕ} {tells : ℕ}
       → GoesByThese options is_alone old left told answers new left_after tells → answers ≡ [] → left ≤ left_after
   none_fewer these none = let few = these.few in let same = ap count_of_writes none in omega (arith, few, same)
 
   -- some were given, where the front may be given fewer writes
-  pub these_some : {old : Sessions} {left : ℕ} {told : ClockView} (answers : List Answered) {new : Sessions} {left_after : ℕ} {tells : ClockView}
+  pub these_some : {old : Sessions} {left : ℕ} {told : ℕ} (answers : List Answered) {new : Sessions} {left_after : ℕ} {tells : ℕ}
       → GoesByThese options is_alone old left told answers new left_after tells → left_after < left → 0 < length answers
   these_some [] these fewer = let few = these.few in absurd (omega (arith, few, fewer))
   these_some (a ∷ answers) these fewer = omega arith
 
   -- by the same answers, of which more is known
-  pub these_given : {old : Sessions} {left : ℕ} {told : ClockView} {new : Sessions} {left_after : ℕ} {tells : ClockView} (answers : List Answered) (given : List Given) → answers_in given ≡ answers
+  pub these_given : {old : Sessions} {left : ℕ} {told : ℕ} {new : Sessions} {left_after : ℕ} {tells : ℕ} (answers : List Answered) (given : List Given) → answers_in given ≡ answers
       → GoesByThese options is_alone old left told answers new left_after tells → GoesByThese options is_alone old left told (answers_in given) new left_after tells
   these_given {old} {left} {told} {new} {left_after} {tells} answers given same these =
       subst (λ a. GoesByThese options is_alone old left told a new left_after tells) (sym same) these

@@ -1,7 +1,6 @@
 -- Visits go on, as the front's sessions do by their answers.
 use Rattle.std.proofs.Common.{◌≡◌, ℕ, ◌<◌, Bool, ◌++◌, length, subst}
 use Rattle.std.specs.Prelude.{Option, Result, Ok, Err, MatchResult}
-use Rattle.outside.specs.Seconds.{ClockView}
 use Rattle.partition_model.specs.declared.options.Options.{Options}
 use Rattle.connections.specs.Log.{Log}
 use Rattle.fronts.specs.Session.{Sessions}
@@ -18,7 +17,7 @@ use Rattle.connection_loop.proofs.Staying.{passes_under}
 use Rattle.connection_loop.proofs.Revisiting.{visits_once, lacks_once, visits_then, visits_lack}
 
 module _ (options : Options) (is_alone : Bool) (base number : ℕ) where
-  module _ {old new : Sessions} {left left_after : ℕ} {told tells : ClockView} (client : Client) (a b : Option Log) where
+  module _ {old new : Sessions} {left left_after : ℕ} {told tells : ℕ} (client : Client) (a b : Option Log) where
     -- one visit was enough
     pub goes_once : (now : Client) (x after : After) → x ≡ after
         → (some : GoesBySome options is_alone old left told new left_after tells (λ answers. OnLogs (OnHeld number (Visits options base 1 client answers now x)) a b)) → (after ≡ Again → 0 < length some.0)
@@ -39,13 +38,13 @@ module _ (options : Options) (is_alone : Bool) (base number : ℕ) where
       on_one number (VisitLacks options base 1 client some.0) (VisitLacks options base 2 client some.0) a b (λ c x y one. lacks_once options base c one) some.2,
     )
 
-  module _ {old between : Sessions} {left then_left : ℕ} {told then_told : ClockView} (client mid : Client) (a b : Option Log) (x : After) (again : x ≡ Again)
+  module _ {old between : Sessions} {left then_left : ℕ} {told then_told : ℕ} (client mid : Client) (a b : Option Log) (x : After) (again : x ≡ Again)
       (seen : GoesBySome options is_alone old left told between then_left then_told (λ answers. OnLogs (OnHeld number (Visits options base 1 client answers mid x)) a b)) where
     first : GoesBySome options is_alone old left told between then_left then_told (λ answers. OnLogs (OnHeld number (Visits options base 1 client answers mid Again)) a b)
     first = subst (λ (w : After). GoesBySome options is_alone old left told between then_left then_told (λ answers. OnLogs (OnHeld number (Visits options base 1 client answers mid w)) a b)) again seen
 
     -- one more, or memory lacked at that
-    pub goes_on : {E : Type 0} {new : Sessions} {left_after : ℕ} {tells : ClockView} (d : Option Log) (o : Options) → o ≡ options → (now : Client) (r : Result After E)
+    pub goes_on : {E : Type 0} {new : Sessions} {left_after : ℕ} {tells : ℕ} (d : Option Log) (o : Options) → o ≡ options → (now : Client) (r : Result After E)
         → GoesBySome o is_alone between then_left then_told new left_after tells
         (λ answers. MatchResult r (λ after. OnLogs (OnHeld number (Visits o base 1 mid answers now after)) b d) (λ _. OnLogs (OnHeld number (VisitLacks o base 1 mid answers)) b d))
         → GoesBySome options is_alone old left told new left_after tells

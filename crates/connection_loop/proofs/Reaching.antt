@@ -2,7 +2,6 @@
 use Rattle.std.proofs.Common.{◌≡◌, ◌≢◌, ℕ, ◌+◌, ◌-◌, ◌==◌, ◌≤◌, Bool, true, false, ltb, List, [], ◌∷◌, ◌++◌, length, drop, refl, sym, ap, ◌∙◌, subst, arith, append_assoc, length-append, length-drop}
 use Rattle.std.proofs.lemmas.List.{append-nil, drop-append-le, drop-drop, drop_all, drop_at, nil_from_length}
 use Rattle.std.proofs.lemmas.Bool.{ltb-true, ltb-false}
-use Rattle.outside.specs.Seconds.{ClockView}
 use Rattle.partition_model.specs.declared.options.Options.{Options}
 use Rattle.memcached_text.specs.declared.next.Next.{Next}
 use Rattle.memcached_text.specs.declared.next.Next.TheVariants.{More}
@@ -123,7 +122,7 @@ module _ (options : Options) (base : ℕ) where
 
   -- What one call makes of it
 
-  module _ {done : ℕ} {limits : Limits} {is_alone : Bool} {old new : Sessions} {told tells : ClockView} {answers : List Answered} {before after : List ℕ} {progress : Progress}
+  module _ {done : ℕ} {limits : Limits} {is_alone : Bool} {old new : Sessions} {told tells : ℕ} {answers : List Answered} {before after : List ℕ} {progress : Progress}
       (bytes : List ℕ) (next : Next) (is : next ≡ next_of bytes) (goes : GoesOn options is_alone base next done old told new tells answers)
       (replies : Replies options base next done limits answers before after progress) where
     by_all : GoesOn options is_alone base (next_of bytes) done old told new tells answers
@@ -186,7 +185,7 @@ module _ (options : Options) (base : ℕ) where
       by false keyed (asked ∷ asks) is =
           (_, asks_are_due options base (next_of bytes) done told answers keyed stands (let many = ap length is in omega (arith, many)) (begun bytes part told) at)
 
-  module _ {is_alone : Bool} {old new : Sessions} {told tells : ClockView} {answers : List Answered} (bytes : List ℕ) (done : ℕ) (next : Next) (is : next ≡ next_of bytes)
+  module _ {is_alone : Bool} {old new : Sessions} {told tells : ℕ} {answers : List Answered} (bytes : List ℕ) (done : ℕ) (next : Next) (is : next ≡ next_of bytes)
       (goes : GoesOn options is_alone base next done old told new tells answers) (some : next ≢ More) (stands : IsOpenAt (next_of bytes) done) where
     pub spoke_of : SpokeFrom options base (length bytes) (position_at bytes done) answers
     spoke_of received given due r =

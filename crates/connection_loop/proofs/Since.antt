@@ -2,7 +2,6 @@
 use Rattle.std.proofs.Common.{◌≡◌, ℕ, ◌+◌, Bool, true, false, true≢false, List, [], ◌++◌, length, inl, refl, sym, ap, ◌∙◌, subst, arith, length-append}
 use Rattle.std.specs.Prelude.{min, Option, None, Some, is_some, IfSome, option_map}
 use Rattle.std.proofs.lemmas.Option.{none-some, same_Some}
-use Rattle.outside.specs.Seconds.{ClockView}
 use Rattle.partition_model.specs.declared.options.Options.{Options}
 use Rattle.outside.specs.Faults.{LAST_COUNT}
 use Rattle.outside.specs.Script.{is_next_listed}
@@ -44,16 +43,16 @@ pub record StandsBy (options : Options) (base had lacked : ℕ) (clients : List 
   pub caught_up : IsCaughtUp options base now.schedule now.script.piece now.entries given
 
 -- They went on by answers, and of those that were given to clients and of all P holds.
-abbrev pub GoesBySwept : Options → Bool → Sessions → ℕ → ClockView → Sessions → ℕ → ClockView → (List Given → List Answered → Type 0) → Type 0
+abbrev pub GoesBySwept : Options → Bool → Sessions → ℕ → ℕ → Sessions → ℕ → ℕ → (List Given → List Answered → Type 0) → Type 0
 GoesBySwept options is_alone old left told new left_after tells P =
     (given : List Given) × (answers : List Answered) × GoesByThese options is_alone old left told answers new left_after tells × P given answers
 
 -- Where nothing had been done before, sessions and clock went on by answers by which all stands.
-abbrev pub StandsSince : Options → Bool → ℕ → Sessions → ℕ → ClockView → ℕ → Sessions → ℕ → ClockView → ℕ → List (Option Client) → Log → Log → Type 0
+abbrev pub StandsSince : Options → Bool → ℕ → Sessions → ℕ → ℕ → ℕ → Sessions → ℕ → ℕ → ℕ → List (Option Client) → Log → Log → Type 0
 StandsSince options is_alone base old left told had new left_after tells lacked clients before now =
     before.entries ≡ [] → GoesBySwept options is_alone old left told new left_after tells (StandsBy options base had lacked clients before now)
 
-module _ (options : Options) (is_alone : Bool) (base : ℕ) (old : Sessions) (left : ℕ) (told : ClockView) (had : ℕ) where
+module _ (options : Options) (is_alone : Bool) (base : ℕ) (old : Sessions) (left : ℕ) (told : ℕ) (had : ℕ) where
   begun_through : (schedule : List Step) (entries : List Entry) → entries ≡ [] → TalksThrough options base MOST_UNSENT schedule [] entries []
   begun_through schedule entries none = subst (λ (e : List Entry). TalksThrough options base MOST_UNSENT schedule [] e []) (sym none)
       (λ c. inl (record { said = []; rest = []; spells = refl; answered = refl; begins = ([], refl) }, record { kept = omega arith; unsent = omega arith }))
@@ -91,7 +90,7 @@ module _ (options : Options) (is_alone : Bool) (base : ℕ) (old : Sessions) (le
     },
   )
 
-  module _ {between then new : Sessions} {left_between then_left left_after : ℕ} {told_between then_told tells : ClockView} (clients now : List (Option Client)) where
+  module _ {between then new : Sessions} {left_between then_left left_after : ℕ} {told_between then_told tells : ℕ} (clients now : List (Option Client)) where
     -- one report more was served, and the partitions were swept
     pub since_then : (event : Event) (then_lacked count lacked : ℕ) → lacked ≡ min (then_lacked + count) LAST_COUNT → (before a b d : Option Log)
         → OnLogs (StandsSince options is_alone base old left told had between left_between told_between then_lacked clients) before a
@@ -133,7 +132,7 @@ module _ (options : Options) (is_alone : Bool) (base : ℕ) (old : Sessions) (le
           },
         )
 
-  module _ (opened ended : Bool) (new : Sessions) (left_after : ℕ) (tells : ClockView) (lacked : ℕ) (clients : List (Option Client)) where
+  module _ (opened ended : Bool) (new : Sessions) (left_after : ℕ) (tells : ℕ) (lacked : ℕ) (clients : List (Option Client)) where
     abbrev pub first : FrontAt
     first = record { sessions = old; left = left; clock = told; lacked = had; has_ended = opened }
 

@@ -2,10 +2,10 @@
 --
 -- All answers of a front are one list, so a get sees what any client of this front was told before. A connection is closed where there is a cause, which a
 -- shut window is not.
-use Rattle.std.specs.Prelude.{◌≡◌, ℕ, ◌<◌, ◌⊎◌, ⊤, List, [], ◌∷◌, ◌++◌, slice_get, IfSome}
+use Rattle.std.specs.Prelude.{◌≡◌, ℕ, ◌<◌, ◌⊎◌, ⊤, Bool, true, false, List, [], ◌∷◌, ◌++◌, slice_get, IfSome}
 use Rattle.partition_model.specs.declared.options.Options.{Options}
 use Rattle.connections.specs.declared.schedule.Step.{Step}
-use Rattle.connections.specs.State.{Entry, closed, state_after}
+use Rattle.connections.specs.State.{Entry, opened, reported, turned_away, received, closed, state_after}
 use Rattle.connections.specs.Log.{received_of, second_of, sent_of}
 use Rattle.fronts.specs.Answered.{Answered}
 use Rattle.command_answers.specs.Seconds.{AreAt}
@@ -36,10 +36,23 @@ IsCaused options base schedule lacking (closed c) entries all =
     (λ connection. MayClose options base connection (received_of c entries) (sent_of c entries) (given_to c all))
 IsCaused options base schedule lacking _ entries all = ⊤
 
--- These had been given as an entry was made, where all were given in the end. Those between were given at the second that was told last; so what was received is
--- answered at a second that was looked at behind it, and a client that asks again is answered at none before.
+-- It was told which second it is, behind the report or the bytes that came last.
+abbrev pub is_timed : List Entry → Bool
+is_timed (opened number ∷ entries) = false
+is_timed (reported number ∷ entries) = false
+is_timed (turned_away ∷ entries) = false
+is_timed (received c bytes ∷ entries) = false
+is_timed _ = true
+
+-- These were given since an entry was made: at the second that was told last, and none before it was told. So what was received is answered at a second that was
+-- looked at behind it, and a client that asks again is answered at none before.
+pub record AreSince (options : Options) (entries : List Entry) (later : List Given) : Type 0 where
+  pub at : AreAt options (second_of entries) (answers_in later)
+  pub timed : is_timed entries ≡ false → later ≡ []
+
+-- These had been given as an entry was made, where all were given in the end.
 abbrev pub GivenSince : Options → List Entry → List Given → List Given → Type 0
-GivenSince options entries first all = (later : List Given) × (all ≡ first ++ later) × AreAt options (second_of entries) (answers_in later)
+GivenSince options entries first all = (later : List Given) × (all ≡ first ++ later) × AreSince options entries later
 
 -- At each moment the front had talked with each client, by answers that begin those of the next moment. So what was sent to one client is due to an answer
 -- that stands before the answers to all that was received later, from whichever client.

@@ -4,7 +4,6 @@ ghost use Rattle.memcached_text.specs.declared.limits.TheConstants.{MAX_REPLY_LE
 ghost use Rattle.memcached_text.specs.declared.next.Next.TheVariants.{More};
 ghost use Rattle.memcached_text.specs.Next.{next_of};
 ghost use Rattle.command_answers.specs.Exchange.{IsOpenAt};
-ghost use Rattle.command_answers.specs.Seconds.{AreAt};
 ghost use Rattle.connection_loop.specs.Calls.{KeepsHand};
 ghost use Rattle.connection_loop.specs.declared.answer.TheConstants.{LIMITS};
 ghost use Rattle.connection_loop.specs.Paid.{Advances, AnswersOn, MayAnswer, SpeaksAs, SpeaksWhere};
@@ -30,7 +29,7 @@ pub const LIMITS: Limits = Limits {
 
 /// How many writes one command may need, at most.
 pub fn most_writes(numbering: Numbering) -> u64
-    ensures { result ≡ LIMITS.asks + hand.old.numbering.partitions }
+    ensures { result ≡ LIMITS.asks + numbering.partitions }
 {
     LIMITS.asks as u64 + u64::from(numbering.partitions)
 }
@@ -106,8 +105,8 @@ fn answer_one<F: CountsWrites>(
     requires room { length out.old.items < LIMITS.bytes }
     ensures on { IfOk result (AnswersOn bytes.now done) }
     ensures short { length out.new.items ≤ max (length out.old.items) LIMITS.bytes + MAX_REPLY_LEN }
-    ensures talk { GoesBySome (F.options hand.old.front) F.is_alone (F.sessions hand.old.front) (F.left hand.old.front) (F.sessions hand.new.front) (F.left hand.new.front)
-        (λ answers. AreAt (F.options hand.old.front) hand.old.second answers × (length answers ≤ most_to_one (F.options hand.old.front)) × MatchResult result (λ said. GoesOnTo (F.options hand.old.front) hand.old.numbering.base (position_at bytes.now done) answers out.old.items out.new.items
+    ensures talk { GoesBySome (F.options hand.old.front) F.is_alone (F.sessions hand.old.front) (F.left hand.old.front) hand.old.second (F.sessions hand.new.front) (F.left hand.new.front) hand.new.second
+        (λ answers. (length answers ≤ most_to_one (F.options hand.old.front)) × MatchResult result (λ said. GoesOnTo (F.options hand.old.front) hand.old.numbering.base (position_at bytes.now done) answers out.old.items out.new.items
         (ReachesAfter (F.options hand.old.front) hand.old.numbering.base bytes.now done said) × SpeaksAs said answers out.old.items out.new.items)
         (λ _. SpokeFrom (F.options hand.old.front) hand.old.numbering.base (length bytes.now) (position_at bytes.now done) answers)) }
     ensures left { F.left hand.old.front ≤ F.left hand.new.front + LIMITS.asks + hand.old.numbering.partitions }
@@ -157,8 +156,8 @@ pub fn answer_bytes<F: CountsWrites>(
     ensures advances { IfOk result (λ a. Advances (MayAnswer hand.old.numbering.partitions (F.left hand.old.front) × (length out.old.items < LIMITS.bytes))
         ((a.halt ≡ Halt.Needs) × (next_of bytes.now ≡ More)) (position_at bytes.now done) (position_in bytes.now a)) }
     ensures short { length out.new.items ≤ max (length out.old.items) LIMITS.bytes + MAX_REPLY_LEN }
-    ensures talk { GoesBySome (F.options hand.old.front) F.is_alone (F.sessions hand.old.front) (F.left hand.old.front) (F.sessions hand.new.front) (F.left hand.new.front)
-        (λ answers. AreAt (F.options hand.old.front) hand.old.second answers × (length answers ≤ most_answers (F.options hand.old.front)) × MatchResult result (λ a. GoesOnTo (F.options hand.old.front) hand.old.numbering.base (position_at bytes.now done) answers out.old.items out.new.items
+    ensures talk { GoesBySome (F.options hand.old.front) F.is_alone (F.sessions hand.old.front) (F.left hand.old.front) hand.old.second (F.sessions hand.new.front) (F.left hand.new.front) hand.new.second
+        (λ answers. (length answers ≤ most_answers (F.options hand.old.front)) × MatchResult result (λ a. GoesOnTo (F.options hand.old.front) hand.old.numbering.base (position_at bytes.now done) answers out.old.items out.new.items
         (HaltsAs (F.options hand.old.front) hand.old.numbering.base (length bytes.now) a.halt (position_in bytes.now a))
         × SpeaksWhere (MayAnswer hand.old.numbering.partitions (F.left hand.old.front) × (length out.old.items < LIMITS.bytes)) a.halt answers out.old.items out.new.items)
         (λ _. SpokeFrom (F.options hand.old.front) hand.old.numbering.base (length bytes.now) (position_at bytes.now done) answers)) }

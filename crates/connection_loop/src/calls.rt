@@ -22,6 +22,7 @@ pub fn receive<C: Connections>(
     ensures keeps { OnLogs Keeps (C.log connections.old) (C.log connections.new) }
     ensures open { IfSome (C.log connections.new) (IsOpen number (asks + gained result)) }
     ensures port { Leaves C.log C.has_ended C.faults C.share C.reports connections.old connections.new }
+    ensures rises { C.last connections.old ≤ C.last connections.new }
 {
     connections.read(number, out)
 }
@@ -40,6 +41,7 @@ pub fn send<C: Connections>(
     ensures keeps { OnLogs Keeps (C.log connections.old) (C.log connections.new) }
     ensures open { IfSome (C.log connections.new) (IsOpen number asks) }
     ensures port { Leaves C.log C.has_ended C.faults C.share C.reports connections.old connections.new }
+    ensures rises { C.last connections.old ≤ C.last connections.new }
 {
     let mut sent = 0;
     while sent < text.len() {
@@ -60,6 +62,7 @@ pub fn ask_again<C: Connections>(connections: &mut C, number: u32, asks: u64)
     ensures asks { IfSome (C.log connections.old) (λ l. Asks number l (C.log connections.new)) }
     ensures asked { OnLogs (AsksOnce number asks) (C.log connections.old) (C.log connections.new) }
     ensures port { Leaves C.log C.has_ended C.faults C.share C.reports connections.old connections.new }
+    ensures rises { C.last connections.old ≤ C.last connections.new }
 {
     connections.again(number);
 }
@@ -71,6 +74,7 @@ pub fn close<C: Connections>(connections: &mut C, number: u32, asks: u64)
     ensures closed { IfSome (C.log connections.old) (λ l. Closes number l (C.log connections.new)) }
     ensures others { OnLogs (KeepsOthers number) (C.log connections.old) (C.log connections.new) }
     ensures port { Leaves C.log C.has_ended C.faults C.share C.reports connections.old connections.new }
+    ensures rises { C.last connections.old ≤ C.last connections.new }
 {
     connections.close(number);
 }

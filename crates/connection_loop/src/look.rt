@@ -4,7 +4,6 @@ ghost use Rattle.memcached_text.specs.declared.limits.TheConstants.{MAX_WAITING_
 ghost use Rattle.memcached_text.specs.declared.next.Next.TheVariants.{More};
 ghost use Rattle.memcached_text.specs.Next.{next_of};
 ghost use Rattle.command_answers.specs.Exchange.{IsOpenAt};
-ghost use Rattle.command_answers.specs.Seconds.{AreAt};
 ghost use Rattle.connection_loop.specs.Calls.{KeepsHand};
 ghost use Rattle.connection_loop.specs.declared.desk.TheConstants.{MOST_UNSENT};
 ghost use Rattle.connection_loop.specs.Clients.{IsClient};
@@ -64,8 +63,8 @@ pub(crate) fn look_at<F: CountsWrites>(
     ensures waits { IfOk result (λ halt. halt ≡ Halt.Needs → next_of client.new.kept ≡ More) }
     ensures advances { IfOk result (λ halt. Advances (MayAnswer hand.old.numbering.partitions (F.left hand.old.front)) ((halt ≡ Halt.Needs) × (next_of bytes.now ≡ More))
         (position_at bytes.now done) (position_of client.new)) }
-    ensures talk { GoesBySome (F.options hand.old.front) F.is_alone (F.sessions hand.old.front) (F.left hand.old.front) (F.sessions hand.new.front) (F.left hand.new.front)
-        (λ answers. AreAt (F.options hand.old.front) hand.old.second answers × (length answers ≤ most_answers (F.options hand.old.front)) × MatchResult result (λ halt. GoesOnTo (F.options hand.old.front) hand.old.numbering.base (position_at bytes.now done) answers [] replies.new.items
+    ensures talk { GoesBySome (F.options hand.old.front) F.is_alone (F.sessions hand.old.front) (F.left hand.old.front) hand.old.second (F.sessions hand.new.front) (F.left hand.new.front) hand.new.second
+        (λ answers. (length answers ≤ most_answers (F.options hand.old.front)) × MatchResult result (λ halt. GoesOnTo (F.options hand.old.front) hand.old.numbering.base (position_at bytes.now done) answers [] replies.new.items
         (HaltsAs (F.options hand.old.front) hand.old.numbering.base (length bytes.now) halt (position_of client.new))
         × SpeaksWhere (MayAnswer hand.old.numbering.partitions (F.left hand.old.front)) halt answers [] replies.new.items)
         (λ _. SpokeFrom (F.options hand.old.front) hand.old.numbering.base (length bytes.now) (position_at bytes.now done) answers)) }

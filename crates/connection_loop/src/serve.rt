@@ -45,7 +45,7 @@ fn visit_held<F: CountsWrites, C: Connections>(
     ensures clients { AreOpen clients.new.held.items (C.log connections.new) }
     ensures port { Leaves C.log C.has_ended C.faults C.share C.reports connections.old connections.new }
     ensures same { KeepsHand F.options F.number F.stands hand.old hand.new }
-    ensures serves { GoesByGiven (F.options hand.old.front) F.is_alone (F.sessions hand.old.front) (F.left hand.old.front) (F.sessions hand.new.front) (F.left hand.new.front)
+    ensures serves { GoesByGiven (F.options hand.old.front) F.is_alone (F.sessions hand.old.front) (F.left hand.old.front) (C.last connections.old) (F.sessions hand.new.front) (F.left hand.new.front) (C.last connections.new)
         (λ given. OnLogs (StandsOn (F.options hand.old.front) hand.old.numbering.base (Event.Ready number) clients.old.held.items result given clients.new.held.items) (C.log connections.old) (C.log connections.new)) }
 {
     let Some(mut client) = clients.take(number) else {
@@ -98,6 +98,7 @@ fn take_in<C: Connections>(connections: &mut C, number: u32, clients: &mut Clien
     requires open { IfSome (C.log connections.old) (IsOpen number 0) }
     ensures clients { AreOpen clients.new.held.items (C.log connections.new) }
     ensures port { Leaves C.log C.has_ended C.faults C.share C.reports connections.old connections.new }
+    ensures rises { C.last connections.old ≤ C.last connections.new }
     ensures serves { (options : Options) (base : ℕ)
         → OnLogs (StandsOn options base (Event.Opened number) clients.old.held.items result [] clients.new.held.items) (C.log connections.old) (C.log connections.new) }
 {
@@ -132,7 +133,7 @@ fn serve_event<F: CountsWrites, C: Connections>(
     ensures clients { AreOpen clients.new.held.items (C.log connections.new) }
     ensures port { Leaves C.log C.has_ended C.faults C.share C.reports connections.old connections.new }
     ensures same { KeepsHand F.options F.number F.stands hand.old hand.new }
-    ensures serves { GoesByGiven (F.options hand.old.front) F.is_alone (F.sessions hand.old.front) (F.left hand.old.front) (F.sessions hand.new.front) (F.left hand.new.front)
+    ensures serves { GoesByGiven (F.options hand.old.front) F.is_alone (F.sessions hand.old.front) (F.left hand.old.front) (C.last connections.old) (F.sessions hand.new.front) (F.left hand.new.front) (C.last connections.new)
         (λ given. OnLogs (StandsOn (F.options hand.old.front) hand.old.numbering.base event clients.old.held.items result given clients.new.held.items) (C.log connections.old) (C.log connections.new)) }
 {
     match event {

@@ -3,8 +3,6 @@ ghost use Rattle.std.specs.Prelude.{◌≡◌, ◌≢◌, ◌⊎◌, ◌<◌, �
 ghost use Rattle.memcached_text.specs.declared.limits.TheConstants.{MAX_WAITING_LEN};
 ghost use Rattle.connection_loop.specs.declared.desk.TheConstants.{MOST_UNSENT};
 ghost use Rattle.connections.specs.Calls.{Leaves};
-ghost use Rattle.connections.specs.Log.{second_of};
-ghost use Rattle.command_answers.specs.Seconds.{AreAt};
 ghost use Rattle.connection_loop.specs.Calls.{KeepsHand};
 ghost use Rattle.connection_loop.specs.Clients.{IsClient};
 ghost use Rattle.connection_loop.specs.Going.{GoesBySome};
@@ -62,6 +60,7 @@ fn send_unsent<C: Connections>(
     ensures sends { OnLogs (OnHeld number (SendsFrom client.old.unsent client.new.unsent result)) (C.log connections.old) (C.log connections.new) }
     ensures keeps { OnLogs Keeps (C.log connections.old) (C.log connections.new) }
     ensures port { Leaves C.log C.has_ended C.faults C.share C.reports connections.old connections.new }
+    ensures rises { C.last connections.old ≤ C.last connections.new }
 {
     let sent = send(connections, number, client.asks, client.unsent.bytes())?;
     tally.raise(Counter::Sent, sent as u64);
@@ -92,6 +91,7 @@ fn send_new<C: Connections>(
         (λ _. OnLogs (OnHeld number (SendsSome replies.now)) (C.log connections.old) (C.log connections.new)) }
     ensures keeps { OnLogs Keeps (C.log connections.old) (C.log connections.new) }
     ensures port { Leaves C.log C.has_ended C.faults C.share C.reports connections.old connections.new }
+    ensures rises { C.last connections.old ≤ C.last connections.new }
 {
     let sent = match send(connections, number, client.asks, replies) {
         Ok(sent) => sent,
@@ -137,6 +137,7 @@ fn fill<C: Connections>(
     ensures open { IfSome (C.log connections.new) (IsOpen number client.new.asks) }
     ensures keeps { OnLogs Keeps (C.log connections.old) (C.log connections.new) }
     ensures port { Leaves C.log C.has_ended C.faults C.share C.reports connections.old connections.new }
+    ensures rises { C.last connections.old ≤ C.last connections.new }
 {
     let kept = client.kept.bytes();
     let had = kept.len();
@@ -175,8 +176,8 @@ fn look_at_room<F: CountsWrites>(
     ensures waits { IfOk result (λ halt. halt ≡ Halt.Needs → next_of client.new.kept ≡ More) }
     ensures advances { IfOk result (λ halt. Advances (MayAnswer hand.old.numbering.partitions (F.left hand.old.front)) ((halt ≡ Halt.Needs) × (length client.old.kept < MAX_WAITING_LEN))
         (position_at bytes.now 0) (position_of client.new)) }
-    ensures talk { GoesBySome (F.options hand.old.front) F.is_alone (F.sessions hand.old.front) (F.left hand.old.front) (F.sessions hand.new.front) (F.left hand.new.front)
-        (λ answers. AreAt (F.options hand.old.front) hand.old.second answers × (length answers ≤ most_answers (F.options hand.old.front)) × MatchResult result (λ halt. GoesOnTo (F.options hand.old.front) hand.old.numbering.base (position_of client.old) answers [] replies.new.items
+    ensures talk { GoesBySome (F.options hand.old.front) F.is_alone (F.sessions hand.old.front) (F.left hand.old.front) hand.old.second (F.sessions hand.new.front) (F.left hand.new.front) hand.new.second
+        (λ answers. (length answers ≤ most_answers (F.options hand.old.front)) × MatchResult result (λ halt. GoesOnTo (F.options hand.old.front) hand.old.numbering.base (position_of client.old) answers [] replies.new.items
         (λ received given due. HaltsAs (F.options hand.old.front) hand.old.numbering.base MAX_WAITING_LEN halt (position_of client.new)
         (received ++ drop (length client.old.kept) bytes.now) given due)
         × SpeaksWhere (MayAnswer hand.old.numbering.partitions (F.left hand.old.front)) halt answers [] replies.new.items)
@@ -213,14 +214,13 @@ fn answer_more<F: CountsWrites, C: Connections>(
     ensures leaving { IfOk result (λ r. IfOk r (λ stood. client.new.leaving ≡ leaves stood.0)) }
     ensures unsent { IfOk result (λ _. client.new.unsent ≡ client.old.unsent) }
     ensures again { IfOk result (λ r. IfOk r (λ stood. IsAtRest stood.0 stood.1 ⊎ IsPaid 1 client.new)) }
-    ensures talk { GoesBySome (F.options hand.old.front) F.is_alone (F.sessions hand.old.front) (F.left hand.old.front) (F.sessions hand.new.front) (F.left hand.new.front)
+    ensures talk { GoesBySome (F.options hand.old.front) F.is_alone (F.sessions hand.old.front) (F.left hand.old.front) (C.last connections.old) (F.sessions hand.new.front) (F.left hand.new.front) (C.last connections.new)
         (λ answers. MatchResult result
         (λ r. OnLogs (OnHeld number (Looks (F.options hand.old.front) hand.old.numbering.base client.old answers desk.new.replies.items client.new r)) (C.log connections.old) (C.log connections.new))
         (λ _. OnLogs (OnHeld number (Lacks (F.options hand.old.front) hand.old.numbering.base client.old answers)) (C.log connections.old) (C.log connections.new))) }
     ensures open { IfSome (C.log connections.new) (IsOpen number client.new.asks) }
     ensures keeps { OnLogs Keeps (C.log connections.old) (C.log connections.new) }
     ensures port { Leaves C.log C.has_ended C.faults C.share C.reports connections.old connections.new }
-    ensures second { IfSome (C.log connections.new) (λ l. second_of l.entries ≡ hand.new.second) ⊎ (hand.new.second ≡ hand.old.second) }
     ensures same { KeepsHand F.options F.number F.stands hand.old hand.new }
 {
     let Desk {
@@ -291,14 +291,13 @@ pub(crate) fn visit_once<F: CountsWrites, C: Connections>(
     ensures room { vec_len desk.new.room ≡ MAX_WAITING_LEN }
     ensures client { IfOk result (λ _. IsClient client.new) }
     ensures again { IfOk result (λ after. after ≡ After.Again → IsPaid 1 client.new) }
-    ensures talks { GoesBySome (F.options hand.old.front) F.is_alone (F.sessions hand.old.front) (F.left hand.old.front) (F.sessions hand.new.front) (F.left hand.new.front)
+    ensures talks { GoesBySome (F.options hand.old.front) F.is_alone (F.sessions hand.old.front) (F.left hand.old.front) (C.last connections.old) (F.sessions hand.new.front) (F.left hand.new.front) (C.last connections.new)
         (λ answers. MatchResult result
         (λ after. OnLogs (OnHeld number (Visits (F.options hand.old.front) hand.old.numbering.base 1 client.old answers client.new after)) (C.log connections.old) (C.log connections.new))
         (λ _. OnLogs (OnHeld number (VisitLacks (F.options hand.old.front) hand.old.numbering.base 1 client.old answers)) (C.log connections.old) (C.log connections.new))) }
     ensures open { IfSome (C.log connections.new) (IsOpen number client.new.asks) }
     ensures keeps { OnLogs Keeps (C.log connections.old) (C.log connections.new) }
     ensures port { Leaves C.log C.has_ended C.faults C.share C.reports connections.old connections.new }
-    ensures second { IfSome (C.log connections.new) (λ l. second_of l.entries ≡ hand.new.second) ⊎ (hand.new.second ≡ hand.old.second) }
     ensures same { KeepsHand F.options F.number F.stands hand.old hand.new }
 {
     match send_unsent(connections, number, client, &mut desk.buffers.tally) {

@@ -37,7 +37,7 @@ pub(crate) fn visit_on<F: CountsWrites, C: Connections>(
     ensures again { IfOk result (λ after. after ≡ After.Again → IsPaid 1 client.new) }
     ensures room { vec_len desk.new.room ≡ MAX_WAITING_LEN }
     ensures client { IfOk result (λ _. IsClient client.new) }
-    ensures talks { GoesBySome (F.options hand.old.front) F.is_alone (F.sessions hand.old.front) (F.left hand.old.front) (F.sessions hand.new.front) (F.left hand.new.front)
+    ensures talks { GoesBySome (F.options hand.old.front) F.is_alone (F.sessions hand.old.front) (F.left hand.old.front) (C.last connections.old) (F.sessions hand.new.front) (F.left hand.new.front) (C.last connections.new)
         (λ answers. MatchResult result
         (λ after. OnLogs (OnHeld number (Visits (F.options hand.old.front) hand.old.numbering.base 2 client.old answers client.new after)) (C.log connections.old) (C.log connections.new))
         (λ _. OnLogs (OnHeld number (VisitLacks (F.options hand.old.front) hand.old.numbering.base 2 client.old answers)) (C.log connections.old) (C.log connections.new))) }

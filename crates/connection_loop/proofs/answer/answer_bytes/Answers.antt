@@ -20,13 +20,13 @@ use Rattle.connection_loop.proofs.answer.answer_bytes.Goals.{else-loop-spoken-te
 
 pub loop-spoken-init : goal.loop-spoken-init
 loop-spoken-init g c =
-    let options = g.F.Front.options c.args.front.now in (
+    let options = g.F.Front.options c.args.hand.now.front in (
       search rules,
       c.requires.«open»,
       (
         [],
-        these_none options g.F.Front.is_alone (g.F.Front.sessions c.args.front.now) (g.F.Front.left c.args.front.now) (g.K.Clock.view c.args.clock.now),
-        (on_none options c.args.numbering.base (position_at c.args.bytes.now c.args.done) c.args.out.now.items, spoken_none options g.F.Front.is_alone c.args.numbering.base c.args.out.now.items),
+        these_none options g.F.Front.is_alone (g.F.Front.sessions c.args.hand.now.front) (g.F.Front.left c.args.hand.now.front) c.args.hand.now.second,
+        (on_none options c.args.hand.now.numbering.base (position_at c.args.bytes.now c.args.done) c.args.out.now.items, spoken_none options g.F.Front.is_alone c.args.hand.now.numbering.base c.args.out.now.items),
       ),
       refl,
       refl,
@@ -39,11 +39,11 @@ loop-spoken-init g c =
 pub returns-in_err-said-clause-talk : goal.returns-in_err-said-clause-talk
 returns-in_err-said-clause-talk g c =
     let inv = c.loop-spoken.invariant in
-    let options = g.F.Front.options c.args.front.now in
+    let options = g.F.Front.options c.args.hand.now.front in
     let bytes = c.args.bytes.now in
     let len = length-drop c.loop-spoken.taken bytes in
-    let spoke = spoke_on options g.F.Front.is_alone c.args.numbering.base c.loop-spoken.spoken (omega (arith, c.loop-spoken-test.true)) (length bytes) (position_at bytes c.args.done) (drop c.loop-spoken.taken bytes)
-    (take (length bytes - c.loop-spoken.taken) (drop c.loop-spoken.taken bytes)) c.loop-spoken.done c.args.out.now.items c.loop-spoken.out.items (g.F.Front.options c.loop-spoken.front) (take_rest bytes c.loop-spoken.taken) inv.3
+    let spoke = spoke_on options g.F.Front.is_alone c.args.hand.now.numbering.base c.loop-spoken.spoken (omega (arith, c.loop-spoken-test.true)) (length bytes) (position_at bytes c.args.done) (drop c.loop-spoken.taken bytes)
+    (take (length bytes - c.loop-spoken.taken) (drop c.loop-spoken.taken bytes)) c.loop-spoken.done c.args.out.now.items c.loop-spoken.out.items (g.F.Front.options c.loop-spoken.hand.front) (take_rest bytes c.loop-spoken.taken) inv.3
     (omega (arith, len)) inv.2 c.in_err-said.ensures.talk in
     let is = err_from_is_err_and c.from_residual.result c.from_residual.ensures.1 in
     (spoke.0, spoke.1, (spoke.2.0, match_err _ _ c.from_residual.result is.0 is.1 spoke.2.1))
@@ -55,12 +55,12 @@ none_left bytes rest taken rest_is none = ap next_of (sym rest_is ∙ nil_from_l
 pub returns-then-is_empty-clause-talk : goal.returns-then-is_empty-clause-talk
 returns-then-is_empty-clause-talk g c =
     let inv = c.loop-spoken.invariant in
-    let options = g.F.Front.options c.args.front.now in
-    let base = c.args.numbering.base in
+    let options = g.F.Front.options c.args.hand.now.front in
+    let base = c.args.hand.now.numbering.base in
     let bytes = c.args.bytes.now in
     let at = c.at.ensures in
     let all = none_left bytes _ c.loop-spoken.taken (take_rest bytes c.loop-spoken.taken) (sym c.is_empty.ensures ∙ c.if-is_empty.true) in
-    halts_by options g.F.Front.is_alone base (MayAnswer c.args.numbering.partitions (g.F.Front.left c.args.front.now) × (length c.args.out.now.items < LIMITS.bytes)) c.at.result.halt Needs at.3 needs_on (position_at bytes c.args.done) c.args.out.now.items c.loop-spoken.out.items
+    halts_by options g.F.Front.is_alone base (MayAnswer c.args.hand.now.numbering.partitions (g.F.Front.left c.args.hand.now.front) × (length c.args.out.now.items < LIMITS.bytes)) c.at.result.halt Needs at.3 needs_on (position_at bytes c.args.done) c.args.out.now.items c.loop-spoken.out.items
     (Reaches options base (position_at (drop c.loop-spoken.taken bytes) c.loop-spoken.done)) (HaltsAs options base (length bytes) c.at.result.halt (position_in bytes c.at.result))
     (λ received given due reached. halts_in options g.F.Front.is_alone base (length bytes) bytes c.at.result Needs c.loop-spoken.taken c.loop-spoken.done 0 at.0 at.1 at.2 at.3 received given due
     (reached, all))
@@ -70,68 +70,68 @@ returns-then-is_empty-clause-talk g c =
 pub returns-in-Nothing-clause-talk : goal.returns-in-Nothing-clause-talk
 returns-in-Nothing-clause-talk g c =
     let inv = c.loop-spoken.invariant in
-    let options = g.F.Front.options c.args.front.now in
-    let base = c.args.numbering.base in
+    let options = g.F.Front.options c.args.hand.now.front in
+    let base = c.args.hand.now.numbering.base in
     let bytes = c.args.bytes.now in
     let at = c.at-in-Nothing.ensures in
-    halts_by options g.F.Front.is_alone base (MayAnswer c.args.numbering.partitions (g.F.Front.left c.args.front.now) × (length c.args.out.now.items < LIMITS.bytes)) c.at-in-Nothing.result.halt Needs at.3 needs_on (position_at bytes c.args.done) c.args.out.now.items c.answer_one.new.out.items
+    halts_by options g.F.Front.is_alone base (MayAnswer c.args.hand.now.numbering.partitions (g.F.Front.left c.args.hand.now.front) × (length c.args.out.now.items < LIMITS.bytes)) c.at-in-Nothing.result.halt Needs at.3 needs_on (position_at bytes c.args.done) c.args.out.now.items c.answer_one.new.out.items
     (ReachesAfter options base (drop c.loop-spoken.taken bytes) c.loop-spoken.done Nothing) (HaltsAs options base (length bytes) c.at-in-Nothing.result.halt (position_in bytes c.at-in-Nothing.result))
     (halts_in options g.F.Front.is_alone base (length bytes) bytes c.at-in-Nothing.result Needs c.loop-spoken.taken c.loop-spoken.done 0 at.0 at.1 at.2 at.3)
     (λ answers. length answers ≤ (c.loop-spoken.spoken + 1) * most_to_one options) (few_said options g.F.Front.is_alone base c.loop-spoken.spoken (omega (arith, c.loop-spoken-test.true)))
     (on_said options g.F.Front.is_alone base c.loop-spoken.spoken (position_at bytes c.args.done) (drop c.loop-spoken.taken bytes) (take (length bytes - c.loop-spoken.taken) (drop c.loop-spoken.taken bytes)) c.loop-spoken.done c.args.out.now.items
-    c.loop-spoken.out.items c.answer_one.new.out.items (g.F.Front.options c.loop-spoken.front) c.in_ok-said.said Nothing (take_rest bytes c.loop-spoken.taken) inv.3 c.in-Nothing.is inv.2 c.in_ok-said.ensures.talk)
+    c.loop-spoken.out.items c.answer_one.new.out.items (g.F.Front.options c.loop-spoken.hand.front) c.in_ok-said.said Nothing (take_rest bytes c.loop-spoken.taken) inv.3 c.in-Nothing.is inv.2 c.in_ok-said.ensures.talk)
 
 pub returns-in-Part-clause-talk : goal.returns-in-Part-clause-talk
 returns-in-Part-clause-talk g c =
     let inv = c.loop-spoken.invariant in
-    let options = g.F.Front.options c.args.front.now in
-    let base = c.args.numbering.base in
+    let options = g.F.Front.options c.args.hand.now.front in
+    let base = c.args.hand.now.numbering.base in
     let bytes = c.args.bytes.now in
     let at = c.at-in-Part.ensures in
     some_as options g.F.Front.is_alone base (position_at bytes c.args.done) c.args.out.now.items c.answer_one.new.out.items
     (ReachesAfter options base (drop c.loop-spoken.taken bytes) c.loop-spoken.done (Part c.in-Part.done)) (HaltsAs options base (length bytes) c.at-in-Part.result.halt (position_in bytes c.at-in-Part.result))
     (halts_in options g.F.Front.is_alone base (length bytes) bytes c.at-in-Part.result Enough c.loop-spoken.taken c.in-Part.done 0 at.0 at.1 at.2 at.3)
-    (λ answers. SpokenOn options g.F.Front.is_alone base c.loop-spoken.spoken (Part c.in-Part.done) answers c.args.out.now.items c.answer_one.new.out.items) (λ answers. SpeaksWhere (MayAnswer c.args.numbering.partitions (g.F.Front.left c.args.front.now) × (length c.args.out.now.items < LIMITS.bytes)) c.at-in-Part.result.halt answers c.args.out.now.items c.answer_one.new.out.items)
+    (λ answers. SpokenOn options g.F.Front.is_alone base c.loop-spoken.spoken (Part c.in-Part.done) answers c.args.out.now.items c.answer_one.new.out.items) (λ answers. SpeaksWhere (MayAnswer c.args.hand.now.numbering.partitions (g.F.Front.left c.args.hand.now.front) × (length c.args.out.now.items < LIMITS.bytes)) c.at-in-Part.result.halt answers c.args.out.now.items c.answer_one.new.out.items)
     (λ answers these spoke. (few_said options g.F.Front.is_alone base c.loop-spoken.spoken (omega (arith, c.loop-spoken-test.true)) answers spoke.0, λ may enough. spoke.1))
     (on_said options g.F.Front.is_alone base c.loop-spoken.spoken (position_at bytes c.args.done) (drop c.loop-spoken.taken bytes) (take (length bytes - c.loop-spoken.taken) (drop c.loop-spoken.taken bytes)) c.loop-spoken.done c.args.out.now.items
-    c.loop-spoken.out.items c.answer_one.new.out.items (g.F.Front.options c.loop-spoken.front) c.in_ok-said.said (Part c.in-Part.done) (take_rest bytes c.loop-spoken.taken) inv.3 c.in-Part.is inv.2 c.in_ok-said.ensures.talk)
+    c.loop-spoken.out.items c.answer_one.new.out.items (g.F.Front.options c.loop-spoken.hand.front) c.in_ok-said.said (Part c.in-Part.done) (take_rest bytes c.loop-spoken.taken) inv.3 c.in-Part.is inv.2 c.in_ok-said.ensures.talk)
 
 pub returns-in-Last-clause-talk : goal.returns-in-Last-clause-talk
 returns-in-Last-clause-talk g c =
     let inv = c.loop-spoken.invariant in
-    let options = g.F.Front.options c.args.front.now in
-    let base = c.args.numbering.base in
+    let options = g.F.Front.options c.args.hand.now.front in
+    let base = c.args.hand.now.numbering.base in
     let bytes = c.args.bytes.now in
     let at = c.at-in-Last.ensures in
-    halts_by options g.F.Front.is_alone base (MayAnswer c.args.numbering.partitions (g.F.Front.left c.args.front.now) × (length c.args.out.now.items < LIMITS.bytes)) c.at-in-Last.result.halt Leaves at.3 leaves_on (position_at bytes c.args.done) c.args.out.now.items c.answer_one.new.out.items
+    halts_by options g.F.Front.is_alone base (MayAnswer c.args.hand.now.numbering.partitions (g.F.Front.left c.args.hand.now.front) × (length c.args.out.now.items < LIMITS.bytes)) c.at-in-Last.result.halt Leaves at.3 leaves_on (position_at bytes c.args.done) c.args.out.now.items c.answer_one.new.out.items
     (ReachesAfter options base (drop c.loop-spoken.taken bytes) c.loop-spoken.done Last) (HaltsAs options base (length bytes) c.at-in-Last.result.halt (position_in bytes c.at-in-Last.result))
     (λ received given due ends. halts_in options g.F.Front.is_alone base (length bytes) bytes c.at-in-Last.result Leaves (length bytes) 0 0 at.0 at.1 at.2 at.3 received given due
     (left_in options g.F.Front.is_alone base bytes c.loop-spoken.taken (position_at bytes 0) received given due ends))
     (λ answers. length answers ≤ (c.loop-spoken.spoken + 1) * most_to_one options) (few_said options g.F.Front.is_alone base c.loop-spoken.spoken (omega (arith, c.loop-spoken-test.true)))
     (on_said options g.F.Front.is_alone base c.loop-spoken.spoken (position_at bytes c.args.done) (drop c.loop-spoken.taken bytes) (take (length bytes - c.loop-spoken.taken) (drop c.loop-spoken.taken bytes)) c.loop-spoken.done c.args.out.now.items
-    c.loop-spoken.out.items c.answer_one.new.out.items (g.F.Front.options c.loop-spoken.front) c.in_ok-said.said Last (take_rest bytes c.loop-spoken.taken) inv.3 c.in-Last.is inv.2 c.in_ok-said.ensures.talk)
+    c.loop-spoken.out.items c.answer_one.new.out.items (g.F.Front.options c.loop-spoken.hand.front) c.in_ok-said.said Last (take_rest bytes c.loop-spoken.taken) inv.3 c.in-Last.is inv.2 c.in_ok-said.ensures.talk)
 
 pub returns-in-Whole-clause-talk : goal.returns-in-Whole-clause-talk
 returns-in-Whole-clause-talk g c =
     let inv = c.loop-spoken.invariant in
-    let options = g.F.Front.options c.args.front.now in
-    let base = c.args.numbering.base in
+    let options = g.F.Front.options c.args.hand.now.front in
+    let base = c.args.hand.now.numbering.base in
     let bytes = c.args.bytes.now in
     let len = c.in-Whole.len in
     let spoke = c.in-Whole.field-1 in
     let small = byte_small spoke in
-    halts_by options g.F.Front.is_alone base (MayAnswer c.args.numbering.partitions (g.F.Front.left c.args.front.now) × (length c.args.out.now.items < LIMITS.bytes)) Needs Needs refl needs_on (position_at bytes c.args.done) c.args.out.now.items c.answer_one.new.out.items
+    halts_by options g.F.Front.is_alone base (MayAnswer c.args.hand.now.numbering.partitions (g.F.Front.left c.args.hand.now.front) × (length c.args.out.now.items < LIMITS.bytes)) Needs Needs refl needs_on (position_at bytes c.args.done) c.args.out.now.items c.answer_one.new.out.items
     (ReachesAfter options base (drop c.loop-spoken.taken bytes) c.loop-spoken.done (Whole len spoke)) _ (dropped_in options g.F.Front.is_alone base bytes (take (length bytes - c.loop-spoken.taken) (drop c.loop-spoken.taken bytes)) c.loop-spoken.taken len (take_rest bytes c.loop-spoken.taken) c.if-len-rest.true)
     (λ answers. HasSpoken options g.F.Front.is_alone base (c.loop-spoken.spoken + bool_byte spoke) answers c.args.out.now.items c.answer_one.new.out.items)
     (λ answers. few_spoken options g.F.Front.is_alone base (c.loop-spoken.spoken + bool_byte spoke) (omega (arith, small, c.loop-spoken-test.true)))
     (on_said options g.F.Front.is_alone base c.loop-spoken.spoken (position_at bytes c.args.done) (drop c.loop-spoken.taken bytes) (take (length bytes - c.loop-spoken.taken) (drop c.loop-spoken.taken bytes)) c.loop-spoken.done c.args.out.now.items
-    c.loop-spoken.out.items c.answer_one.new.out.items (g.F.Front.options c.loop-spoken.front) c.in_ok-said.said (Whole len spoke) (take_rest bytes c.loop-spoken.taken) inv.3 c.in-Whole.is inv.2 c.in_ok-said.ensures.talk)
+    c.loop-spoken.out.items c.answer_one.new.out.items (g.F.Front.options c.loop-spoken.hand.front) c.in_ok-said.said (Whole len spoke) (take_rest bytes c.loop-spoken.taken) inv.3 c.in-Whole.is inv.2 c.in_ok-said.ensures.talk)
 
 pub loop-spoken-preserved : goal.loop-spoken-preserved
 loop-spoken-preserved g c =
     let inv = c.loop-spoken.invariant in
-    let options = g.F.Front.options c.args.front.now in
-    let base = c.args.numbering.base in
+    let options = g.F.Front.options c.args.hand.now.front in
+    let base = c.args.hand.now.numbering.base in
     let bytes = c.args.bytes.now in
     let len = c.in-Whole-2.len in
     let spoke = c.in-Whole-2.spoke in
@@ -148,10 +148,10 @@ loop-spoken-preserved g c =
           (λ answers. HasSpoken options g.F.Front.is_alone base (c.loop-spoken.spoken + bool_byte spoke) answers c.args.out.now.items c.answer_one.new.out.items) _
           (λ answers has. subst (λ n. HasSpoken options g.F.Front.is_alone base (c.loop-spoken.spoken + n) answers c.args.out.now.items c.answer_one.new.out.items) (sym c.from-spoken.ensures) has)
           (on_said options g.F.Front.is_alone base c.loop-spoken.spoken (position_at bytes c.args.done) (drop c.loop-spoken.taken bytes) (take (length bytes - c.loop-spoken.taken) (drop c.loop-spoken.taken bytes)) c.loop-spoken.done c.args.out.now.items
-          c.loop-spoken.out.items c.answer_one.new.out.items (g.F.Front.options c.loop-spoken.front) c.in_ok-said.said (Whole len spoke) (take_rest bytes c.loop-spoken.taken) inv.3 c.in-Whole-2.is inv.2 c.in_ok-said.ensures.talk),
-      c.answer_one.ensures.options ∙ inv.3,
-      c.answer_one.ensures.number ∙ inv.4,
-      c.answer_one.ensures.stands ∙ inv.5,
+          c.loop-spoken.out.items c.answer_one.new.out.items (g.F.Front.options c.loop-spoken.hand.front) c.in_ok-said.said (Whole len spoke) (take_rest bytes c.loop-spoken.taken) inv.3 c.in-Whole-2.is inv.2 c.in_ok-said.ensures.talk),
+      c.answer_one.ensures.same.same_options ∙ inv.3,
+      c.answer_one.ensures.same.same_number ∙ inv.4,
+      c.answer_one.ensures.same.same_stands ∙ inv.5,
       inr (let less = gains bytes c.args.done c.loop-spoken.taken c.loop-spoken.done inv.6 _ (take_rest bytes c.loop-spoken.taken) len on.0 on.1 in omega (arith, less)),
       omega (arith, c.answer_one.ensures.short, c.if-writes_left-cost.false),
       omega (arith, small, c.from-spoken.ensures, c.loop-spoken-test.true),
@@ -160,15 +160,15 @@ loop-spoken-preserved g c =
 pub returns-clause-talk : goal.returns-clause-talk
 returns-clause-talk g c =
     let inv = c.loop-spoken.invariant in
-    let options = g.F.Front.options c.args.front.now in
-    let base = c.args.numbering.base in
+    let options = g.F.Front.options c.args.hand.now.front in
+    let base = c.args.hand.now.numbering.base in
     let bytes = c.args.bytes.now in
     let at = c.at-2.ensures in
     some_as options g.F.Front.is_alone base (position_at bytes c.args.done) c.args.out.now.items c.loop-spoken.out.items
     (Reaches options base (position_at (drop c.loop-spoken.taken bytes) c.loop-spoken.done)) (HaltsAs options base (length bytes) c.at-2.result.halt (position_in bytes c.at-2.result))
     (halts_in options g.F.Front.is_alone base (length bytes) bytes c.at-2.result Enough c.loop-spoken.taken c.loop-spoken.done 0 at.0 at.1 at.2 at.3)
     (λ answers. HasSpoken options g.F.Front.is_alone base c.loop-spoken.spoken answers c.args.out.now.items c.loop-spoken.out.items)
-    (λ answers. SpeaksWhere (MayAnswer c.args.numbering.partitions (g.F.Front.left c.args.front.now) × (length c.args.out.now.items < LIMITS.bytes)) c.at-2.result.halt answers c.args.out.now.items c.loop-spoken.out.items)
+    (λ answers. SpeaksWhere (MayAnswer c.args.hand.now.numbering.partitions (g.F.Front.left c.args.hand.now.front) × (length c.args.out.now.items < LIMITS.bytes)) c.at-2.result.halt answers c.args.out.now.items c.loop-spoken.out.items)
     (λ answers these has. (
       few_spoken options g.F.Front.is_alone base c.loop-spoken.spoken inv.8 has,
       λ may enough. speaks_end options g.F.Front.is_alone base c.loop-spoken.spoken has (λ none silent same. elim c.loop-spoken-test.branch [

@@ -13,7 +13,7 @@ invariant-loop-sent g l =
     × (is_some (g.C.Connections.log l.connections) ≡ is_some (g.C.Connections.log l.initial.connections))
     × (g.C.Connections.has_ended l.connections ≡ g.C.Connections.has_ended l.initial.connections)
     × (g.C.Connections.faults l.connections ≡ g.C.Connections.faults l.initial.connections)
-    × (g.C.Connections.port l.connections ≡ g.C.Connections.port l.initial.connections)
+    × (g.C.Connections.share l.connections ≡ g.C.Connections.share l.initial.connections)
     × OnLogs (OnHeld l.number (SendsFirst l.text l.sent)) (g.C.Connections.log l.initial.connections) (g.C.Connections.log l.connections)
     × (g.C.Connections.reports l.connections ≤ g.C.Connections.reports l.initial.connections)
 

@@ -30,18 +30,18 @@ serve_event-count-requires-clause-event g c =
 pub loop-alloc-init : goal.loop-alloc-init
 loop-alloc-init g c =
     let log = g.C.Connections.log c.args.connections.now in
-    let options = g.F.Front.options c.args.front.now in (
+    let options = g.F.Front.options c.args.hand.now.front in (
       c.in_ok-desk.ensures,
       subst (λ held. AreOpen held log) (sym c.new-clients.ensures) (none_held log),
       c.requires.«open»,
-      by_none options g.F.Front.is_alone (g.F.Front.sessions c.args.front.now) (g.F.Front.left c.args.front.now) (g.K.Clock.view c.args.clock.now),
+      by_none options g.F.Front.is_alone (g.F.Front.sessions c.args.hand.now.front) (g.F.Front.left c.args.hand.now.front) (g.C.Connections.last c.args.connections.now),
       omega arith,
       refl,
       refl,
       refl,
       refl,
       refl,
-      since_none options g.F.Front.is_alone c.args.numbering.base (g.F.Front.sessions c.args.front.now) (g.F.Front.left c.args.front.now) (g.K.Clock.view c.args.clock.now) c.args.lacked.now
+      since_none options g.F.Front.is_alone c.args.hand.now.numbering.base (g.F.Front.sessions c.args.hand.now.front) (g.F.Front.left c.args.hand.now.front) (g.C.Connections.last c.args.connections.now) c.args.lacked.now
           c.new-clients.result.held.items c.new-clients.ensures log,
     )
 
@@ -50,11 +50,11 @@ loop-alloc-preserved g c =
     let F = g.F.Front in
     let view = g.K.Clock.view in
     let log = g.C.Connections.log in
-    let options = F.options c.args.front.now in
-    let old = F.sessions c.args.front.now in
-    let left = F.left c.args.front.now in
+    let options = F.options c.args.hand.now.front in
+    let old = F.sessions c.args.hand.now.front in
+    let left = F.left c.args.hand.now.front in
     let told = view c.args.clock.now in
-    let base = c.args.numbering.base in
+    let base = c.args.hand.now.numbering.base in
     let inv = c.loop-alloc.invariant in
     let before = log c.loop-alloc.connections in
     let after = log c.next.new.self in
@@ -65,24 +65,24 @@ loop-alloc-preserved g c =
     let sweep = c.sweep.ensures in
     let reports = subst (λ got. IfSome got (λ event. IfSome before (λ l. ReportsNext l event after))) c.in-Some.is next.next in
     let on = subst (λ got. g.C.Connections.has_ended c.next.new.self ≡ is_none got) c.in-Some.is next.ended in
-    let same = served.front.same_options ∙ inv.6 in
-    let more = subst (λ (o : Options). GoesBy o F.is_alone (F.sessions c.loop-alloc.front) (F.left c.loop-alloc.front) (view c.loop-alloc.clock) (F.sessions then.front) (F.left then.front) (view then.clock)) inv.6
+    let same = served.same.same_options ∙ inv.6 in
+    let more = subst (λ (o : Options). GoesBy o F.is_alone (F.sessions c.loop-alloc.hand.front) (F.left c.loop-alloc.hand.front) (view c.loop-alloc.clock) (F.sessions then.front) (F.left then.front) (view then.clock)) inv.6
     served.front.goes in
     let swept = subst (λ (o : Options). SweepsBy o F.is_alone base MOST_SWEPT (F.sessions then.front) (F.left then.front) (view then.clock) (F.sessions now.front) (F.left now.front) (view now.clock)) same sweep.swept in (
       served.room,
       served.clients,
       served.port.ended ∙ on,
       by_both options F.is_alone old (F.sessions then.front) (F.sessions now.front) left (F.left then.front) (F.left now.front) told (view then.clock) (view now.clock)
-          (by_both options F.is_alone old (F.sessions c.loop-alloc.front) (F.sessions then.front) left (F.left c.loop-alloc.front) (F.left then.front) told (view c.loop-alloc.clock) (view then.clock) inv.3 more)
+          (by_both options F.is_alone old (F.sessions c.loop-alloc.hand.front) (F.sessions then.front) left (F.left c.loop-alloc.hand.front) (F.left then.front) told (view c.loop-alloc.clock) (view then.clock) inv.3 more)
           (by_sweeps swept),
       (let first = inv.4 in let second = next.never_fall in let third = served.port.no_fault in omega (arith, first, second, third)),
-      served.port.same_port ∙ next.port ∙ inv.5,
+      served.port.same_share ∙ next.port ∙ inv.5,
       sweep.options ∙ same,
-      sweep.number ∙ served.front.same_number ∙ inv.7,
-      sweep.stands ∙ served.front.same_stands ∙ inv.8,
+      sweep.number ∙ served.same.same_number ∙ inv.7,
+      sweep.stands ∙ served.same.same_stands ∙ inv.8,
       served.port.told ∙ next.told ∙ inv.9,
       since_then options F.is_alone base old left told c.args.lacked.now c.loop-alloc.clients.held.items then.clients.held.items c.in-Some.event c.loop-alloc.lacked c.serve_event-count.result _ (search rules)
-          (log c.args.connections.now) before after (log then.connections) inv.10 next.told reports (F.options c.loop-alloc.front) inv.6 served.serves (F.options then.front) same sweep.swept served.clients,
+          (log c.args.connections.now) before after (log then.connections) inv.10 next.told reports (F.options c.loop-alloc.hand.front) inv.6 served.serves (F.options then.front) same sweep.swept served.clients,
     )
 
 pub loop-alloc-smaller : goal.loop-alloc-smaller
@@ -95,32 +95,32 @@ pub returns-in_err-desk-clause-serves : goal.returns-in_err-desk-clause-serves
 returns-in_err-desk-clause-serves g c =
     let log = g.C.Connections.log c.args.connections.now in
     let opened = g.C.Connections.has_ended c.args.connections.now in
-    let options = g.F.Front.options c.args.front.now in
-    let sessions = g.F.Front.sessions c.args.front.now in
-    let left = g.F.Front.left c.args.front.now in
-    let told = g.K.Clock.view c.args.clock.now in
+    let options = g.F.Front.options c.args.hand.now.front in
+    let sessions = g.F.Front.sessions c.args.hand.now.front in
+    let left = g.F.Front.left c.args.hand.now.front in
+    let told = g.C.Connections.last c.args.connections.now in
     let had = c.args.lacked.now in
-    since_serves options g.F.Front.is_alone c.args.numbering.base sessions left told had opened opened sessions left told had [] c.requires.«open» log log
-    (since_none options g.F.Front.is_alone c.args.numbering.base sessions left told had [] refl log)
+    since_serves options g.F.Front.is_alone c.args.hand.now.numbering.base sessions left told had opened opened sessions left told had [] c.requires.«open» log log
+    (since_none options g.F.Front.is_alone c.args.hand.now.numbering.base sessions left told had [] refl log)
 
 pub returns-in_err-sweeper-clause-serves : goal.returns-in_err-sweeper-clause-serves
 returns-in_err-sweeper-clause-serves g c =
     let log = g.C.Connections.log c.args.connections.now in
     let opened = g.C.Connections.has_ended c.args.connections.now in
-    let options = g.F.Front.options c.args.front.now in
-    let sessions = g.F.Front.sessions c.args.front.now in
-    let left = g.F.Front.left c.args.front.now in
-    let told = g.K.Clock.view c.args.clock.now in
+    let options = g.F.Front.options c.args.hand.now.front in
+    let sessions = g.F.Front.sessions c.args.hand.now.front in
+    let left = g.F.Front.left c.args.hand.now.front in
+    let told = g.C.Connections.last c.args.connections.now in
     let had = c.args.lacked.now in
-    since_serves options g.F.Front.is_alone c.args.numbering.base sessions left told had opened opened sessions left told had [] c.requires.«open» log log
-    (since_none options g.F.Front.is_alone c.args.numbering.base sessions left told had [] refl log)
+    since_serves options g.F.Front.is_alone c.args.hand.now.numbering.base sessions left told had opened opened sessions left told had [] c.requires.«open» log log
+    (since_none options g.F.Front.is_alone c.args.hand.now.numbering.base sessions left told had [] refl log)
 
 pub returns-in_err-event-clause-serves : goal.returns-in_err-event-clause-serves
 returns-in_err-event-clause-serves g c =
     let log = g.C.Connections.log in
     let ended = g.C.Connections.has_ended in
-    since_called (g.F.Front.options c.args.front.now) g.F.Front.is_alone c.args.numbering.base (g.F.Front.sessions c.args.front.now) (g.F.Front.left c.args.front.now) (g.K.Clock.view c.args.clock.now)
-    c.args.lacked.now (ended c.args.connections.now) (ended c.next.new.self) (g.F.Front.sessions c.loop-alloc.front) (g.F.Front.left c.loop-alloc.front) (g.K.Clock.view c.loop-alloc.clock) c.loop-alloc.lacked
+    since_called (g.F.Front.options c.args.hand.now.front) g.F.Front.is_alone c.args.hand.now.numbering.base (g.F.Front.sessions c.args.hand.now.front) (g.F.Front.left c.args.hand.now.front) (g.C.Connections.last c.args.connections.now)
+    c.args.lacked.now (ended c.args.connections.now) (ended c.next.new.self) (g.F.Front.sessions c.loop-alloc.hand.front) (g.F.Front.left c.loop-alloc.hand.front) (g.C.Connections.last c.loop-alloc.connections) c.loop-alloc.lacked
     c.loop-alloc.clients.held.items c.in_err-event.ensures.still_open (log c.args.connections.now) (log c.loop-alloc.connections) (log c.next.new.self) c.loop-alloc.invariant.10 c.in_err-event.ensures.unmoved
 
 pub returns-in_err-event-clause-last_failed : goal.returns-in_err-event-clause-last_failed
@@ -131,16 +131,16 @@ pub returns-then-writes_left-least-clause-serves : goal.returns-then-writes_left
 returns-then-writes_left-least-clause-serves g c =
     let log = g.C.Connections.log in
     let ended = g.C.Connections.has_ended in
-    since_serves (g.F.Front.options c.args.front.now) g.F.Front.is_alone c.args.numbering.base (g.F.Front.sessions c.args.front.now) (g.F.Front.left c.args.front.now) (g.K.Clock.view c.args.clock.now)
-    c.args.lacked.now (ended c.args.connections.now) (ended c.loop-alloc.connections) (g.F.Front.sessions c.loop-alloc.front) (g.F.Front.left c.loop-alloc.front) (g.K.Clock.view c.loop-alloc.clock) c.loop-alloc.lacked
+    since_serves (g.F.Front.options c.args.hand.now.front) g.F.Front.is_alone c.args.hand.now.numbering.base (g.F.Front.sessions c.args.hand.now.front) (g.F.Front.left c.args.hand.now.front) (g.C.Connections.last c.args.connections.now)
+    c.args.lacked.now (ended c.args.connections.now) (ended c.loop-alloc.connections) (g.F.Front.sessions c.loop-alloc.hand.front) (g.F.Front.left c.loop-alloc.hand.front) (g.C.Connections.last c.loop-alloc.connections) c.loop-alloc.lacked
     c.loop-alloc.clients.held.items c.loop-alloc.invariant.2 (log c.args.connections.now) (log c.loop-alloc.connections) c.loop-alloc.invariant.10
 
 pub returns-in_default-clause-serves : goal.returns-in_default-clause-serves
 returns-in_default-clause-serves g c =
     let log = g.C.Connections.log in
     let ended = g.C.Connections.has_ended in
-    since_over (g.F.Front.options c.args.front.now) g.F.Front.is_alone c.args.numbering.base (g.F.Front.sessions c.args.front.now) (g.F.Front.left c.args.front.now) (g.K.Clock.view c.args.clock.now)
-    c.args.lacked.now (ended c.args.connections.now) (ended c.next.new.self) (g.F.Front.sessions c.loop-alloc.front) (g.F.Front.left c.loop-alloc.front) (g.K.Clock.view c.loop-alloc.clock) c.loop-alloc.lacked
+    since_over (g.F.Front.options c.args.hand.now.front) g.F.Front.is_alone c.args.hand.now.numbering.base (g.F.Front.sessions c.args.hand.now.front) (g.F.Front.left c.args.hand.now.front) (g.C.Connections.last c.args.connections.now)
+    c.args.lacked.now (ended c.args.connections.now) (ended c.next.new.self) (g.F.Front.sessions c.loop-alloc.hand.front) (g.F.Front.left c.loop-alloc.hand.front) (g.C.Connections.last c.loop-alloc.connections) c.loop-alloc.lacked
     c.loop-alloc.clients.held.items (log c.args.connections.now) (log c.loop-alloc.connections) (log c.next.new.self) c.loop-alloc.invariant.10
     (subst (λ got. IfNone got (IfSome (log c.loop-alloc.connections) (λ l. IsOver l (log c.next.new.self)))) c.in_default.is c.in_ok-event.ensures.end)
 

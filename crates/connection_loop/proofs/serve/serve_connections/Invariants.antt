@@ -12,15 +12,15 @@ invariant-loop-alloc g l =
     (vec_len l.desk.room ≡ MAX_WAITING_LEN)
     × AreOpen l.clients.held.items (g.C.Connections.log l.connections)
     × (g.C.Connections.has_ended l.connections ≡ false)
-    × GoesBy (g.F.Front.options l.initial.front) g.F.Front.is_alone (g.F.Front.sessions l.initial.front) (g.F.Front.left l.initial.front) (g.K.Clock.view l.initial.clock) (g.F.Front.sessions l.front) (g.F.Front.left l.front) (g.K.Clock.view l.clock)
+    × GoesBy (g.F.Front.options l.initial.hand.front) g.F.Front.is_alone (g.F.Front.sessions l.initial.hand.front) (g.F.Front.left l.initial.hand.front) (g.C.Connections.last l.initial.connections) (g.F.Front.sessions l.hand.front) (g.F.Front.left l.hand.front) (g.C.Connections.last l.connections)
     × (g.C.Connections.faults l.initial.connections ≤ g.C.Connections.faults l.connections)
-    × (g.C.Connections.port l.connections ≡ g.C.Connections.port l.initial.connections)
-    × (g.F.Front.options l.front ≡ g.F.Front.options l.initial.front)
-    × (g.F.Front.number l.front ≡ g.F.Front.number l.initial.front)
-    × (g.F.Front.stands l.front ≡ g.F.Front.stands l.initial.front)
+    × (g.C.Connections.share l.connections ≡ g.C.Connections.share l.initial.connections)
+    × (g.F.Front.options l.hand.front ≡ g.F.Front.options l.initial.hand.front)
+    × (g.F.Front.number l.hand.front ≡ g.F.Front.number l.initial.hand.front)
+    × (g.F.Front.stands l.hand.front ≡ g.F.Front.stands l.initial.hand.front)
     × (is_some (g.C.Connections.log l.connections) ≡ is_some (g.C.Connections.log l.initial.connections))
-    × OnLogs (StandsSince (g.F.Front.options l.initial.front) g.F.Front.is_alone l.numbering.base (g.F.Front.sessions l.initial.front) (g.F.Front.left l.initial.front) (g.K.Clock.view l.initial.clock)
-    l.initial.lacked (g.F.Front.sessions l.front) (g.F.Front.left l.front) (g.K.Clock.view l.clock) l.lacked l.clients.held.items) (g.C.Connections.log l.initial.connections) (g.C.Connections.log l.connections)
+    × OnLogs (StandsSince (g.F.Front.options l.initial.hand.front) g.F.Front.is_alone l.hand.numbering.base (g.F.Front.sessions l.initial.hand.front) (g.F.Front.left l.initial.hand.front) (g.C.Connections.last l.initial.connections)
+    l.initial.lacked (g.F.Front.sessions l.hand.front) (g.F.Front.left l.hand.front) (g.C.Connections.last l.connections) l.lacked l.clients.held.items) (g.C.Connections.log l.initial.connections) (g.C.Connections.log l.connections)
 
 abbrev pub decreases-loop-alloc : goal.decreases-loop-alloc
 decreases-loop-alloc g l = g.C.Connections.reports l.connections

@@ -8,10 +8,10 @@ use Rattle.connection_loop.proofs.serve.serve_event.Goals as goal
 pub returns-in-Opened-clause-serves : goal.returns-in-Opened-clause-serves
 returns-in-Opened-clause-serves g c =
     let log = g.C.Connections.log in
-    let options = g.F.Front.options c.args.front.now in
-    let base = c.args.numbering.base in (
+    let options = g.F.Front.options c.args.hand.now.front in
+    let base = c.args.hand.now.numbering.base in (
       [],
-      these_none options g.F.Front.is_alone (g.F.Front.sessions c.args.front.now) (g.F.Front.left c.args.front.now) (g.K.Clock.view c.args.clock.now),
+      these_none options g.F.Front.is_alone (g.F.Front.sessions c.args.hand.now.front) (g.F.Front.left c.args.hand.now.front) (g.C.Connections.last c.args.connections.now),
       subst (λ (e : Event). OnLogs (StandsOn options base e c.args.clients.now.held.items c.take_in.result [] c.take_in.new.clients.held.items) (log c.args.connections.now) (log c.take_in.new.connections))
           (sym c.in-Opened.is) (c.take_in.ensures.serves options base),
     )
@@ -19,8 +19,8 @@ returns-in-Opened-clause-serves g c =
 pub returns-in-Ready-clause-serves : goal.returns-in-Ready-clause-serves
 returns-in-Ready-clause-serves g c =
     let log = g.C.Connections.log in
-    let options = g.F.Front.options c.args.front.now in
-    let base = c.args.numbering.base in
+    let options = g.F.Front.options c.args.hand.now.front in
+    let base = c.args.hand.now.numbering.base in
     let r = c.visit_held.ensures.serves in (
       r.0,
       r.1,

@@ -61,18 +61,18 @@ returns-in-Over-clause-clients g c =
 
 pub returns-in_default-clause-serves : goal.returns-in_default-clause-serves
 returns-in_default-clause-serves g c =
-    let options = g.F.Front.options c.args.front.now in (
+    let options = g.F.Front.options c.args.hand.now.front in (
       [],
-      these_none options g.F.Front.is_alone (g.F.Front.sessions c.args.front.now) (g.F.Front.left c.args.front.now) (g.K.Clock.view c.args.clock.now),
-      serves_none options c.args.numbering.base c.args.number c.args.clients.now.held.items c.take.new.self.held.items c.take.ensures.others c.take.ensures.gone
+      these_none options g.F.Front.is_alone (g.F.Front.sessions c.args.hand.now.front) (g.F.Front.left c.args.hand.now.front) (g.C.Connections.last c.args.connections.now),
+      serves_none options c.args.hand.now.numbering.base c.args.number c.args.clients.now.held.items c.take.new.self.held.items c.take.ensures.others c.take.ensures.gone
           (sym c.take.ensures.taken ∙ c.in_default.is) (g.C.Connections.log c.args.connections.now),
     )
 
 pub returns-in-Waits-clause-serves : goal.returns-in-Waits-clause-serves
 returns-in-Waits-clause-serves g c =
     let log = g.C.Connections.log in
-    let options = g.F.Front.options c.args.front.now in
-    let base = c.args.numbering.base in
+    let options = g.F.Front.options c.args.hand.now.front in
+    let base = c.args.hand.now.numbering.base in
     let number = c.args.number in
     let clients = c.args.clients.now.held.items in
     let before = log c.args.connections.now in
@@ -90,8 +90,8 @@ returns-in-Waits-clause-serves g c =
 pub returns-in-Again-clause-serves : goal.returns-in-Again-clause-serves
 returns-in-Again-clause-serves g c =
     let log = g.C.Connections.log in
-    let options = g.F.Front.options c.args.front.now in
-    let base = c.args.numbering.base in
+    let options = g.F.Front.options c.args.hand.now.front in
+    let base = c.args.hand.now.numbering.base in
     let number = c.args.number in
     let clients = c.args.clients.now.held.items in
     let before = log c.args.connections.now in
@@ -110,8 +110,8 @@ returns-in-Again-clause-serves g c =
 pub returns-in-Over-clause-serves : goal.returns-in-Over-clause-serves
 returns-in-Over-clause-serves g c =
     let log = g.C.Connections.log in
-    let options = g.F.Front.options c.args.front.now in
-    let base = c.args.numbering.base in
+    let options = g.F.Front.options c.args.hand.now.front in
+    let base = c.args.hand.now.numbering.base in
     let number = c.args.number in
     let clients = c.args.clients.now.held.items in
     let before = log c.args.connections.now in
@@ -147,8 +147,8 @@ returns-in-Err-clause-clients g c =
 pub returns-in-Err-clause-serves : goal.returns-in-Err-clause-serves
 returns-in-Err-clause-serves g c =
     let log = g.C.Connections.log in
-    let options = g.F.Front.options c.args.front.now in
-    let base = c.args.numbering.base in
+    let options = g.F.Front.options c.args.hand.now.front in
+    let base = c.args.hand.now.numbering.base in
     let number = c.args.number in
     let clients = c.args.clients.now.held.items in
     let before = log c.args.connections.now in

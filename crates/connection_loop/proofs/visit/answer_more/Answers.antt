@@ -16,8 +16,8 @@ use Rattle.connection_loop.proofs.visit.answer_more.Goals as goal
 
 pub returns-then-client-gt0-clause-talk : goal.returns-then-client-gt0-clause-talk
 returns-then-client-gt0-clause-talk g c =
-    let options = g.F.Front.options c.args.front.now in
-    let base = c.args.numbering.base in
+    let options = g.F.Front.options c.args.hand.now.front in
+    let base = c.args.hand.now.numbering.base in
     let client = c.args.client.now in
     let now = c.look_at.new.client in
     let halt = c.in_ok-halt.halt in
@@ -40,8 +40,8 @@ returns-then-client-gt0-clause-talk g c =
 
 pub returns-clause-talk : goal.returns-clause-talk
 returns-clause-talk g c =
-    let options = g.F.Front.options c.args.front.now in
-    let base = c.args.numbering.base in
+    let options = g.F.Front.options c.args.hand.now.front in
+    let base = c.args.hand.now.numbering.base in
     let client = c.args.client.now in
     let between = c.fill.new.client in
     let now = c.look_at_room.new.client in
@@ -82,8 +82,8 @@ returns-clause-talk g c =
 
 pub returns-in_err-halt-clause-talk : goal.returns-in_err-halt-clause-talk
 returns-in_err-halt-clause-talk g c =
-    let options = g.F.Front.options c.args.front.now in
-    let base = c.args.numbering.base in
+    let options = g.F.Front.options c.args.hand.now.front in
+    let base = c.args.hand.now.numbering.base in
     let client = c.args.client.now in
     let r = c.in_err-halt.ensures.talk in
     let bytes_are : c.bytes-bytes.result.now ≡ client.kept = c.bytes-bytes.ensures ∙ c.replace-kept.ensures.value in
@@ -97,8 +97,8 @@ returns-in_err-halt-clause-talk g c =
 
 pub returns-in_err-halt-2-clause-talk : goal.returns-in_err-halt-2-clause-talk
 returns-in_err-halt-2-clause-talk g c =
-    let options = g.F.Front.options c.args.front.now in
-    let base = c.args.numbering.base in
+    let options = g.F.Front.options c.args.hand.now.front in
+    let base = c.args.hand.now.numbering.base in
     let client = c.args.client.now in
     let between = c.fill.new.client in
     let r = c.in_err-halt-2.ensures.talk in
@@ -121,12 +121,12 @@ returns-in_err-halt-2-clause-talk g c =
 
 pub returns-in-Err-clause-talk : goal.returns-in-Err-clause-talk
 returns-in-Err-clause-talk g c =
-    let options = g.F.Front.options c.args.front.now in
+    let options = g.F.Front.options c.args.hand.now.front in
     let client = c.args.client.now in
     let first : client.done ≡ 0 = let none = c.if-client-gt0.false in omega (arith, none) in (
       [],
-      these_none options g.F.Front.is_alone (g.F.Front.sessions c.args.front.now) (g.F.Front.left c.args.front.now) (g.K.Clock.view c.args.clock.now),
-      on_one c.args.number _ (Looks options c.args.numbering.base client [] c.args.desk.now.replies.items c.fill.new.client (Err c.in-Err.field-0)) (g.C.Connections.log c.args.connections.now)
+      these_none options g.F.Front.is_alone (g.F.Front.sessions c.args.hand.now.front) (g.F.Front.left c.args.hand.now.front) (g.C.Connections.last c.args.connections.now),
+      on_one c.args.number _ (Looks options c.args.hand.now.numbering.base client [] c.args.desk.now.replies.items c.fill.new.client (Err c.in-Err.field-0)) (g.C.Connections.log c.args.connections.now)
           (g.C.Connections.log c.fill.new.connections) (λ d a b x. (refl, first, x.0, x.1)) c.in-Err.ensures.reads,
     )
 

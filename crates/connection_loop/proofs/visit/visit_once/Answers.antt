@@ -60,13 +60,13 @@ returns-in-Ok-false-2-clause-keeps g c =
 
 pub returns-in-Ok-false-clause-talks : goal.returns-in-Ok-false-clause-talks
 returns-in-Ok-false-clause-talks g c =
-    let options = g.F.Front.options c.args.front.now in
-    let base = c.args.numbering.base in
+    let options = g.F.Front.options c.args.hand.now.front in
+    let base = c.args.hand.now.numbering.base in
     let log = g.C.Connections.log in
     let client = c.args.client.now in
     let now = c.send_unsent.new.client in (
       [],
-      these_none options g.F.Front.is_alone (g.F.Front.sessions c.args.front.now) (g.F.Front.left c.args.front.now) (g.K.Clock.view c.args.clock.now),
+      these_none options g.F.Front.is_alone (g.F.Front.sessions c.args.hand.now.front) (g.F.Front.left c.args.hand.now.front) (g.C.Connections.last c.args.connections.now),
       on_one c.args.number (SendsFrom client.unsent now.unsent (Ok c.in-Ok-false.field-0)) (Visits options base 1 client [] now Waits) (log c.args.connections.now)
           (log c.send_unsent.new.connections) (λ d a b sends. visit_waits options base d c.requires.client now c.in-Ok-false.ensures.position c.in-Ok-false.ensures.leaving c.in-Ok-false.field-0 sends
           (c.in-Ok-false.ensures.some c.in-Ok-false.field-0-test)) c.in-Ok-false.ensures.sends,
@@ -74,27 +74,27 @@ returns-in-Ok-false-clause-talks g c =
 
 pub returns-in-Err-clause-talks : goal.returns-in-Err-clause-talks
 returns-in-Err-clause-talks g c =
-    let options = g.F.Front.options c.args.front.now in
-    let base = c.args.numbering.base in
+    let options = g.F.Front.options c.args.hand.now.front in
+    let base = c.args.hand.now.numbering.base in
     let log = g.C.Connections.log in
     let client = c.args.client.now in
     let now = c.send_unsent.new.client in (
       [],
-      these_none options g.F.Front.is_alone (g.F.Front.sessions c.args.front.now) (g.F.Front.left c.args.front.now) (g.K.Clock.view c.args.clock.now),
+      these_none options g.F.Front.is_alone (g.F.Front.sessions c.args.hand.now.front) (g.F.Front.left c.args.hand.now.front) (g.C.Connections.last c.args.connections.now),
       on_one c.args.number (SendsFrom {X = Bool} client.unsent now.unsent (Err c.in-Err.field-0)) (Visits options base 1 client [] now Over) (log c.args.connections.now)
           (log c.send_unsent.new.connections) (λ d a b sends. visit_breaks options base d c.requires.client now c.in-Err.field-0 sends) c.in-Err.ensures.sends,
     )
 
 pub returns-then-client-clause-talks : goal.returns-then-client-clause-talks
 returns-then-client-clause-talks g c =
-    let options = g.F.Front.options c.args.front.now in
-    let base = c.args.numbering.base in
+    let options = g.F.Front.options c.args.hand.now.front in
+    let base = c.args.hand.now.numbering.base in
     let log = g.C.Connections.log in
     let client = c.args.client.now in
     let now = c.send_unsent.new.client in
     let none = c.in-Ok-true.ensures.all c.in-Ok-true.field-0-test in (
       [],
-      these_none options g.F.Front.is_alone (g.F.Front.sessions c.args.front.now) (g.F.Front.left c.args.front.now) (g.K.Clock.view c.args.clock.now),
+      these_none options g.F.Front.is_alone (g.F.Front.sessions c.args.hand.now.front) (g.F.Front.left c.args.hand.now.front) (g.C.Connections.last c.args.connections.now),
       on_one c.args.number (SendsFrom client.unsent now.unsent (Ok c.in-Ok-true.field-0)) (Visits options base 1 client [] now Over) (log c.args.connections.now)
           (log c.send_unsent.new.connections) (λ d a b sends. visit_leaves options base d c.requires.client now c.in-Ok-true.ensures.position c.in-Ok-true.ensures.leaving c.in-Ok-true.field-0 sends
           c.in-Ok-true.ensures.client c.if-client.true none) c.in-Ok-true.ensures.sends,
@@ -102,8 +102,8 @@ returns-then-client-clause-talks g c =
 
 pub returns-in_err-answered-clause-talks : goal.returns-in_err-answered-clause-talks
 returns-in_err-answered-clause-talks g c =
-    let options = g.F.Front.options c.args.front.now in
-    let base = c.args.numbering.base in
+    let options = g.F.Front.options c.args.hand.now.front in
+    let base = c.args.hand.now.numbering.base in
     let log = g.C.Connections.log in
     let client = c.args.client.now in
     let now = c.send_unsent.new.client in
@@ -122,8 +122,8 @@ returns-in_err-answered-clause-talks g c =
 
 pub returns-in_err-send_new-clause-talks : goal.returns-in_err-send_new-clause-talks
 returns-in_err-send_new-clause-talks g c =
-    let options = g.F.Front.options c.args.front.now in
-    let base = c.args.numbering.base in
+    let options = g.F.Front.options c.args.hand.now.front in
+    let base = c.args.hand.now.numbering.base in
     let log = g.C.Connections.log in
     let client = c.args.client.now in
     let now = c.send_unsent.new.client in
@@ -148,8 +148,8 @@ returns-in_err-send_new-clause-talks g c =
 
 pub returns-in-Err-answered-clause-talks : goal.returns-in-Err-answered-clause-talks
 returns-in-Err-answered-clause-talks g c =
-    let options = g.F.Front.options c.args.front.now in
-    let base = c.args.numbering.base in
+    let options = g.F.Front.options c.args.hand.now.front in
+    let base = c.args.hand.now.numbering.base in
     let log = g.C.Connections.log in
     let client = c.args.client.now in
     let now = c.send_unsent.new.client in
@@ -170,8 +170,8 @@ returns-in-Err-answered-clause-talks g c =
 
 pub returns-in-Err-2-clause-talks : goal.returns-in-Err-2-clause-talks
 returns-in-Err-2-clause-talks g c =
-    let options = g.F.Front.options c.args.front.now in
-    let base = c.args.numbering.base in
+    let options = g.F.Front.options c.args.hand.now.front in
+    let base = c.args.hand.now.numbering.base in
     let log = g.C.Connections.log in
     let client = c.args.client.now in
     let now = c.send_unsent.new.client in
@@ -197,8 +197,8 @@ returns-in-Err-2-clause-talks g c =
 
 pub returns-in-Ok-false-2-clause-talks : goal.returns-in-Ok-false-2-clause-talks
 returns-in-Ok-false-2-clause-talks g c =
-    let options = g.F.Front.options c.args.front.now in
-    let base = c.args.numbering.base in
+    let options = g.F.Front.options c.args.hand.now.front in
+    let base = c.args.hand.now.numbering.base in
     let log = g.C.Connections.log in
     let client = c.args.client.now in
     let now = c.send_unsent.new.client in
@@ -225,8 +225,8 @@ returns-in-Ok-false-2-clause-talks g c =
 
 pub returns-in-Ok-true-2-clause-talks : goal.returns-in-Ok-true-2-clause-talks
 returns-in-Ok-true-2-clause-talks g c =
-    let options = g.F.Front.options c.args.front.now in
-    let base = c.args.numbering.base in
+    let options = g.F.Front.options c.args.hand.now.front in
+    let base = c.args.hand.now.numbering.base in
     let log = g.C.Connections.log in
     let client = c.args.client.now in
     let now = c.send_unsent.new.client in
