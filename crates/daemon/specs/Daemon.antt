@@ -95,9 +95,9 @@ first_places streams (suc k) = first_places streams k ++ place_at streams k ∷ 
 abbrev pub places_of : StreamOptions → List Place
 places_of streams = first_places streams streams.ports.fronts
 
--- the listeners were told places, and how many connections there are at most
+-- the listeners were told places, none of which was listened at, and how many connections a share has at most
 abbrev pub placed : List Place → ℕ → DaemonOutside → DaemonOutside
-placed places most old = record old { ports = record old.ports { listens = record old.ports.listens { places = places; most = most } } }
+placed places most old = record old { ports = record old.ports { listens = record old.ports.listens { places = places; most = most; heard = [] } } }
 
 -- It served, and listened at the places that the words name.
 abbrev pub ServesPlaced : Options → PortOptions → StreamOptions → ℕ → List Write → DaemonOutside → DaemonOutside → DaemonStatus → Type 0
@@ -105,23 +105,11 @@ ServesPlaced options ports streams base writes old new status =
     ServesAloud (record { options = options; ports = ports; places = streams.ports.fronts; base = base }) streams.ports writes
     (placed (places_of streams) streams.connections old) new status
 
--- the listeners had no memory for the places, and none was listened at
-pub record HasNoPlaces (old new : DaemonOutside) : Type 0 where
-  pub net : new.ports.net ≡ old.ports.net
-  pub rose : Rose old.ports.listens.faults new.ports.listens.faults
-  pub heard : new.ports.listens.heard ≡ old.ports.listens.heard
-  pub given : new.ports.listens.given ≡ old.ports.listens.given
-  pub waits : new.ports.listens.waits ≡ old.ports.listens.waits
-  pub released : new.ports.listens.released ≡ old.ports.listens.released
-  pub tables : new.tables ≡ old.tables
-  pub lacked : new.lacked ≡ old.lacked
-
 -- it served so, or had no memory before it began
 abbrev pub ServesOrNot : Options → PortOptions → StreamOptions → ℕ → List Write → DaemonOutside → DaemonOutside → DaemonStatus → Type 0
 ServesOrNot options ports streams base writes old new status =
     ServesPlaced options ports streams base writes old new status
     ⊎ (IsUnwritten old.sink new.sink status × BindsNothing old new)
-    ⊎ (IsUnwritten old.sink new.sink status × HasNoPlaces old new)
 
 -- the partitions take no more memory than is free, where that is told
 abbrev pub HasMemory : FilesFacts → Options → Type 0
@@ -133,7 +121,6 @@ FillsAndServes service base before after old new status =
     ((writes : List Write) × HasMemory before service.options × Fills before service.image writes
     × ServesPlaced service.options service.ports service.streams base writes old new status)
     ⊎ (WritesDue (IsDueOfFile before after service.image) old.sink new.sink status × BindsNothing old new)
-    ⊎ (IsUnwritten old.sink new.sink status × HasNoPlaces old new)
 
 -- words are refused, and nothing is written; or there was no memory to read them
 abbrev pub IsRefused : SinkFacts → SinkFacts → DaemonStatus → Type 0

@@ -92,7 +92,6 @@ fn serve_words<
     left: &mut Left,
 ) -> Ending
     requires net { N.binds net.old ≡ 0 }
-    requires unheard { L.heard listeners.old ≡ [] }
     requires tables { left.old.tables ≡ [] }
     requires uncounted { left.old.lacked ≡ 0 }
     ensures { ComesTo None (map string_bytes words.now) start.base (files_facts F.file F.free F.faults files.old) (files_facts F.file F.free F.faults files.new)
@@ -137,7 +136,6 @@ pub fn answer_or_serve<
     left: &mut Left,
 ) -> Ending
     requires net { N.binds net.old ≡ 0 }
-    requires unheard { L.heard listeners.old ≡ [] }
     requires tables { left.old.tables ≡ [] }
     requires uncounted { left.old.lacked ≡ 0 }
     ensures { ComesTo (question_of (map string_bytes words.now)) (map string_bytes words.now) start.base (files_facts F.file F.free F.faults files.old) (files_facts F.file F.free F.faults files.new)
@@ -173,7 +171,6 @@ pub fn run_daemon<
     left: &mut Left,
 ) -> ExitCode
     requires net { N.binds net.old ≡ 0 }
-    requires unheard { L.heard listeners.old ≡ [] }
     requires tables { left.old.tables ≡ [] }
     requires uncounted { left.old.lacked ≡ 0 }
     ensures { DaemonExits (words_of string_bytes args) (C.view clock.old) (C.view clock.new) (files_facts F.file F.free F.faults files.old) (files_facts F.file F.free F.faults files.new)

@@ -139,7 +139,6 @@ fn stay_up<W: Threads + Wait + Sync, K: Sink + Drop, N: Net, L: Listeners, G: Ga
     requires fronts { ArePossibleFronts ports.now streams.now.ports }
     requires filling { All IsWrite filling.items }
     requires unbound { N.binds net.old ≡ 0 }
-    requires unheard { L.heard listeners.old ≡ [] }
     requires tables { left.old.tables ≡ [] }
     requires uncounted { left.old.lacked ≡ 0 }
     ensures { ServesOrNot options.now ports.now streams.now start.base filling.items
@@ -155,12 +154,7 @@ fn stay_up<W: Threads + Wait + Sync, K: Sink + Drop, N: Net, L: Listeners, G: Ga
     let Ok(line) = ready_line(process.alloc, ports, &streams.ports) else {
         return DaemonStatus::NoMemory;
     };
-    if listeners
-        .set_places(places.as_slice(), streams.connections)
-        .is_err()
-    {
-        return DaemonStatus::NoMemory;
-    }
+    listeners.set_places(places, streams.connections);
     speaker.line = line;
     let service = Service {
         options: *options,
@@ -221,7 +215,6 @@ pub fn daemon<
     left: &mut Left,
 ) -> DaemonStatus
     requires net { N.binds net.old ≡ 0 }
-    requires unheard { L.heard listeners.old ≡ [] }
     requires tables { left.old.tables ≡ [] }
     requires uncounted { left.old.lacked ≡ 0 }
     ensures { KeepsUp (daemon_of (map string_bytes words.now)) start.base (files_facts F.file F.free F.faults files.old) (files_facts F.file F.free F.faults files.new)

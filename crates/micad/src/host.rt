@@ -53,7 +53,8 @@ fn serve<
     ensures { EndsBy (words_of string_bytes args) (exit_status result) }
 {
     let alloc = rt.alloc();
-    let mut clock = StdClock::new(rt);
+    let clock = StdClock::new(rt);
+    let mut at_start = clock;
     let process = Process {
         rt,
         alloc,
@@ -66,7 +67,7 @@ fn serve<
     let code = run_daemon(
         &process,
         args,
-        &mut clock,
+        &mut at_start,
         &mut HostFiles::new(rt),
         &mut speaker,
         &mut UdpNet::failing_whole(rt, &flags.ended, &flags.stopping),
