@@ -69,17 +69,20 @@ module _ (options : Options) (is_alone : Bool) (base : ℕ) where
 
   module _ {old between new : Sessions} {left then_left left_after : ℕ} {told then tells : ℕ} where
     -- a command more was answered
-    pub on_said : (count : ℕ) (position : Position) (bytes rest : List ℕ) (done : ℕ) (before here after : List ℕ) (o : Options) (said is : Said) → rest ≡ bytes → o ≡ options → said ≡ is
+    pub on_said : (count : ℕ) (position : Position) (bytes rest : List ℕ) (done : ℕ) (before here after : List ℕ) (o : Options) (b : ℕ) (said is : Said) → rest ≡ bytes → o ≡ options → b ≡ base → said ≡ is
         → GoesBySome options is_alone old left told between then_left then
         (λ answers. GoesOnTo options base position answers before here (Reaches options base (position_at bytes done)) × HasSpoken count answers before here)
         → GoesBySome o is_alone between then_left then new left_after tells
-        (λ answers. (length answers ≤ most_to_one o) × (GoesOnTo o base (position_at rest done) answers here after (ReachesAfter o base rest done said) × SpeaksAs said answers here after))
+        (λ answers. (length answers ≤ most_to_one o) × (GoesOnTo o b (position_at rest done) answers here after (ReachesAfter o b rest done said) × SpeaksAs said answers here after))
         → GoesBySome options is_alone old left told new left_after tells
         (λ answers. GoesOnTo options base position answers before after (ReachesAfter options base bytes done is) × SpokenOn count is answers before after)
-    on_said count position bytes rest done before here after o said is rest_is same said_is first second =
-        let one = subst (λ (x : Options). GoesBySome x is_alone between then_left then new left_after tells
-        (λ answers. (length answers ≤ most_to_one x) × (GoesOnTo x base (position_at rest done) answers here after (ReachesAfter x base rest done said) × SpeaksAs said answers here after)))
+    on_said count position bytes rest done before here after o b said is rest_is same same_base said_is first second =
+        let there = subst (λ (x : Options). GoesBySome x is_alone between then_left then new left_after tells
+        (λ answers. (length answers ≤ most_to_one x) × (GoesOnTo x b (position_at rest done) answers here after (ReachesAfter x b rest done said) × SpeaksAs said answers here after)))
         same second in
+        let one = subst (λ x. GoesBySome options is_alone between then_left then new left_after tells
+        (λ answers. (length answers ≤ most_to_one options) × (GoesOnTo options x (position_at rest done) answers here after (ReachesAfter options x rest done said) × SpeaksAs said answers here after)))
+        same_base there in
         let by_said = subst (λ (s : Said). GoesBySome options is_alone between then_left then new left_after tells
         (λ answers. (length answers ≤ most_to_one options) × (GoesOnTo options base (position_at rest done) answers here after (ReachesAfter options base rest done s) × SpeaksAs s answers here after))) said_is one in
         let all = subst (λ r. GoesBySome options is_alone between then_left then new left_after tells
@@ -94,12 +97,13 @@ module _ (options : Options) (is_alone : Bool) (base : ℕ) where
         )
 
     -- memory lacked
-    pub spoke_on : (count : ℕ) → count + 1 ≤ MOST_COMMANDS → (most : ℕ) (position : Position) (bytes rest : List ℕ) (done : ℕ) (before here : List ℕ) (o : Options) → rest ≡ bytes → o ≡ options → length bytes ≤ most
+    pub spoke_on : (count : ℕ) → count + 1 ≤ MOST_COMMANDS → (most : ℕ) (position : Position) (bytes rest : List ℕ) (done : ℕ) (before here : List ℕ) (o : Options) (b : ℕ) → rest ≡ bytes → o ≡ options → b ≡ base → length bytes ≤ most
         → GoesBySome options is_alone old left told between then_left then (λ answers. GoesOnTo options base position answers before here (Reaches options base (position_at bytes done)) × HasSpoken count answers before here)
-        → GoesBySome o is_alone between then_left then new left_after tells (λ answers. (length answers ≤ most_to_one o) × SpokeFrom o base (length rest) (position_at rest done) answers)
+        → GoesBySome o is_alone between then_left then new left_after tells (λ answers. (length answers ≤ most_to_one o) × SpokeFrom o b (length rest) (position_at rest done) answers)
         → GoesBySome options is_alone old left told new left_after tells (λ answers. (length answers ≤ most_answers options) × SpokeFrom options base most position answers)
-    spoke_on count within most position bytes rest done before here o rest_is same less first second =
-        let one = subst (λ (x : Options). GoesBySome x is_alone between then_left then new left_after tells (λ answers. (length answers ≤ most_to_one x) × SpokeFrom x base (length rest) (position_at rest done) answers)) same second in
+    spoke_on count within most position bytes rest done before here o b rest_is same same_base less first second =
+        let there = subst (λ (x : Options). GoesBySome x is_alone between then_left then new left_after tells (λ answers. (length answers ≤ most_to_one x) × SpokeFrom x b (length rest) (position_at rest done) answers)) same second in
+        let one = subst (λ x. GoesBySome options is_alone between then_left then new left_after tells (λ answers. (length answers ≤ most_to_one options) × SpokeFrom options x (length rest) (position_at rest done) answers)) same_base there in
         let all = subst (λ r. GoesBySome options is_alone between then_left then new left_after tells (λ answers. (length answers ≤ most_to_one options) × SpokeFrom options base (length r) (position_at r done) answers)) rest_is one in (
           first.0 ++ all.0,
           these_then options is_alone first.1 all.1,

@@ -1,9 +1,14 @@
 -- What a front's answers make of its sessions, and at which seconds they were given.
 use Rattle.std.specs.Prelude.{◌+◌, ◌≤◌, ℕ, Bool, List, [], ◌∷◌}
+use Rattle.std.specs.List.{filter_map}
 use Rattle.partition_model.specs.declared.options.Options.{Options}
 use Rattle.fronts.specs.Answered.{Answered, count_of_writes}
 use Rattle.fronts.specs.Session.{Sessions, AnswersInOrder}
-use Rattle.command_answers.specs.Seconds.{seconds_of}
+use Rattle.command_answers.specs.Seconds.{second_in}
+
+-- the seconds of all answers that have one, in order
+abbrev pub seconds_of : Options → List Answered → List ℕ
+seconds_of options answers = filter_map (second_in options) answers
 
 -- These seconds never fall: the first is not before one, and the last not behind another. Where that is the same, so is each of them.
 abbrev pub Rise : ℕ → List ℕ → ℕ → Type 0

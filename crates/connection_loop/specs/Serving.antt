@@ -6,9 +6,8 @@ use Rattle.connections.specs.Log.{Log, state_of}
 use Rattle.fronts.specs.Answered.{Answered, count_of_writes}
 use Rattle.fronts.specs.Session.{Sessions, AnswersInOrder}
 use Rattle.connection_loop.specs.declared.answer.TheConstants.{LIMITS}
-use Rattle.command_answers.specs.Seconds.{seconds_of}
 use Rattle.connection_loop.specs.Given.{Given}
-use Rattle.connection_loop.specs.Going.{NeverFall}
+use Rattle.connection_loop.specs.Going.{NeverFall, seconds_of}
 use Rattle.connection_loop.specs.Moments.{TalksThrough, IsCaughtUp}
 use Rattle.connection_loop.specs.Turns.{TakesTurns}
 

@@ -8,6 +8,7 @@ ghost use Rattle.connection_loop.specs.declared.desk.TheConstants.{MOST_UNSENT};
 ghost use Rattle.connections.specs.Calls.{Leaves};
 ghost use Rattle.connection_loop.specs.Calls.{KeepsHand};
 ghost use Rattle.connection_loop.specs.Clients.{AreOpen};
+ghost use Rattle.connection_loop.specs.Counting.{tally_after_report};
 ghost use Rattle.connection_loop.specs.Going.{GoesBy};
 ghost use Rattle.connection_loop.specs.Open.{IsOpen, IsOpened, OnLogs};
 ghost use Rattle.connection_loop.specs.Paid.{MayAnswer};
@@ -80,7 +81,9 @@ fn visit_held<F: CountsWrites, C: Connections>(
 }
 
 /// Counts what was reported, and for how many connections there was no memory, which are closed.
-fn count_event(event: Event, lacked: u64, tally: &mut Tally) {
+fn count_event(event: Event, lacked: u64, tally: &mut Tally)
+    ensures { tally.new ≡ tally_after_report event lacked tally.old }
+{
     match event {
         Event::Opened(_) => {
             tally.raise(Counter::Opened, 1);

@@ -27,7 +27,7 @@ returns-in-More-clause-talk g c =
     let options = g.F.Front.options c.args.hand.now.front in
     let more = sym c.said_next-next.ensures.next ∙ c.in-More.is in (
       [],
-      these_none options g.F.Front.is_alone (g.F.Front.sessions c.args.hand.now.front) (g.F.Front.left c.args.hand.now.front) c.args.hand.now.second,
+      these_none options g.F.Front.is_alone (g.F.Front.sessions c.args.hand.now.front) (g.F.Front.left c.args.hand.now.front) c.args.hand.now.second c.args.hand.now.second (omega arith),
       (omega arith, (on_as options c.args.hand.now.numbering.base (λ received given due r. (r, more)) (on_none options c.args.hand.now.numbering.base _ c.args.out.now.items), tt)),
     )
 

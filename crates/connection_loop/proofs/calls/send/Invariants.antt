@@ -16,6 +16,7 @@ invariant-loop-sent g l =
     × (g.C.Connections.share l.connections ≡ g.C.Connections.share l.initial.connections)
     × OnLogs (OnHeld l.number (SendsFirst l.text l.sent)) (g.C.Connections.log l.initial.connections) (g.C.Connections.log l.connections)
     × (g.C.Connections.reports l.connections ≤ g.C.Connections.reports l.initial.connections)
+    × (g.C.Connections.last l.initial.connections ≤ g.C.Connections.last l.connections)
 
 abbrev pub decreases-loop-sent : goal.decreases-loop-sent
 decreases-loop-sent g l = length l.text - l.sent

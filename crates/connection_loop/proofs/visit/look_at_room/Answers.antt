@@ -19,7 +19,7 @@ returns-then-client-bytes-clause-talk g c =
     let bytes = c.args.bytes.now in
     let more = c.if-client-bytes.true in (
       [],
-      these_none options g.F.Front.is_alone (g.F.Front.sessions c.args.hand.now.front) (g.F.Front.left c.args.hand.now.front) c.args.hand.now.second,
+      these_none options g.F.Front.is_alone (g.F.Front.sessions c.args.hand.now.front) (g.F.Front.left c.args.hand.now.front) c.args.hand.now.second c.args.hand.now.second (omega arith),
       (
         omega arith,
         (

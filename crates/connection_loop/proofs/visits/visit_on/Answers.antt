@@ -1,7 +1,8 @@
-use Rattle.std.proofs.Common.{refl, ◌∙◌, arith}
+use Rattle.std.proofs.Common.{refl, ap, arith}
 use Rattle.std.proofs.lemmas.Result.{err_from_is_err_and}
+use Rattle.command_answers.specs.declared.answer.Numbering.{Numbering}
 use Rattle.connection_loop.specs.declared.visit.After.TheVariants.{Again}
-use Rattle.connection_loop.proofs.Going.{these_goes, these_some}
+use Rattle.connection_loop.proofs.Going.{hand_then, these_some}
 use Rattle.connection_loop.proofs.Opening.{keeps_on}
 use Rattle.connection_loop.proofs.Answering.{match_err}
 use Rattle.connection_loop.proofs.GoingOn.{goes_once, goes_lack_once, goes_on}
@@ -33,7 +34,8 @@ pub returns-clause-talks : goal.returns-clause-talks
 returns-clause-talks g c =
     let log = g.C.Connections.log in
     goes_on (g.F.Front.options c.args.hand.now.front) g.F.Front.is_alone c.args.hand.now.numbering.base c.args.number c.args.client.now c.visit_once.new.client (log c.args.connections.now) (log c.visit_once.new.connections)
-    c.in_ok-after.after c.in-Again.is c.in_ok-after.ensures.talks (log c.visit_once-2.new.connections) (g.F.Front.options c.visit_once.new.hand.front) c.visit_once.ensures.same.same_options c.visit_once-2.new.client
+    c.in_ok-after.after c.in-Again.is c.in_ok-after.ensures.talks (log c.visit_once-2.new.connections) (g.F.Front.options c.visit_once.new.hand.front) c.visit_once.new.hand.numbering.base c.visit_once.ensures.same.same_options
+    (ap (λ (n : Numbering). n.base) c.visit_once.ensures.same.same_numbering) c.visit_once-2.new.client
     c.visit_once-2.result c.visit_once-2.ensures.talks
 
 pub returns-clause-keeps : goal.returns-clause-keeps
@@ -41,39 +43,5 @@ returns-clause-keeps g c =
     let log = g.C.Connections.log in
     keeps_on (log c.args.connections.now) (log c.visit_once.new.connections) (log c.visit_once-2.new.connections) c.visit_once.ensures.port.told c.visit_once.ensures.keeps c.visit_once-2.ensures.keeps
 
-pub returns-in_err-after-clause-front : goal.returns-in_err-after-clause-front
-returns-in_err-after-clause-front g c = record {
-  goes = these_goes (g.F.Front.options c.args.hand.now.front) g.F.Front.is_alone c.in_err-after.ensures.talks.1;
-  same_options = c.visit_once.ensures.same.same_options;
-  same_number = c.visit_once.ensures.same.same_number;
-  same_stands = c.visit_once.ensures.same.same_stands;
-}
-
-pub returns-in_default-clause-front : goal.returns-in_default-clause-front
-returns-in_default-clause-front g c = record {
-  goes = these_goes (g.F.Front.options c.args.hand.now.front) g.F.Front.is_alone c.in_ok-after.ensures.talks.1;
-  same_options = c.visit_once.ensures.same.same_options;
-  same_number = c.visit_once.ensures.same.same_number;
-  same_stands = c.visit_once.ensures.same.same_stands;
-}
-
-pub returns-then-writes_left-most_writes-clause-front : goal.returns-then-writes_left-most_writes-clause-front
-returns-then-writes_left-most_writes-clause-front g c = record {
-  goes = these_goes (g.F.Front.options c.args.hand.now.front) g.F.Front.is_alone c.in_ok-after.ensures.talks.1;
-  same_options = c.visit_once.ensures.same.same_options;
-  same_number = c.visit_once.ensures.same.same_number;
-  same_stands = c.visit_once.ensures.same.same_stands;
-}
-
-pub returns-clause-front : goal.returns-clause-front
-returns-clause-front g c =
-    let log = g.C.Connections.log in
-    let options = g.F.Front.options c.args.hand.now.front in
-    let both = goes_on options g.F.Front.is_alone c.args.hand.now.numbering.base c.args.number c.args.client.now c.visit_once.new.client (log c.args.connections.now) (log c.visit_once.new.connections)
-    c.in_ok-after.after c.in-Again.is c.in_ok-after.ensures.talks (log c.visit_once-2.new.connections) (g.F.Front.options c.visit_once.new.hand.front) c.visit_once.ensures.same.same_options c.visit_once-2.new.client
-    c.visit_once-2.result c.visit_once-2.ensures.talks in record {
-      goes = these_goes options g.F.Front.is_alone both.1;
-      same_options = c.visit_once-2.ensures.same.same_options ∙ c.visit_once.ensures.same.same_options;
-      same_number = c.visit_once-2.ensures.same.same_number ∙ c.visit_once.ensures.same.same_number;
-      same_stands = c.visit_once-2.ensures.same.same_stands ∙ c.visit_once.ensures.same.same_stands;
-    }
+pub returns-clause-same : goal.returns-clause-same
+returns-clause-same g c = hand_then c.visit_once.ensures.same c.visit_once-2.ensures.same
