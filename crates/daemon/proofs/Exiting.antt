@@ -77,7 +77,7 @@ zero_by None clocks base before after old new Answered zero comes = absurd (answ
     is_answered Answered = 1
     is_answered (Ended status) = 0
 
-    answered : 1 ≡ 0 → ⊥
+    answered : ◌≡◌ {A = ℕ} 1 0 → ⊥
     answered same = omega (arith, same)
 zero_by (Some words) clocks base before after old new Answered zero comes = asks (question_of words) refl comes
   where

@@ -1,5 +1,5 @@
 -- What the words of a server that stays up give is possible.
-use Rattle.std.proofs.Common.{◌≡◌, ◌≤◌, ℕ, List, Option, Some, None, Err, sym, ◌∙◌, Bool, true, false, ◌&&◌, is_some, option_map, unwrap_or, ap, refl, subst, if◌then◌else◌, arith}
+use Rattle.std.proofs.Common.{◌≡◌, ◌≤◌, ℕ, List, Option, Some, None, Err, sym, ◌∙◌, Bool, true, false, ◌&&◌, is_none, is_some, option_map, unwrap_or, ap, refl, subst, if◌then◌else◌, arith}
 use Rattle.std.proofs.lemmas.Bool.{leb-true}
 use Rattle.std.proofs.lemmas.Option.{none-some}
 use Rattle.partition_model.specs.declared.options.TheConstants.{MOST_PARTITIONS, MOST_SPARES, MOST_WORDS, MOST_WEAR}
@@ -18,10 +18,9 @@ use Rattle.option_words.specs.declared.words_fault.WordsFault.TheVariants.{Usage
 use Rattle.option_words.specs.Words.{Text, given_by, text_of}
 use Rattle.option_words.specs.Settings.{mode, tries, port, value_of, ◌>>=◌}
 use Rattle.daemon_words.specs.Memory.{memory_of}
-use Rattle.daemon_words.specs.StreamWords.{memcached, memcached_fronts, listen, connections, no_streams, gives_more, some_streams, has_streams, streams_by, streams_given}
-use Rattle.daemon_words.specs.DaemonWords.{Service, partitions, buckets, spares, words, wear, memory_name, sizes_by_words, sizes_by, sizes_given, mode_given, service_options, image_name, fronts, lasting_ports, no_ports, ports_by, ports_given, are_possible, may_fill, daemon_names, daemon_given, daemon_of, gives_size, ArePossibleFronts, IsDaemonReading}
+use Rattle.daemon_words.specs.StreamWords.{memcached, memcached_fronts, listen, connections, no_streams, gives_streams, some_streams, streams_by, streams_given}
+use Rattle.daemon_words.specs.DaemonWords.{Service, partitions, buckets, spares, words, wear, memory_name, sizes_by_words, sizes_by, sizes_given, mode_given, service_options, image_name, fronts, lasting_ports, no_ports, ports_by, ports_given, have_numbers, may_fill, daemon_names, daemon_given, daemon_of, gives_size, ArePossibleFronts, IsDaemonReading}
 use Rattle.option_words.proofs.ValueLemmas.{both_told, value_bounds, power_value, one_kilo, required_bounds}
-use Rattle.option_words.proofs.StrayWords.{and_left, and_right}
 use Rattle.daemon_words.proofs.MemoryLemmas.{memory_bounds}
 
 -- options that are possible but for their sizes
@@ -93,60 +92,53 @@ service_possible given options is =
     (value_bounds tries.name 1 1000 100 (given tries.name) t.0 (omega arith, omega arith) t.1)
     (value_bounds wear.name 1 MOST_WEAR MOST_WEAR (given wear.name) e.0 (omega arith, omega arith) e.1)))
 
--- ports of datagrams and of connections that may be given, apart from each other
-record ArePorts (ports : PortOptions) : Type 0 where
-  port : InRange 1024 65000 ports.port
-  fronts : InRange 0 MOST_FRONTS ports.fronts
-  batches : InRange 1 MAX_BATCHES ports.batches
-
-lasting_valid : (given : Text → Option Text) (ports : PortOptions) → lasting_ports given ≡ Some ports → ArePorts ports
+-- ports of datagrams that may be given
+lasting_valid : (given : Text → Option Text) (ports : PortOptions) → lasting_ports given ≡ Some ports → ArePossibleFronts ports no_streams.ports
 lasting_valid given ports is =
     let p = both_told (value_of port given) _ ports is in
     let f = both_told (value_of fronts given) _ ports p.2 in
     let made : PortOptions = record { port = p.0; fronts = f.0; batches = MAX_BATCHES } in
-    subst ArePorts (ap (λ o. unwrap_or o made) f.2) (record {
+    let few = value_bounds fronts.name 1 MOST_FRONTS 1 (given fronts.name) f.0 (omega arith, omega arith) f.1 in
+    subst (λ (o : PortOptions). ArePossibleFronts o no_streams.ports) (ap (λ o. unwrap_or o made) f.2) (record {
       port = required_bounds port.name 1024 65000 (given port.name) p.0 p.1;
-      fronts = (omega arith, (value_bounds fronts.name 1 MOST_FRONTS 1 (given fronts.name) f.0 (omega arith, omega arith) f.1).1);
+      fronts = (omega arith, few.1);
       batches = (omega arith, omega arith);
+      stream_ports = record { numbers = omega arith; fronts = omega arith };
+      all = (omega (arith, few.0), omega (arith, few.1));
     })
 
-no_ports_valid : ArePorts no_ports
-no_ports_valid = record { port = (omega arith, omega arith); fronts = (omega arith, omega arith); batches = (omega arith, omega arith) }
-
-ports_valid : (given : Text → Option Text) (first : Option Text) (ports : PortOptions) → ports_by given first ≡ Some ports → ArePorts ports
-ports_valid given None ports is =
-    elim (is_some (given fronts.name)) as (λ b. (if b then None else Some no_ports) ≡ Some ports → ArePorts ports) [
-      | true ↦ λ none. absurd (none-some ports none)
-      | false ↦ λ same. subst ArePorts (ap (λ o. unwrap_or o no_ports) same) no_ports_valid
-    ] is
-ports_valid given (Some text) ports is = lasting_valid given ports is
-
-some_streams_valid : (given : Text → Option Text) (streams : StreamOptions) → some_streams given ≡ Some streams → streams.ports.fronts ≤ MOST_FRONTS
+-- of connections
+some_streams_valid : (given : Text → Option Text) (streams : StreamOptions) → some_streams given ≡ Some streams → InRange 1 MOST_FRONTS streams.ports.fronts
 some_streams_valid given streams is =
     let p = both_told (value_of memcached given) _ streams is in
     let f = both_told (value_of memcached_fronts given) _ streams p.2 in
     let l = both_told (value_of listen given) _ streams f.2 in
     let c = both_told (value_of connections given) _ streams l.2 in
     let made : StreamOptions = record { ports = record { port = p.0; fronts = f.0 }; address = l.0; connections = c.0 } in
-    let few = value_bounds memcached_fronts.name 1 MOST_FRONTS 1 (given memcached_fronts.name) f.0 (omega arith, omega arith) f.1 in
-    subst (λ (s : StreamOptions). s.ports.fronts ≤ MOST_FRONTS) (ap (λ o. unwrap_or o made) c.2) few.1
+    subst (λ (s : StreamOptions). InRange 1 MOST_FRONTS s.ports.fronts) (ap (λ o. unwrap_or o made) c.2)
+    (value_bounds memcached_fronts.name 1 MOST_FRONTS 1 (given memcached_fronts.name) f.0 (omega arith, omega arith) f.1)
 
-streams_valid : (given : Text → Option Text) (some : Bool) (streams : StreamOptions) → streams_by given some ≡ Some streams → streams.ports.fronts ≤ MOST_FRONTS
-streams_valid given false streams is =
-    elim (gives_more given) as (λ b. (if b then None else Some no_streams) ≡ Some streams → streams.ports.fronts ≤ MOST_FRONTS) [
-      | true ↦ λ none. absurd (none-some streams none)
-      | false ↦ λ same. subst (λ (s : StreamOptions). s.ports.fronts ≤ MOST_FRONTS) (ap (λ o. unwrap_or o no_streams) same) (omega arith)
-    ] is
-streams_valid given true streams is = some_streams_valid given streams is
-
-both_valid : (ports : PortOptions) (streams : StreamOptions) → ArePorts ports → streams.ports.fronts ≤ MOST_FRONTS → are_possible ports streams ≡ true → ArePossibleFronts ports streams.ports
-both_valid ports streams p few is = let a = and_left _ _ is in record {
-  port = p.port;
-  fronts = p.fronts;
-  batches = p.batches;
-  stream_ports = record { numbers = leb-true _ 65536 (and_right _ _ is); fronts = few };
-  all = (leb-true 1 _ (and_left _ _ a), leb-true _ MOST_FRONTS (and_right _ _ a));
+streams_alone : (streams : StreamOptions) → InRange 1 MOST_FRONTS streams.ports.fronts → have_numbers streams.ports ≡ true → ArePossibleFronts no_ports streams.ports
+streams_alone streams few is = record {
+  port = (omega arith, omega arith);
+  fronts = (omega arith, omega arith);
+  batches = (omega arith, omega arith);
+  stream_ports = record { numbers = leb-true _ 65536 is; fronts = few.1 };
+  all = (omega (arith, few.0), omega (arith, few.1));
 }
+
+-- what an option gives where a word is not given
+unless_given : {A : Type 0} (word : Bool) (made a : A) → (if word then None else Some made) ≡ Some a → made ≡ a
+unless_given true made a none = absurd (none-some a none)
+unless_given false made a same = ap (λ o. unwrap_or o made) same
+
+-- the ports of one protocol, by whether its first port is one of datagrams
+ports_valid : (given : Text → Option Text) (first : Option Text) (ports : PortOptions) (streams : StreamOptions) → ports_by given first ≡ Some ports
+    → streams_by given (is_none first) ≡ Some streams → have_numbers streams.ports ≡ true → ArePossibleFronts ports streams.ports
+ports_valid given None ports streams p s numbers =
+    subst (λ (o : PortOptions). ArePossibleFronts o streams.ports) (unless_given (is_some (given fronts.name)) no_ports ports p) (streams_alone streams (some_streams_valid given streams s) numbers)
+ports_valid given (Some text) ports streams p s numbers =
+    subst (λ (o : StreamOptions). ArePossibleFronts ports o.ports) (unless_given (gives_streams given) no_streams streams s) (lasting_valid given ports p)
 
 pub service_valid : (given : Text → Option Text) (service : Service) → daemon_given given ≡ Some service → IsPossible service.options × ArePossibleFronts service.ports service.streams.ports
 service_valid given service is =
@@ -154,13 +146,13 @@ service_valid given service is =
     let p = both_told (ports_given given) _ service o.2 in
     let s = both_told (streams_given given) _ service p.2 in
     let made : Service = record { options = o.0; ports = p.0; streams = s.0; image = given image_name } in
-    told made (are_possible p.0 s.0) (may_fill o.0.mode (given image_name)) refl (service_possible given o.0 o.1) (ports_valid given (given port.name) p.0 p.1) (streams_valid given (has_streams given) s.0 s.1) s.2
+    told made (have_numbers s.0.ports) (may_fill o.0.mode (given image_name)) (service_possible given o.0 o.1) (ports_valid given (given port.name) p.0 s.0 p.1 s.1) s.2
   where
-    told : (made : Service) (possible fills : Bool) → are_possible made.ports made.streams ≡ possible → IsPossible made.options → ArePorts made.ports → made.streams.ports.fronts ≤ MOST_FRONTS
-        → (if possible && fills then Some made else None) ≡ Some service → IsPossible service.options × ArePossibleFronts service.ports service.streams.ports
-    told made true true possible o p s same = subst (λ (s : Service). IsPossible s.options × ArePossibleFronts s.ports s.streams.ports) (ap (λ s. unwrap_or s made) same) (o, both_valid made.ports made.streams p s possible)
-    told made true false possible o p s none = absurd (none-some service none)
-    told made false fills possible o p s none = absurd (none-some service none)
+    told : (made : Service) (numbers fills : Bool) → IsPossible made.options → (numbers ≡ true → ArePossibleFronts made.ports made.streams.ports)
+        → (if numbers && fills then Some made else None) ≡ Some service → IsPossible service.options × ArePossibleFronts service.ports service.streams.ports
+    told made true true o p same = subst (λ (s : Service). IsPossible s.options × ArePossibleFronts s.ports s.streams.ports) (ap (λ s. unwrap_or s made) same) (o, p refl)
+    told made true false o p none = absurd (none-some service none)
+    told made false fills o p none = absurd (none-some service none)
 
 -- words that give nothing to the options give no such server
 pub daemon_none : (known : List Text) → known ≡ daemon_names → (words : List Text) (fault : WordsFault) → (fault ≡ Usage → given_by known words ≡ None)

@@ -1,6 +1,5 @@
 -- The words of a server that stays up: its partitions, by their sizes or by how much memory they may take, its ports, and an image.
 use Rattle.std.specs.Prelude.{◌≡◌, ⊤, ℕ, ◌+◌, Bool, ◌||◌, ◌&&◌, true, nat_le, List, ◌∷◌, Option, Some, None, is_none, is_some, option_map, codes, Result, Ok, Err, if◌then◌else◌}
-use Rattle.std.specs.Int.{is_in_range}
 use Rattle.partition_model.specs.declared.options.Options.{Options}
 use Rattle.partition_model.specs.declared.options.Mode.{Mode}
 use Rattle.partition_model.specs.declared.options.Mode.TheVariants.{Cache, Store}
@@ -116,9 +115,9 @@ ports_by given (Some text) = lasting_ports given
 abbrev pub ports_given : (Text → Option Text) → Option PortOptions
 ports_given given = ports_by given (given port.name)
 
--- the number of fronts of both kinds is possible, and the last port of connections has a number
-abbrev pub are_possible : PortOptions → StreamOptions → Bool
-are_possible ports streams = is_in_range 1 MOST_FRONTS (ports.fronts + streams.ports.fronts) && nat_le (streams.ports.port + streams.ports.fronts) 65536
+-- the last port of connections has a number
+abbrev pub have_numbers : StreamPorts → Bool
+have_numbers streams = nat_le (streams.port + streams.fronts) 65536
 
 -- what it is to do: its partitions, its ports of datagrams and of connections, and the file whose image fills it, if one does
 pub record Service : Type 0 where
@@ -137,7 +136,7 @@ daemon_given given =
     service_options given >>= λ options.
     ports_given given >>= λ ports.
     streams_given given >>= λ streams.
-    if are_possible ports streams && may_fill options.mode (given image_name)
+    if have_numbers streams.ports && may_fill options.mode (given image_name)
     then Some (record { options = options; ports = ports; streams = streams; image = given image_name })
     else None
 
@@ -149,7 +148,7 @@ daemon_of words = read_as daemon_names daemon_given words
 abbrev pub service_of : DaemonOptions → Service
 service_of read = record { options = read.options; ports = read.ports; streams = read.streams; image = option_map (λ name. name.now) read.image }
 
--- the ranges of its ports: there is a front of one kind at least
+-- the ranges of its ports: there is a front at least
 pub record ArePossibleFronts (ports : PortOptions) (streams : StreamPorts) : Type 0 where
   pub port : InRange 1024 65000 ports.port
   pub fronts : InRange 0 MOST_FRONTS ports.fronts

@@ -56,9 +56,9 @@ stream_names = memcached.name ∷ memcached_fronts.name ∷ listen.name ∷ conn
 abbrev pub no_streams : StreamOptions
 no_streams = record { ports = record { port = 0; fronts = 0 }; address = address 127 0 0 1; connections = 0 }
 
--- one of the options is given that say more of such fronts
-abbrev pub gives_more : (Text → Option Text) → Bool
-gives_more given = is_some (given memcached_fronts.name) || is_some (given listen.name) || is_some (given connections.name)
+-- one of the options is given that are of such fronts
+abbrev pub gives_streams : (Text → Option Text) → Bool
+gives_streams given = is_some (given memcached.name) || is_some (given memcached_fronts.name) || is_some (given listen.name) || is_some (given connections.name)
 
 -- fronts from the first port on
 abbrev pub some_streams : (Text → Option Text) → Option StreamOptions
@@ -69,14 +69,14 @@ some_streams given =
     value_of connections given >>= λ connections.
     Some (record { ports = record { port = port; fronts = fronts }; address = address; connections = connections })
 
--- there are such fronts: their first port is given, or no port of datagrams is
+-- a server is of one protocol: there are such fronts where no port of datagrams is given
 abbrev pub has_streams : (Text → Option Text) → Bool
-has_streams given = is_some (given memcached.name) || is_none (given port.name)
+has_streams given = is_none (given port.name)
 
--- where there are none, nothing more is said of them
+-- where there are none, nothing is said of them
 abbrev pub streams_by : (Text → Option Text) → Bool → Option StreamOptions
 streams_by given true = some_streams given
-streams_by given false = if gives_more given then None else Some no_streams
+streams_by given false = if gives_streams given then None else Some no_streams
 
 abbrev pub streams_given : (Text → Option Text) → Option StreamOptions
 streams_given given = streams_by given (has_streams given)

@@ -11,8 +11,8 @@ const HELP: &str = "micad: an in-memory store that speaks memcached's text proto
     micad [-p PORT] [-m MIB] [-M] [OPTION VALUE]..
     micad --port PORT --mode MODE [--memory SIZE] [OPTION VALUE]..
 
-The first serves memcached's clients over TCP, the second batches of requests over UDP; with --memcached beside --port
-it does both. An option's value stands behind it, or behind = as in --memory=1G. Defaults stand in brackets.
+The first serves memcached's clients over TCP, the second batches of requests over UDP. An option's value stands behind
+it, or behind = as in --memory=1G. Defaults stand in brackets.
 
 Ports for memcached's clients
   -p, --memcached PORT      the first TCP port, 1 to 65535 [11211]

@@ -27,11 +27,11 @@ pub(crate) enum Refusal<'a> {
     Twice(&'static str),
     /// The second stands in place of the first.
     Beside(&'static str, &'static str),
-    /// The first says more of what the second begins.
-    Without(&'static str, &'static str),
+    /// An option of memcached's clients beside a port of datagrams.
+    Apart(&'static str),
+    FrontsAlone,
     NoMode,
     ImageInCache,
-    ManyFronts,
     /// The last of the ports of connections would have no number.
     HighPorts,
 }
@@ -63,14 +63,17 @@ impl fmt::Display for Refusal<'_> {
             Refusal::Beside(name, other) => {
                 write!(f, "{other} stands in place of {name}: give one of them")
             }
-            Refusal::Without(name, other) => write!(f, "{name} wants {other} beside it"),
+            Refusal::Apart(name) => write!(
+                f,
+                "{name} is of memcached's clients, and --port of batches over UDP: a server is for one of them, so start one for each"
+            ),
+            Refusal::FrontsAlone => f.write_str(
+                "--fronts wants --port PORT beside it; memcached's clients want --memcached-fronts",
+            ),
             Refusal::NoMode => f.write_str(
                 "--port is of batches over UDP and wants --mode cache or --mode store beside it; memcached's clients want -p",
             ),
             Refusal::ImageInCache => f.write_str("--image fills a store: give --mode store"),
-            Refusal::ManyFronts => {
-                f.write_str("--memcached-fronts and --fronts are 64 at most together")
-            }
             Refusal::HighPorts => f.write_str("the last of its TCP ports would be above 65535"),
         }
     }

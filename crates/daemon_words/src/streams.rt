@@ -2,7 +2,7 @@
 ghost use Rattle.std.specs.Prelude.{◌≡◌};
 ghost use Rattle.clap.specs.Matches.{first_value, found_of};
 ghost use Rattle.option_words.specs.Settings.{value_of};
-ghost use Rattle.daemon_words.specs.StreamWords.{before_dot, behind_dot, octet_of, address_of, listen, gives_more, some_streams, has_streams, streams_given};
+ghost use Rattle.daemon_words.specs.StreamWords.{before_dot, behind_dot, octet_of, address_of, listen, gives_streams, some_streams, has_streams, streams_given};
 
 use clap::ArgMatches;
 use option_words::{count, number_of};
@@ -54,11 +54,12 @@ fn listen(found: &ArgMatches<'_>) -> Option<Ipv4Addr>
     }
 }
 
-// Whether one of the options is given that say more of such fronts.
-fn gives_more(found: &ArgMatches<'_>) -> bool
-    ensures { result ≡ gives_more (first_value (found_of found.now)) }
+// Whether one of the options is given that are of such fronts.
+fn gives_streams(found: &ArgMatches<'_>) -> bool
+    ensures { result ≡ gives_streams (first_value (found_of found.now)) }
 {
-    found.get_str("memcached-fronts").is_some()
+    found.get_str("memcached").is_some()
+        || found.get_str("memcached-fronts").is_some()
         || found.get_str("listen").is_some()
         || found.get_str("connections").is_some()
 }
@@ -78,21 +79,21 @@ fn some_streams(found: &ArgMatches<'_>) -> Option<StreamOptions>
     })
 }
 
-/// Whether there are such fronts: their first port is given, or no port of datagrams is.
+/// Whether there are such fronts: a server is of one protocol, and no port of datagrams is given.
 pub(crate) fn has_streams(found: &ArgMatches<'_>) -> bool
     ensures { result ≡ has_streams (first_value (found_of found.now)) }
 {
-    found.get_str("memcached").is_some() || found.get_str("port").is_none()
+    found.get_str("port").is_none()
 }
 
-/// The fronts behind connections. Where there are none, nothing more may be said of them.
+/// The fronts behind connections. Where there are none, nothing may be said of them.
 pub fn streams_given(found: &ArgMatches<'_>) -> Option<StreamOptions>
     ensures { result ≡ streams_given (first_value (found_of found.now)) }
 {
     if has_streams(found) {
         return some_streams(found);
     }
-    if gives_more(found) {
+    if gives_streams(found) {
         return None;
     }
     Some(StreamOptions {

@@ -3,7 +3,6 @@
 use crate::known::{NAMES, long_of};
 use crate::refusal::Refusal;
 use crate::wrong_word::parts_of;
-use option_words::number_of;
 
 // How often an option is named.
 fn count_of(words: &[String], name: &str) -> u32 {
@@ -16,43 +15,31 @@ fn count_of(words: &[String], name: &str) -> u32 {
     count
 }
 
-/// The value that words give an option, as it was typed.
+/// The value that words give an option, as it was typed: the last one, where there are several.
 pub fn value_given<'a>(words: &'a [String], name: &str) -> Option<&'a str> {
+    let mut given = None;
     let mut waits = false;
     for word in words {
         let word = word.as_str();
-        if waits {
-            return Some(word);
-        }
         let (typed, value) = parts_of(word);
-        if long_of(typed) == name {
+        if waits {
+            given = Some(word);
+            waits = false;
+        } else if long_of(typed) == name {
             if typed == "-M" {
-                return Some("store");
+                given = Some("store");
+            } else if value.is_some() {
+                given = value;
+            } else {
+                waits = true;
             }
-            if value.is_some() {
-                return value;
-            }
-            waits = true;
         }
     }
-    None
+    given
 }
 
 fn gives(words: &[String], name: &str) -> bool {
     value_given(words, name).is_some()
-}
-
-// The number that is given, or what holds where none is.
-fn number_given(words: &[String], name: &str, default: u64) -> u64 {
-    match value_given(words, name) {
-        Some(text) => number_of(text, 0, 65_536).unwrap_or(default),
-        None => default,
-    }
-}
-
-// Whether there are ports for memcached's clients.
-fn has_streams(words: &[String]) -> bool {
-    gives(words, "--memcached") || !gives(words, "--port")
 }
 
 // Whether words name cache mode, or leave it to the ports for memcached's clients.
@@ -63,16 +50,18 @@ fn is_cache(words: &[String]) -> bool {
     }
 }
 
-// The option that is given without the one that it says more of.
-fn lonely(words: &[String]) -> Option<Refusal<'static>> {
-    if !gives(words, "--port") && gives(words, "--fronts") {
-        return Some(Refusal::Without("--fronts", "--port PORT"));
+// The option of another protocol than that of the server.
+fn of_another_protocol(words: &[String]) -> Option<Refusal<'static>> {
+    if !gives(words, "--port") {
+        return if gives(words, "--fronts") {
+            Some(Refusal::FrontsAlone)
+        } else {
+            None
+        };
     }
-    if !has_streams(words) {
-        for name in &["--memcached-fronts", "--listen", "--connections"] {
-            if gives(words, name) {
-                return Some(Refusal::Without(*name, "--memcached PORT or -p PORT"));
-            }
+    for name in &["--memcached", "--memcached-fronts", "--listen", "--connections"] {
+        if gives(words, name) {
+            return Some(Refusal::Apart(*name));
         }
     }
     None
@@ -95,29 +84,19 @@ fn doubled(words: &[String]) -> Option<Refusal<'static>> {
     None
 }
 
-// Whether the last port for memcached's clients would have no number.
-fn are_high(words: &[String]) -> bool {
-    let first = number_given(words, "--memcached", 11_211);
-    let behind = first.saturating_add(number_given(words, "--memcached-fronts", 1));
-    has_streams(words) && behind > 65_536
-}
-
 /// Why words are refused each of which is right alone.
 pub(crate) fn wrong_together(words: &[String]) -> Refusal<'static> {
     if let Some(refusal) = doubled(words) {
         return refusal;
     }
-    if let Some(refusal) = lonely(words) {
+    if let Some(refusal) = of_another_protocol(words) {
         return refusal;
     }
-    if !has_streams(words) && !gives(words, "--mode") {
+    if gives(words, "--port") && !gives(words, "--mode") {
         return Refusal::NoMode;
     }
     if is_cache(words) && gives(words, "--image") {
         return Refusal::ImageInCache;
     }
-    if are_high(words) {
-        return Refusal::HighPorts;
-    }
-    Refusal::ManyFronts
+    Refusal::HighPorts
 }

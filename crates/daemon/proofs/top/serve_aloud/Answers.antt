@@ -1,8 +1,11 @@
-use Rattle.std.proofs.Common.{ℕ, List, refl, string_bytes}
+use Rattle.std.proofs.Common.{ℕ, List, refl, string_bytes, subst}
 use Rattle.std.specs.Prelude.{Ok, Err}
 use Rattle.locked_server.specs.declared.stop.Stop.TheVariants.{Refused, Unbound, Fault, Unannounced}
 use Rattle.server_words.specs.Output.{SinkFacts, sink_facts}
+use Rattle.daemon.specs.declared.status.DaemonStatus.TheVariants.{NetFault}
 use Rattle.daemon.specs.declared.speaker.Speaker.{Speaker}
+use Rattle.daemon.specs.Written.{IsTold}
+use Rattle.daemon.specs.Daemon.{unbound_text}
 use Rattle.daemon.proofs.Announced.{leaves_by, written_last}
 use Rattle.daemon.proofs.top.serve_aloud.Given as given
 use Rattle.daemon.proofs.top.serve_aloud.Goals as goal
@@ -37,7 +40,8 @@ returns-in-Err-Unbound g c = record {
   said = sink_at g c.serve_locked.new.announce;
   cause = c.in-Err-Unbound.ensures.cause;
   leaves = leaves_by (line_at g) (sink_at g) c.requires.line c.in-Err-Unbound.ensures.leaves;
-  last = written_last c.in-Err-Unbound.field-0 (Unbound c.in-Err-Unbound.port) (sink_at g c.serve_locked.new.announce) _ _ c.in-Err-Unbound.field-0-is c.write_unbound.ensures;
+  last = written_last c.in-Err-Unbound.field-0 (Unbound c.in-Err-Unbound.port) (sink_at g c.serve_locked.new.announce) _ _ c.in-Err-Unbound.field-0-is
+    (subst (λ (k : g.row.K.Denot). IsTold NetFault (unbound_text c.in-Err-Unbound.port) (sink_facts g.K.Sink k) _ _) c.note_unbound.ensures c.write_unbound.ensures);
 }
 
 pub returns-in-Err-Unannounced : goal.returns-in-Err-Unannounced
