@@ -1,11 +1,11 @@
 -- The places of connections and their shares, as contracts see them, and what the fronts behind them make of them.
-use Rattle.std.specs.Prelude.{◌≡◌, ◌≢◌, ◌⊎◌, ◌+◌, ◌-◌, ◌<◌, ◌≤◌, ⊤, ℕ, zero, suc, Bool, false, List, [], ◌∷◌, ◌++◌, length, min, sum, slice_get, Option, None, Some, IfSome, option_map, Result, IsErrOf, OnOk}
+use Rattle.std.specs.Prelude.{◌≡◌, ◌⊎◌, ◌+◌, ◌-◌, ◌<◌, ◌≤◌, ⊤, ℕ, zero, suc, Bool, false, List, [], ◌∷◌, ◌++◌, length, min, sum, slice_get, Option, None, Some, IfSome, option_map, Result, IsErrOf, OnOk}
 use Rattle.outside.specs.Faults.{Rose, LAST_COUNT}
 use Rattle.connections.specs.Log.{Log, LastFailed}
 use Rattle.connections.specs.declared.connections.Connections.{Ghosts as StreamTells}
 use Rattle.connections.specs.declared.listeners.Listeners.{Ghosts as ListenersTell}
 use Rattle.connections.specs.declared.listeners.Place.{Place}
-use Rattle.connections.specs.Shares.{ShareLogs, ShareFacts, IsNewShare, share_facts, with_share}
+use Rattle.connections.specs.Shares.{ShareLogs, ShareFacts, IsNewShare, share_facts, with_share, without_shares}
 use Rattle.partition_model.specs.declared.options.Options.{Options}
 use Rattle.partition_model.specs.History.{History}
 use Rattle.partition_table.specs.declared.tables.KeptSeat.{KeptSeat}
@@ -14,6 +14,7 @@ use Rattle.fronts.specs.declared.totals.Totals.{Totals}
 use Rattle.fronts.specs.declared.totals.ServeFault.{ServeFault}
 use Rattle.fronts.specs.declared.totals.ServeFault.TheVariants.{Net}
 use Rattle.connection_loop.specs.declared.desk.TheConstants.{MOST_UNSENT}
+use Rattle.connection_loop.specs.Going.{NeverFall, seconds_of}
 use Rattle.connection_loop.specs.Open.{OnLogs}
 use Rattle.connection_loop.specs.Serving.{FrontAt, IsFinished, ServesLog}
 use Rattle.locked_front.specs.Parts.{most_turns}
@@ -60,12 +61,6 @@ pub record IsUnserved (share : ShareFacts) : Type 0 where
 abbrev pub AreUnserved : List ShareFacts → Type 0
 AreUnserved shares = (k : ℕ) (share : ShareFacts) → slice_get shares k ≡ Some share → IsUnserved share
 
--- What listens tells each share that it told before but these, or goes on telling none.
-abbrev pub LeavesOthers : ℕ → ℕ → Option ShareLogs → Option ShareLogs → Type 0
-LeavesOthers first count None after = after ≡ None
-LeavesOthers first count (Some before) None = ⊥
-LeavesOthers first count (Some before) (Some after) = (share : ℕ) → ((k : ℕ) → k < count → share ≢ first + k) → after share ≡ before share
-
 -- so many places were listened at, from the first one on, behind those before
 abbrev pub with_heard : ℕ → List ℕ → List ℕ
 with_heard zero before = before
@@ -77,7 +72,7 @@ pub record KeepsListeners (count places : ℕ) (before after : ListenFacts) : Ty
   pub heard : after.heard ≡ with_heard count before.heard
   pub given : after.given ≡ before.given + count
   pub never_fall : before.faults ≤ after.faults
-  pub others : LeavesOthers before.given count before.waits after.waits
+  pub waits : after.waits ≡ option_map (without_shares before.given count) before.waits
   pub places_are : after.places ≡ before.places
   pub most : after.most ≡ before.most
   pub unneeded : places ≡ 0 → after ≡ before
@@ -116,10 +111,11 @@ pub record HasFailed (before after : ShareFacts) : Type 0 where
 abbrev pub HasStopped : Options → List Answered → ShareFacts → ShareFacts → Type 0
 HasStopped options answers before after = HasFinished options answers after ⊎ HasFailed before after
 
--- A front answered so, behind its share. It knows whether the end came. It has stopped; or it did not begin, and its share is as it was.
+-- A front answered so, behind its share: the seconds of its answers never fall. It knows whether the end came. It has stopped; or it did not begin, and its share is as it was.
 pub record ServesStream (options : Options) (base : ℕ) (old new : FrontAt) (answers : List Answered) (before after : ShareFacts) : Type 0 where
   pub share : after.share ≡ before.share
   pub never_fall : before.faults ≤ after.faults
+  pub seconds : NeverFall (seconds_of options answers)
   pub ended : new.has_ended ≡ after.has_ended
   pub stopped : HasStopped options answers before after ⊎ (after ≡ before)
   pub clients : OnLogs (ServesClients options base old new answers) before.log after.log
