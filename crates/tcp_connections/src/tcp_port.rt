@@ -313,6 +313,20 @@ impl<'a> TcpPort<'a> {
         Some(number)
     }
 
+    /// The next report of those at hand: of this round, and of the next one as far as it is known.
+    pub(crate) fn at_hand(&mut self) -> Option<Event> {
+        let most = self.round.len().saturating_add(self.queue.len());
+        for _ in 0..most {
+            if self.round.is_empty() {
+                mem::swap(&mut self.queue, &mut self.round);
+            }
+            if let Some(number) = self.take_ready() {
+                return Some(Event::Ready(number));
+            }
+        }
+        None
+    }
+
     /// Turns a connection away, where one waits that there is no room for, and says whether it did. What it is told may get lost.
     fn turn_away(&mut self) -> bool {
         if self.accepting != Accepting::Ready || self.slots.len() < self.most {
