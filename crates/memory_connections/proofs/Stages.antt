@@ -72,12 +72,10 @@ then_second e s = record {
   };
 }
 
--- with an entry and the second behind it, each as it was noted
+-- with an entry and the second behind it
 pub stays_told : {schedule : List Step} {at : ℕ} {reports : List ℕ} {paid : ℕ} {all : List Connection} {entries : List Entry} {room : ℕ} {entry : Entry} → Enters schedule at reports paid all (entry ∷ entries) room 2
-    → (n : ℕ) (all' : List Connection) (first both : List Entry) (less least : ℕ) → all' ≡ all → first ≡ entry ∷ entries → both ≡ second n ∷ first → less ≡ room - 1 → least ≡ less - 1
-    → IsStage schedule at reports paid all' both least
-stays_told {schedule} {at} {reports} {paid} {all} {entries} {room} {entry} e n all' first both less least all_are first_is both_is less_is least_is =
-    stays (then_second e n) reports all' both least refl all_are (both_is ∙ ap (λ es. second n ∷ es) first_is) (omega (arith, less_is, least_is))
+    → (n : ℕ) (all' : List Connection) (entries' : List Entry) (room' : ℕ) → all' ≡ all → entries' ≡ second n ∷ entry ∷ entries → room' ≡ room - 2 → IsStage schedule at reports paid all' entries' room'
+stays_told {reports = reports} e n all' entries' room' all_are entries_are room_is = stays (then_second e n) reports all' entries' room' refl all_are entries_are room_is
 
 some_there : (all : List Connection) (c : ℕ) → c < length all → (x : Connection) × (slice_get all c ≡ Some x)
 some_there [] c there = absurd (omega arith)

@@ -1,9 +1,10 @@
 -- Which second it is, as entries are made.
 use Rattle.std.proofs.Common.{◌≡◌, ℕ, ◌+◌, ◌-◌, ◌*◌, ◌^◌, ◌<◌, ◌≤◌, List, [], ◌∷◌, refl, sym, ap, ◌∙◌, subst, arith}
 use Rattle.connections.specs.declared.schedule.Step.{Step}
+use Rattle.connections.specs.declared.schedule.Step.TheVariants.{Opens, TurnsAway, Reports, Happens}
 use Rattle.connections.specs.Connection.{Connection}
 use Rattle.connections.specs.State.{State, Entry, state_after, now_after, passing_by, second}
-use Rattle.connections.specs.Log.{second_of}
+use Rattle.connections.specs.Log.{second_of, after_meeting_one}
 use Rattle.memory_connections.specs.MemoryConnection.{pending}
 use Rattle.memory_connections.specs.Stage.{IsStage, IsTimed, MOST_PASSING}
 
@@ -55,10 +56,22 @@ pub passes_by : (schedule : List Step) (at : ℕ) (reports : List ℕ) (paid : �
     → (entry : Entry) (later : List Step) → pending schedule at reports paid ≡ later → passing_by entry (state_after schedule entries).later ≡ passing_by entry later
 passes_by schedule at reports paid all entries room s entry later is = ap (passing_by entry) (ap (λ (st : State). st.later) s.goes.stands ∙ is)
 
--- an entry and the second behind it, each as it was noted
+-- an entry and the second behind it
 pub told_as : {schedule : List Step} {entries : List Entry} {room now told : ℕ} → IsTimed schedule entries room now told → (entry : Entry) (p : ℕ) → passing_by entry (state_after schedule entries).later ≡ p
-    → p ≤ MOST_PASSING → 2 ≤ room → (n : ℕ) (first both : List Entry) (less least : ℕ) → n ≡ now + p → first ≡ entry ∷ entries → both ≡ second n ∷ first → less ≡ room - 1 → least ≡ less - 1
-    → IsTimed schedule both least n n
-told_as {schedule} {entries} {room} {now} {told} t entry p passes few some n first both less least n_is first_is both_is less_is least_is =
-    timed_as (timed_told schedule entries room now told t entry p passes few some) both least n n
-    (both_is ∙ ap (λ es. second n ∷ es) first_is ∙ ap (λ m. second m ∷ entry ∷ entries) n_is) (omega (arith, less_is, least_is)) n_is n_is
+    → p ≤ MOST_PASSING → 2 ≤ room → (n : ℕ) (entries' : List Entry) (room' : ℕ) → n ≡ now + p → entries' ≡ second n ∷ entry ∷ entries → room' ≡ room - 2 → IsTimed schedule entries' room' n n
+told_as {schedule} {entries} {room} {now} {told} t entry p passes few some n entries' room' n_is entries_are room_is =
+    timed_as (timed_told schedule entries room now told t entry p passes few some) entries' room' n n (entries_are ∙ ap (λ m. second m ∷ entry ∷ entries) n_is) room_is n_is n_is
+
+-- what is told is not before what was told
+pub told_rises : (schedule : List Step) (entries : List Entry) (room now told : ℕ) → IsTimed schedule entries room now told → (n : ℕ) (entry : Entry) (entries' : List Entry) → now ≤ n
+    → entries' ≡ second n ∷ entry ∷ entries → second_of entries ≤ second_of entries'
+told_rises schedule entries room now told t n entry entries' less is =
+    let was = t.told_is in let later = t.later in let new : second_of entries' ≡ n = ap second_of is in omega (arith, was, later, new, less)
+
+-- where a step was met nothing was told
+pub met_untold : (later : List Step) (entries : List Entry) → second_of (after_meeting_one later entries) ≡ second_of entries
+met_untold [] entries = refl
+met_untold (Opens window bytes ∷ later) entries = refl
+met_untold (TurnsAway ∷ later) entries = refl
+met_untold (Reports c change ∷ later) entries = refl
+met_untold (Happens c change ∷ later) entries = refl

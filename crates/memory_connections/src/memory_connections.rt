@@ -10,7 +10,7 @@ use std::alloc::Global;
 /// Connections in memory: everything that happens at their other ends is a schedule. Their calls take no memory.
 #[derive(Drop)]
 pub struct MemConnections<'a> {
-    pub(crate) share: u32,
+    pub(crate) share: u16,
     pub(crate) stage: Stage<'a>,
     piece: u32,
     fails: Vec<u32>,
@@ -24,7 +24,7 @@ impl<'a> MemConnections<'a> {
     /// Connections whose reads and writes move at most so many bytes each. The calls of `next` that are to fail are listed by their numbers from 1.
     pub fn new(
         alloc: Global,
-        share: u32,
+        share: u16,
         schedule: &'a [Step],
         piece: u32,
         fails: &[u32],

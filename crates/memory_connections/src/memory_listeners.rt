@@ -1,9 +1,9 @@
 //! Places in memory.
-ghost use Rattle.std.specs.Prelude.{◌≡◌, ◌+◌, ◌<◌, ◌≤◌, [], None, Some, option_map, vec_len, vec_capacity, IfOk, IfSome, OnOk, OnErr};
+ghost use Rattle.std.specs.Prelude.{◌≡◌, ◌+◌, ◌<◌, ◌≤◌, [], true, None, Some, map, option_map, vec_len, vec_capacity, IfOk, IfSome, OnOk, OnErr};
 ghost use Rattle.connections.specs.Log.{new_log};
-ghost use Rattle.connections.specs.Shares.{with_share};
+ghost use Rattle.connections.specs.Shares.{GivesShares, are_awaited, with_share, without_shares};
 ghost use Rattle.memory_connections.specs.MemoryConnections.{log_of};
-ghost use Rattle.memory_connections.specs.MemoryPorts.{AreNew, seating_in};
+ghost use Rattle.memory_connections.specs.MemoryPorts.{AreNew, facts_of, logs_at, seating_in};
 ghost use Rattle.std.proofs.Props.{props};
 
 use crate::memory_ports::MemPorts;
@@ -25,6 +25,32 @@ pub struct MemListeners<'a> {
     faults: u64,
     ghost unused: { AreNew (seating_in waiting.seats.items) } by { Prim.hlevel props },
     ghost room: { vec_len heard + waiting.taken ≤ vec_capacity heard },
+}
+
+/// Takes so many shares from the first on, and puts them behind the others. Something waits at each.
+fn give_all<'a>(
+    waiting: &mut MemPorts<'a>,
+    first: u32,
+    shares: u32,
+    out: &mut Vec<BoxedConnections<'a>>,
+)
+    requires awaited { are_awaited first shares (logs_at (seating_in waiting.old.seats.items)) ≡ true }
+    requires within { first + shares ≤ 65536 }
+    requires unused { AreNew (seating_in waiting.old.seats.items) }
+    requires room { vec_len out.old + shares ≤ vec_capacity out.old }
+    ensures all { GivesShares (Some (logs_at (seating_in waiting.old.seats.items))) first shares
+        (map facts_of out.old.items) (map facts_of out.new.items) }
+    ensures taken { logs_at (seating_in waiting.new.seats.items) ≡ without_shares first shares (logs_at (seating_in waiting.old.seats.items)) }
+    ensures unused { AreNew (seating_in waiting.new.seats.items) }
+    ensures fewer { waiting.new.taken + shares ≡ waiting.old.taken }
+    ensures room { vec_capacity out.new ≡ vec_capacity out.old }
+{
+    for k in 0..shares {
+        let Some(connections) = waiting.take((first + k) as u16) else {
+            unreachable!()
+        };
+        out.push_reserved(BoxedConnections { connections });
+    }
 }
 
 impl<'a> MemListeners<'a> {
@@ -70,7 +96,7 @@ impl<'a> MemListeners<'a> {
         ensures given { ⟦<MemListeners<'a> as Listeners>⟧.given self.new ≡ ⟦<MemListeners<'a> as Listeners>⟧.given self.old }
         ensures faults { ⟦<MemListeners<'a> as Listeners>⟧.faults self.new ≡ ⟦<MemListeners<'a> as Listeners>⟧.faults self.old }
     {
-        let connections = MemConnections::new(alloc, u32::from(share), schedule, piece, fails)?;
+        let connections = MemConnections::new(alloc, share, schedule, piece, fails)?;
         let connections = Box::new(alloc, connections)?;
         self.heard.reserve(self.waiting.taken() + 1)?;
         self.waiting.put(share, connections);
@@ -83,20 +109,6 @@ impl<'a> MemListeners<'a> {
             (λ all. option_map (λ c. log_of c.now) result ≡ all share) }
     {
         self.released.get(share)
-    }
-
-    /// Whether something waits at so many shares from those on that were given out.
-    fn awaits(&self, shares: u32) -> bool {
-        for k in 0..shares {
-            let waits = match self.given.checked_add(k).map(u16::try_from) {
-                Some(Ok(share)) => self.waiting.get(share).is_some(),
-                _ => false,
-            };
-            if !waits {
-                return false;
-            }
-        }
-        true
     }
 }
 
@@ -119,39 +131,31 @@ impl<'a> Listeners for MemListeners<'a> {
 
     ghost given = { λ l. l.given };
 
-    fn set_places(&mut self, places: &[Place], most: u32) -> Result<(), Failed> {
-        self.places.clear();
-        if self.places.extend_from_slice(places).is_err() {
-            self.faults = self.faults.saturating_add(1);
-            return Err(Failed);
-        }
-        self.most = most;
-        Ok(())
+    fn set_places(&mut self, named: Vec<Place>, limit: u32) {
+        self.places = named;
+        self.most = limit;
+        self.heard.clear();
     }
 
+    #[tactic(auto, using(crate::proofs::Seats::awaited_within))]
     fn listen(
         &mut self,
         place: u32,
         shares: u32,
         out: &mut Vec<BoxedConnections<'a>>,
     ) -> Result<(), Failed> {
-        if !self.awaits(shares) {
+        if !self.waiting.are_taken(self.given, shares) {
             self.faults = self.faults.saturating_add(1);
             return Err(Failed);
         }
-        for _ in 0..shares {
-            let Some(connections) = self.waiting.take(self.given as u16) else {
-                unreachable!()
-            };
-            out.push_reserved(BoxedConnections { connections });
-            self.given += 1;
-        }
+        give_all(&mut self.waiting, self.given, shares, out);
+        self.given += shares;
         self.heard.push_reserved(place);
         Ok(())
     }
 
     fn release(&mut self, connections: BoxedConnections<'a>) {
         let connections = connections.connections;
-        self.released.put(connections.share as u16, connections);
+        self.released.put(connections.share, connections);
     }
 }

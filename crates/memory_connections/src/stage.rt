@@ -26,7 +26,7 @@ pub struct Stage<'a> {
     all: Vec<MemConnection<'a>>,
     log: MemLog<'a>,
     /// Which second it is, and which was told last.
-    now: u64,
+    present: u64,
     told: u64,
 }
 
@@ -41,7 +41,7 @@ impl<'a> Model for Stage<'a> {
     ghost invariant = { λ s. IsStage s.schedule.now s.at s.owed.items s.paid s.all.items s.log.entries s.log.room
         × (vec_len s.owed + s.log.room ≤ vec_capacity s.owed)
         × (vec_len s.all + s.log.room ≤ vec_capacity s.all)
-        × IsTimed s.schedule.now s.log.entries s.log.room s.now s.told };
+        × IsTimed s.schedule.now s.log.entries s.log.room s.present s.told };
 }
 
 /// How much a change may add to what its connection needs.
@@ -99,16 +99,18 @@ impl<'a> Stage<'a> {
             paid: 0,
             all: Vec::with_capacity(alloc, room)?,
             log: MemLog::new(alloc, room)?,
-            now: 0,
+            present: 0,
             told: 0,
         })
     }
 
     /// Reports the next step, or the next report that is owed.
+    #[tactic(auto, using(crate::proofs::Timing::told_rises))]
     pub fn next(&mut self) -> Option<Event>
         ensures next { IfSome result (λ event. IsNext event (played_connections self.old) (played_state self.old).later) }
         ensures entries { IfSome result (λ event. self.new.entries ≡ timed_entries self.old.schedule (entry_of event ∷ self.old.entries)) }
         ensures over { IfNone result (((played_state self.old).later ≡ []) × (self.new.entries ≡ self.old.entries)) }
+        ensures rises { second_of self.old.entries ≤ second_of self.new.entries }
         ensures room { IfSome result (λ _. self.new.room < self.old.room) }
         ensures schedule { self.new.schedule ≡ self.old.schedule }
     {
@@ -119,43 +121,38 @@ impl<'a> Stage<'a> {
                 self.at += 1;
                 self.all
                     .push_reserved(MemConnection::new(number, *window, bytes.bytes()));
-                self.log.note(Note::Opened(number));
-                self.told = self.now;
-                self.log.note(Note::Second(self.now));
+                self.told = self.present;
+                self.log.note_at(Note::Opened(number), self.present);
                 Some(Event::Opened(number))
             }
             Some(Step::TurnsAway) => {
                 self.at += 1;
-                self.log.note(Note::TurnedAway);
-                self.told = self.now;
-                self.log.note(Note::Second(self.now));
+                self.told = self.present;
+                self.log.note_at(Note::TurnedAway, self.present);
                 Some(Event::TurnedAway)
             }
             Some(Step::Reports(place, change)) => {
                 let number = change_at(&mut self.all, *place, change);
                 self.at += 1;
-                self.log.note(Note::Reported(number));
-                self.now += u64::from(change.passes);
-                self.told = self.now;
-                self.log.note(Note::Second(self.now));
+                self.present += u64::from(change.passes);
+                self.told = self.present;
+                self.log.note_at(Note::Reported(number), self.present);
                 Some(Event::Ready(number))
             }
             Some(Step::Happens(place, change)) => {
                 let number = change_at(&mut self.all, *place, change);
                 self.at += 1;
-                self.log.note(Note::Reported(number));
-                self.now += u64::from(change.passes);
-                self.told = self.now;
-                self.log.note(Note::Second(self.now));
+                self.present += u64::from(change.passes);
+                self.told = self.present;
+                self.log.note_at(Note::Reported(number), self.present);
                 Some(Event::Ready(number))
             }
             None => {
                 let place = *self.owed.get(self.paid)?;
                 let number = change_at(&mut self.all, place, &Change::NOTHING);
                 self.paid += 1;
-                self.log.note(Note::Reported(number));
-                self.told = self.now;
-                self.log.note(Note::Second(self.now));
+                self.told = self.present;
+                self.log.note_at(Note::Reported(number), self.present);
                 Some(Event::Ready(number))
             }
         }
@@ -182,7 +179,7 @@ impl<'a> Stage<'a> {
                 self.at += 1;
                 self.owed.push_reserved(*place);
                 self.log.note(Note::Met);
-                self.now += u64::from(change.passes);
+                self.present += u64::from(change.passes);
             }
             Some(Step::Opens(_, _)) => {}
             Some(Step::TurnsAway) => {}
@@ -204,6 +201,7 @@ impl<'a> Stage<'a> {
     }
 
     /// Reads at a place, up to so many bytes.
+    #[tactic(auto, using(crate::proofs::Timing::told_rises))]
     pub fn read(&mut self, place: usize, most: usize, out: &mut [u8]) -> Result<Input, Broken>
         requires there { place < length (played_connections self.old) }
         requires some { 0 < most }
@@ -211,6 +209,7 @@ impl<'a> Stage<'a> {
         ensures gives { IfSome (slice_get (played_connections self.old) place) (λ c. IsGiven c most out.new result) }
         ensures entries { IfSome (slice_get (played_connections self.old) place)
             (λ c. self.new.entries ≡ gave (now_after self.old.schedule self.old.entries) place c result self.old.entries) }
+        ensures rises { second_of self.old.entries ≤ second_of self.new.entries }
         ensures fits { IfOk result (FitsRoom (length out.old)) }
         ensures room { self.new.room ≤ self.old.room }
         ensures schedule { self.new.schedule ≡ self.old.schedule }
@@ -222,9 +221,8 @@ impl<'a> Stage<'a> {
         let is_emptied = connection.is_emptied(most);
         let given = take_at(&mut self.all, place, most);
         put(out, given);
-        self.log.note(Note::Received(place, given));
-        self.told = self.now;
-        self.log.note(Note::Second(self.now));
+        self.told = self.present;
+        self.log.note_at(Note::Received(place, given), self.present);
         if is_emptied {
             return Ok(Input::All(given.len()));
         }

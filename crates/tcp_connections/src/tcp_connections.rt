@@ -1,5 +1,5 @@
 //! The TCP connections of one share of a place.
-ghost use Rattle.std.specs.Prelude.{◌≡◌, ◌<◌, None, IfOk, IfSome};
+ghost use Rattle.std.specs.Prelude.{◌≡◌, ◌<◌, ◌≤◌, None, IfOk, IfSome};
 
 use crate::tcp_port::TcpPort;
 use connections::{Broken, Connections, Event, Input};
@@ -24,6 +24,13 @@ pub struct TcpConnections<'a, R, K> {
     /// How many reports it gives at most before it fails: so many that no machine comes to the end.
     left: u64,
     faults: u64,
+}
+
+/// The present second, which is not before this one.
+fn later<K: Clock>(clock: &mut K, second: u64) -> u64
+    ensures { second ≤ result }
+{
+    second.max(clock.second())
 }
 
 impl<'a, R: Wait, K: Clock> TcpConnections<'a, R, K> {
@@ -98,7 +105,7 @@ impl<'a, R: Wait, K: Clock + Drop> Connections for TcpConnections<'a, R, K> {
             if event.is_some() {
                 self.left -= 1;
             }
-            self.second = self.second.max(self.clock.second());
+            self.second = later(&mut self.clock, self.second);
             return Ok(event);
         }
         self.faults = self.faults.saturating_add(1);
@@ -115,7 +122,7 @@ impl<'a, R: Wait, K: Clock + Drop> Connections for TcpConnections<'a, R, K> {
             return Ok(Input::Later);
         }
         let input = self.sockets.read(number, out);
-        self.second = self.second.max(self.clock.second());
+        self.second = later(&mut self.clock, self.second);
         input
     }
 

@@ -58,10 +58,9 @@ impl<'a, R: Sockets + Wait + Sync, K: Clock + Copy + Drop + Send> TcpListeners<'
         TcpPort::open(
             self.rt,
             self.alloc,
-            place.address,
-            place.port,
+            place,
             self.most as usize,
-            Some(self.has_failed),
+            self.has_failed,
         )
         .ok()
     }
@@ -85,14 +84,10 @@ impl<'a, R: Sockets + Wait + Sync, K: Clock + Copy + Drop + Send> Listeners
 
     ghost given = { λ l. l.given };
 
-    fn set_places(&mut self, places: &[Place], most: u32) -> Result<(), Failed> {
-        self.places.clear();
-        if self.places.extend_from_slice(places).is_err() {
-            self.faults = self.faults.saturating_add(1);
-            return Err(Failed);
-        }
-        self.most = most;
-        Ok(())
+    fn set_places(&mut self, named: Vec<Place>, limit: u32) {
+        self.places = named;
+        self.most = limit;
+        self.heard.clear();
     }
 
     // One share: to deal connections to several is the hall's.

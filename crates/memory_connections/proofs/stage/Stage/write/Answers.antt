@@ -13,7 +13,7 @@ invariant_of-self c =
       stays e i.owed.items c.narrow_at.new.all.items c.send.new.self.entries c.send.new.self.room refl c.narrow_at.ensures.after c.send.ensures.entries c.send.ensures.room,
       omega (arith, c.self.invariant.1, c.send.ensures.room),
       omega (arith, c.self.invariant.2, c.send.ensures.room, c.narrow_at.ensures.len, c.narrow_at.ensures.capacity),
-      timed_as (timed_on i.schedule.now i.log.entries i.log.room i.now i.told c.self.invariant.3 (sent c.args.place (take c.min-count.result c.args.piece.now)) _ refl refl) c.send.new.self.entries c.send.new.self.room i.now i.told c.send.ensures.entries c.send.ensures.room refl refl,
+      timed_as (timed_on i.schedule.now i.log.entries i.log.room i.present i.told c.self.invariant.3 (sent c.args.place (take c.min-count.result c.args.piece.now)) _ refl refl) c.send.new.self.entries c.send.new.self.room i.present i.told c.send.ensures.entries c.send.ensures.room refl refl,
     )
 
 pub returns-clause-takes : goal.returns-clause-takes
