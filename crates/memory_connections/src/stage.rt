@@ -221,8 +221,8 @@ impl<'a> Stage<'a> {
         let is_emptied = connection.is_emptied(most);
         let given = take_at(&mut self.all, place, most);
         put(out, given);
-        self.told = self.present;
         self.log.note_at(Note::Received(place, given), self.present);
+        self.told = self.present;
         if is_emptied {
             return Ok(Input::All(given.len()));
         }
