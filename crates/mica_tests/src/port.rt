@@ -5,12 +5,14 @@ use connections::{Broken, Connections, Event, Input, Listeners, Place};
 use outside::{Clock, Failed};
 use std::net::{Ipv4Addr, Net as Sockets, TcpListener, TcpStream};
 use std::process::Abort;
+use std::sync::Wait;
 use std::sync::atomic::AtomicBool;
 use std::test::Fail;
 use std::time::Duration;
 use tcp_connections::{TcpConnections, TcpListeners};
 
 /// What the shares of a test look at: whether one has failed, and whether they are to stop.
+#[derive(Drop)]
 pub(crate) struct Flags {
     pub(crate) has_failed: AtomicBool,
     pub(crate) stopping: AtomicBool,
@@ -27,14 +29,14 @@ impl Flags {
 
 /// A share that has not ended.
 #[derive(Drop)]
-pub(crate) struct Share<'a, K: Clock + Drop> {
-    pub(crate) connections: TcpConnections<'a, HostRuntime, K>,
-    pub(crate) ghost open: { ⟦<TcpConnections<'a, HostRuntime, K> as Connections>⟧.has_ended connections ≡ false },
+pub(crate) struct Share<'a, R: Wait, K: Clock + Drop> {
+    pub(crate) connections: TcpConnections<'a, R, K>,
+    pub(crate) ghost open: { ⟦<TcpConnections<'a, R, K> as Connections>⟧.has_ended connections ≡ false },
 }
 
-impl<'a, K: Clock + Drop> Share<'a, K> {
+impl<'a, R: Wait, K: Clock + Drop> Share<'a, R, K> {
     /// The next report. It may wait.
-    pub(crate) fn report(&mut self, rt: &HostRuntime) -> Result<Event, Failed> {
+    pub(crate) fn report(&mut self, rt: &impl Abort) -> Result<Event, Failed> {
         match self.connections.next() {
             Ok(Some(event)) => Ok(event),
             Ok(None) => panic!(rt; "the share ended"),
@@ -72,7 +74,11 @@ impl<'a, K: Clock + Drop> Share<'a, K> {
     }
 
     /// A client that comes, and the number that its connection is under.
-    pub(crate) fn join(&mut self, rt: &HostRuntime, port: u16) -> Result<(TcpStream, u32), Fail> {
+    pub(crate) fn join(
+        &mut self,
+        rt: &(impl Abort + Sockets<Listener = TcpListener, Stream = TcpStream>),
+        port: u16,
+    ) -> Result<(TcpStream, u32), Fail> {
         let client = TcpStream::connect(rt, ("127.0.0.1", port))?;
         client.set_read_timeout(Some(Duration::from_secs(5)))?;
         for _ in 0..100u32 {
@@ -84,7 +90,12 @@ impl<'a, K: Clock + Drop> Share<'a, K> {
     }
 
     /// What the connection under this number gives next, at the reports of it.
-    pub(crate) fn input_of(&mut self, rt: &HostRuntime, number: u32, out: &mut [u8; 16]) -> Result<Input, Broken> {
+    pub(crate) fn input_of(
+        &mut self,
+        rt: &impl Abort,
+        number: u32,
+        out: &mut [u8; 16],
+    ) -> Result<Input, Broken> {
         for _ in 0..100u32 {
             if is_ready(self.report(rt), number) {
                 match self.read(number, out) {
@@ -106,13 +117,13 @@ fn is_ready(event: Result<Event, Failed>, number: u32) -> bool {
 }
 
 /// The share of one place, where it can be had: the second of two places, of which the first is nobody's.
-pub(crate) fn share_at<'a, K: Clock + Copy + Drop + Send>(
-    rt: &'a HostRuntime,
+pub(crate) fn share_at<'a, R: AllocGlobal + Sockets + Wait + Sync, K: Clock + Copy + Drop + Send>(
+    rt: &'a R,
     clock: K,
     flags: &'a Flags,
     port: u16,
     most: u32,
-) -> Option<Share<'a, K>> {
+) -> Option<Share<'a, R, K>> {
     let address = Ipv4Addr::LOCALHOST;
     let mut places = Vec::with_capacity(rt.alloc(), 2).ok()?;
     places.push_reserved(Place {
@@ -129,12 +140,12 @@ pub(crate) fn share_at<'a, K: Clock + Copy + Drop + Send>(
 }
 
 /// The share of a place at the first of some ports that is free, for at most so many connections, and this port.
-pub(crate) fn new_share<'a, K: Clock + Copy + Drop + Send>(
-    rt: &'a HostRuntime,
+pub(crate) fn new_share<'a, R: Abort + AllocGlobal + Sockets + Wait + Sync, K: Clock + Copy + Drop + Send>(
+    rt: &'a R,
     clock: K,
     flags: &'a Flags,
     most: u32,
-) -> (Share<'a, K>, u16) {
+) -> (Share<'a, R, K>, u16) {
     for port in 47_500..47_600u16 {
         if let Some(share) = share_at(rt, clock, flags, port, most) {
             return (share, port);

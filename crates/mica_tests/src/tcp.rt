@@ -8,6 +8,7 @@ use outside::Clock;
 use std::io::{Read, Write};
 use std::net::{Shutdown, TcpStream};
 use std::process::Abort;
+use std::sync::Wait;
 use std::sync::atomic::Ordering;
 use std::test::Fail;
 use std::thread::{join, sleep};
@@ -15,8 +16,8 @@ use std::time::Duration;
 
 /// The client says this, and it comes under the number, and nothing else does.
 fn expect_said(
-    rt: &HostRuntime,
-    share: &mut Share<'_, StdClock>,
+    rt: &impl Abort,
+    share: &mut Share<'_, impl Wait, StdClock>,
     client: &mut TcpStream,
     number: u32,
     said: &[u8],
@@ -33,8 +34,8 @@ fn expect_said(
 
 /// What is written under the number comes to the client, and nothing else did.
 fn expect_heard(
-    rt: &HostRuntime,
-    share: &mut Share<'_, StdClock>,
+    rt: &impl Abort,
+    share: &mut Share<'_, impl Wait, StdClock>,
     client: &mut TcpStream,
     number: u32,
     reply: &[u8],
@@ -74,7 +75,7 @@ fn two_clients_hear_their_own(rt: HostRuntime) -> Result<(), Fail> {
 }
 
 /// Writes bytes that count up to 250 again and again, as far as they are taken, and says how many were.
-fn fill(rt: &HostRuntime, share: &mut Share<'_, StdClock>, number: u32) -> u32 {
+fn fill(rt: &impl Abort, share: &mut Share<'_, impl Wait, StdClock>, number: u32) -> u32 {
     let mut piece = [0; 4_016];
     for at in 0..4_016usize {
         piece[at] = (at % 251) as u8;
@@ -91,7 +92,7 @@ fn fill(rt: &HostRuntime, share: &mut Share<'_, StdClock>, number: u32) -> u32 {
 }
 
 /// The client hears so many of these bytes.
-fn expect_filled(rt: &HostRuntime, client: &mut TcpStream, sent: u32) -> Result<(), Fail> {
+fn expect_filled(rt: &impl Abort, client: &mut TcpStream, sent: u32) -> Result<(), Fail> {
     let mut room = [0; 4_096];
     let mut heard = 0u32;
     for _ in 0..1_000_000u32 {

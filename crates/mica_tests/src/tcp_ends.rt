@@ -7,13 +7,14 @@ use outside::Clock;
 use std::io::{Read, Write};
 use std::net::TcpStream;
 use std::process::Abort;
+use std::sync::Wait;
 use std::sync::atomic::{AtomicBool, Ordering};
 use std::test::Fail;
 use std::thread::{join, sleep};
 use std::time::Duration;
 
 /// The share turns one connection away, and opens none before.
-fn expect_turned_away(rt: &HostRuntime, share: &mut Share<'_, StdClock>) {
+fn expect_turned_away(rt: &impl Abort, share: &mut Share<'_, impl Wait, StdClock>) {
     for _ in 0..100u32 {
         match share.report(rt) {
             Ok(Event::TurnedAway) => return,
@@ -25,10 +26,10 @@ fn expect_turned_away(rt: &HostRuntime, share: &mut Share<'_, StdClock>) {
 }
 
 /// The client hears that there are too many, and then the end.
-fn expect_too_many(rt: &HostRuntime, client: &mut TcpStream) -> Result<(), Fail> {
+fn expect_too_many(rt: &impl Abort, client: &mut TcpStream) -> Result<(), Fail> {
     let mut words = [0; 64];
     let count = client.read(&mut words)?;
-    assert!(rt; &words[..count] == b"ERROR Too many open connections\r\n");
+    assert!(rt; &words[..count] == b"ERROR Too many open connections\r\n".as_slice());
     assert!(rt; client.read(&mut words)? == 0);
     Ok(())
 }
@@ -61,7 +62,7 @@ fn one_too_many_is_turned_away(rt: HostRuntime) -> Result<(), Fail> {
 }
 
 /// Whether the share ends at one of its next reports.
-fn ends(share: Share<'_, StdClock>) -> bool {
+fn ends(share: Share<'_, impl Wait, StdClock>) -> bool {
     let mut left = Some(share);
     for _ in 0..100u32 {
         left = match left {

@@ -1,5 +1,5 @@
 //! The TCP connections of one share of a place.
-ghost use Rattle.std.specs.Prelude.{◌≡◌, ◌<◌, ◌≤◌, None, IfOk, IfSome};
+ghost use Rattle.std.specs.Prelude.{◌≡◌, ◌<◌, ◌≤◌, false, None, IfOk, IfSome};
 
 use crate::tcp_port::TcpPort;
 use connections::{Broken, Connections, Event, Input};

@@ -37,6 +37,7 @@ impl<'a, R: Sockets + Wait + Sync, K: Clock + Copy + Drop + Send> TcpListeners<'
     ) -> TcpListeners<'a, R, K>
         ensures places { ⟦<TcpListeners<'a, R, K> as Listeners>⟧.places result ≡ [] }
         ensures heard { ⟦<TcpListeners<'a, R, K> as Listeners>⟧.heard result ≡ [] }
+        ensures given { ⟦<TcpListeners<'a, R, K> as Listeners>⟧.given result ≡ 0 }
         ensures faults { ⟦<TcpListeners<'a, R, K> as Listeners>⟧.faults result ≡ 0 }
     {
         TcpListeners {
@@ -51,18 +52,6 @@ impl<'a, R: Sockets + Wait + Sync, K: Clock + Copy + Drop + Send> TcpListeners<'
             stopping,
             faults: 0,
         }
-    }
-
-    /// A share of a place.
-    fn open(&self, place: Place) -> Option<TcpPort<'a>> {
-        TcpPort::open(
-            self.rt,
-            self.alloc,
-            place,
-            self.most as usize,
-            self.has_failed,
-        )
-        .ok()
     }
 }
 
@@ -91,6 +80,7 @@ impl<'a, R: Sockets + Wait + Sync, K: Clock + Copy + Drop + Send> Listeners
     }
 
     // One share: to deal connections to several is the hall's.
+    #[tactic(auto, using(crate::proofs::Given::gives_pushed))]
     fn listen(
         &mut self,
         place: u32,
@@ -99,7 +89,8 @@ impl<'a, R: Sockets + Wait + Sync, K: Clock + Copy + Drop + Send> Listeners
     ) -> Result<(), Failed> {
         let at = self.places[place as usize];
         if shares == 1 && self.given < u32::MAX {
-            if let Some(sockets) = self.open(at) {
+            let most = self.most as usize;
+            if let Ok(sockets) = TcpPort::open(self.rt, self.alloc, at, most, self.has_failed) {
                 if self.heard.push(place).is_ok() {
                     out.push_reserved(TcpConnections::new(
                         self.rt,
