@@ -20,8 +20,8 @@ IsAmong c all = (earlier later : List ℕ) × (all ≡ earlier ++ c ∷ later)
 
 -- With a client the front talked so. Of one that memory lacked for in the end, it is not said how much of what was due was not sent.
 abbrev pub TalksWithOne : Options → ℕ → ℕ → List ℕ → ℕ → List ℕ → List ℕ → List Answered → Type 0
-TalksWithOne options base most lacking c received sent answers =
-    TalksWith options base most received sent answers ⊎ (IsAmong c lacking × TalksKept options base received sent answers)
+TalksWithOne options base most lacking c came went answers =
+    TalksWith options base most came went answers ⊎ (IsAmong c lacking × TalksKept options base came went answers)
 
 -- With each client it talked so, where calls did this, the last of them first, and all these answers were given.
 abbrev pub TalksWithAll : Options → ℕ → ℕ → List ℕ → List Entry → List Given → Type 0
