@@ -18,24 +18,28 @@ pub struct Unbound {
     pub port: u16,
     /// Whether it is of connections, and none of datagrams.
     pub is_tcp: bool,
+    /// How many descriptors are had before its own: those of the ports before it, each of connections with a second one, for what is ready there.
+    pub before: u32,
 }
 
 impl Unbound {
-    /// One of datagrams.
-    pub(crate) fn datagrams(port: u16) -> Unbound {
+    /// One of datagrams, behind so many of them.
+    pub(crate) fn datagrams(port: u16, before: u32) -> Unbound {
         Unbound {
             address: Ipv4Addr::LOCALHOST,
             port,
             is_tcp: false,
+            before,
         }
     }
 
-    /// One of connections.
-    pub(crate) fn connections(address: Ipv4Addr, port: u16) -> Unbound {
+    /// One of connections, at the place of this number.
+    pub(crate) fn connections(address: Ipv4Addr, port: u16, place: u32) -> Unbound {
         Unbound {
             address,
             port,
             is_tcp: true,
+            before: place.saturating_mul(2).saturating_add(1),
         }
     }
 }

@@ -109,12 +109,14 @@ fn serve_aloud<
             DaemonStatus::ImageRefused,
         ),
         Err(Stop::Unbound(port)) => {
-            note_unbound(shared.alloc, Unbound::datagrams(port), speaker);
+            let before = u32::from(port.saturating_sub(shared.service.ports.port));
+            note_unbound(shared.alloc, Unbound::datagrams(port, before), speaker);
             write_unbound(shared.alloc, port, &mut speaker.sink)
         }
         Err(Stop::Unheard(place)) => {
             let port = streams.ports.port + place as u16;
-            note_unbound(shared.alloc, Unbound::connections(streams.address, port), speaker);
+            let unbound = Unbound::connections(streams.address, port, place);
+            note_unbound(shared.alloc, unbound, speaker);
             write_unbound(shared.alloc, port, &mut speaker.sink)
         }
         Err(Stop::Fault(fault)) => write_fault(fault, &mut speaker.sink),

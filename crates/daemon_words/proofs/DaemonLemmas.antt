@@ -1,5 +1,5 @@
 -- What the words of a server that stays up give is possible.
-use Rattle.std.proofs.Common.{◌≡◌, ◌≤◌, ℕ, List, Option, Some, None, Err, sym, ◌∙◌, Bool, true, false, ◌&&◌, is_none, is_some, option_map, unwrap_or, ap, refl, subst, if◌then◌else◌, arith}
+use Rattle.std.proofs.Common.{◌≡◌, ℕ, List, Option, Some, None, Err, sym, ◌∙◌, Bool, true, false, ◌&&◌, is_none, is_some, option_map, unwrap_or, ap, refl, subst, if◌then◌else◌, arith}
 use Rattle.std.proofs.lemmas.Bool.{leb-true}
 use Rattle.std.proofs.lemmas.Option.{none-some}
 use Rattle.partition_model.specs.declared.options.TheConstants.{MOST_PARTITIONS, MOST_SPARES, MOST_WORDS, MOST_WEAR}
@@ -157,5 +157,5 @@ service_valid given service is =
 -- words that give nothing to the options give no such server
 pub daemon_none : (known : List Text) → known ≡ daemon_names → (words : List Text) (fault : WordsFault) → (fault ≡ Usage → given_by known words ≡ None)
     → IsDaemonReading (daemon_of words) (Err fault)
-daemon_none known same words Usage none = ap (λ r. r >>= λ given. daemon_given (text_of given)) (ap (λ n. given_by n words) (sym same) ∙ none refl)
-daemon_none known same words NoMemory none = tt
+daemon_none known same typed Usage none = ap (λ r. r >>= λ given. daemon_given (text_of given)) (ap (λ n. given_by n typed) (sym same) ∙ none refl)
+daemon_none known same typed NoMemory none = tt

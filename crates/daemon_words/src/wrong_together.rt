@@ -59,7 +59,12 @@ fn of_another_protocol(words: &[String]) -> Option<Refusal<'static>> {
             None
         };
     }
-    for name in &["--memcached", "--memcached-fronts", "--listen", "--connections"] {
+    for name in &[
+        "--memcached",
+        "--memcached-fronts",
+        "--listen",
+        "--connections",
+    ] {
         if gives(words, name) {
             return Some(Refusal::Apart(*name));
         }

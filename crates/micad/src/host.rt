@@ -24,7 +24,7 @@ use std::{io, time};
 use tcp_connections::TcpListeners;
 
 /// Says on standard error why the program ends, where there is a reason. What can't be said is left out.
-fn say_why<R: Eprint + Sockets + Files, K>(rt: &R, speaker: &Speaker<K>) {
+fn say_why<R: AllocGlobal + Eprint + Sockets + Files, K>(rt: &R, speaker: &Speaker<K>) {
     if speaker.reason.is_empty() {
         return;
     }

@@ -3,11 +3,15 @@
 use daemon::{Doubt, Unbound};
 use std::fs;
 use std::io::{self, ErrorKind};
-use std::net::{Net as Sockets, TcpListener, UdpSocket};
+use std::net::{Ipv4Addr, Net as Sockets, TcpListener, UdpSocket};
 use std::rt::Files;
 
-// What the system answers to one more try of a port.
-fn tried_port<R: Sockets>(rt: &R, unbound: &Unbound) -> io::Result<()> {
+// What the system answers to one more try of a port, beside as many descriptors as its server had before it.
+fn tried_port<R: AllocGlobal + Sockets>(rt: &R, unbound: &Unbound) -> io::Result<()> {
+    let mut before = Vec::new(rt.alloc());
+    for _ in 0..unbound.before {
+        before.push(UdpSocket::bind(rt, (Ipv4Addr::LOCALHOST, 0))?)?;
+    }
     let place = (unbound.address, unbound.port);
     if unbound.is_tcp {
         TcpListener::bind(rt, place)?;
@@ -43,7 +47,7 @@ fn cause_of(error: &io::Error) -> &'static str {
 }
 
 /// Why the system refused what is in doubt, as it says once more.
-pub fn doubt_text<R: Sockets + Files>(rt: &R, doubt: &Doubt) -> Option<&'static str> {
+pub fn doubt_text<R: AllocGlobal + Sockets + Files>(rt: &R, doubt: &Doubt) -> Option<&'static str> {
     let tried = match doubt {
         Doubt::Nothing => return None,
         Doubt::Port(unbound) => tried_port(rt, unbound),

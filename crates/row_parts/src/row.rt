@@ -6,7 +6,7 @@ use outside::NoMemory;
 use std::alloc::Global;
 
 /// What a line may begin with.
-static NAMES: [&str; 26] = [
+static NAMES: [&str; 27] = [
     "run",
     "ends",
     "or",
@@ -29,6 +29,7 @@ static NAMES: [&str; 26] = [
     "takes",
     "hears",
     "shows",
+    "why",
     "memory",
     "file",
     "reads",
