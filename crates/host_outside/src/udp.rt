@@ -109,11 +109,13 @@ fn receive(
     ensures { IfOk result (λ got. IfSome got (λ r. r.0 ≤ length out.new)) }
 {
     for _ in 0..u64::MAX {
-        if tells(has_failed) {
-            return Err(Failed);
-        }
+        // An end that stopped counts as one that has failed, so this is asked last.
+        let one_has_failed = tells(has_failed);
         if tells(stopping) {
             return Ok(None);
+        }
+        if one_has_failed {
+            return Err(Failed);
         }
         match socket.recv_from(out) {
             Ok(received) => return Ok(Some(received)),

@@ -78,8 +78,11 @@ impl<'a, R: Wait, K: Clock> TcpConnections<'a, R, K> {
             if self.is_stopping() {
                 return Ok(self.sockets.at_hand());
             }
-            if let Some(event) = self.sockets.step()? {
-                return Ok(Some(event));
+            match self.sockets.step() {
+                Ok(None) => {}
+                // A share that stopped counts as one that has failed.
+                Err(_) if self.is_stopping() => {}
+                told => return told,
             }
         }
         unreachable!()
