@@ -4,12 +4,10 @@ ghost use Rattle.partition_model.specs.Options.{IsPossible};
 
 use crate::{DaemonStatus, Doubt, Files, Speaker, Unbound};
 use daemon_words::{refusal_text, value_given};
-use locked_server::Service;
 use outside::Sink;
 use partition_model::Options;
 use partition_sizes::start_bytes;
 use std::alloc::Global;
-use std::net::Ipv4Addr;
 
 const MEBIBYTE: u64 = 1_048_576;
 
@@ -71,35 +69,16 @@ pub(crate) fn note_image<K: Sink + Drop>(
     }
 }
 
-// Which one a port is among so many from a first one on, if it is.
-fn place_among(port: u16, first: u16, count: u32) -> Option<u32> {
-    let place = u32::from(port.checked_sub(first)?);
-    if place < count { Some(place) } else { None }
-}
-
 /// Notes which port was not had, and of which address it is.
 pub(crate) fn note_unbound<K: Sink + Drop>(
     alloc: Global,
-    service: &Service,
-    port: u16,
+    unbound: Unbound,
     speaker: &mut Speaker<K>,
 )
     ensures { speaker.new.sink ≡ speaker.old.sink }
 {
-    let streams = &service.streams;
-    let (address, before) = match place_among(port, streams.port, streams.fronts) {
-        Some(place) => (speaker.address, place.saturating_mul(2).saturating_add(1)),
-        None => (
-            Ipv4Addr::LOCALHOST,
-            u32::from(port.saturating_sub(service.ports.port)),
-        ),
-    };
-    speaker.doubt = Doubt::Port(Unbound {
-        address,
-        port,
-        is_tcp: streams.fronts > 0,
-        before,
-    });
+    speaker.doubt = Doubt::Port(unbound);
+    let Unbound { address, port, .. } = unbound;
     if let Ok(text) = format!(in alloc; "{address}:{port} not bound") {
         speaker.reason = text;
     }
@@ -118,6 +97,7 @@ fn plain_reason(status: DaemonStatus) -> &'static str {
         DaemonStatus::ImageRefused =>
             "a partition has no room for all of the image: give more memory",
         DaemonStatus::UsedUp => "its ports have taken all that can be counted",
+        DaemonStatus::Stopped => "",
     }
 }
 

@@ -57,6 +57,11 @@ impl<'a, R: Wait, K: Clock> TcpConnections<'a, R, K> {
         }
     }
 
+    /// Whether it is to stop. Then nothing is read any more, and only what is at hand is reported: so what was read is answered, and no client has it go on for ever.
+    fn is_stopping(&self) -> bool {
+        self.stopping.load(Ordering::Relaxed)
+    }
+
     /// Waits for the next report, or until it is to stop.
     fn report(&mut self) -> io::Result<Option<Event>>
         ensures share { self.new.share ≡ self.old.share }
@@ -70,11 +75,14 @@ impl<'a, R: Wait, K: Clock> TcpConnections<'a, R, K> {
             return Err(ErrorKind::TimedOut.into());
         }
         for _ in self.rt.forever() {
-            if self.stopping.load(Ordering::Relaxed) {
-                return Ok(None);
+            if self.is_stopping() {
+                return Ok(self.sockets.at_hand());
             }
-            if let Some(event) = self.sockets.step()? {
-                return Ok(Some(event));
+            match self.sockets.step() {
+                Ok(None) => {}
+                // A share that stopped counts as one that has failed.
+                Err(_) if self.is_stopping() => {}
+                told => return told,
             }
         }
         unreachable!()
@@ -113,6 +121,9 @@ impl<'a, R: Wait, K: Clock + Drop> Connections for TcpConnections<'a, R, K> {
     }
 
     fn read(&mut self, number: u32, out: &mut [u8]) -> Result<Input, Broken> {
+        if self.is_stopping() {
+            return Ok(Input::Later);
+        }
         let input = self.sockets.read(number, out);
         self.second = later(&mut self.clock, self.second);
         input

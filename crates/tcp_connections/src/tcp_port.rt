@@ -320,6 +320,20 @@ impl<'a> TcpPort<'a> {
         Some(number)
     }
 
+    /// The next report of those at hand: of this round, and of the next one as far as it is known.
+    pub(crate) fn at_hand(&mut self) -> Option<Event> {
+        let most = self.round.len().saturating_add(self.queue.len());
+        for _ in 0..most {
+            if self.round.is_empty() {
+                mem::swap(&mut self.queue, &mut self.round);
+            }
+            if let Some(number) = self.take_ready() {
+                return Some(Event::Ready(number));
+            }
+        }
+        None
+    }
+
     /// The next report, if there is one at hand or comes with one look: those of a round, and after each round one connection that waits to be accepted.
     pub(crate) fn step(&mut self) -> io::Result<Option<Event>> {
         if !self.round.is_empty() {
