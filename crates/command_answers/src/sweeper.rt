@@ -132,12 +132,7 @@ fn sweep_key<F: Changes>(
 }
 
 // Takes away the item that was glanced at, unless it is there, and says whether it did. It looks under a hold once for so many items, and where one seems to be over.
-fn sweep_item<F: Changes>(
-    front: &mut F,
-    second: u64,
-    base: u64,
-    sweeper: &mut Sweeper,
-) -> bool
+fn sweep_item<F: Changes>(front: &mut F, second: u64, base: u64, sweeper: &mut Sweeper) -> bool
     requires key { KeyFits sweeper.old.key }
     requires left { 0 < F.left front.old }
     ensures swept { SweepsBy (F.options front.old) F.is_alone base second 1 (F.sessions front.old) (F.left front.old) (F.sessions front.new) (F.left front.new) }

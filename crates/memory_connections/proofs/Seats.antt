@@ -177,7 +177,7 @@ awaited_within seats first (suc zero) some is =
     let here = seat_within seats first (and_parts (is_some (logs_at (seating_in seats) first)) (are_awaited (suc first) 0 (logs_at (seating_in seats))) is).0 in omega (arith, here)
 awaited_within seats first (suc (suc count)) some is =
     let rest = awaited_within seats (suc first) (suc count) (omega arith)
-        (and_parts (is_some (logs_at (seating_in seats) first)) (are_awaited (suc first) (suc count) (logs_at (seating_in seats))) is).1 in
+    (and_parts (is_some (logs_at (seating_in seats) first)) (are_awaited (suc first) (suc count) (logs_at (seating_in seats))) is).1 in
     omega (arith, rest)
 
 -- what is seated is awaited

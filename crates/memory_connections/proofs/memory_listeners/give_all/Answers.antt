@@ -18,7 +18,7 @@ unreachable-requires c =
     let now = seating_in c.loop-k.waiting.seats.items in
     let waits = waits_still c.args.first c.loop-k.k c.args.shares (logs_at (seating_in c.args.waiting.now.seats.items)) (logs_at now) c.loop-k-test.true inv.awaited inv.taken in
     let none : now (c.args.first + c.loop-k.k) ≡ None =
-        sym c.take.ensures.taken ∙ ap (λ (o : Option (Box MemConnections)). option_map (λ (b : Box MemConnections). b.value) o) c.in_default.is in
+    sym c.take.ensures.taken ∙ ap (λ (o : Option (Box MemConnections)). option_map (λ (b : Box MemConnections). b.value) o) c.in_default.is in
     true≢false (sym waits.0 ∙ ap (λ (o : Option MemConnections). is_some (option_map log_of o)) none)
 
 pub loop-k-preserved : goal.loop-k-preserved
@@ -35,7 +35,7 @@ loop-k-preserved c =
     let one = gives_one (Some (logs_at now)) (first + k) mid (facts_of boxed) (new_share now (first + k) taken inv.unused c.in-Some.ensures.taken) in
     let given = gives_on (Some all) (Some (logs_at now)) first k 1 (map facts_of c.args.out.now.items) mid (mid ++ facts_of boxed ∷ []) inv.gives (ap Some inv.taken) one in
     let out : map facts_of c.push_reserved.new.self.items ≡ mid ++ facts_of boxed ∷ [] =
-        ap (map facts_of) c.push_reserved.ensures.items ∙ map-append facts_of c.loop-k.out.items (boxed ∷ []) in
+    ap (map facts_of) c.push_reserved.ensures.items ∙ map-append facts_of c.loop-k.out.items (boxed ∷ []) in
     record {
       gives = subst (GivesShares (Some all) first (k + 1) (map facts_of c.args.out.now.items)) (sym out) given;
       taken = logs_taken (first + k) now new c.take.ensures.at ∙ ap (with_share (first + k) None) inv.taken ∙ without_more first k all;
