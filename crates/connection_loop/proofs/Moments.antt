@@ -161,7 +161,7 @@ module _ (options : Options) (base most : ℕ) where
     pub through_entry : (entry : Entry) (entries : List Entry) (all : List Given) → TalksWithAll options base most lacking (entry ∷ entries) all
         → IsCaused options base schedule lacking entry entries all → TalksThrough options base most schedule lacking entries all
         → TalksThrough options base most schedule lacking (entry ∷ entries) all
-    through_entry entry entries all talks cause through = (talks, (all, ([], (sym (append-nil all), record { at = tt; timed = λ untimed. refl })), cause, through))
+    through_entry entry entries all talks cause through = (talks, (all, ([], sym (append-nil all), record { at = tt; timed = λ untimed. refl }), cause, through))
 
     -- it is told which second it is
     pub through_second : (t : ℕ) (entries : List Entry) (all : List Given) → TalksThrough options base most schedule lacking entries all
@@ -178,7 +178,7 @@ module _ (options : Options) (base most : ℕ) where
           talks,
           (
             first,
-            (later ++ more, (ap (λ l. l ++ more) through.1.1.1 ∙ append_assoc first later more, since_both options (e ∷ entries) later more through.1.1.2 since)),
+            (later ++ more, ap (λ l. l ++ more) through.1.1.1 ∙ append_assoc first later more, since_both options (e ∷ entries) later more through.1.1.2 since),
             through.1.2,
             through.1.3,
           ),

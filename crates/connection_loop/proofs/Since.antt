@@ -1,5 +1,5 @@
 -- What stands since a front began to serve a port.
-use Rattle.std.proofs.Common.{◌≡◌, ℕ, ◌+◌, Bool, true, false, true≢false, List, [], ◌++◌, length, inl, refl, sym, ap, ◌∙◌, subst, arith, length-append}
+use Rattle.std.proofs.Common.{◌≡◌, ℕ, ◌+◌, ◌≤◌, Bool, true, false, true≢false, List, [], ◌++◌, length, inl, refl, sym, ap, ◌∙◌, subst, arith, length-append}
 use Rattle.std.specs.Prelude.{min, Option, None, Some, is_some, IfSome, option_map}
 use Rattle.std.proofs.lemmas.Option.{none-some, same_Some}
 use Rattle.partition_model.specs.declared.options.Options.{Options}
@@ -116,8 +116,9 @@ module _ (options : Options) (is_alone : Bool) (base : ℕ) (old : Sessions) (le
         let answers = f.1 ++ answers_in second.0 ++ sweeps.answers in (
           f.0 ++ second.0,
           answers,
-          these_then options is_alone (these_then options is_alone f.2 (these_within options is_alone rises (omega arith) second.1))
-              (these_within options is_alone (omega (arith, at)) (omega (arith, at)) (these_sweeps sweeps)),
+          these_then options is_alone {then_told = then_told}
+              (these_then options is_alone {then_told = told_between} f.2 (these_within options is_alone {earlier = told_between} {told = next_told} {tells = then_told} {later = then_told} rises (omega arith) second.1))
+              (these_within options is_alone {earlier = then_told} {told = s} {tells = s} {later = then_told} (omega (arith, at)) (omega (arith, at)) (these_sweeps sweeps)),
           record {
             schedule = schedule ∙ by.schedule;
             lacking = on.0 ++ by.lacking;

@@ -115,6 +115,7 @@ module _ (options : Options) (base most : ℕ) (schedule : List Step) (piece : �
       → TalksWithAll options base most lacking old all → IsCaughtUp options base schedule piece old all
       → TakesTurns options base most schedule piece lacking old all answers
       → TakesTurns options base most schedule piece (more ++ lacking) new (all ++ given) (answers ++ answers_in given ++ swept)
+  unfolding grows_none grows_call grows_then
   turns_more more lacking event t old between new all given answers swept reports grows few earns sweeps few_sweeps at talks caught_up before = record {
     turns = record { report = entry_of event; calls = whole.0; given = given; swept = swept } ∷ before.turns;
     calls = ap (λ e. whole.0 ++ entry_of event ∷ e) before.calls ∙ sym whole.1;

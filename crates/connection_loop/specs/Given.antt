@@ -1,5 +1,5 @@
 -- What a front answered, and which connection each answer was given to.
-use Rattle.std.specs.Prelude.{◌≡◌, ℕ, ◌==◌, List, map, filter}
+use Rattle.std.specs.Prelude.{ℕ, ◌==◌, List, map, filter}
 use Rattle.fronts.specs.Answered.{Answered}
 
 -- an answer to what the client of a connection said, by the place of that among all that were made

@@ -132,7 +132,13 @@ pub(crate) fn share_at<'a, R: AllocGlobal + Sockets + Wait + Sync, K: Clock + Co
     });
     places.push_reserved(Place { address, port });
     let mut shares = Vec::with_capacity(rt.alloc(), 1).ok()?;
-    let mut listeners = TcpListeners::new(rt, rt.alloc(), clock, &flags.has_failed, &flags.stopping);
+    let mut listeners = TcpListeners::new(
+        rt,
+        rt.alloc(),
+        clock,
+        &flags.has_failed,
+        &flags.stopping,
+    );
     listeners.set_places(places, most);
     listeners.listen(1, 1, &mut shares).ok()?;
     let connections = shares.pop()?;
@@ -140,12 +146,11 @@ pub(crate) fn share_at<'a, R: AllocGlobal + Sockets + Wait + Sync, K: Clock + Co
 }
 
 /// The share of a place at the first of some ports that is free, for at most so many connections, and this port.
-pub(crate) fn new_share<'a, R: Abort + AllocGlobal + Sockets + Wait + Sync, K: Clock + Copy + Drop + Send>(
-    rt: &'a R,
-    clock: K,
-    flags: &'a Flags,
-    most: u32,
-) -> (Share<'a, R, K>, u16) {
+pub(crate) fn new_share<
+    'a,
+    R: Abort + AllocGlobal + Sockets + Wait + Sync,
+    K: Clock + Copy + Drop + Send,
+>(rt: &'a R, clock: K, flags: &'a Flags, most: u32) -> (Share<'a, R, K>, u16) {
     for port in 47_500..47_600u16 {
         if let Some(share) = share_at(rt, clock, flags, port, most) {
             return (share, port);

@@ -8,8 +8,8 @@ use Rattle.connection_loop.specs.Open.{OnLogs}
 use Rattle.connection_loop.proofs.Since.{StandsSince}
 use Rattle.connection_loop.proofs.serve.serve_connections.Given as goal
 
-abbrev pub invariant-loop-alloc : goal.invariant-loop-alloc
-invariant-loop-alloc g l =
+abbrev pub invariant-loop-clients : goal.invariant-loop-clients
+invariant-loop-clients g l =
     (vec_len l.desk.room ≡ MAX_WAITING_LEN)
     × AreOpen l.clients.held.items (g.C.Connections.log l.connections)
     × (g.C.Connections.has_ended l.connections ≡ false)
@@ -22,5 +22,5 @@ invariant-loop-alloc g l =
     × OnLogs (StandsSince (g.F.Front.options l.initial.hand.front) g.F.Front.is_alone l.initial.hand.numbering.base (g.F.Front.sessions l.initial.hand.front) (g.F.Front.left l.initial.hand.front) (g.C.Connections.last l.initial.connections)
     l.initial.lacked (g.F.Front.sessions l.hand.front) (g.F.Front.left l.hand.front) (g.C.Connections.last l.connections) l.lacked l.clients.held.items) (g.C.Connections.log l.initial.connections) (g.C.Connections.log l.connections)
 
-abbrev pub decreases-loop-alloc : goal.decreases-loop-alloc
-decreases-loop-alloc g l = g.C.Connections.reports l.connections
+abbrev pub decreases-loop-clients : goal.decreases-loop-clients
+decreases-loop-clients g l = g.C.Connections.reports l.connections

@@ -1,4 +1,4 @@
-use Rattle.std.proofs.Common.{◌≤◌, [], sym, subst, arith}
+use Rattle.std.proofs.Common.{[], sym, subst, arith}
 use Rattle.connections.specs.declared.connections.Event.{Event}
 use Rattle.connection_loop.specs.Open.{OnLogs}
 use Rattle.connection_loop.specs.Standing.{StandsOn}

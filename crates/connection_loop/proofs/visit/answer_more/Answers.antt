@@ -27,8 +27,8 @@ returns-then-client-gt0-clause-talk g c =
     let bytes_are : c.bytes-bytes.result.now ≡ client.kept = c.bytes-bytes.ensures ∙ c.replace-kept.ensures.value in
     let goes = subst (λ b. GoesOnTo options base (position_at b client.done) r.0 [] replies (HaltsAs options base (length b) halt (position_of now))) bytes_are r.2.1.0 in (
       r.0,
-      these_within options g.F.Front.is_alone (omega (arith, c.second.ensures.last)) (omega (arith, c.second.ensures.last, c.look_at.ensures.second)) r.1,
-      on_same c.args.number (Looks options base client r.0 replies now (Ok (halt, None))) (λ l. c.second.result ≡ second_of l.entries) (g.C.Connections.log c.args.connections.now) c.second.ensures.second
+      these_within options g.F.Front.is_alone (omega (arith, c.second-hand.ensures.last)) (omega (arith, c.second-hand.ensures.last, c.look_at.ensures.second)) r.1,
+      on_same c.args.number (Looks options base client r.0 replies now (Ok (halt, None))) (λ l. c.second-hand.result ≡ second_of l.entries) (g.C.Connections.log c.args.connections.now) c.second-hand.ensures.second
           (λ d a told. inl (record {
             same = refl;
             goes = looks_further options base client now halt r.0 replies c.requires.client c.if-client-gt0.true goes;
@@ -66,8 +66,8 @@ returns-clause-talk g c =
     let had = ap length same in let kept = ap length c.in-Ok.ensures.kept ∙ length-append client.kept (drop (length client.kept) (take filled.0 room)) in let len = length-take filled.0 room in
     omega (arith, had, kept, len, c.in-Ok.ensures.fits, c.fill.ensures.room) in (
       r.0,
-      these_within options g.F.Front.is_alone (omega (arith, c.second-2.ensures.last, c.fill.ensures.rises)) (omega (arith, c.second-2.ensures.last, c.look_at_room.ensures.second)) r.1,
-      on_told c.args.number _ (Looks options base client r.0 replies now (Ok (halt, filled.1))) (λ l. c.second-2.result ≡ second_of l.entries) (g.C.Connections.log c.args.connections.now) (g.C.Connections.log c.fill.new.connections) c.second-2.ensures.second
+      these_within options g.F.Front.is_alone (omega (arith, c.second-hand-2.ensures.last, c.fill.ensures.rises)) (omega (arith, c.second-hand-2.ensures.last, c.look_at_room.ensures.second)) r.1,
+      on_told c.args.number _ (Looks options base client r.0 replies now (Ok (halt, filled.1))) (λ l. c.second-hand-2.result ≡ second_of l.entries) (g.C.Connections.log c.args.connections.now) (g.C.Connections.log c.fill.new.connections) c.second-hand-2.ensures.second
           (λ d a b told x. inr (record {
             first = first;
             bytes = drop (length client.kept) (take filled.0 room);
@@ -93,9 +93,9 @@ returns-in_err-halt-clause-talk g c =
     let spoke = subst (λ b. SpokeFrom options base (length b) (position_at b client.done) r.0) bytes_are r.2.1 in
     let is = err_from_is_err_and c.from_residual.result c.from_residual.ensures.1 in (
       r.0,
-      these_within options g.F.Front.is_alone (omega (arith, c.second.ensures.last)) (omega (arith, c.second.ensures.last, c.look_at.ensures.second)) r.1,
-      match_err _ _ c.from_residual.result is.0 is.1 (on_same c.args.number (Lacks options base client r.0) (λ l. c.second.result ≡ second_of l.entries) (g.C.Connections.log c.args.connections.now)
-          c.second.ensures.second (λ d a told. inl (record { same = refl; spoke = lacks_further options base client r.0 c.requires.client c.if-client-gt0.true spoke; few_answers = r.2.0; at = these_at options g.F.Front.is_alone (second_of a.entries) told c.look_at.ensures.second r.1 }))),
+      these_within options g.F.Front.is_alone (omega (arith, c.second-hand.ensures.last)) (omega (arith, c.second-hand.ensures.last, c.look_at.ensures.second)) r.1,
+      match_err _ _ c.from_residual.result is.0 is.1 (on_same c.args.number (Lacks options base client r.0) (λ l. c.second-hand.result ≡ second_of l.entries) (g.C.Connections.log c.args.connections.now)
+          c.second-hand.ensures.second (λ d a told. inl (record { same = refl; spoke = lacks_further options base client r.0 c.requires.client c.if-client-gt0.true spoke; few_answers = r.2.0; at = these_at options g.F.Front.is_alone (second_of a.entries) told c.look_at.ensures.second r.1 }))),
     )
 
 pub returns-in_err-halt-2-clause-talk : goal.returns-in_err-halt-2-clause-talk
@@ -116,9 +116,9 @@ returns-in_err-halt-2-clause-talk g c =
     let kept = ap length c.in-Ok.ensures.kept in let len = length-take filled.0 room in let fits = c.in-Ok.ensures.fits in omega (arith, kept, len, fits) in
     let is = err_from_is_err_and c.from_residual-in_err-halt-2.result c.from_residual-in_err-halt-2.ensures.1 in (
       r.0,
-      these_within options g.F.Front.is_alone (omega (arith, c.second-2.ensures.last, c.fill.ensures.rises)) (omega (arith, c.second-2.ensures.last, c.look_at_room.ensures.second)) r.1,
+      these_within options g.F.Front.is_alone (omega (arith, c.second-hand-2.ensures.last, c.fill.ensures.rises)) (omega (arith, c.second-hand-2.ensures.last, c.look_at_room.ensures.second)) r.1,
       match_err _ _ c.from_residual-in_err-halt-2.result is.0 is.1
-          (on_told c.args.number _ (Lacks options base client r.0) (λ l. c.second-2.result ≡ second_of l.entries) (g.C.Connections.log c.args.connections.now) (g.C.Connections.log c.fill.new.connections) c.second-2.ensures.second
+          (on_told c.args.number _ (Lacks options base client r.0) (λ l. c.second-hand-2.result ≡ second_of l.entries) (g.C.Connections.log c.args.connections.now) (g.C.Connections.log c.fill.new.connections) c.second-hand-2.ensures.second
           (λ d a b told x. inr (record { first = first; bytes = drop (length client.kept) (take filled.0 room); short = short; reads = x.0; spoke = spoke; few_answers = r.2.0; at = these_at options g.F.Front.is_alone (second_of b.entries) told c.look_at_room.ensures.second r.1 })) c.in-Ok.ensures.reads),
     )
 

@@ -28,7 +28,8 @@ returns-then-writes_left-most_writes-clause-talks g c =
     goes_once (g.F.Front.options c.args.hand.now.front) g.F.Front.is_alone c.args.hand.now.numbering.base c.args.number c.args.client.now (log c.args.connections.now) (log c.visit_once.new.connections)
     c.visit_once.new.client c.in_ok-after.after Again c.in-Again.is c.in_ok-after.ensures.talks
     (λ again. these_some (g.F.Front.options c.args.hand.now.front) g.F.Front.is_alone c.in_ok-after.ensures.talks.0 c.in_ok-after.ensures.talks.1
-    (omega (arith, c.if-writes_left-most_writes.true, c.writes_left.ensures, c.most_writes.ensures, c.requires.left)))
+    (let same = ap (λ (n : Numbering). n.partitions) c.visit_once.ensures.same.same_numbering in
+    omega (arith, c.if-writes_left-most_writes.true, c.writes_left.ensures, c.most_writes.ensures, c.requires.left, same)))
 
 pub returns-clause-talks : goal.returns-clause-talks
 returns-clause-talks g c =
