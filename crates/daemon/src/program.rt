@@ -74,14 +74,7 @@ fn answer<K: Sink>(question: Question, sink: &mut K) -> Ending
 }
 
 // Runs the server that words give which ask no question.
-fn serve_words<
-    W: Threads + Wait + Sync,
-    F: Files,
-    K: Sink + Drop,
-    N: Net,
-    L: Listeners,
-    G: Gate,
->(
+fn serve_words<W: Threads + Wait + Sync, F: Files, K: Sink + Drop, N: Net, L: Listeners, G: Gate>(
     process: &Process<W, G>,
     start: Start,
     words: &[String],
@@ -144,9 +137,7 @@ pub fn answer_or_serve<
 {
     match question_of(words) {
         Some(question) => answer(question, &mut speaker.sink),
-        None => serve_words(
-            process, start, words, files, speaker, net, listeners, left,
-        ),
+        None => serve_words(process, start, words, files, speaker, net, listeners, left),
     }
 }
 

@@ -67,13 +67,7 @@ fn status_at_totals(stopping: &AtomicBool) -> DaemonStatus
 }
 
 // Serves, with the line to be written at hand.
-fn serve_aloud<
-    W: Threads + Wait + Sync,
-    K: Sink + Drop,
-    N: Net,
-    L: Listeners,
-    G: Gate,
->(
+fn serve_aloud<W: Threads + Wait + Sync, K: Sink + Drop, N: Net, L: Listeners, G: Gate>(
     shared: &Shared<W, G>,
     stopping: &AtomicBool,
     streams: &StreamOptions,
@@ -199,14 +193,7 @@ fn has_memory<F: Files>(alloc: Global, files: &F, options: &Options) -> bool
 /// counted, and each connection until it ends. It writes one line once it has all ports, and one at its end. Where they take more memory than is free, it ends at once.
 /// `start` has the unique number of the first value that a partition takes from a connection. `left.lacked` says how many connections were closed since there was no
 /// memory for them.
-pub fn daemon<
-    W: Threads + Wait + Sync,
-    F: Files,
-    K: Sink + Drop,
-    N: Net,
-    L: Listeners,
-    G: Gate,
->(
+pub fn daemon<W: Threads + Wait + Sync, F: Files, K: Sink + Drop, N: Net, L: Listeners, G: Gate>(
     process: &Process<W, G>,
     start: Start,
     words: &[String],

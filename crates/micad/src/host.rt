@@ -47,9 +47,12 @@ struct Flags {
 }
 
 /// Answers the words, or serves by them, and then says why that ended.
-fn serve<
-    R: Threads + Wait + Sync + AllocGlobal + Eprint + Files + Print + Sockets + time::Clock,
->(rt: &R, args: io::Result<Args>, pid: u32, flags: &Flags) -> ExitCode
+fn serve<R: Threads + Wait + Sync + AllocGlobal + Eprint + Files + Print + Sockets + time::Clock>(
+    rt: &R,
+    args: io::Result<Args>,
+    pid: u32,
+    flags: &Flags,
+) -> ExitCode
     ensures { EndsBy (words_of string_bytes args) (exit_status result) }
 {
     let alloc = rt.alloc();

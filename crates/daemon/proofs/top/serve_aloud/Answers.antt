@@ -42,7 +42,7 @@ returns-in-Err-Unbound g c = record {
   cause = c.in-Err-Unbound.ensures.cause;
   leaves = leaves_by (line_at g) (sink_at g) c.args.streams.now.ports c.requires.line c.in-Err-Unbound.ensures.leaves;
   last = written_last c.args.streams.now.ports.port c.in-Err-Unbound.field-0 (Unbound c.in-Err-Unbound.port) (sink_at g c.serve_locked.new.announce) _ _ c.in-Err-Unbound.field-0-is
-    (subst (λ (k : g.row.K.Denot). IsTold NetFault (unbound_text c.in-Err-Unbound.port) (sink_facts g.K.Sink k) _ _) c.note_unbound.ensures c.write_unbound.ensures);
+      (subst (λ (k : g.row.K.Denot). IsTold NetFault (unbound_text c.in-Err-Unbound.port) (sink_facts g.K.Sink k) _ _) c.note_unbound.ensures c.write_unbound.ensures);
 }
 
 pub returns-in-Err-Unheard : goal.returns-in-Err-Unheard
