@@ -13,7 +13,7 @@ use Rattle.locked_server.specs.declared.stop.Stop.{Stop}
 use Rattle.locked_server.specs.declared.stop.Stop.TheVariants.{Refused, Unbound, Unheard, Unannounced, Fault}
 use Rattle.locked_server.specs.Causes.{HasAnnounced, IsCauseOfStop, Leaves, PortFacts}
 use Rattle.daemon.specs.declared.status.DaemonStatus.{DaemonStatus}
-use Rattle.daemon.specs.declared.status.DaemonStatus.TheVariants.{Usage, UsedUp, Stopped}
+use Rattle.daemon.specs.declared.status.DaemonStatus.TheVariants.{Usage, UsedUp, Stopped, NetFault}
 use Rattle.option_words.specs.Words.{Text}
 use Rattle.daemon_words.specs.declared.streams.StreamOptions.{StreamOptions}
 use Rattle.daemon_words.specs.DaemonWords.{Service}
@@ -21,7 +21,7 @@ use Rattle.server_words.specs.Output.{SinkFacts}
 use Rattle.daemon.specs.Written.{IsUnwritten, IsTold}
 use Rattle.daemon.specs.Files.{FilesFacts}
 use Rattle.daemon.specs.Filling.{KeepsFiles}
-use Rattle.daemon.specs.Daemon.{DaemonOutside, Says, FailsToSay, ready_text, WritesLast, ServesAloud, ServesPlaced, BindsNothing, KeepsUp, places_of, placed}
+use Rattle.daemon.specs.Daemon.{DaemonOutside, Says, FailsToSay, ready_text, unbound_text, WritesLast, ServesAloud, ServesPlaced, BindsNothing, KeepsUp, places_of, placed}
 
 -- what was announced by a sink with a line at hand was announced by the sink
 module _ {A : Type 0} (line_of : A → List ℕ) (sink_of : A → SinkFacts) (line : List ℕ) (old new : A) (same : line_of old ≡ line) where
@@ -61,6 +61,10 @@ pub totals_last : (text : List ℕ) {due status : DaemonStatus} {old new : SinkF
     → IsTold UsedUp text old new status ⊎ IsTold Stopped text old new status
 totals_last text {due} {status} {old} {new} (inl is) told = inl (subst (λ (d : DaemonStatus). IsTold d text old new status) is told)
 totals_last text {due} {status} {old} {new} (inr is) told = inr (subst (λ (d : DaemonStatus). IsTold d text old new status) is told)
+
+-- a line that names a port names it by any number that is its own
+pub told_of : (n port : ℕ) {old new : SinkFacts} {status : DaemonStatus} → n ≡ port → IsTold NetFault (unbound_text n) old new status → IsTold NetFault (unbound_text port) old new status
+told_of n port {old} {new} {status} same told = subst (λ (k : ℕ). IsTold NetFault (unbound_text k) old new status) same told
 
 -- a place that was not had is one of them
 pub place_within : (stop : Stop) (place : ℕ) {service : LockedService} {writes : List Write} {kept : List KeptSeat} {lacked : ℕ} {before after : PortFacts} → stop ≡ Unheard place

@@ -69,18 +69,12 @@ pub(crate) fn note_image<K: Sink + Drop>(
     }
 }
 
-/// Notes which port was not had, and of which address it is.
-pub(crate) fn note_unbound<K: Sink + Drop>(
-    alloc: Global,
-    unbound: Unbound,
-    speaker: &mut Speaker<K>,
-)
-    ensures { speaker.new.sink ≡ speaker.old.sink }
-{
-    speaker.doubt = Doubt::Port(unbound);
+/// Names a port that was not had.
+pub(crate) fn unbound_reason(alloc: Global, unbound: Unbound) -> String {
     let Unbound { address, port, .. } = unbound;
-    if let Ok(text) = format!(in alloc; "{address}:{port} not bound") {
-        speaker.reason = text;
+    match format!(in alloc; "{address}:{port} not bound") {
+        Ok(text) => text,
+        Err(_) => String::new(alloc),
     }
 }
 

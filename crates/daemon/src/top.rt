@@ -18,9 +18,9 @@ use crate::filling::filling_of;
 use crate::output::{print_totals, write_due};
 use crate::places::places_of;
 use crate::process::{Process, Start};
-use crate::reasons::{note_image, note_unbound, shortage_reason};
+use crate::reasons::{note_image, shortage_reason, unbound_reason};
 use crate::speaker::{Speaker, Unbound, ready_line, unbound_line};
-use crate::{DaemonStatus, Files};
+use crate::{DaemonStatus, Doubt, Files};
 use connections::Listeners;
 use daemon_words::{DaemonOptions, StreamOptions, read_daemon};
 use fronts::ServeFault;
@@ -104,13 +104,16 @@ fn serve_aloud<W: Threads + Wait + Sync, K: Sink + Drop, N: Net, L: Listeners, G
         ),
         Err(Stop::Unbound(port)) => {
             let before = u32::from(port.saturating_sub(shared.service.ports.port));
-            note_unbound(shared.alloc, Unbound::datagrams(port, before), speaker);
+            let unbound = Unbound::datagrams(port, before);
+            speaker.reason = unbound_reason(shared.alloc, unbound);
+            speaker.doubt = Doubt::Port(unbound);
             write_unbound(shared.alloc, port, &mut speaker.sink)
         }
         Err(Stop::Unheard(place)) => {
             let port = streams.ports.port + place as u16;
             let unbound = Unbound::connections(streams.address, port, place);
-            note_unbound(shared.alloc, unbound, speaker);
+            speaker.reason = unbound_reason(shared.alloc, unbound);
+            speaker.doubt = Doubt::Port(unbound);
             write_unbound(shared.alloc, port, &mut speaker.sink)
         }
         Err(Stop::Fault(fault)) => write_fault(fault, &mut speaker.sink),

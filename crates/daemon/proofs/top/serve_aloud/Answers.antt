@@ -1,13 +1,10 @@
-use Rattle.std.proofs.Common.{◌≡◌, ◌+◌, ℕ, List, refl, string_bytes, subst, arith}
+use Rattle.std.proofs.Common.{◌≡◌, ◌+◌, ℕ, List, refl, string_bytes, arith}
 use Rattle.std.specs.Prelude.{Ok, Err}
 use Rattle.locked_server.specs.declared.stop.Stop.TheVariants.{Refused, Unbound, Unheard, Fault, Unannounced}
 use Rattle.server_words.specs.Output.{SinkFacts, sink_facts}
-use Rattle.daemon.specs.declared.status.DaemonStatus.TheVariants.{NetFault}
 use Rattle.daemon.specs.declared.speaker.Speaker.{Speaker}
-use Rattle.daemon.specs.Written.{IsTold}
-use Rattle.daemon.specs.Daemon.{unbound_text}
 use Rattle.served.specs.TotalsText.{totals_text}
-use Rattle.daemon.proofs.Announced.{leaves_by, totals_last, written_last}
+use Rattle.daemon.proofs.Announced.{leaves_by, told_of, totals_last, written_last}
 use Rattle.daemon.proofs.top.serve_aloud.Given as given
 use Rattle.daemon.proofs.top.serve_aloud.Goals as goal
 
@@ -41,8 +38,7 @@ returns-in-Err-Unbound g c = record {
   said = sink_at g c.serve_locked.new.announce;
   cause = c.in-Err-Unbound.ensures.cause;
   leaves = leaves_by (line_at g) (sink_at g) c.args.streams.now.ports c.requires.line c.in-Err-Unbound.ensures.leaves;
-  last = written_last c.args.streams.now.ports.port c.in-Err-Unbound.field-0 (Unbound c.in-Err-Unbound.port) (sink_at g c.serve_locked.new.announce) _ _ c.in-Err-Unbound.field-0-is
-      (subst (λ (k : g.row.K.Denot). IsTold NetFault (unbound_text c.in-Err-Unbound.port) (sink_facts g.K.Sink k) _ _) c.note_unbound.ensures c.write_unbound.ensures);
+  last = written_last c.args.streams.now.ports.port c.in-Err-Unbound.field-0 (Unbound c.in-Err-Unbound.port) (sink_at g c.serve_locked.new.announce) _ _ c.in-Err-Unbound.field-0-is c.write_unbound.ensures;
 }
 
 pub returns-in-Err-Unheard : goal.returns-in-Err-Unheard
@@ -56,8 +52,7 @@ returns-in-Err-Unheard g c =
       cause = c.in-Err-Unheard.ensures.cause;
       leaves = leaves_by (line_at g) (sink_at g) c.args.streams.now.ports c.requires.line c.in-Err-Unheard.ensures.leaves;
       last = written_last first c.in-Err-Unheard.field-0 (Unheard place) (sink_at g c.serve_locked.new.announce) _ _ c.in-Err-Unheard.field-0-is
-          (subst (λ (k : g.row.K.Denot). IsTold NetFault (unbound_text (first + place)) (sink_facts g.K.Sink k) _ _) c.note_unbound-in-Err-Unheard.ensures
-          (subst (λ n. IsTold NetFault (unbound_text n) _ _ _) port c.write_unbound-in-Err-Unheard.ensures));
+          (told_of c.in-Err-Unheard.port (first + place) port c.write_unbound-in-Err-Unheard.ensures);
     }
 
 pub returns-in-Err-Unannounced : goal.returns-in-Err-Unannounced
