@@ -63,8 +63,8 @@ totals_last text {due} {status} {old} {new} (inl is) told = inl (subst (λ (d : 
 totals_last text {due} {status} {old} {new} (inr is) told = inr (subst (λ (d : DaemonStatus). IsTold d text old new status) is told)
 
 -- a line that names a port names it by any number that is its own
-pub told_of : (n port : ℕ) {old new : SinkFacts} {status : DaemonStatus} → n ≡ port → IsTold NetFault (unbound_text n) old new status → IsTold NetFault (unbound_text port) old new status
-told_of n port {old} {new} {status} same told = subst (λ (k : ℕ). IsTold NetFault (unbound_text k) old new status) same told
+pub told_of : (port : ℕ) {n : ℕ} {old new : SinkFacts} {status : DaemonStatus} → IsTold NetFault (unbound_text n) old new status → n ≡ port → IsTold NetFault (unbound_text port) old new status
+told_of port {n} {old} {new} {status} told same = subst (λ (k : ℕ). IsTold NetFault (unbound_text k) old new status) same told
 
 -- a place that was not had is one of them
 pub place_within : (stop : Stop) (place : ℕ) {service : LockedService} {writes : List Write} {kept : List KeptSeat} {lacked : ℕ} {before after : PortFacts} → stop ≡ Unheard place

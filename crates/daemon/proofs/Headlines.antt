@@ -207,7 +207,7 @@ module _ (service : Service) (base : ℕ) (files after : FilesFacts) (old new : 
         answers = c.answers;
         dealings = s.fronts;
         lawful = record { writes = writes; filled = filled; runs = s.runs; lawful = s.served.answered };
-        connections = talk_to_their_ends service.options base service.streams.ports.fronts new.lacked old.ports.listens new.ports.listens c.counts c.answers c.olds c.news c.are c.lacked_is c.left c.stopped.0 c.stopped.1;
+        connections = talk_to_their_ends service.options base service.streams.ports.fronts new.lacked before.ports.listens new.ports.listens c.counts c.answers c.olds c.news c.are c.lacked_is c.left c.stopped.0 c.stopped.1;
         datagrams = (s.served.many, s.served.datagrams);
         printed = (totals, s.counted, printed);
       })
@@ -221,7 +221,7 @@ module _ (service : Service) (base : ℕ) (files after : FilesFacts) (old new : 
         answers = c.answers;
         dealings = s.fronts;
         lawful = record { writes = writes; filled = filled; runs = s.runs; lawful = s.answered };
-        connections = talk_to_a_stop service.options base service.streams.ports.fronts new.lacked old.ports.listens new.ports.listens c.counts c.answers c.olds c.news c.are c.lacked_is c.left c.stopped.0 c.stopped.1;
+        connections = talk_to_a_stop service.options base service.streams.ports.fronts new.lacked before.ports.listens new.ports.listens c.counts c.answers c.olds c.news c.are c.lacked_is c.left c.stopped.0 c.stopped.1;
         datagrams = (s.many, s.each);
         printed = printed;
       }))

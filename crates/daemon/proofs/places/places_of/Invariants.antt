@@ -3,4 +3,4 @@ use Rattle.daemon.specs.Daemon.{first_places}
 use Rattle.daemon.proofs.places.places_of.Given as goal
 
 abbrev pub invariant-loop-k : goal.invariant-loop-k
-invariant-loop-k g l = (l.places.items ≡ first_places l.streams.now l.k) × (vec_len l.places ≡ l.k) × (l.streams.now.ports.fronts ≤ vec_capacity l.places)
+invariant-loop-k l = (l.places.items ≡ first_places l.streams l.k) × (vec_len l.places ≡ l.k) × (l.streams.ports.fronts ≤ vec_capacity l.places)

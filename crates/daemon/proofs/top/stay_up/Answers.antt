@@ -1,11 +1,15 @@
-use Rattle.std.proofs.Common.{inl, inr, refl}
-use Rattle.std.proofs.KnownBytes.{Keeps-refl}
+use Rattle.std.proofs.Common.{inl, length, ap, ◌∙◌, arith}
 use Rattle.served.specs.NetRun.{net_facts}
 use Rattle.server_words.specs.Output.{sink_facts}
 use Rattle.locked_server.specs.Causes.{ports_at}
 use Rattle.daemon.specs.Daemon.{daemon_outside}
 use Rattle.daemon.proofs.Announced.{serves_placed}
+use Rattle.daemon.proofs.Placed.{places_long}
 use Rattle.daemon.proofs.top.stay_up.Goals as goal
+
+pub serve_aloud-requires-clause-places : goal.serve_aloud-requires-clause-places
+serve_aloud-requires-clause-places g c =
+    omega (arith, ap length (c.set_places.ensures.places ∙ c.in-Ok-places_of.ensures), places_long c.args.streams.now c.args.streams.now.ports.fronts)
 
 pub returns : goal.returns
 returns g c =
@@ -18,7 +22,7 @@ returns g c =
         faults = set.faults i;
         waits = set.waits i;
         released = set.released i;
-        places = (set.places ∙ c.in_default-places.ensures) i;
+        places = (set.places ∙ c.in-Ok-places_of.ensures) i;
         most = set.most i;
         heard = set.unheard i;
         given = set.given i;

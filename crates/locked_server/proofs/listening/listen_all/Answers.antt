@@ -1,9 +1,9 @@
 use Rattle.std.proofs.Common.{rules, ◌≡◌, ◌+◌, ◌<◌, ◌≤◌, [], ℕ, List, length, vec_len, vec_capacity, map, refl, sym, ap, ◌∙◌, subst, arith}
-use Rattle.std.specs.Prelude.{⊤, Result, OnErr, option_map}
+use Rattle.std.specs.Prelude.{⊤, Result, is_err, OnErr, option_map}
 use Rattle.std.proofs.lemmas.Result.{err_from_is_err_and}
 use Rattle.std.proofs.lemmas.List.{length-map}
 use Rattle.outside.specs.declared.fault.Failed.{Failed}
-use Rattle.outside.specs.Faults.{Rose}
+use Rattle.outside.specs.Faults.{Rose, faults_after}
 use Rattle.connections.specs.Shares.{ShareFacts, GivesShares, without_shares}
 use Rattle.connections.proofs.Shares.{gives_none, gives_on}
 use Rattle.locked_server.specs.Streams.{AreNewShares, ListenFacts, listen_facts, stream_facts, with_heard}
@@ -50,14 +50,15 @@ loop-place-preserved g c =
     let new = map (facts g) c.listen.new.out.items in
     let gave = c.in_ok-listen.ensures in
     let one = subst (λ (n : ℕ). GivesShares now n 1 items new) inv.given gave.all in
+    let gives = gives_on before now first place 1 [] items new inv.gives inv.waits one in
     record {
-      len = omega (arith, (gives_on before now first place 1 [] items new inv.gives inv.waits one).many, length-map c.listen.new.out.items (facts g), c.listen.new.out.ok);
+      len = omega (arith, gives.many, ap length gives.behind, length-map c.listen.new.out.items (facts g), c.listen.new.out.ok);
       room = omega (arith, c.listen.ensures.room, inv.room);
-      gives = gives_on before now first place 1 [] items new inv.gives inv.waits one;
+      gives = gives;
       given = omega (arith, gave.gives, inv.given);
       waits = waits_more first place before now (g.L.Listeners.waits c.listen.new.self) inv.waits (subst (λ (n : ℕ). g.L.Listeners.waits c.listen.new.self ≡ _) inv.given gave.taken);
       heard = heard_more place (g.L.Listeners.heard c.args.listeners.now) inv.heard gave.heard;
-      faults = c.listen.ensures.counted ∙ inv.faults;
+      faults = c.listen.ensures.counted ∙ ap (λ (r : Result ⊤ Failed). faults_after (is_err r) (g.L.Listeners.faults c.loop-place.listeners)) c.in_ok-listen.was ∙ inv.faults;
       released = c.listen.ensures.released ∙ inv.released;
       named = c.listen.ensures.places ∙ inv.named;
       most = c.listen.ensures.most ∙ inv.most;

@@ -96,9 +96,8 @@ returns-in-Err-listen_all-clause-served g c =
     let failed = c.in-Err-listen_all.ensures in
     let long = heard_long g at.After-listen_all in
     let few = c.requires.service.few in
-    let place = omega (arith, failed.lacks, long, few, c.len-in-Err-listen_all.ensures) in
     unserved (map (of_stream g) c.listen_all.new.connections.items) c.listen_all.ensures.new (heard_few g at.After-listen_all) (Unheard _) refl tt c.requires.uncounted
-    (refl, failed.cause, place, omega (arith, failed.lacks, few, c.len-in-Err-listen_all.ensures)) refl
+    (refl, failed.cause, omega (arith, failed.lacks, long, few, c.len-in-Err-listen_all.ensures), omega (arith, failed.lacks, few, c.len-in-Err-listen_all.ensures)) refl
     (run_left (bound g at.After-bind_all) c.requires.filled c.requires.tables (ends_long g at.After-bind_all ∙ c.in-Ok.ensures.all))
 
 pub returns-in-Err-listen_all-clause-announced : goal.returns-in-Err-listen_all-clause-announced

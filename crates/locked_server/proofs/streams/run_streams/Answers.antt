@@ -17,7 +17,7 @@ for_each_mut-requires-clause-accepts g c κs within i p low is =
         c.requires.plan,
         subst (IsReadyStream g.J.ServerPlan.plan facts i) (sym here) (c.requires.ready i p.now fits),
       ),
-      (grind serving, grind serving, grind serving, grind serving, grind serving, grind serving, grind serving),
+      (grind serving, grind serving, grind serving, grind serving, grind serving, grind serving),
     )
 
 pub returns : goal.returns

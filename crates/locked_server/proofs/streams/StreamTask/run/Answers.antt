@@ -10,12 +10,12 @@ use Rattle.locked_server.proofs.Ran.{none_taken}
 use Rattle.locked_server.proofs.Streamed.{GoesAndServes, both_by, finishes, finished_so, stops}
 use Rattle.locked_server.proofs.streams.StreamTask.run.Goals as goal
 
-pub new-front-requires-clause-none : goal.new-front-requires-clause-none
-new-front-requires-clause-none g c =
+pub new-requires-2-clause-none : goal.new-requires-2-clause-none
+new-requires-2-clause-none g c =
     ap (λ v. turns_taken v.items) c.replace-parts.ensures.value ∙ none_taken c.args.self.now.parts.items (λ p x at. (c.requires.ready.parts.each p x at).none)
 
-pub new-front-requires-clause-each : goal.new-front-requires-clause-each
-new-front-requires-clause-each g c p part at = (c.requires.ready.parts.each p part (ap (λ v. slice_get v.items p) (sym c.replace-parts.ensures.value) ∙ at)).of
+pub new-requires-2-clause-each : goal.new-requires-2-clause-each
+new-requires-2-clause-each g c p part at = (c.requires.ready.parts.each p part (ap (λ v. slice_get v.items p) (sym c.replace-parts.ensures.value) ∙ at)).of
 
 -- as a view of it, a count and its share tell it
 abbrev told_by : LockedView → ℕ → Bool → FrontAt
@@ -25,14 +25,14 @@ pub returns : goal.returns
 returns g c =
     let plan = g.J.ServerPlan.plan in
     let facts : g.row.C.Denot → ShareFacts = stream_facts g.C.Connections in
-    let old : LockedView = c.new-front.result in
+    let old : LockedView = c.new-2.result in
     let new : LockedView = c.serve_connections-self.new.hand.front in
     let served = c.serve_connections-self.ensures in
     let b = facts c.args.self.now.share in
     let a = facts c.serve_connections-self.new.connections in
     let before : LockedView → FrontAt = λ v. told_by v 0 b.has_ended in
     let after : LockedView → FrontAt = λ v. told_by v c.serve_connections-self.new.lacked a.has_ended in
-    let old_is : old ≡ locked_view plan.options c.args.number c.args.self.now.parts.items = c.new-front.ensures ∙ (λ i. locked_view (c.requires.plan.options i) c.args.number (c.replace-parts.ensures.value i).items) in
+    let old_is : old ≡ locked_view plan.options c.args.number c.args.self.now.parts.items = c.new-2.ensures ∙ (λ i. locked_view (c.requires.plan.options i) c.args.number (c.replace-parts.ensures.value i).items) in
     let new_is : new ≡ locked_view plan.options c.args.number c.into_parts.result.items =
     λ i. locked_view ((served.same.same_options ∙ ap (λ (v : LockedView). v.options) old_is) i) ((served.same.same_number ∙ ap (λ (v : LockedView). v.number) old_is) i) (sym c.into_parts.ensures.same i) in
     let it = subst (λ (y : LockedView × LockedView). GoesAndServes y.0.options c.args.shared.now.service.base (before y.0) (after y.1) b.log a.log) (λ i. (old_is i, new_is i))
