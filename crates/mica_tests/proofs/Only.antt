@@ -1,7 +1,8 @@
 -- The only share that was given out.
 use Rattle.std.proofs.Common.{◌≡◌, ℕ, ◌+◌, Bool, false, List, [], ◌∷◌, ◌++◌, length, map, refl, sym, ap, ◌∙◌, subst, arith}
-use Rattle.std.specs.Prelude.{slice_get, Option, Some}
-use Rattle.std.proofs.lemmas.List.{length-append, length-map, map-append}
+use Rattle.std.specs.Prelude.{slice_get, Option, None, Some, IfSome}
+use Rattle.std.specs.Option.{option_to_list}
+use Rattle.std.proofs.lemmas.List.{length-append, map-append}
 use Rattle.connections.specs.Log.{Log}
 use Rattle.connections.specs.Shares.{ShareLogs, ShareFacts, IsNewShare, GivesShares, share_facts}
 
@@ -15,8 +16,9 @@ only (x ∷ front) facts g is =
     absurd (omega (arith, many, long, parts))
 
 -- it has not ended
-pub only_open : {Port : Type 0} (share faults : Port → ℕ) (has_ended : Port → Bool) (log : Port → Option Log) {waited : Option ShareLogs} {first : ℕ} {all : List Port} (front : List Port) (c : Port)
-    → GivesShares waited first 1 [] (map (share_facts share faults has_ended log) all) → all ≡ front ++ c ∷ [] → has_ended c ≡ false
-only_open share faults has_ended log front c g is =
+pub only_open : {Port : Type 0} (share faults : Port → ℕ) (has_ended : Port → Bool) (log : Port → Option Log) {waited : Option ShareLogs} {first : ℕ} {all : List Port} (front : List Port) (last : Option Port)
+    → GivesShares waited first 1 [] (map (share_facts share faults has_ended log) all) → all ≡ front ++ option_to_list last → IfSome last (λ c. has_ended c ≡ false)
+only_open share faults has_ended log front None g is = tt
+only_open share faults has_ended log front (Some c) g is =
     let facts = share_facts share faults has_ended log in
     (only (map facts front) (facts c) g (ap (map facts) is ∙ map-append facts front (c ∷ []))).unended

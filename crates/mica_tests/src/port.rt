@@ -1,5 +1,6 @@
 //! Shares of places over TCP, and plain sockets as their clients.
-ghost use Rattle.std.specs.Prelude.{◌≡◌, ◌<◌, false, length};
+ghost use Rattle.std.specs.Prelude.{◌≡◌, ◌<◌, ◌≤◌, false, [], IfSome, length, vec_capacity};
+ghost use Rattle.mica_tests.specs.Ended.{has_ended};
 
 use connections::{Broken, Connections, Event, Input, Listeners, Place};
 use outside::{Clock, Failed};
@@ -31,7 +32,7 @@ impl Flags {
 #[derive(Drop)]
 pub(crate) struct Share<'a, R: Wait, K: Clock + Drop> {
     pub(crate) connections: TcpConnections<'a, R, K>,
-    pub(crate) ghost open: { ⟦<TcpConnections<'a, R, K> as Connections>⟧.has_ended connections ≡ false },
+    pub(crate) ghost open: { has_ended connections ≡ false },
 }
 
 impl<'a, R: Wait, K: Clock + Drop> Share<'a, R, K> {
@@ -116,6 +117,20 @@ fn is_ready(event: Result<Event, Failed>, number: u32) -> bool {
     }
 }
 
+/// The only share of the second place, where it can be had.
+fn second_share<L: Listeners>(listeners: &mut L, shares: Vec<L::Port>) -> Option<L::Port>
+    requires there { 1 < length (L.places listeners.old) }
+    requires none { shares.items ≡ [] }
+    requires room { 1 ≤ vec_capacity shares }
+    ensures { IfSome result (λ c. L.Port.has_ended c ≡ false) }
+{
+    let mut shares = shares;
+    let Ok(()) = listeners.listen(1, 1, &mut shares) else {
+        return None;
+    };
+    shares.pop()
+}
+
 /// The share of one place, where it can be had: the second of two places, of which the first is nobody's.
 pub(crate) fn share_at<'a, R: AllocGlobal + Sockets + Wait + Sync, K: Clock + Copy + Drop + Send>(
     rt: &'a R,
@@ -131,7 +146,7 @@ pub(crate) fn share_at<'a, R: AllocGlobal + Sockets + Wait + Sync, K: Clock + Co
         port: 1,
     });
     places.push_reserved(Place { address, port });
-    let mut shares = Vec::with_capacity(rt.alloc(), 1).ok()?;
+    let shares = Vec::with_capacity(rt.alloc(), 1).ok()?;
     let mut listeners = TcpListeners::new(
         rt,
         rt.alloc(),
@@ -140,8 +155,7 @@ pub(crate) fn share_at<'a, R: AllocGlobal + Sockets + Wait + Sync, K: Clock + Co
         &flags.stopping,
     );
     listeners.set_places(places, most);
-    listeners.listen(1, 1, &mut shares).ok()?;
-    let connections = shares.pop()?;
+    let connections = second_share(&mut listeners, shares)?;
     Some(Share { connections })
 }
 
