@@ -6,6 +6,7 @@ mod host;
 mod host_causes;
 mod host_files;
 mod host_start;
+mod host_stop;
 
 use host::run_on_host;
 use std::env;
