@@ -1,9 +1,9 @@
 -- Which second it is, as entries are made.
-use Rattle.std.proofs.Common.{◌≡◌, ℕ, ◌+◌, ◌-◌, ◌*◌, ◌^◌, ◌<◌, ◌≤◌, List, [], ◌∷◌, refl, sym, ap, ◌∙◌, subst, arith}
+use Rattle.std.proofs.Common.{◌≡◌, ℕ, ◌+◌, ◌-◌, ◌<◌, ◌≤◌, List, [], ◌∷◌, refl, sym, ap, ◌∙◌, subst, arith}
 use Rattle.connections.specs.declared.schedule.Step.{Step}
 use Rattle.connections.specs.declared.schedule.Step.TheVariants.{Opens, TurnsAway, Reports, Happens}
 use Rattle.connections.specs.Connection.{Connection}
-use Rattle.connections.specs.State.{State, Entry, state_after, now_after, passing_by, second}
+use Rattle.connections.specs.State.{State, Entry, state_after, passing_by, second}
 use Rattle.connections.specs.Log.{second_of, after_meeting_one}
 use Rattle.memory_connections.specs.MemoryConnection.{pending}
 use Rattle.memory_connections.specs.Stage.{IsStage, IsTimed, MOST_PASSING}

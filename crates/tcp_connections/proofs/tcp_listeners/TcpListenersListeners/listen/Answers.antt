@@ -1,4 +1,4 @@
-use Rattle.std.proofs.Common.{rules, ◌≡◌, refl, ap}
+use Rattle.std.proofs.Common.{rules, ◌≡◌}
 use Rattle.tcp_connections.proofs.Given.{gives_pushed}
 use Rattle.tcp_connections.proofs.tcp_listeners.TcpListenersListeners.listen.Goals as goal
 
