@@ -21,8 +21,7 @@ use Rattle.store_partition.proofs.Cells.{one_or_none}
 use Rattle.circular_log.proofs.SpeltItem.{spelt_item}
 use Rattle.partition_model.specs.StoreStep as ss
 use Rattle.partition_model.specs.Rooms.{keeps}
-use Rattle.partition_model.proofs.StoreLaws.{kept_in}
-use Rattle.std.proofs.lemmas.Bool.{and_from, and_left, le-leb, lt-leb}
+use Rattle.std.proofs.lemmas.Bool.{and_left, lt-leb}
 use Rattle.mica_words.specs.Item.{largest_item}
 use Rattle.std.specs.Prelude.{nat_le, ◌*◌}
 
@@ -46,6 +45,10 @@ pub record IsOther (h : Held) (key : List ℕ) (c x : ℕ) : Type 0 where
   pub cell : Cell
   pub spells : Spells h.o c x own cell
   pub differs : own ≢ key
+
+-- no other key's item lies where one of these blocks begins
+abbrev pub AreOwn : Held → List ℕ → List Block → Type 0
+AreOwn h key blocks = (y : Block) → Contains blocks y → (c x : ℕ) → IsOther h key c x → y.place ≢ entry_offset x
 
 pub main_at : (o : OwnerState) → Kept o → (key : List ℕ) (b : ℕ) → b ≡ bucket_in o key → IsMain o.shape b
 main_at o s key b here = subst (IsMain o.shape) (sym here) (main_of o s key)
@@ -128,13 +131,6 @@ module _ (h : Held) where
 
   pub as_rooms : words_of (used_blocks h.blocks) ≡ rooms m.cells
   as_rooms = h.parts.words ∙ ap rooms (ap cells_of before)
-
-  -- No room has more words than the largest item of a trace, so each item that fits keeps it.
-
-  pub stays : (key : List ℕ) (cell : Cell) → get m.cells key ≡ Some cell → (size : ℕ) → size ≤ cell.room → keeps size cell.room ≡ true
-  stays key cell has size fits =
-      let few = ((kept_in (options_in h.o) h.o.history h.kept.history.writes m before).are key cell has).room in
-      and_from (nat_le size cell.room) (nat_le cell.room (2 * size + largest_item)) (le-leb size cell.room fits) (le-leb cell.room (2 * size + largest_item) (omega arith))
 
   -- Outcomes
 
@@ -322,9 +318,15 @@ pub already : (h : Held) (key value : List ℕ) (b : ℕ) (spot : Spot) → Know
 already h key value b spot k unworn = refused_step h.o h.parts.idle (write_of Add key value) Exists refl
     (may_give h (write_of Add key value) Exists (not_worn h unworn, (refl, subst IsSome (sym k.has) refl)))
 
--- an item keeps no room that it does not fit
+-- an item keeps no room that it does not fit, and fits the one that it keeps; one that it fits and does not keep is longer
 pub not_kept : (size room : ℕ) → room < size → keeps size room ≡ false
 not_kept size room short = and_left (nat_le size room) (nat_le room (2 * size + largest_item)) (lt-leb size room short)
+
+pub fits_kept : (size room : ℕ) → keeps size room ≡ true → size ≤ room
+fits_kept size room is = grind (arith, common_steps)
+
+pub is_longer : (size room : ℕ) → size ≤ room → keeps size room ≡ false → size < room
+is_longer size room fits not = grind (arith, common_steps)
 
 -- a test that tells where a number is reached tells where it is not
 pub not_reached : (most n : ℕ) (test : Bool) → (most ≤ n → test ≡ true) → test ≡ false → n < most
