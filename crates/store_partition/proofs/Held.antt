@@ -22,6 +22,7 @@ use Rattle.circular_log.proofs.SpeltItem.{spelt_item}
 use Rattle.partition_model.specs.StoreStep as ss
 use Rattle.partition_model.specs.Rooms.{keeps}
 use Rattle.std.proofs.lemmas.Bool.{and_left, lt-leb}
+use Rattle.std.proofs.lemmas.Bool.Decides.{nat_tests}
 use Rattle.mica_words.specs.Item.{largest_item}
 use Rattle.std.specs.Prelude.{nat_le, ◌*◌}
 
@@ -323,10 +324,10 @@ pub not_kept : (size room : ℕ) → room < size → keeps size room ≡ false
 not_kept size room short = and_left (nat_le size room) (nat_le room (2 * size + largest_item)) (lt-leb size room short)
 
 pub fits_kept : (size room : ℕ) → keeps size room ≡ true → size ≤ room
-fits_kept size room is = grind (arith, common_steps)
+fits_kept size room is = grind (arith, nat_tests, common_steps)
 
 pub is_longer : (size room : ℕ) → size ≤ room → keeps size room ≡ false → size < room
-is_longer size room fits not = grind (arith, common_steps)
+is_longer size room fits not = grind (arith, nat_tests, common_steps)
 
 -- a test that tells where a number is reached tells where it is not
 pub not_reached : (most n : ℕ) (test : Bool) → (most ≤ n → test ≡ true) → test ≡ false → n < most
