@@ -123,7 +123,7 @@ module _ (h : Held) (key : List ℕ) (fits : KeyFits key) (bytes : AreBytes key)
             freed = λ y gone. nothing y gone;
             apart = λ y gone. nothing y gone;
             count = refl;
-            total = ap (λ o. words_of [] + words_of [] + room_of o) (k.has ∙ sym has);
+            total = let same = ap room_of (k.has ∙ sym has) in omega (arith, same);
           })
 
   pub known_gone : (spot : Spot) → Known h key b spot → (old : ℕ) → old ≡ entry_offset (spot_entry h.o spot) → DelKnown h.o h.index h.blocks (write_of Del key []) b (n + 1) spot old

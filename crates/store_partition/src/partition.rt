@@ -96,11 +96,11 @@ impl<W: OwnerWords> StorePartition<W> {
         if size > block.room {
             return self.put_grown(bucket, spot, block.offset, key, hash, value);
         }
-        if keeps(size, block.room) {
-            self.put_in_room(bucket, spot, block, key, value);
-        } else {
+        if !keeps(size, block.room) {
             self.put_shrunk(bucket, spot, block, key, value);
+            return Outcome::Stored;
         }
+        self.put_in_room(bucket, spot, block, key, value);
         Outcome::Stored
     }
 
