@@ -45,9 +45,9 @@ put : (g : Over) (c : After-rewrite_item g) → HasPut (g.W.OwnerWords.owner c.a
 put g c = c.rewrite_item.ensures.events
     ∙ (λ i. plays (item_events c.args.block.offset (c.item_size-size.ensures i) c.args.key.now c.args.value.now) (c.begin_marked.ensures.events i))
 
-pub overflow_cast-block : goal.overflow_cast-block
-overflow_cast-block g c =
-    omega (arith, low g (goal.at.overflow_cast-block g c).Start (λ k. omega (arith, c.type_inv.key k)) (λ k. omega (arith, c.type_inv.value k)))
+pub overflow_cast-place : goal.overflow_cast-place
+overflow_cast-place g c =
+    omega (arith, low g (goal.at.overflow_cast-place g c).Start (λ k. omega (arith, c.type_inv.key k)) (λ k. omega (arith, c.type_inv.value k)))
 
 pub part-requires : goal.part-requires
 part-requires g c = subst (HasLonger c.args.self.now.heap c.args.block.offset) (sym c.item_size-size.ensures)
