@@ -57,19 +57,19 @@ leaves_by line_of sink_of {answer} {service} streams {before} {after} {old} {new
 }
 
 -- the totals are due with the status that they come with
-pub totals_last : (text : List ℕ) {due status : DaemonStatus} {old new : SinkFacts} → (due ≡ UsedUp) ⊎ (due ≡ Stopped) → IsTold due text old new status
+pub totals_last : (text : List ℕ) {due status : DaemonStatus} (old new : SinkFacts) → (due ≡ UsedUp) ⊎ (due ≡ Stopped) → IsTold due text old new status
     → IsTold UsedUp text old new status ⊎ IsTold Stopped text old new status
-totals_last text {due} {status} {old} {new} (inl is) told = inl (subst (λ (d : DaemonStatus). IsTold d text old new status) is told)
-totals_last text {due} {status} {old} {new} (inr is) told = inr (subst (λ (d : DaemonStatus). IsTold d text old new status) is told)
+totals_last text {due} {status} old new (inl is) told = inl (subst (λ (d : DaemonStatus). IsTold d text old new status) is told)
+totals_last text {due} {status} old new (inr is) told = inr (subst (λ (d : DaemonStatus). IsTold d text old new status) is told)
 
 -- a line that names a port names it by any number that is its own
-pub told_of : (port : ℕ) {n : ℕ} {old new : SinkFacts} {status : DaemonStatus} → IsTold NetFault (unbound_text n) old new status → n ≡ port → IsTold NetFault (unbound_text port) old new status
-told_of port {n} {old} {new} {status} told same = subst (λ (k : ℕ). IsTold NetFault (unbound_text k) old new status) same told
+pub told_of : (n port : ℕ) (old new : SinkFacts) (status : DaemonStatus) → IsTold NetFault (unbound_text n) old new status → n ≡ port → IsTold NetFault (unbound_text port) old new status
+told_of n port old new status told same = subst (λ (k : ℕ). IsTold NetFault (unbound_text k) old new status) same told
 
 -- a place that was not had is one of them
-pub place_within : (stop : Stop) (place : ℕ) {service : LockedService} {writes : List Write} {kept : List KeptSeat} {lacked : ℕ} {before after : PortFacts} → stop ≡ Unheard place
+pub place_within : (stop : Stop) (place : ℕ) (service : LockedService) (writes : List Write) (kept : List KeptSeat) (lacked : ℕ) (before after : PortFacts) → stop ≡ Unheard place
     → IsCauseOfStop (Err stop) service writes kept lacked before after → place < service.places
-place_within stop place {service} {writes} {kept} {lacked} {before} {after} is cause =
+place_within stop place service writes kept lacked before after is cause =
     (subst (λ (s : Stop). IsCauseOfStop (Err s) service writes kept lacked before after) is cause).came_is.3
 
 -- what is written last, by why it stopped short
@@ -77,11 +77,11 @@ pub written_last : (first : ℕ) (stop cause : Stop) (old new : SinkFacts) (stat
 written_last first stop cause old new status is last = subst (λ (s : Stop). WritesLast first (Err s) old new status) (sym is) last
 
 -- a server whose listeners had been told its places
-pub serves_placed : {options : Options} {ports : PortOptions} {streams : StreamOptions} {base : ℕ} {writes : List Write} (old : DaemonOutside) {told new : DaemonOutside} {status : DaemonStatus}
+pub serves_placed : {options : Options} {ports : PortOptions} (streams : StreamOptions) {base : ℕ} {writes : List Write} (old : DaemonOutside) {told new : DaemonOutside} {status : DaemonStatus}
     → told ≡ placed (places_of streams) streams.connections old
     → ServesAloud (record { options = options; ports = ports; places = streams.ports.fronts; base = base }) streams.ports writes told new status
     → ServesPlaced options ports streams base writes old new status
-serves_placed {options} {ports} {streams} {base} {writes} old {new = new} {status = status} is served =
+serves_placed {options} {ports} streams {base} {writes} old {new = new} {status = status} is served =
     subst (λ (o : DaemonOutside). ServesAloud (record { options = options; ports = ports; places = streams.ports.fronts; base = base }) streams.ports writes o new status) is served
 
 kept_files : (image : Option Text) (files : FilesFacts) → KeepsFiles image files files

@@ -86,7 +86,7 @@ pub struct OverheardListeners<'a> {
     places: Vec<Place>,
     most: u32,
     listened: Vec<u32>,
-    given: u32,
+    given: u16,
     faults: u64,
     heard: Vec<Overheard>,
 }
@@ -158,7 +158,7 @@ impl<'a> Listeners for OverheardListeners<'a> {
         out: &mut Vec<OverheardConnections<'a>>,
     ) -> Result<(), Failed> {
         let number = self.places[place as usize].port;
-        if shares == 1 && self.given < u32::MAX {
+        if shares == 1 && self.given < u16::MAX {
             if let Some(connections) = self.connections_at(number) {
                 if self.listened.push(place).is_ok() {
                     out.push_reserved(connections);

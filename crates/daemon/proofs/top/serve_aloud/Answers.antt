@@ -21,7 +21,7 @@ returns-in-Ok g c = record {
   said = sink_at g c.serve_locked.new.announce;
   cause = c.in-Ok.ensures.cause;
   leaves = leaves_by (line_at g) (sink_at g) c.args.streams.now.ports c.requires.line c.in-Ok.ensures.leaves;
-  last = totals_last (totals_text c.in-Ok.totals) c.status_at_totals.ensures c.print_totals.ensures;
+  last = totals_last (totals_text c.in-Ok.totals) _ _ c.status_at_totals.ensures c.print_totals.ensures;
 }
 
 pub returns-in-Err-Fault : goal.returns-in-Err-Fault
@@ -44,10 +44,13 @@ returns-in-Err-Unbound g c = record {
 
 -- its port is one of the words'
 low : (g : given.Over) (c : In-Err-Unheard g) → c.in-Err-Unheard.place < c.args.streams.now.ports.fronts
-low g c = omega (arith, place_within c.in-Err-Unheard.field-0 c.in-Err-Unheard.place c.in-Err-Unheard.field-0-is c.in-Err-Unheard.ensures.cause, c.requires.fronts)
+low g c = omega (arith, place_within c.in-Err-Unheard.field-0 c.in-Err-Unheard.place c.args.shared.now.service _ _ _ _ _ c.in-Err-Unheard.field-0-is c.in-Err-Unheard.ensures.cause, c.requires.fronts)
 
-pub overflow_add-streams : goal.overflow_add-streams
-overflow_add-streams g c = omega (arith, low g (goal.at.overflow_add-streams g c).In-Err-Unheard, c.requires.streams.numbers)
+pub overflow_add-port : goal.overflow_add-port
+overflow_add-port g c = omega (arith, low g (goal.at.overflow_add-port g c).In-Err-Unheard, c.requires.streams.numbers)
+
+pub overflow_cast-port : goal.overflow_cast-port
+overflow_cast-port g c = omega (arith, low g (goal.at.overflow_cast-port g c).In-Err-Unheard, c.requires.streams.numbers)
 
 pub returns-in-Err-Unheard : goal.returns-in-Err-Unheard
 returns-in-Err-Unheard g c =
@@ -60,7 +63,7 @@ returns-in-Err-Unheard g c =
       cause = c.in-Err-Unheard.ensures.cause;
       leaves = leaves_by (line_at g) (sink_at g) c.args.streams.now.ports c.requires.line c.in-Err-Unheard.ensures.leaves;
       last = written_last first c.in-Err-Unheard.field-0 (Unheard place) (sink_at g c.serve_locked.new.announce) _ _ c.in-Err-Unheard.field-0-is
-          (told_of (first + place) c.write_unbound-in-Err-Unheard.ensures (omega (arith, less, c.requires.streams.numbers)));
+          (told_of _ (first + place) _ _ _ c.write_unbound-in-Err-Unheard.ensures (omega (arith, less, c.requires.streams.numbers)));
     }
 
 pub returns-in-Err-Unannounced : goal.returns-in-Err-Unannounced

@@ -14,7 +14,7 @@ serve_aloud-requires-clause-places g c =
 pub returns : goal.returns
 returns g c =
     let set = c.set_places.ensures in
-    inl (serves_placed
+    inl (serves_placed c.args.streams.now
     (daemon_outside (sink_facts g.K.Sink c.args.speaker.now.sink) (ports_at g.N.Net g.L.Listeners c.args.net.now c.args.listeners.now) c.args.left.now.tables c.args.left.now.lacked)
     (λ i. daemon_outside (sink_facts g.K.Sink c.args.speaker.now.sink) (record {
       net = net_facts g.N.Net c.args.net.now;
