@@ -1,0 +1,4 @@
+pub mod AlikeLaws
+pub mod NextLaws
+pub mod StatLaws
+pub mod ToldLaws
