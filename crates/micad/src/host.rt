@@ -1,6 +1,6 @@
 //! The program over standard output, the files, the clock and the sockets of this machine.
 
-ghost use Rattle.std.specs.Prelude.{string_bytes};
+ghost use Rattle.std.specs.Prelude.{ℕ, List, Option, string_bytes, IfSome};
 ghost use Rattle.std.specs.Process.{exit_status};
 ghost use Rattle.option_words.specs.ProgramWords.{words_of};
 ghost use Rattle.daemon.specs.Exit.{EndsBy};
@@ -8,7 +8,6 @@ ghost use Rattle.daemon.specs.Exit.{EndsBy};
 use crate::host_causes::doubt_text;
 use crate::host_files::HostFiles;
 use crate::host_start::begin;
-use crate::host_stop::watch;
 use daemon::{DaemonStatus, Ending, Process, Speaker, exit_code, run_daemon};
 use host_outside::{StdClock, StdSink, UdpNet};
 use locked_server::Left;
@@ -19,7 +18,7 @@ use std::process::ExitCode;
 use std::rt::{Env, Files};
 use std::sync::Wait;
 use std::sync::atomic::{AtomicBool, Ordering};
-use std::thread::{Threads, join};
+use std::thread::Threads;
 use std::{io, time};
 use tcp_connections::TcpListeners;
 
@@ -37,22 +36,47 @@ fn say_why<R: AllocGlobal + Eprint + Sockets + Files, K>(rt: &R, speaker: &Speak
 
 /// The flags that all of the process have in common.
 #[derive(Drop)]
-struct Flags {
+pub struct Flags {
     /// A port has ended, or a partition bears no more writes.
-    ended: AtomicBool,
+    pub ended: AtomicBool,
     /// It is to stop.
-    stopping: AtomicBool,
+    pub stopping: AtomicBool,
     /// The server has ended.
-    over: AtomicBool,
+    pub over: AtomicBool,
 }
 
-/// Answers the words, or serves by them, and then says why that ended.
-fn serve<R: Threads + Wait + Sync + AllocGlobal + Eprint + Files + Print + Sockets + time::Clock>(
+impl Flags {
+    /// Nothing has ended.
+    pub fn new() -> Flags {
+        Flags {
+            ended: AtomicBool::new(false),
+            stopping: AtomicBool::new(false),
+            over: AtomicBool::new(false),
+        }
+    }
+}
+
+/// What the program ends with before it serves: where it may not begin, or there is no thread for the look for signals.
+pub fn refused_on_host<R: Threads + Wait + Sync + AllocGlobal + Env + Eprint + Files + Sockets>(
     rt: &R,
-    args: io::Result<Args>,
     pid: u32,
-    flags: &Flags,
-) -> ExitCode
+) -> Option<ExitCode>
+    ensures { IfSome result (λ code. (words : Option (List (List ℕ))) → EndsBy words (exit_status code)) }
+{
+    if !begin(rt, pid) {
+        return Some(exit_code(Ending::Ended(DaemonStatus::Usage)));
+    }
+    match rehearse(rt, rt.alloc(), 1) {
+        Ok(()) => None,
+        Err(NoMemory) => Some(exit_code(Ending::Ended(DaemonStatus::NoMemory))),
+    }
+}
+
+/// Answers the words that the program was started with, or serves by them, and then says why that ended. It ends with 0 where these ask a question, and where a
+/// signal asked for its end. `main` runs it beside the look for signals: a handle that opens files goes to a thread only there.
+pub fn run_on_host<
+    R: Threads + Wait + Sync + AllocGlobal + Eprint + Files + Print + Sockets + time::Clock,
+>(rt: &R, args: io::Result<Args>, pid: u32, flags: &Flags) -> ExitCode
     ensures { EndsBy (words_of string_bytes args) (exit_status result) }
 {
     let alloc = rt.alloc();
@@ -79,32 +103,5 @@ fn serve<R: Threads + Wait + Sync + AllocGlobal + Eprint + Files + Print + Socke
     );
     say_why(rt, &speaker);
     flags.over.store(true, Ordering::Relaxed);
-    code
-}
-
-/// The program as `main` runs it, with the words that it was started with and the number of its process. It ends with 0 where these ask a question, and where a signal asked
-/// for its end.
-pub fn run_on_host<
-    R: Threads + Wait + Sync + AllocGlobal + Env + Eprint + Files + Print + Sockets + time::Clock,
->(rt: &R, args: io::Result<Args>, pid: u32) -> ExitCode
-    ensures { EndsBy (words_of string_bytes args) (exit_status result) }
-{
-    if !begin(rt, pid) {
-        return exit_code(Ending::Ended(DaemonStatus::Usage));
-    }
-    let alloc = rt.alloc();
-    if let Err(NoMemory) = rehearse(rt, alloc, 1) {
-        return exit_code(Ending::Ended(DaemonStatus::NoMemory));
-    }
-    let flags = Flags {
-        ended: AtomicBool::new(false),
-        stopping: AtomicBool::new(false),
-        over: AtomicBool::new(false),
-    };
-    let ((), code) = join(
-        rt,
-        || watch(rt, alloc, &flags.stopping, &flags.over),
-        || serve(rt, args, pid, &flags),
-    );
     code
 }
