@@ -1,5 +1,6 @@
 //! The TCP places of this machine.
-ghost use Rattle.std.specs.Prelude.{◌≡◌, [], None};
+ghost use Rattle.std.specs.Prelude.{◌≡◌, ◌≤◌, [], true, None};
+ghost use Rattle.outside.specs.Faults.{Rose, faults_after};
 
 use crate::TcpConnections;
 use crate::tcp_port::TcpPort;
@@ -55,6 +56,16 @@ impl<'a, R: Sockets + Wait + Sync, K: Clock + Copy + Drop + Send> TcpListeners<'
     }
 }
 
+/// Counts a fault.
+fn fails(faults: &mut u64) -> Failed
+    ensures counted { faults.new ≡ faults_after true faults.old }
+    ensures cause { Rose faults.old faults.new }
+    ensures never_fall { faults.old ≤ faults.new }
+{
+    *faults = faults.saturating_add(1);
+    Failed
+}
+
 impl<'a, R: Sockets + Wait + Sync, K: Clock + Copy + Drop + Send> Listeners
     for TcpListeners<'a, R, K> {
     type Port = TcpConnections<'a, R, K>;
@@ -80,32 +91,32 @@ impl<'a, R: Sockets + Wait + Sync, K: Clock + Copy + Drop + Send> Listeners
     }
 
     // One share: to deal connections to several is the hall's.
-    #[tactic(auto, using(crate::proofs::Given::gives_pushed))]
     fn listen(
         &mut self,
         place: u32,
         shares: u32,
         out: &mut Vec<TcpConnections<'a, R, K>>,
     ) -> Result<(), Failed> {
-        let at = self.places[place as usize];
-        if shares == 1 && self.given < u32::MAX {
-            let most = self.most as usize;
-            if let Ok(sockets) = TcpPort::open(self.rt, self.alloc, at, most, self.has_failed) {
-                if self.heard.push(place).is_ok() {
-                    out.push_reserved(TcpConnections::new(
-                        self.rt,
-                        self.given,
-                        sockets,
-                        self.clock,
-                        self.stopping,
-                    ));
-                    self.given += 1;
-                    return Ok(());
-                }
-            }
+        if shares != 1 || self.given == u32::MAX {
+            return Err(fails(&mut self.faults));
         }
-        self.faults = self.faults.saturating_add(1);
-        Err(Failed)
+        let at = self.places[place as usize];
+        let most = self.most as usize;
+        let Ok(sockets) = TcpPort::open(self.rt, self.alloc, at, most, self.has_failed) else {
+            return Err(fails(&mut self.faults));
+        };
+        if self.heard.push(place).is_err() {
+            return Err(fails(&mut self.faults));
+        }
+        out.push_reserved(TcpConnections::new(
+            self.rt,
+            self.given,
+            sockets,
+            self.clock,
+            self.stopping,
+        ));
+        self.given += 1;
+        Ok(())
     }
 
     fn release(&mut self, _connections: TcpConnections<'a, R, K>) {}
