@@ -61,7 +61,7 @@ fn of_another_protocol(words: &[String]) -> Option<Refusal<'static>> {
     }
     for name in &[
         "--memcached",
-        "--memcached-fronts",
+        "--threads",
         "--listen",
         "--connections",
     ] {
@@ -100,8 +100,5 @@ pub(crate) fn wrong_together(words: &[String]) -> Refusal<'static> {
     if gives(words, "--port") && !gives(words, "--mode") {
         return Refusal::NoMode;
     }
-    if is_cache(words) && gives(words, "--image") {
-        return Refusal::ImageInCache;
-    }
-    Refusal::HighPorts
+    Refusal::ImageInCache
 }

@@ -3,12 +3,17 @@ ghost use Rattle.std.specs.Prelude.{◌≡◌, ◌≤◌, [], true, None};
 ghost use Rattle.outside.specs.Faults.{Rose, faults_after};
 
 use crate::TcpConnections;
-use crate::tcp_port::TcpPort;
+use crate::hall::{Dealer, Entrance, Hall, MOST_DEALT, Seat};
+use crate::tcp_port::{Limits, TcpPort};
 use connections::{Listeners, Place};
+use mio::Poll;
+use mio::net::TcpListener;
 use outside::{Clock, Failed};
+use rtrb::RingBuffer;
 use std::alloc::Global;
-use std::net::Net as Sockets;
-use std::sync::Wait;
+use std::io;
+use std::net::{Net as Sockets, SocketAddr};
+use std::sync::{Arc, Wait};
 use std::sync::atomic::AtomicBool;
 
 /// The TCP places of this machine. They tell nothing of content. All shares fail together: once one has failed, which `has_failed` tells, each other one fails when it
@@ -56,6 +61,49 @@ impl<'a, R: Sockets + Wait + Sync, K: Clock + Copy + Drop + Send> TcpListeners<'
     }
 }
 
+/// The shares of a place: all that it takes is had before it is listened at, and the first share does.
+fn open_shares<'a>(
+    rt: &impl Sockets,
+    alloc: Global,
+    place: Place,
+    shares: usize,
+    limits: Limits<'a>,
+) -> io::Result<Vec<TcpPort<'a>>> {
+    let mut polls = Vec::with_capacity(alloc, shares)?;
+    let mut seats = Vec::with_capacity(alloc, shares)?;
+    let mut inboxes = Vec::with_capacity(alloc, shares)?;
+    let mut entrances = Vec::with_capacity(alloc, shares)?;
+    for seat in 0..shares {
+        let poll = Poll::new(rt)?;
+        seats.push(Seat::new(&poll)?)?;
+        polls.push(poll)?;
+        if seat > 0 {
+            let (inbox, entrance) = RingBuffer::new(alloc, MOST_DEALT)?;
+            inboxes.push(inbox)?;
+            entrances.push(Entrance::Inbox(entrance))?;
+        }
+    }
+    let hall = Arc::new(alloc, Hall::new(seats))?;
+    let mut ports = Vec::with_capacity(alloc, shares)?;
+    let listener = TcpListener::bind(rt, SocketAddr::from((place.address, place.port)))?;
+    let mut first = Some(Entrance::Listener(Dealer::new(listener, inboxes)));
+    let mut others = entrances.into_iter();
+    let mut seat = 0usize;
+    for poll in polls {
+        let hall = Arc::try_clone(&hall)?;
+        let entrance = match first.take() {
+            Some(entrance) => entrance,
+            None => match others.next() {
+                Some(entrance) => entrance,
+                None => return Err(io::ErrorKind::Other.into()),
+            },
+        };
+        ports.push(TcpPort::open(alloc, poll, entrance, hall, seat, limits)?)?;
+        seat = seat.saturating_add(1);
+    }
+    Ok(ports)
+}
+
 /// Counts a fault.
 fn fails(faults: &mut u64) -> Failed
     ensures counted { faults.new ≡ faults_after true faults.old }
@@ -90,32 +138,38 @@ impl<'a, R: Sockets + Wait + Sync, K: Clock + Copy + Drop + Send> Listeners
         self.heard.clear();
     }
 
-    // One share: to deal connections to several is the hall's.
     fn listen(
         &mut self,
         place: u32,
         shares: u32,
         out: &mut Vec<TcpConnections<'a, R, K>>,
     ) -> Result<(), Failed> {
-        if shares != 1 || self.given == u32::MAX {
+        let Some(given) = self.given.checked_add(shares) else {
             return Err(fails(&mut self.faults));
-        }
+        };
         let at = self.places[place as usize];
-        let most = self.most as usize;
-        let Ok(sockets) = TcpPort::open(self.rt, self.alloc, at, most, self.has_failed) else {
+        let limits = Limits {
+            most: self.most as usize,
+            has_failed: self.has_failed,
+        };
+        let Ok(ports) = open_shares(self.rt, self.alloc, at, shares as usize, limits) else {
             return Err(fails(&mut self.faults));
         };
         if self.heard.push(place).is_err() {
             return Err(fails(&mut self.faults));
         }
-        out.push_reserved(TcpConnections::new(
-            self.rt,
-            self.given,
-            sockets,
-            self.clock,
-            self.stopping,
-        ));
-        self.given += 1;
+        let mut share = self.given;
+        for sockets in ports {
+            out.push_reserved(TcpConnections::new(
+                self.rt,
+                share,
+                sockets,
+                self.clock,
+                self.stopping,
+            ));
+            share = share.saturating_add(1);
+        }
+        self.given = given;
         Ok(())
     }
 
