@@ -62,12 +62,6 @@ pub totals_last : (text : List ℕ) {due status : DaemonStatus} {old new : SinkF
 totals_last text {due} {status} {old} {new} (inl is) told = inl (subst (λ (d : DaemonStatus). IsTold d text old new status) is told)
 totals_last text {due} {status} {old} {new} (inr is) told = inr (subst (λ (d : DaemonStatus). IsTold d text old new status) is told)
 
--- a place that was not had is one of them
-pub place_within : (stop : Stop) (place : ℕ) {service : LockedService} {writes : List Write} {kept : List KeptSeat} {lacked : ℕ} {before after : PortFacts} → stop ≡ Unheard place
-    → IsCauseOfStop (Err stop) service writes kept lacked before after → place < service.places
-place_within stop place {service} {writes} {kept} {lacked} {before} {after} is cause =
-    (subst (λ (s : Stop). IsCauseOfStop (Err s) service writes kept lacked before after) is cause).came_is.3
-
 -- what is written last, by why it stopped short
 pub written_last : (first : ℕ) (stop cause : Stop) (old new : SinkFacts) (status : DaemonStatus) → stop ≡ cause → WritesLast first (Err cause) old new status → WritesLast first (Err stop) old new status
 written_last first stop cause old new status is last = subst (λ (s : Stop). WritesLast first (Err s) old new status) (sym is) last

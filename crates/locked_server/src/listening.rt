@@ -28,7 +28,8 @@ pub(crate) fn listen_all<L: Listeners>(
     if places == 0 {
         return Ok(());
     }
-    listeners.listen(0, places, connections)
+    listeners.listen(0, places, connections)?;
+    Ok(())
 }
 
 /// Lets all shares go, in order.

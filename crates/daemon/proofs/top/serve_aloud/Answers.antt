@@ -46,19 +46,14 @@ returns-in-Err-Unbound g c = record {
 }
 
 pub returns-in-Err-Unheard : goal.returns-in-Err-Unheard
-returns-in-Err-Unheard g c =
-    let first = c.args.streams.now.ports.port in
-    let place = c.in-Err-Unheard.place in
-    let port : c.in-Err-Unheard.port ≡ first + place = omega (arith) in
-    record {
-      answer = Err c.in-Err-Unheard.field-0;
-      said = sink_at g c.serve_locked.new.announce;
-      cause = c.in-Err-Unheard.ensures.cause;
-      leaves = leaves_by (line_at g) (sink_at g) c.args.streams.now.ports c.requires.line c.in-Err-Unheard.ensures.leaves;
-      last = written_last first c.in-Err-Unheard.field-0 (Unheard place) (sink_at g c.serve_locked.new.announce) _ _ c.in-Err-Unheard.field-0-is
-          (subst (λ (k : g.row.K.Denot). IsTold NetFault (unbound_text (first + place)) (sink_facts g.K.Sink k) _ _) c.note_unbound-in-Err-Unheard.ensures
-          (subst (λ n. IsTold NetFault (unbound_text n) _ _ _) port c.write_unbound-in-Err-Unheard.ensures));
-    }
+returns-in-Err-Unheard g c = record {
+  answer = Err c.in-Err-Unheard.field-0;
+  said = sink_at g c.serve_locked.new.announce;
+  cause = c.in-Err-Unheard.ensures.cause;
+  leaves = leaves_by (line_at g) (sink_at g) c.args.streams.now.ports c.requires.line c.in-Err-Unheard.ensures.leaves;
+  last = written_last c.args.streams.now.ports.port c.in-Err-Unheard.field-0 (Unheard _) (sink_at g c.serve_locked.new.announce) _ _ c.in-Err-Unheard.field-0-is
+      (subst (λ (k : g.row.K.Denot). IsTold NetFault (unbound_text c.args.streams.now.ports.port) (sink_facts g.K.Sink k) _ _) c.note_unbound-in-Err-Unheard.ensures c.write_unbound-in-Err-Unheard.ensures);
+}
 
 pub returns-in-Err-Unannounced : goal.returns-in-Err-Unannounced
 returns-in-Err-Unannounced g c = record {
