@@ -1,5 +1,7 @@
 //! The TCP places of this machine.
-ghost use Rattle.std.specs.Prelude.{◌≡◌, ◌≤◌, [], true, None};
+ghost use Rattle.std.specs.Prelude.{◌≡◌, ◌+◌, ◌<◌, ◌≤◌, [], true, None, IfOk, length, map, vec_len, vec_capacity};
+ghost use Rattle.connections.specs.Shares.{GivesShares};
+ghost use Rattle.tcp_connections.specs.Facts.{facts_of};
 ghost use Rattle.outside.specs.Faults.{Rose, faults_after};
 
 use crate::TcpConnections;
@@ -68,7 +70,9 @@ fn open_shares<'a>(
     place: Place,
     shares: usize,
     limits: Limits<'a>,
-) -> io::Result<Vec<TcpPort<'a>>> {
+) -> io::Result<Vec<TcpPort<'a>>>
+    ensures { IfOk result (λ ports. length ports.items ≡ shares) }
+{
     let mut polls = Vec::with_capacity(alloc, shares)?;
     let mut seats = Vec::with_capacity(alloc, shares)?;
     let mut inboxes = Vec::with_capacity(alloc, shares)?;
@@ -88,8 +92,11 @@ fn open_shares<'a>(
     let listener = TcpListener::bind(rt, SocketAddr::from((place.address, place.port)))?;
     let mut first = Some(Entrance::Listener(Dealer::new(listener, inboxes)));
     let mut others = entrances.into_iter();
-    let mut seat = 0usize;
-    for poll in polls {
+    let mut rest = polls.into_iter();
+    for seat in 0..shares {
+        let Some(poll) = rest.next() else {
+            return Err(io::ErrorKind::Other.into());
+        };
         let hall = Arc::try_clone(&hall)?;
         let entrance = match first.take() {
             Some(entrance) => entrance,
@@ -99,9 +106,45 @@ fn open_shares<'a>(
             },
         };
         ports.push(TcpPort::open(alloc, poll, entrance, hall, seat, limits)?)?;
-        seat = seat.saturating_add(1);
     }
     Ok(ports)
+}
+
+/// What each share is given beside its sockets.
+#[derive(Clone, Copy)]
+struct Hands<'a, R, K> {
+    rt: &'a R,
+    clock: K,
+    stopping: &'a AtomicBool,
+}
+
+/// Puts so many shares behind the others, numbered from the first on. Each has its sockets.
+fn give_all<'a, R: Wait, K: Clock + Copy + Drop>(
+    hands: Hands<'a, R, K>,
+    first: u32,
+    shares: u32,
+    ports: Vec<TcpPort<'a>>,
+    out: &mut Vec<TcpConnections<'a, R, K>>,
+)
+    requires many { length ports.items ≡ shares }
+    requires within { first + shares < 4294967296 }
+    requires room { vec_len out.old + shares ≤ vec_capacity out.old }
+    ensures all { GivesShares None first shares (map facts_of out.old.items) (map facts_of out.new.items) }
+    ensures room { vec_capacity out.new ≡ vec_capacity out.old }
+{
+    let mut left = ports.into_iter();
+    for k in 0..shares {
+        let Some(sockets) = left.next() else {
+            unreachable!()
+        };
+        out.push_reserved(TcpConnections::new(
+            hands.rt,
+            first + k,
+            sockets,
+            hands.clock,
+            hands.stopping,
+        ));
+    }
 }
 
 /// Counts a fault.
@@ -158,17 +201,12 @@ impl<'a, R: Sockets + Wait + Sync, K: Clock + Copy + Drop + Send> Listeners
         if self.heard.push(place).is_err() {
             return Err(fails(&mut self.faults));
         }
-        let mut share = self.given;
-        for sockets in ports {
-            out.push_reserved(TcpConnections::new(
-                self.rt,
-                share,
-                sockets,
-                self.clock,
-                self.stopping,
-            ));
-            share = share.saturating_add(1);
-        }
+        let hands = Hands {
+            rt: self.rt,
+            clock: self.clock,
+            stopping: self.stopping,
+        };
+        give_all(hands, self.given, shares, ports, out);
         self.given = given;
         Ok(())
     }
