@@ -180,10 +180,21 @@ pub(crate) fn shares_at<'a, R: AllocGlobal + Sockets + Wait + Sync, K: Clock + C
     let mut places = Vec::with_capacity(rt.alloc(), 1).ok()?;
     places.push_reserved(Place { address, port });
     let mut shares = Vec::with_capacity(rt.alloc(), 2).ok()?;
-    let mut listeners = TcpListeners::new(rt, rt.alloc(), clock, &flags.has_failed, &flags.stopping);
+    let mut listeners = TcpListeners::new(
+        rt,
+        rt.alloc(),
+        clock,
+        &flags.has_failed,
+        &flags.stopping,
+    );
     listeners.set_places(places, most);
     listeners.listen(0, 2, &mut shares).ok()?;
     let second = shares.pop()?;
     let first = shares.pop()?;
-    Some((Share { connections: first }, Share { connections: second }))
+    Some((
+        Share { connections: first },
+        Share {
+            connections: second,
+        },
+    ))
 }

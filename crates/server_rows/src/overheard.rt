@@ -111,7 +111,12 @@ impl<'a> OverheardListeners<'a> {
     }
 
     // The connections of a port that are so many behind the first, with which nothing was done, as the share of this number.
-    fn connections_at(&self, number: u16, behind: u32, share: u32) -> Option<OverheardConnections<'a>>
+    fn connections_at(
+        &self,
+        number: u16,
+        behind: u32,
+        share: u32,
+    ) -> Option<OverheardConnections<'a>>
         ensures { IfSome result (λ c. IsNewShare None share (share_facts ⟦<OverheardConnections<'a> as Connections>⟧.share
             ⟦<OverheardConnections<'a> as Connections>⟧.faults ⟦<OverheardConnections<'a> as Connections>⟧.has_ended ⟦<OverheardConnections<'a> as Connections>⟧.log c)) }
     {

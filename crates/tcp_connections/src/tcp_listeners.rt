@@ -15,8 +15,8 @@ use rtrb::RingBuffer;
 use std::alloc::Global;
 use std::io;
 use std::net::{Net as Sockets, SocketAddr};
-use std::sync::{Arc, Wait};
 use std::sync::atomic::AtomicBool;
+use std::sync::{Arc, Wait};
 
 /// The TCP places of this machine. They tell nothing of content. All shares fail together: once one has failed, which `has_failed` tells, each other one fails when it
 /// is next waited for, and at the latest a second later. All have this clock, and stop once `stopping` is set.
