@@ -1,5 +1,5 @@
 -- The words of a server that stays up: its partitions, by their sizes or by how much memory they may take, its ports, and an image.
-use Rattle.std.specs.Prelude.{◌≡◌, ⊤, ℕ, ◌+◌, Bool, ◌||◌, ◌&&◌, true, nat_le, List, ◌∷◌, Option, Some, None, is_none, is_some, option_map, codes, Result, Ok, Err, if◌then◌else◌}
+use Rattle.std.specs.Prelude.{◌≡◌, ⊤, ℕ, ◌+◌, Bool, ◌||◌, ◌&&◌, true, List, ◌∷◌, Option, Some, None, is_none, is_some, option_map, codes, Result, Ok, Err, if◌then◌else◌}
 use Rattle.partition_model.specs.declared.options.Options.{Options}
 use Rattle.partition_model.specs.declared.options.Mode.{Mode}
 use Rattle.partition_model.specs.declared.options.Mode.TheVariants.{Cache, Store}
@@ -115,11 +115,7 @@ ports_by given (Some text) = lasting_ports given
 abbrev pub ports_given : (Text → Option Text) → Option PortOptions
 ports_given given = ports_by given (given port.name)
 
--- the last port of connections has a number
-abbrev pub have_numbers : StreamPorts → Bool
-have_numbers streams = nat_le (streams.port + streams.fronts) 65536
-
--- what it is to do: its partitions, its ports of datagrams and of connections, and the file whose image fills it, if one does
+-- what it is to do: its partitions, its ports of datagrams and its port of connections, and the file whose image fills it, if one does
 pub record Service : Type 0 where
   pub options : Options
   pub ports : PortOptions
@@ -136,7 +132,7 @@ daemon_given given =
     service_options given >>= λ options.
     ports_given given >>= λ ports.
     streams_given given >>= λ streams.
-    if have_numbers streams.ports && may_fill options.mode (given image_name)
+    if may_fill options.mode (given image_name)
     then Some (record { options = options; ports = ports; streams = streams; image = given image_name })
     else None
 

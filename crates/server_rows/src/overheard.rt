@@ -8,7 +8,7 @@ use outside::Failed;
 use row_parts::at_least_one;
 use std::alloc::Global;
 
-/// A port of connections: how many bytes a read or a write moves, and what happens there.
+/// A share of a port of connections: how many bytes a read or a write moves, and what happens there.
 #[derive(Drop)]
 pub struct Port {
     pub number: u16,
@@ -16,10 +16,9 @@ pub struct Port {
     pub schedule: Vec<Step>,
 }
 
-/// What became of the connections of a port: a line as `0: STORED` for what was sent under the number 0, and `0: closed`.
+/// What became of the connections of a share: a line as `0: STORED` for what was sent under the number 0, and `0: closed`.
 #[derive(Drop)]
 pub struct Overheard {
-    pub port: u16,
     pub bytes: Vec<u8>,
 }
 
@@ -86,7 +85,7 @@ pub struct OverheardListeners<'a> {
     places: Vec<Place>,
     most: u32,
     listened: Vec<u32>,
-    given: u16,
+    given: u32,
     faults: u64,
     heard: Vec<Overheard>,
 }
@@ -106,25 +105,43 @@ impl<'a> OverheardListeners<'a> {
         }
     }
 
-    /// What was heard at each port that was let go.
+    /// What was heard at each share that was let go.
     pub fn into_overheard(self) -> Vec<Overheard> {
         self.heard
     }
 
-    // The connections of a port, with which nothing was done, as the next share.
-    fn connections_at(&self, number: u16) -> Option<OverheardConnections<'a>>
-        ensures { IfSome result (λ c. IsNewShare None self.now.given (share_facts ⟦<OverheardConnections<'a> as Connections>⟧.share
+    // The connections of a port that are so many behind the first, with which nothing was done, as the share of this number.
+    fn connections_at(
+        &self,
+        number: u16,
+        behind: u32,
+        share: u32,
+    ) -> Option<OverheardConnections<'a>>
+        ensures { IfSome result (λ c. IsNewShare None share (share_facts ⟦<OverheardConnections<'a> as Connections>⟧.share
             ⟦<OverheardConnections<'a> as Connections>⟧.faults ⟦<OverheardConnections<'a> as Connections>⟧.has_ended ⟦<OverheardConnections<'a> as Connections>⟧.log c)) }
     {
-        let port = self.ports.iter().find(|port| port.number == number)?;
+        let port = self.ports.get(behind as usize)?;
+        if port.number != number {
+            return None;
+        }
         let piece = at_least_one(port.piece);
         let schedule = port.schedule.as_slice();
-        let connections = MemConnections::new(self.alloc, self.given, schedule, piece, &[]).ok()?;
+        let share = u16::try_from(share).ok()?;
+        let connections = MemConnections::new(self.alloc, share, schedule, piece, &[]).ok()?;
         let heard = Overheard {
-            port: number,
             bytes: Vec::new(self.alloc),
         };
         Some(OverheardConnections { connections, heard })
+    }
+
+    // So many shares of a port, where all are had.
+    fn shares_at(&self, number: u16, shares: u32) -> Option<Vec<OverheardConnections<'a>>> {
+        let mut all = Vec::with_capacity(self.alloc, shares as usize).ok()?;
+        for behind in 0..shares {
+            let share = self.given.saturating_add(behind);
+            all.push(self.connections_at(number, behind, share)?).ok()?;
+        }
+        Some(all)
     }
 }
 
@@ -158,11 +175,13 @@ impl<'a> Listeners for OverheardListeners<'a> {
         out: &mut Vec<OverheardConnections<'a>>,
     ) -> Result<(), Failed> {
         let number = self.places[place as usize].port;
-        if shares == 1 && self.given < u16::MAX {
-            if let Some(connections) = self.connections_at(number) {
+        if let Some(given) = self.given.checked_add(shares) {
+            if let Some(all) = self.shares_at(number, shares) {
                 if self.listened.push(place).is_ok() {
-                    out.push_reserved(connections);
-                    self.given += 1;
+                    for connections in all {
+                        out.push_reserved(connections);
+                    }
+                    self.given = given;
                     return Ok(());
                 }
             }

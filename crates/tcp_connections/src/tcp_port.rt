@@ -2,16 +2,18 @@
 ghost use Rattle.std.specs.Prelude.{◌<◌, ◌≤◌, length, IfOk};
 ghost use Rattle.connections.specs.Calls.{FitsRoom};
 
+use crate::hall::{Dealt, Entrance, Hall, MOST_DEALT};
 use crate::patience::Patience;
-use connections::{Broken, Event, Input, Place};
+use connections::{Broken, Event, Input};
 use mio::event::Events;
-use mio::net::{TcpListener, TcpStream};
+use mio::net::TcpStream;
 use mio::{Interest, Poll, Token};
 use slab::Slab;
 use std::alloc::Global;
 use std::io::{self, ErrorKind, Read, Write};
 use std::mem;
-use std::net::{Net as Sockets, Shutdown, SocketAddr};
+use std::net::Shutdown;
+use std::sync::Arc;
 use std::sync::atomic::{AtomicBool, Ordering};
 use std::time::Duration;
 
@@ -59,7 +61,7 @@ enum Accepting {
     Refused,
 }
 
-/// A TCP port and its connections, at most so many at a time: more are turned away.
+/// A share of a place, and its connections. All shares of the place have at most so many at a time: more are turned away.
 #[derive(Drop)]
 pub(crate) struct TcpPort<'a> {
     most: usize,
@@ -67,15 +69,18 @@ pub(crate) struct TcpPort<'a> {
     has_failed: &'a AtomicBool,
     poll: Poll,
     events: Events,
-    listener: TcpListener,
+    entrance: Entrance,
+    hall: Arc<Hall, Global>,
+    /// Which share of the place it is, from 0.
+    seat: usize,
     accepting: Accepting,
     slots: Slab<Slot>,
     /// The connections to be reported in the next round, each once. There is room for all.
     queue: Vec<u32>,
     /// Those of this round that were not reported yet, by number.
     round: Vec<u32>,
-    /// Whether this round may still end with a connection that waits to be accepted.
-    may_open: bool,
+    /// How many connections may still be taken in or dealt before the next round.
+    may_open: usize,
     patience: Patience,
 }
 
@@ -181,31 +186,42 @@ fn turn_away(stream: TcpStream) {
     drop_unread(&mut slot);
 }
 
+/// What all shares of a place look at.
+#[derive(Clone, Copy)]
+pub(crate) struct Limits<'a> {
+    pub(crate) most: usize,
+    pub(crate) has_failed: &'a AtomicBool,
+}
+
 impl<'a> TcpPort<'a> {
-    /// Listens at a place.
+    /// The share of this seat, whose waker is at the poll.
     pub(crate) fn open(
-        rt: &impl Sockets,
         alloc: Global,
-        place: Place,
-        most: usize,
-        has_failed: &'a AtomicBool,
+        poll: Poll,
+        entrance: Entrance,
+        hall: Arc<Hall, Global>,
+        seat: usize,
+        limits: Limits<'a>,
     ) -> io::Result<TcpPort<'a>> {
-        let poll = Poll::new(rt)?;
         let events = Events::with_capacity(alloc, MOST_EVENTS)?;
-        let mut listener = TcpListener::bind(rt, SocketAddr::from((place.address, place.port)))?;
-        poll.registry()
-            .register(&mut listener, LISTENER, Interest::READABLE)?;
+        let mut entrance = entrance;
+        if let Entrance::Listener(dealer) = &mut entrance {
+            poll.registry()
+                .register(&mut dealer.listener, LISTENER, Interest::READABLE)?;
+        }
         Ok(TcpPort {
-            most,
-            has_failed,
+            most: limits.most,
+            has_failed: limits.has_failed,
             poll,
             events,
-            listener,
+            entrance,
+            hall,
+            seat,
             accepting: Accepting::Ready,
             slots: Slab::new(alloc),
             queue: Vec::new(alloc),
             round: Vec::new(alloc),
-            may_open: false,
+            may_open: 0,
             patience: Patience::new(),
         })
     }
@@ -236,31 +252,48 @@ impl<'a> TcpPort<'a> {
     }
 
     /// The next connection that waits, where there is one.
-    fn accept(&mut self) -> Option<TcpStream> {
-        if self.accepting != Accepting::Ready {
-            return None;
-        }
-        match self.listener.accept() {
-            Ok((stream, _)) => Some(stream),
-            Err(error) => {
-                match error.kind() {
+    fn next_stream(&mut self) -> Option<TcpStream> {
+        match &mut self.entrance {
+            Entrance::Inbox(inbox) => match inbox.pop() {
+                Ok(stream) => return Some(stream),
+                Err(_) => self.accepting = Accepting::Idle,
+            },
+            Entrance::Listener(dealer) => match dealer.listener.accept() {
+                Ok((stream, _)) => return Some(stream),
+                Err(error) => match error.kind() {
                     ErrorKind::WouldBlock => self.accepting = Accepting::Idle,
                     ErrorKind::Interrupted | ErrorKind::ConnectionAborted => {}
                     _ => self.accepting = Accepting::Refused,
-                }
-                None
-            }
+                },
+            },
         }
+        None
     }
 
-    /// Takes in the next connection that waits, or turns it away where there is no room.
-    fn open_next(&mut self) -> Option<Event> {
-        let stream = self.accept()?;
-        if self.slots.len() >= self.most {
-            turn_away(stream);
-            return Some(Event::TurnedAway);
+    /// Takes in a connection that is counted here.
+    fn take_own(&mut self, stream: TcpStream) -> Option<Event> {
+        let number = self.take_in(stream);
+        if number.is_none() {
+            self.hall.goes(self.seat);
         }
-        Some(Event::Opened(self.take_in(stream)?))
+        Some(Event::Opened(number?))
+    }
+
+    /// Takes in the next connection that waits, or deals it to another share, or turns it away.
+    fn open_next(&mut self) -> Option<Event> {
+        let stream = self.next_stream()?;
+        let dealt = match &mut self.entrance {
+            Entrance::Inbox(_) => Dealt::Own(stream),
+            Entrance::Listener(dealer) => dealer.deal(&self.hall, self.most, stream),
+        };
+        match dealt {
+            Dealt::Own(stream) => self.take_own(stream),
+            Dealt::Away => None,
+            Dealt::TooMany(stream) => {
+                turn_away(stream);
+                Some(Event::TurnedAway)
+            }
+        }
     }
 
     /// How long to wait: not at all where something is to be reported or accepted, and never for long.
@@ -304,7 +337,7 @@ impl<'a> TcpPort<'a> {
         }
         self.wait()?;
         let listens = put_events(&self.events, &mut self.slots, &mut self.queue);
-        if listens || self.accepting == Accepting::Refused {
+        if listens || self.accepting == Accepting::Refused || self.entrance.is_inbox() {
             self.accepting = Accepting::Ready;
         }
         mem::swap(&mut self.queue, &mut self.round);
@@ -334,7 +367,7 @@ impl<'a> TcpPort<'a> {
         None
     }
 
-    /// The next report, if there is one at hand or comes with one look: those of a round, and after each round one connection that waits to be accepted.
+    /// The next report, if there is one at hand or comes with one look: those of a round, and after each round a few connections that wait to be accepted.
     pub(crate) fn step(&mut self) -> io::Result<Option<Event>> {
         if !self.round.is_empty() {
             return Ok(match self.take_ready() {
@@ -342,18 +375,19 @@ impl<'a> TcpPort<'a> {
                 None => None,
             });
         }
-        if self.may_open {
-            self.may_open = false;
+        if self.may_open > 0 && self.accepting == Accepting::Ready {
+            self.may_open -= 1;
             return Ok(self.open_next());
         }
         self.ask()?;
-        self.may_open = true;
+        self.may_open = MOST_DEALT;
         Ok(None)
     }
 
-    /// The connections there have failed: so those at the other ports fail.
+    /// The connections there have failed: so those of the other shares fail, and need not wait for it.
     pub(crate) fn tell_failure(&self) {
         self.has_failed.store(true, Ordering::Relaxed);
+        self.hall.call_all();
     }
 
     /// Reads from a connection, where there may be more.
@@ -390,7 +424,9 @@ impl<'a> TcpPort<'a> {
                 drop_unread(slot);
             }
         }
-        let _gone = self.slots.try_remove(number as usize);
+        if self.slots.try_remove(number as usize).is_some() {
+            self.hall.goes(self.seat);
+        }
         if self.accepting == Accepting::Refused {
             self.accepting = Accepting::Ready;
         }
