@@ -6,7 +6,6 @@ use Rattle.partition_model.specs.declared.write.Write.{Write}
 use Rattle.fronts.specs.declared.totals.Totals.{Totals}
 use Rattle.fronts.specs.declared.totals.ServeFault.TheVariants as faults
 use Rattle.server_words.specs.declared.ports.PortOptions.{PortOptions}
-use Rattle.server_words.specs.declared.stream_ports.StreamPorts.{StreamPorts}
 use Rattle.locked_server.specs.declared.service.Service.{Service as LockedService}
 use Rattle.locked_server.specs.declared.stop.Stop.{Stop}
 use Rattle.locked_server.specs.declared.stop.Stop.TheVariants.{Refused, Unbound, Unheard, Unannounced, Fault}
@@ -15,6 +14,7 @@ use Rattle.daemon.specs.declared.status.DaemonStatus.{DaemonStatus}
 use Rattle.daemon.specs.declared.status.DaemonStatus.TheVariants.{Usage, UsedUp, Stopped}
 use Rattle.option_words.specs.Words.{Text}
 use Rattle.daemon_words.specs.declared.streams.StreamOptions.{StreamOptions}
+use Rattle.daemon_words.specs.declared.streams.StreamPorts.{StreamPorts}
 use Rattle.daemon_words.specs.DaemonWords.{Service}
 use Rattle.server_words.specs.Output.{SinkFacts}
 use Rattle.daemon.specs.Written.{IsUnwritten, IsTold}

@@ -1,5 +1,5 @@
 -- What a server that stays up writes, and what it leaves.
-use Rattle.std.specs.Prelude.{◌≡◌, ◌+◌, ◌-◌, ◌<◌, ◌≤◌, ◌==◌, ◌⊎◌, ◌++◌, ◌∷◌, [], ℕ, zero, suc, List, length, take, codes, Option, Some, None, IfSome, Result, Ok, Err, if◌then◌else◌}
+use Rattle.std.specs.Prelude.{◌≡◌, ◌+◌, ◌-◌, ◌<◌, ◌≤◌, ◌==◌, ◌⊎◌, ◌++◌, ◌∷◌, [], ℕ, List, length, take, codes, Option, Some, None, IfSome, Result, Ok, Err, if◌then◌else◌}
 use Rattle.std.specs.Fmt.{decimal}
 use Rattle.std.specs.Io.KnownBytes.{Appends}
 use Rattle.outside.specs.Faults.{Rose}
@@ -13,10 +13,10 @@ use Rattle.fronts.specs.declared.totals.ServeFault.TheVariants as faults
 use Rattle.server_words.specs.declared.ports.PortOptions.{PortOptions}
 use Rattle.locked_server.specs.declared.stop.Stop.{Stop}
 use Rattle.locked_server.specs.declared.stop.Stop.TheVariants.{Refused, Unbound, Unheard, Unannounced, Fault}
-use Rattle.server_words.specs.declared.stream_ports.StreamPorts.{StreamPorts}
 use Rattle.locked_server.specs.declared.service.Service.{Service as LockedService}
 use Rattle.locked_server.specs.Causes.{IsCauseOfStop, Leaves, PortFacts}
 use Rattle.daemon_words.specs.declared.streams.StreamOptions.{StreamOptions}
+use Rattle.daemon_words.specs.declared.streams.StreamPorts.{StreamPorts}
 use Rattle.daemon_words.specs.DaemonWords.{Service}
 use Rattle.daemon.specs.declared.status.DaemonStatus.{DaemonStatus}
 use Rattle.daemon.specs.declared.status.DaemonStatus.TheVariants.{Usage, NoMemory, NetFault, WriteFault, ImageRefused, UsedUp, Stopped}

@@ -4,9 +4,10 @@ ghost use Rattle.server_words.specs.PossiblePorts.{IsPossiblePorts};
 ghost use Rattle.daemon.specs.Daemon.{place_text, range_text, ready_text, unbound_text};
 
 use connections::Connections;
+use daemon_words::StreamPorts;
 use locked_server::{Announce, Untold};
 use outside::{Datagrams, NoMemory, Sink, write_all};
-use server_words::{PortOptions, StreamPorts};
+use server_words::PortOptions;
 use std::alloc::Global;
 use std::net::Ipv4Addr;
 

@@ -6,7 +6,6 @@ ghost use Rattle.locked_server.specs.declared.stop.Stop.TheVariants.{Fault};
 ghost use Rattle.locked_server.specs.Service.{IsPossibleService};
 ghost use Rattle.locked_server.specs.Causes.{ports_at};
 ghost use Rattle.locked_server.specs.Streams.{HasPlace};
-ghost use Rattle.server_words.specs.StreamPorts.{IsPossibleStreams};
 ghost use Rattle.daemon_words.specs.DaemonWords.{daemon_of, ArePossibleFronts};
 ghost use Rattle.server_words.specs.Output.{sink_facts};
 ghost use Rattle.daemon.specs.declared.status.DaemonStatus.TheVariants.{NetFault, Stopped, UsedUp};
@@ -79,7 +78,6 @@ fn serve_aloud<W: Threads + Wait + Sync, K: Sink + Drop, N: Net, L: Listeners, G
     left: &mut Left,
 ) -> DaemonStatus
     requires service { IsPossibleService shared.now.service }
-    requires streams { IsPossibleStreams streams.now.ports }
     requires fronts { shared.now.service.places ≡ streams.now.ports.fronts }
     requires places { HasPlace shared.now.service.places (L.places listeners.old) }
     requires filling { All IsWrite filling.items }

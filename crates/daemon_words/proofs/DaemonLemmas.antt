@@ -102,7 +102,6 @@ lasting_valid given ports is =
       port = required_bounds port.name 1024 65000 (given port.name) p.0 p.1;
       fronts = (omega arith, few.1);
       batches = (omega arith, omega arith);
-      stream_ports = record { fronts = omega arith };
       all = (omega (arith, few.0), omega (arith, few.1));
     })
 
@@ -122,7 +121,6 @@ streams_alone streams few = record {
   port = (omega arith, omega arith);
   fronts = (omega arith, omega arith);
   batches = (omega arith, omega arith);
-  stream_ports = record { fronts = few.1 };
   all = (omega (arith, few.0), omega (arith, few.1));
 }
 

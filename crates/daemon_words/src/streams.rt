@@ -6,8 +6,15 @@ ghost use Rattle.daemon_words.specs.StreamWords.{before_dot, behind_dot, octet_o
 
 use clap::ArgMatches;
 use option_words::{count, number_of};
-use server_words::{MOST_FRONTS, StreamPorts};
+use server_words::MOST_FRONTS;
 use std::net::Ipv4Addr;
+
+/// A port of connections, and how many fronts share it, each in a thread. There may be none.
+#[derive(Clone, Copy)]
+pub struct StreamPorts {
+    pub port: u16,
+    pub fronts: u32,
+}
 
 /// The fronts behind connections: their port, the address that it is of, and the most connections that all have together at a time.
 #[derive(Clone, Copy)]

@@ -1,6 +1,6 @@
-//! The port of a server's fronts behind connections.
+//! The ports of a server's fronts behind connections.
 
-/// The port, and how many fronts share it, each in a thread. There may be none.
+/// The first port, and how many fronts there are, one behind each port from there on. There may be none.
 #[derive(Clone, Copy)]
 pub struct StreamPorts {
     pub port: u16,
