@@ -3,6 +3,7 @@
 
 mod hall;
 mod patience;
+mod slot;
 mod tcp_connections;
 mod tcp_listeners;
 mod tcp_port;

@@ -4,15 +4,15 @@ ghost use Rattle.connections.specs.Calls.{FitsRoom};
 
 use crate::hall::{Dealt, Entrance, Hall, MOST_DEALT};
 use crate::patience::Patience;
+use crate::slot::{Slot, drop_unread, keep_alive, new_slot, read_from, turn_away, write_to};
 use connections::{Broken, Event, Input};
 use mio::event::Events;
 use mio::net::TcpStream;
 use mio::{Interest, Poll, Token};
 use slab::Slab;
 use std::alloc::Global;
-use std::io::{self, ErrorKind, Read, Write};
+use std::io::{self, ErrorKind};
 use std::mem;
-use std::net::Shutdown;
 use std::sync::Arc;
 use std::sync::atomic::{AtomicBool, Ordering};
 use std::time::Duration;
@@ -28,29 +28,6 @@ const PAUSE_MILLIS: u64 = 100;
 
 /// How long a port waits before it looks whether another one has failed, or whether it is to stop.
 const LOOK_SECONDS: u64 = 1;
-
-/// How many bytes that nobody reads any more are dropped before a close, so that the replies before it are not lost to a reset.
-const MOST_DROPPED: usize = 64 * 1_024;
-
-/// So many of them are dropped at once.
-const SCRATCH_LEN: usize = 4_096;
-
-/// What a connection is told that is turned away.
-const TOO_MANY: &[u8] = b"ERROR Too many open connections\r\n";
-
-/// How often a read or a write that was interrupted is tried. A socket that never blocks is hardly interrupted at all.
-const MOST_TRIES: u32 = 64;
-
-#[derive(Drop)]
-struct Slot {
-    stream: TcpStream,
-    /// Whether a read may give more, as far as is known. Readiness is told once.
-    may_read: bool,
-    /// Whether the peer's end was told: it isn't told again, so a short read doesn't say that nothing is left.
-    half_closed: bool,
-    /// Whether it is among those to be reported.
-    queued: bool,
-}
 
 /// Whether a connection may wait to be accepted.
 #[derive(Clone, Copy, PartialEq, Eq)]
@@ -114,78 +91,6 @@ fn put_events(events: &Events, slots: &mut Slab<Slot>, queue: &mut Vec<u32>) -> 
     listens
 }
 
-/// Reads once, and notes whether there may be more.
-fn read_from(slot: &mut Slot, out: &mut [u8]) -> Result<Input, Broken>
-    requires room { 0 < length out.old }
-    ensures fits { IfOk result (FitsRoom (length out.old)) }
-{
-    for _ in 0..MOST_TRIES {
-        match (&slot.stream).read(out) {
-            Ok(0) => return Ok(Input::Ended),
-            Ok(count) if slot.half_closed || count == out.len() => return Ok(Input::Bytes(count)),
-            Ok(count) => {
-                slot.may_read = false;
-                return Ok(Input::All(count));
-            }
-            Err(error) => match error.kind() {
-                ErrorKind::WouldBlock => {
-                    slot.may_read = false;
-                    return Ok(Input::Later);
-                }
-                ErrorKind::Interrupted => {}
-                _ => break,
-            },
-        }
-    }
-    Err(Broken)
-}
-
-/// Writes once. Where nothing is taken now, that is 0.
-fn write_to(stream: &TcpStream, piece: &[u8]) -> Result<usize, Broken>
-    ensures { IfOk result (λ n. n ≤ length piece.now) }
-{
-    for _ in 0..MOST_TRIES {
-        match (&*stream).write(piece) {
-            Err(error) => match error.kind() {
-                ErrorKind::WouldBlock => return Ok(0),
-                ErrorKind::Interrupted => {}
-                _ => break,
-            },
-            taken => return taken.map_err(|_| Broken),
-        }
-    }
-    Err(Broken)
-}
-
-/// A connection at which nothing was read yet.
-fn new_slot(stream: TcpStream) -> Slot {
-    Slot {
-        stream,
-        may_read: false,
-        half_closed: false,
-        queued: false,
-    }
-}
-
-/// Says that nothing more will be sent, and drops what the peer sent and nobody reads, up to a bound: a close with bytes unread loses replies.
-fn drop_unread(slot: &mut Slot) {
-    let _unheeded = slot.stream.shutdown(Shutdown::Write);
-    let mut scratch = [0; SCRATCH_LEN];
-    for _ in 0..MOST_DROPPED / SCRATCH_LEN {
-        match read_from(slot, &mut scratch) {
-            Ok(Input::Bytes(_)) => {}
-            _ => return,
-        }
-    }
-}
-
-/// Tells a connection that there are too many, and lets it go. What it is told may get lost.
-fn turn_away(stream: TcpStream) {
-    let _unheeded = write_to(&stream, TOO_MANY);
-    let mut slot = new_slot(stream);
-    drop_unread(&mut slot);
-}
-
 /// What all shares of a place look at.
 #[derive(Clone, Copy)]
 pub(crate) struct Limits<'a> {
@@ -229,6 +134,7 @@ impl<'a> TcpPort<'a> {
     /// Takes a connection in, and says its number. Where there is no memory for it, it is let go.
     fn take_in(&mut self, stream: TcpStream) -> Option<u32> {
         let _unheeded = stream.set_nodelay(true);
+        keep_alive(&stream);
         // Each that is open once, and each that was closed since the last round.
         let room = self.slots.len().saturating_add(1).saturating_mul(2);
         self.queue
