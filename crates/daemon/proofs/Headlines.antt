@@ -24,7 +24,7 @@ use Rattle.locked_server.specs.declared.stop.Stop.{Stop}
 use Rattle.locked_server.specs.declared.stop.Stop.TheVariants.{Refused, Unbound, Unheard, Unannounced, Fault}
 use Rattle.locked_server.specs.Filled.{origin_of}
 use Rattle.locked_server.specs.Streams.{ListenFacts, ServesClients, ServesFrom, AreStreams, HasFinished, HaveFinished, HaveStopped, counted_by_all, others_of, with_shares}
-use Rattle.locked_server.specs.Causes.{HasCause, IsCauseOfStop, Leaves}
+use Rattle.locked_server.specs.Causes.{HasCause, IsCauseOfStop, LacksPlace, Leaves}
 use Rattle.option_words.specs.Words.{Text}
 use Rattle.daemon_words.specs.DaemonWords.{Service}
 use Rattle.daemon.specs.declared.status.DaemonStatus.{DaemonStatus}
@@ -248,7 +248,7 @@ module _ (service : Service) (base : ℕ) (files after : FilesFacts) (old new : 
       let is = is_told NetFault status (unbound_text port) said new.sink final last in
       subst Promised (sym is.0) (inl (record {
         port = port;
-        lacks = inr (refl, subst (λ n. LacksPlace n before.ports new.ports) cause.came_is.2 leaves.announced.0);
+        lacks = inr (refl, subst (λ (n : ℕ). LacksPlace n before.ports new.ports) cause.came_is.2 leaves.announced.0);
         printed = subst (λ (s : SinkFacts). Appends s.taken new.sink.taken (unbound_text port)) leaves.announced.1 is.1;
       }))
   by_answer writes filled status final said (Err (Fault faults.Net)) cause leaves last =

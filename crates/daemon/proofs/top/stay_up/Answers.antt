@@ -11,7 +11,7 @@ use Rattle.daemon.proofs.top.stay_up.Goals as goal
 
 -- there is a place where there are fronts
 is_placed : (fronts : ℕ) (place : Place) (none : Bool) → (fronts == 0) ≡ none → 0 < fronts → 0 < length (if none then [] else place ∷ [])
-is_placed fronts place true is some = absurd (let zero = eqb-true fronts 0 is in omega (arith, zero, some))
+is_placed fronts place true is some = absurd (let same = eqb-true fronts 0 is in omega (arith, same, some))
 is_placed fronts place false is some = omega arith
 
 pub serve_aloud-requires-clause-places : goal.serve_aloud-requires-clause-places

@@ -1,10 +1,11 @@
-use Rattle.std.proofs.Common.{rules, ◌≡◌, ◌<◌, [], ℕ, List, length, vec_len, map, sym, ap, ◌∙◌, subst, arith}
-use Rattle.std.specs.Prelude.{⊤, Result, OnErr}
+use Rattle.std.proofs.Common.{rules, ◌≡◌, ◌<◌, [], ℕ, List, Option, length, vec_len, map, sym, ap, ◌∙◌, subst, arith}
+use Rattle.std.specs.Prelude.{⊤, Result, OnErr, is_err}
+use Rattle.std.specs.Global.{Vec}
 use Rattle.std.proofs.lemmas.Result.{err_from_is_err_and}
 use Rattle.std.proofs.lemmas.List.{length-map}
 use Rattle.outside.specs.declared.fault.Failed.{Failed}
-use Rattle.outside.specs.Faults.{Rose}
-use Rattle.connections.specs.Shares.{ShareFacts, GivesShares}
+use Rattle.outside.specs.Faults.{Rose, faults_after}
+use Rattle.connections.specs.Shares.{ShareFacts, ShareLogs, GivesShares}
 use Rattle.connections.proofs.Shares.{gives_none}
 use Rattle.locked_server.specs.Streams.{AreNewShares, KeepsListeners, ListenFacts, listen_facts, stream_facts}
 use Rattle.locked_server.proofs.Heard.{gave_all, gave_none, kept_unheard, new_shares}
@@ -31,18 +32,32 @@ returns-then-places-eq0-clause-kept g c =
     let none : 0 ≡ vec_len c.args.connections.now = omega (arith, ap length c.requires.none, c.args.connections.now.ok) in
     subst (λ (n : ℕ). KeepsListeners n c.args.places all all) none (kept_unheard c.args.places all)
 
+-- what the place gave, there being no shares before
+gave_on : {waits : Option ShareLogs} {first count : ℕ} (g : given.Over) {old new : List g.row.L-Port.Denot} → old ≡ []
+    → GivesShares waits first count (map (facts g) old) (map (facts g) new) → GivesShares waits first count [] (map (facts g) new)
+gave_on {waits} {first} {count} g {new = new} none gave = subst (λ (l : List _). GivesShares waits first count (map (facts g) l) (map (facts g) new)) none gave
+
+-- so many are there then
+many_of : {waits : Option ShareLogs} {first count : ℕ} (g : given.Over) (v : Vec g.row.L-Port.Denot) → GivesShares waits first count [] (map (facts g) v.items) → vec_len v ≡ count
+many_of g v gave = omega (arith, gave.many, ap length gave.behind, length-map v.items (facts g), v.ok)
+
+pub listen-requires-clause-there : goal.listen-requires-clause-there
+listen-requires-clause-there g c = let some : 0 < c.args.places = search rules in c.requires.places some
+
 pub returns-clause-new : goal.returns-clause-new
-returns-clause-new g c =
-    let waits = g.L.Listeners.waits c.args.listeners.now in
-    let first = g.L.Listeners.given c.args.listeners.now in
-    let new = map (facts g) c.listen.new.out.items in
-    new_shares waits first c.args.places new (subst (λ (l : List _). GivesShares waits first c.args.places (map (facts g) l) new) c.requires.none c.in_ok-listen.ensures.all)
+returns-clause-new g c = new_shares (g.L.Listeners.waits c.args.listeners.now) (g.L.Listeners.given c.args.listeners.now) c.args.places (map (facts g) c.listen.new.out.items)
+    (gave_on g c.requires.none c.in_ok-listen.ensures.all)
 
 -- all shares were had
 pub returns-clause-all : goal.returns-clause-all
-returns-clause-all g c =
-    let gave = c.in_ok-listen.ensures.all in
-    omega (arith, gave.many, ap length gave.behind, length-map c.listen.new.out.items (facts g), ap length c.requires.none, c.listen.new.out.ok)
+returns-clause-all g c = many_of g c.listen.new.out (gave_on g c.requires.none c.in_ok-listen.ensures.all)
+
+pub returns-clause-few : goal.returns-clause-few
+returns-clause-few g c = omega (arith, many_of g c.listen.new.out (gave_on g c.requires.none c.in_ok-listen.ensures.all))
+
+pub returns-clause-steady : goal.returns-clause-steady
+returns-clause-steady g c =
+    c.listen.ensures.counted ∙ ap (λ (r : Result ⊤ Failed). faults_after (is_err r) (g.L.Listeners.faults c.args.listeners.now)) c.in_ok-listen.was
 
 pub returns-clause-kept : goal.returns-clause-kept
 returns-clause-kept g c =
@@ -50,8 +65,7 @@ returns-clause-kept g c =
     let before = listens_at g c.args.listeners.now in
     let after = listens_at g c.listen.new.self in
     let some : 0 < c.args.places = search rules in
-    let len : c.args.places ≡ vec_len c.listen.new.out = search rules in
-    subst (λ (n : ℕ). KeepsListeners n c.args.places before after) len
+    subst (λ (n : ℕ). KeepsListeners n c.args.places before after) (sym (many_of g c.listen.new.out (gave_on g c.requires.none gave.all)))
     (gave_all c.args.places before after some gave.heard gave.gives c.listen.ensures.never_fall gave.taken c.listen.ensures.places c.listen.ensures.most)
 
 pub returns-in_err-listen-clause-new : goal.returns-in_err-listen-clause-new
