@@ -1,6 +1,7 @@
 //! Places of connections in memory, and what is heard there, in the order in which it comes to pass.
-ghost use Rattle.std.specs.Prelude.{None, IfSome};
-ghost use Rattle.connections.specs.Shares.{IsNewShare, share_facts};
+ghost use Rattle.std.specs.Prelude.{◌≡◌, ◌+◌, ◌<◌, ◌≤◌, ◌++◌, [], None, IfSome, map, vec_len, vec_capacity};
+ghost use Rattle.connections.specs.Shares.{IsNewShare, GivesShares};
+ghost use Rattle.server_rows.specs.Heard.{facts_of};
 
 use connections::{Broken, Connections, Event, Input, Listeners, Place, Step};
 use memory_connections::MemConnections;
@@ -117,8 +118,7 @@ impl<'a> OverheardListeners<'a> {
         behind: u32,
         share: u32,
     ) -> Option<OverheardConnections<'a>>
-        ensures { IfSome result (λ c. IsNewShare None share (share_facts ⟦<OverheardConnections<'a> as Connections>⟧.share
-            ⟦<OverheardConnections<'a> as Connections>⟧.faults ⟦<OverheardConnections<'a> as Connections>⟧.has_ended ⟦<OverheardConnections<'a> as Connections>⟧.log c)) }
+        ensures { IfSome result (λ c. IsNewShare None share (facts_of c)) }
     {
         let port = self.ports.get(behind as usize)?;
         if port.number != number {
@@ -135,13 +135,29 @@ impl<'a> OverheardListeners<'a> {
     }
 
     // So many shares of a port, where all are had.
-    fn shares_at(&self, number: u16, shares: u32) -> Option<Vec<OverheardConnections<'a>>> {
+    fn shares_at(&self, number: u16, shares: u32) -> Option<Vec<OverheardConnections<'a>>>
+        requires { self.now.given + shares < 4294967296 }
+        ensures { IfSome result (λ all. GivesShares None self.now.given shares [] (map facts_of all.items)) }
+    {
         let mut all = Vec::with_capacity(self.alloc, shares as usize).ok()?;
         for behind in 0..shares {
-            let share = self.given.saturating_add(behind);
-            all.push(self.connections_at(number, behind, share)?).ok()?;
+            let Some(connections) = self.connections_at(number, behind, self.given + behind) else {
+                return None;
+            };
+            all.push_reserved(connections);
         }
         Some(all)
+    }
+}
+
+// Puts shares behind the others.
+fn put_all<'a>(all: Vec<OverheardConnections<'a>>, out: &mut Vec<OverheardConnections<'a>>)
+    requires room { vec_len out.old + vec_len all ≤ vec_capacity out.old }
+    ensures items { out.new.items ≡ out.old.items ++ all.items }
+    ensures room { vec_capacity out.new ≡ vec_capacity out.old }
+{
+    for connections in all {
+        out.push_reserved(connections);
     }
 }
 
@@ -178,9 +194,7 @@ impl<'a> Listeners for OverheardListeners<'a> {
         if let Some(given) = self.given.checked_add(shares) {
             if let Some(all) = self.shares_at(number, shares) {
                 if self.listened.push(place).is_ok() {
-                    for connections in all {
-                        out.push_reserved(connections);
-                    }
+                    put_all(all, out);
                     self.given = given;
                     return Ok(());
                 }
