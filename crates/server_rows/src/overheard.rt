@@ -184,6 +184,7 @@ impl<'a> Listeners for OverheardListeners<'a> {
         self.most = limit;
     }
 
+    #[tactic(auto, using(crate::proofs::Shares::gives_behind))]
     fn listen(
         &mut self,
         place: u32,
