@@ -33,9 +33,9 @@ returns-then-places-eq0-clause-kept g c =
     subst (λ (n : ℕ). KeepsListeners n c.args.places all all) none (kept_unheard c.args.places all)
 
 -- what the place gave, there being no shares before
-gave_on : {waits : Option ShareLogs} {first count : ℕ} (g : given.Over) {old new : List g.row.L-Port.Denot} → old ≡ []
+gave_on : {waits : Option ShareLogs} {first count : ℕ} (g : given.Over) {old : List g.row.L-Port.Denot} (new : List g.row.L-Port.Denot) → old ≡ []
     → GivesShares waits first count (map (facts g) old) (map (facts g) new) → GivesShares waits first count [] (map (facts g) new)
-gave_on {waits} {first} {count} g {new = new} none gave = subst (λ (l : List _). GivesShares waits first count (map (facts g) l) (map (facts g) new)) none gave
+gave_on {waits} {first} {count} g new none gave = subst (λ (l : List _). GivesShares waits first count (map (facts g) l) (map (facts g) new)) none gave
 
 -- so many are there then
 many_of : {waits : Option ShareLogs} {first count : ℕ} (g : given.Over) (v : Vec g.row.L-Port.Denot) → GivesShares waits first count [] (map (facts g) v.items) → vec_len v ≡ count
@@ -46,14 +46,14 @@ listen-requires-clause-there g c = let some : 0 < c.args.places = search rules i
 
 pub returns-clause-new : goal.returns-clause-new
 returns-clause-new g c = new_shares (g.L.Listeners.waits c.args.listeners.now) (g.L.Listeners.given c.args.listeners.now) c.args.places (map (facts g) c.listen.new.out.items)
-    (gave_on g c.requires.none c.in_ok-listen.ensures.all)
+    (gave_on g c.listen.new.out.items c.requires.none c.in_ok-listen.ensures.all)
 
 -- all shares were had
 pub returns-clause-all : goal.returns-clause-all
-returns-clause-all g c = many_of g c.listen.new.out (gave_on g c.requires.none c.in_ok-listen.ensures.all)
+returns-clause-all g c = many_of g c.listen.new.out (gave_on g c.listen.new.out.items c.requires.none c.in_ok-listen.ensures.all)
 
 pub returns-clause-few : goal.returns-clause-few
-returns-clause-few g c = omega (arith, many_of g c.listen.new.out (gave_on g c.requires.none c.in_ok-listen.ensures.all))
+returns-clause-few g c = omega (arith, many_of g c.listen.new.out (gave_on g c.listen.new.out.items c.requires.none c.in_ok-listen.ensures.all))
 
 pub returns-clause-steady : goal.returns-clause-steady
 returns-clause-steady g c =
@@ -65,7 +65,7 @@ returns-clause-kept g c =
     let before = listens_at g c.args.listeners.now in
     let after = listens_at g c.listen.new.self in
     let some : 0 < c.args.places = search rules in
-    subst (λ (n : ℕ). KeepsListeners n c.args.places before after) (sym (many_of g c.listen.new.out (gave_on g c.requires.none gave.all)))
+    subst (λ (n : ℕ). KeepsListeners n c.args.places before after) (sym (many_of g c.listen.new.out (gave_on g c.listen.new.out.items c.requires.none gave.all)))
     (gave_all c.args.places before after some gave.heard gave.gives c.listen.ensures.never_fall gave.taken c.listen.ensures.places c.listen.ensures.most)
 
 pub returns-in_err-listen-clause-new : goal.returns-in_err-listen-clause-new
