@@ -1,7 +1,7 @@
 //! One place with several shares: its connections are dealt.
 
 use crate::port::{Flags, Share, shares_at};
-use connections::{Broken, Event, Input};
+use connections::{Event, Input};
 use host_outside::StdClock;
 use std::io::{Read, Write};
 use std::net::{Net as Sockets, OpenStream, TcpStream};
@@ -20,31 +20,25 @@ fn answer(share: &mut Share<'_, impl Wait, StdClock>, number: u32) {
         Ok(Input::Bytes(count)) => count,
         _ => 0,
     };
-    if count > 0 {
-        let _taken = share.write(number, &out[..count]);
+    match out.get(..count) {
+        Some(piece) if !piece.is_empty() => {
+            let _taken = share.write(number, piece);
+        }
+        _ => {}
     }
 }
 
 /// Serves a share until it ends, and says how many connections it took in.
 fn serve(share: Share<'_, impl Wait, StdClock>) -> u32 {
+    let mut share = share;
     let mut opened = 0u32;
-    let mut left = Some(share);
     for _ in 0..100_000u32 {
-        left = match left {
-            None => return opened,
-            Some(share) => match share.next_event() {
-                Some((Event::Ready(number), mut share)) => {
-                    answer(&mut share, number);
-                    Some(share)
-                }
-                Some((Event::Opened(_), share)) => {
-                    opened = opened.saturating_add(1);
-                    Some(share)
-                }
-                Some((Event::TurnedAway, share)) => Some(share),
-                None => None,
-            },
-        };
+        match share.next() {
+            Some(Ok(Event::Ready(number))) => answer(&mut share, number),
+            Some(Ok(Event::Opened(_))) => opened = opened.saturating_add(1),
+            Some(Ok(Event::TurnedAway)) => {}
+            Some(Err(_)) | None => return opened,
+        }
     }
     opened
 }
@@ -72,7 +66,7 @@ fn heard_by<R: AllocGlobal + Sockets>(rt: &R, port: u16, count: u8) -> Result<He
             }
             _ => {}
         }
-        clients.push_reserved(client);
+        clients.push(client)?;
     }
     Ok(heard)
 }
