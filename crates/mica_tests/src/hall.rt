@@ -28,23 +28,14 @@ fn answer(share: &mut Share<'_, impl Wait, StdClock>, number: u32) {
 /// Serves a share until it ends, and says how many connections it took in.
 fn serve(share: Share<'_, impl Wait, StdClock>) -> u32 {
     let mut opened = 0u32;
-    let mut left = Some(share);
+    let mut share = share;
     for _ in 0..100_000u32 {
-        left = match left {
-            None => return opened,
-            Some(share) => match share.next_event() {
-                Some((Event::Ready(number), mut share)) => {
-                    answer(&mut share, number);
-                    Some(share)
-                }
-                Some((Event::Opened(_), share)) => {
-                    opened = opened.saturating_add(1);
-                    Some(share)
-                }
-                Some((Event::TurnedAway, share)) => Some(share),
-                None => None,
-            },
-        };
+        match share.next() {
+            Some(Ok(Event::Ready(number))) => answer(&mut share, number),
+            Some(Ok(Event::Opened(_))) => opened = opened.saturating_add(1),
+            Some(Ok(Event::TurnedAway)) => {}
+            Some(Err(_)) | None => return opened,
+        }
     }
     opened
 }

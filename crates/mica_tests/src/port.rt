@@ -28,37 +28,45 @@ impl Flags {
     }
 }
 
-/// A share that has not ended.
+/// A port that has not ended.
+#[derive(Drop)]
+struct Open<'a, R: Wait, K: Clock + Drop> {
+    connections: TcpConnections<'a, R, K>,
+    ghost open: { has_ended connections ≡ false },
+}
+
+/// A share of a test. Once it has ended it gives and takes nothing.
 #[derive(Drop)]
 pub(crate) struct Share<'a, R: Wait, K: Clock + Drop> {
-    pub(crate) connections: TcpConnections<'a, R, K>,
-    pub(crate) ghost open: { has_ended connections ≡ false },
+    open: Option<Open<'a, R, K>>,
 }
 
 impl<'a, R: Wait, K: Clock + Drop> Share<'a, R, K> {
+    /// The next report, or nothing once it has ended. It may wait.
+    pub(crate) fn next(&mut self) -> Option<Result<Event, Failed>> {
+        let mut connections = self.open.take()?.connections;
+        let report = match connections.next() {
+            Ok(Some(event)) => Ok(event),
+            Ok(None) => return None,
+            Err(failed) => Err(failed),
+        };
+        self.open = Some(Open { connections });
+        Some(report)
+    }
+
     /// The next report. It may wait.
     pub(crate) fn report(&mut self, rt: &impl Abort) -> Result<Event, Failed> {
-        match self.connections.next() {
-            Ok(Some(event)) => Ok(event),
-            Ok(None) => panic!(rt; "the share ended"),
-            Err(failed) => Err(failed),
-        }
+        let Some(report) = self.next() else {
+            panic!(rt; "the share ended");
+        };
+        report
     }
 
     /// The share behind its next report, where it has not ended or failed.
     pub(crate) fn after_report(self) -> Option<Self> {
-        let mut connections = self.connections;
-        match connections.next() {
-            Ok(Some(_)) => Some(Share { connections }),
-            _ => None,
-        }
-    }
-
-    /// The next report and the share behind it, where it has not ended or failed.
-    pub(crate) fn next_event(self) -> Option<(Event, Self)> {
-        let mut connections = self.connections;
-        match connections.next() {
-            Ok(Some(event)) => Some((event, Share { connections })),
+        let mut share = self;
+        match share.next() {
+            Some(Ok(_)) => Some(share),
             _ => None,
         }
     }
@@ -66,21 +74,32 @@ impl<'a, R: Wait, K: Clock + Drop> Share<'a, R, K> {
     pub(crate) fn read(&mut self, number: u32, out: &mut [u8]) -> Result<Input, Broken>
         requires { 0 < length out.old }
     {
-        self.connections.read(number, out)
+        let Some(open) = &mut self.open else {
+            return Err(Broken);
+        };
+        open.connections.read(number, out)
     }
 
     pub(crate) fn write(&mut self, number: u32, piece: &[u8]) -> Result<usize, Broken>
         requires { 0 < length piece.now }
     {
-        self.connections.write(number, piece)
+        let Some(open) = &mut self.open else {
+            return Err(Broken);
+        };
+        open.connections.write(number, piece)
     }
 
     pub(crate) fn close(&mut self, number: u32) {
-        self.connections.close(number);
+        if let Some(open) = &mut self.open {
+            open.connections.close(number);
+        }
     }
 
     pub(crate) fn second(&self) -> u64 {
-        self.connections.second()
+        match &self.open {
+            Some(open) => open.connections.second(),
+            None => 0,
+        }
     }
 
     /// A client that comes, and the number that its connection is under.
@@ -165,7 +184,8 @@ pub(crate) fn share_at<'a, R: AllocGlobal + Sockets + Wait + Sync, K: Clock + Co
     );
     listeners.set_places(places, most);
     let connections = second_share(&mut listeners, shares)?;
-    Some(Share { connections })
+    let open = Some(Open { connections });
+    Some(Share { open })
 }
 
 /// The share of a place at the first of some ports that is free, for at most so many connections, and this port.
@@ -182,6 +202,30 @@ pub(crate) fn new_share<
     panic!(rt; "no port is free");
 }
 
+/// Both shares of a place that has two, where it can be had.
+fn both_shares<L: Listeners>(
+    listeners: &mut L,
+    place: u32,
+    shares: Vec<L::Port>,
+) -> Option<(L::Port, L::Port)>
+    requires there { place < length (L.places listeners.old) }
+    requires none { shares.items ≡ [] }
+    requires room { 2 ≤ vec_capacity shares }
+    ensures { IfSome result (λ pair. (L.Port.has_ended pair.0 ≡ false) × (L.Port.has_ended pair.1 ≡ false)) }
+{
+    let mut shares = shares;
+    let Ok(()) = listeners.listen(place, 2, &mut shares) else {
+        return None;
+    };
+    let Some(second) = shares.pop() else {
+        return None;
+    };
+    let Some(first) = shares.pop() else {
+        return None;
+    };
+    Some((first, second))
+}
+
 /// Both shares of a place, where it can be had.
 pub(crate) fn shares_at<'a, R: AllocGlobal + Sockets + Wait + Sync, K: Clock + Copy + Drop + Send>(
     rt: &'a R,
@@ -193,7 +237,7 @@ pub(crate) fn shares_at<'a, R: AllocGlobal + Sockets + Wait + Sync, K: Clock + C
     let address = Ipv4Addr::LOCALHOST;
     let mut places = Vec::with_capacity(rt.alloc(), 1).ok()?;
     places.push_reserved(Place { address, port });
-    let mut shares = Vec::with_capacity(rt.alloc(), 2).ok()?;
+    let shares = Vec::with_capacity(rt.alloc(), 2).ok()?;
     let mut listeners = TcpListeners::new(
         rt,
         rt.alloc(),
@@ -202,13 +246,14 @@ pub(crate) fn shares_at<'a, R: AllocGlobal + Sockets + Wait + Sync, K: Clock + C
         &flags.stopping,
     );
     listeners.set_places(places, most);
-    listeners.listen(0, 2, &mut shares).ok()?;
-    let second = shares.pop()?;
-    let first = shares.pop()?;
-    Some((
-        Share { connections: first },
-        Share {
+    let (first, second) = both_shares(&mut listeners, 0, shares)?;
+    let first = Share {
+        open: Some(Open { connections: first }),
+    };
+    let second = Share {
+        open: Some(Open {
             connections: second,
-        },
-    ))
+        }),
+    };
+    Some((first, second))
 }

@@ -101,7 +101,7 @@ fn fill(rt: &impl Abort, share: &mut Share<'_, impl Wait, StdClock>, number: u32
     for _ in 0..1_000_000u32 {
         match share.write(number, &piece[sent as usize % 251..]) {
             Ok(0) => return sent,
-            Ok(count) => sent = sent.saturating_add(count as u32),
+            Ok(count) => sent = sent.saturating_add(u32::try_from(count).unwrap_or(u32::MAX)),
             Err(Broken) => panic!(rt; "the connection is broken"),
         }
     }
