@@ -1,11 +1,12 @@
 -- How long a cache keeps an item, and where something finds no room: by numbers of words.
-use Rattle.std.specs.Prelude.{◌≡◌, ◌≢◌, ◌⊎◌, ◌≤◌, ◌<◌, ◌+◌, ◌-◌, ◌*◌, ◌/◌, ◌==◌, ◌||◌, not, ◌∷◌, ◌++◌, ℕ, Bool, true, false, ⊤, List, [], length, min, sum_by, nat_lt, bytes_eq, is_some, AllPairs, None, option_map, unwrap_or, if◌then◌else◌}
+use Rattle.std.specs.Prelude.{◌≡◌, ◌≢◌, ◌⊎◌, ◌≤◌, ◌<◌, ◌+◌, ◌-◌, ◌*◌, ◌/◌, ◌==◌, ◌||◌, not, ◌∷◌, ◌++◌, ℕ, Bool, true, false, ⊤, List, [], length, min, sum_by, bytes_eq, is_some, AllPairs, None, option_map, unwrap_or, if◌then◌else◌}
 use Rattle.std.specs.List.{AllByRecursion, list_any}
 use Rattle.mica_words.specs.declared.entry.TheConstants.{SLOTS}
 use Rattle.mica_words.specs.Item.{item_size, largest_stored_item}
 use Rattle.partition_model.specs.declared.options.Mode.TheVariants.{Cache}
 use Rattle.partition_model.specs.declared.options.Options.{Options}
 use Rattle.partition_model.specs.Limits.{last_tail}
+use Rattle.partition_model.specs.Rooms.{keeps}
 use Rattle.memcached_text.specs.declared.item.Item.{Item}
 use Rattle.memcached_text.specs.Item.{item_text}
 use Rattle.memcached_commands.specs.Decide.{Becoming, becomes}
@@ -45,13 +46,13 @@ abbrev pub with_key : List ℕ → List (List ℕ) → List (List ℕ)
 with_key key keys = if list_any (bytes_eq key) keys then keys else key ∷ keys
 
 -- A deed wrote so many words under a key. The item of another key is so much further from the log's end; a deed that writes none counts 1. A new value of its own lies where
--- the old one lay, unless it needs more room or is written anew: then at the end.
+-- the old one lay, where it keeps that room; else, and where it is written anew, at the end.
 abbrev pub place_then : (List ℕ → ℕ) → List ℕ → Deed → List ℕ × ℕ → Place → Place
 place_then class key deed one place =
     if one.1 == 0 then record place { since = place.since + 1 }
     else (if not (bytes_eq one.0 key)
     then record place { since = place.since + 65536 * one.1; newer = if class one.0 == class key then with_key one.0 place.newer else place.newer }
-    else (if is_move deed || nat_lt place.room one.1 then record { room = one.1; since = 65536 * one.1; newer = [] }
+    else (if is_move deed || not (keeps one.1 place.room) then record { room = one.1; since = 65536 * one.1; newer = [] }
     else record place { since = place.since + 1 }))
 
 -- the place of a key's item behind these deeds; nowhere, where it has none
