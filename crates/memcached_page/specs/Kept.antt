@@ -10,8 +10,8 @@ use Rattle.partition_model.specs.Rooms.{keeps}
 use Rattle.memcached_text.specs.declared.item.Item.{Item}
 use Rattle.memcached_text.specs.Item.{item_text}
 use Rattle.memcached_commands.specs.Decide.{Becoming, becomes}
-use Rattle.memcached_page.specs.Shelf.{Shelf, at, there}
-use Rattle.memcached_page.specs.Course.{Deed, carried, flushed, went, moved, Done, becoming, is_no_room, after}
+use Rattle.memcached_page.specs.Shelf.{Shelf}
+use Rattle.memcached_page.specs.Course.{Deed, carried, flushed, lost, moved, Done, becoming, is_no_room, after}
 
 -- how many words an item takes under its key
 abbrev pub words_of : List ℕ → Item → ℕ
@@ -72,17 +72,15 @@ abbrev pub AtEach : (List Done → Deed → Type 0) → List Done → List Done 
 AtEach P earlier [] = ⊤
 AtEach P earlier (done ∷ later) = P earlier done.deed × AtEach P (earlier ++ done ∷ []) later
 
--- An item that goes by itself, in a cache whose log has so many words, is over or flushed; or the log was written round behind it; or as many other keys of its class were
--- written behind it as have room beside each other.
-abbrev pub GoesForCause : ℕ → (List ℕ → ℕ) → Shelf → List Done → Deed → Type 0
-GoesForCause words class from earlier (went second key) =
-    let shelf : Shelf = shelf_in from earlier in
-    let place : Place = place_in class key from nowhere earlier in
-    (there (at second shelf.free shelf) (shelf.items key) ≡ None) ⊎ (65536 * words < place.since) ⊎ (SLOTS ≤ length place.newer)
-GoesForCause words class from earlier _ = ⊤
+-- An item that a cache loses, whose log has so many words: the log was written round behind it, or as many other keys of its class were written behind it as have room beside
+-- each other.
+abbrev pub LostForCause : ℕ → (List ℕ → ℕ) → Shelf → List Done → Deed → Type 0
+LostForCause words class from earlier (lost key) =
+    let place : Place = place_in class key from nowhere earlier in (65536 * words < place.since) ⊎ (SLOTS ≤ length place.newer)
+LostForCause words class from earlier _ = ⊤
 
 abbrev pub KeepsItems : Options → (List ℕ → ℕ) → Shelf → List Done → Type 0
-KeepsItems options class from course = options.mode ≡ Cache → AtEach (GoesForCause options.words class from) [] course
+KeepsItems options class from course = AtEach (LostForCause options.words class from) [] course
 
 -- A part bears no more deeds, or its log no more words. Or so many words are to be stored, and beside the items of these keys some layout of their rooms leaves no block of
 -- them; or the keys are more than the spare buckets are for.

@@ -10,7 +10,7 @@ use Rattle.connections.specs.Connection.{Connection}
 use Rattle.connections.specs.State.{Entry, opened, reported, turned_away, received, closed, state_after}
 use Rattle.connections.specs.Log.{Log, state_of, connections_of, received_of, sent_of, second_of as told_second}
 use Rattle.command_answers.specs.Exchange.{is_flush_all}
-use Rattle.memcached_page.specs.Course.{Deed, carried, flushed, went, moved, Done}
+use Rattle.memcached_page.specs.Course.{Deed, carried, flushed, went, lost, moved, Done}
 use Rattle.memcached_page.specs.Exchange.{Exchange, CarryOut, is_done, due_to}
 
 -- One client
@@ -128,6 +128,7 @@ abbrev pub second_of : Deed → Option ℕ
 second_of (carried second number asked says) = Some second
 second_of (flushed part number flush took) = if part == 0 && nat_lt 0 flush.due then Some flush.asked else None
 second_of (went second key) = Some second
+second_of (lost key) = None
 second_of (moved key) = None
 
 -- what was done for clients from the moment before to the n-th
