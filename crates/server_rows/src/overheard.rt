@@ -153,7 +153,7 @@ impl<'a> OverheardListeners<'a> {
 // Puts shares behind the others.
 fn put_all<'a>(all: Vec<OverheardConnections<'a>>, out: &mut Vec<OverheardConnections<'a>>)
     requires room { vec_len out.old + vec_len all ≤ vec_capacity out.old }
-    ensures items { out.new.items ≡ out.old.items ++ all.items }
+    ensures items { out.new.items ≡ out.old.items ++ all.entry.items }
     ensures room { vec_capacity out.new ≡ vec_capacity out.old }
 {
     for connections in all {

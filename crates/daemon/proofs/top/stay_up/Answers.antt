@@ -15,7 +15,7 @@ is_placed fronts place true is some = absurd (let same = eqb-true fronts 0 is in
 is_placed fronts place false is some = omega arith
 
 pub serve_aloud-requires-clause-places : goal.serve_aloud-requires-clause-places
-serve_aloud-requires-clause-places g c lifetimes some =
+serve_aloud-requires-clause-places g c lifetimes outlive some =
     let streams = c.args.streams.now in
     subst (λ (all : List Place). 0 < length all) (sym (c.set_places.ensures.places ∙ c.in-Ok-places_of.ensures))
     (is_placed streams.ports.fronts (record { address = streams.address; port = streams.ports.port }) (streams.ports.fronts == 0) refl some)

@@ -1,4 +1,4 @@
-use Rattle.std.proofs.Common.{rules, ◌≡◌, ◌+◌, ◌∷◌, ◌++◌, [], None, map, refl, sym, ap, ◌∙◌, subst, arith}
+use Rattle.std.proofs.Common.{rules, ◌≡◌, ◌+◌, ◌∷◌, ◌++◌, [], None, map, refl, sym, ap, ℕ, ◌∙◌, subst, arith}
 use Rattle.std.proofs.lemmas.List.{map-append}
 use Rattle.connections.specs.Shares.{GivesShares}
 use Rattle.connections.proofs.Shares.{gives_on, gives_one}
@@ -23,3 +23,8 @@ loop-behind-preserved c =
       len = omega (arith, c.push_reserved.ensures.len, inv.len);
       room = omega (arith, c.push_reserved.ensures.capacity, inv.room);
     }
+
+pub returns : goal.returns
+returns c =
+    let all : c.loop-behind.behind ≡ c.args.shares = omega (arith, c.loop-behind.auto.behind-end, c.loop-behind-test.false) in
+    subst (λ (n : ℕ). GivesShares None c.args.self.now.given n [] (map facts_of c.loop-behind.all.items)) all c.loop-behind.invariant.gives
