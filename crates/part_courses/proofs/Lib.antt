@@ -1,0 +1,6 @@
+mod Values
+mod Refusals
+mod Shelves
+mod Written
+mod Steps
+mod Courses
