@@ -15,7 +15,8 @@ use Rattle.fronts.specs.Placed.{Placed, steps_by, steps_in, history_in}
 use Rattle.served.specs.Served.{AnswersLawfully, ServesWrites, ServesLook, ServesGet, ServesChange, ServesKept}
 use Rattle.one_order.specs.Order.{OneOrder, StandInOneOrder}
 use Rattle.one_order.proofs.Firsts.{Pairs, IsLow, is_look, pairs}
-use Rattle.one_order.proofs.Merged.{AtCut, OfCut, Fits, Merged, merge, all_by, run_low}
+use Rattle.one_order.proofs.Nexts.{AtCut, OfCut, all_by, run_low}
+use Rattle.one_order.proofs.Merged.{Fits, Merged, merge}
 
 -- a run goes on behind its first steps
 run_behind : (options : Options) (h : History) (earlier later : List RunStep) → IsRunFrom options h (earlier ++ later) → IsRunFrom options (h ++ history_of earlier) later

@@ -14,7 +14,9 @@ use Rattle.memcached_page.specs.Course.{Deed, Done, after, IsDeed, IsCourse}
 use Rattle.memcached_page.specs.Kept.{shelf_in}
 use Rattle.part_courses.specs.Courses.{Purpose, asks, flushes, sweeps, Served, IsFor, AreServed, deeds_of, done_by, course_of, AreCoursesOfStore}
 use Rattle.part_courses.proofs.Shelves.{Stands, stands_empty}
-use Rattle.part_courses.proofs.Steps.{Steps, left_by, One, kept_one, changed_one, flush_one, swept_one}
+use Rattle.part_courses.proofs.Steps.{Steps, left_by, Begun, One}
+use Rattle.part_courses.proofs.Carried.{kept_one, changed_one}
+use Rattle.part_courses.proofs.Flushed.{flush_one, swept_one}
 
 -- deeds, and then a course
 then_course : (served : Served) (shelf : Shelf) (deeds : List Deed) (later : List Done) → Steps shelf deeds → IsCourse Store (left_by shelf deeds) later (shelf_in (left_by shelf deeds) later)
@@ -29,34 +31,35 @@ own_key key value (becomes next) write is = cc
 own_key key None goes write is = absurd (cc)
 own_key key (Some stored) goes write is = cc
 
-module _ (options : Options) (base part : ℕ) (is_store : options.mode ≡ Store) (small : base + options.wear < 2 ^ 62) where
-  one : (h : History) (shelf : Shelf) (stands : Stands options base h shelf) (purpose : Purpose) (answered : Answered) → IsAnswerBehind options h answered → IsFor options base part purpose answered
-      → One options base is_store small h shelf stands (behind h answered) (deeds_of base part (length h) purpose answered)
-  one h shelf stands (asks asked) (wrote step) answer for = absurd (for.2)
-  one h shelf stands (asks asked) (got key stamp value) answer for = absurd (for.2)
-  one h shelf stands (asks asked) (changed step look) answer for =
+module _ {options : Options} {base : ℕ} (part : ℕ) {h : History} {shelf : Shelf} (g : Begun options base h shelf) where
+  one : (purpose : Purpose) (answered : Answered) → IsAnswerBehind options h answered → IsFor options base part purpose answered
+      → One options base shelf (behind h answered) (deeds_of base part (length h) purpose answered)
+  one (asks asked) (wrote step) answer for = absurd (for.2)
+  one (asks asked) (got key stamp value) answer for = absurd (for.2)
+  one (asks asked) (changed step look) answer for =
       let looked = subst (λ key. IsLookAt options h key look) (own_key asked.key look.value _ step.write for.2) answer.1 in
-      changed_one options base is_store small h shelf stands asked look looked for.0 for.1 step answer.0.0 for.2
-  one h shelf stands (asks asked) (kept key stamp look) answer for =
+      changed_one g asked look looked for.0 for.1 step answer.0.0 for.2
+  one (asks asked) (kept key stamp look) answer for =
       let looked = subst (λ k. IsLookAt options h k look) for.2.0 answer.1 in
-      kept_one options base is_store small h shelf stands asked look looked for.0 for.1 stamp (refl, for.2.1)
-  one h shelf stands (flushes flush) (wrote step) answer for = flush_one options base is_store small h shelf stands part step flush answer.0 for.0 for.1
-  one h shelf stands (flushes flush) (got key stamp value) answer for = absurd (for)
-  one h shelf stands (flushes flush) (changed step look) answer for = absurd (for)
-  one h shelf stands (flushes flush) (kept key stamp look) answer for = absurd (for)
-  one h shelf stands sweeps (wrote step) answer for = let both : Store ≡ Cache = sym is_store ∙ for.0 in absurd (cc)
-  one h shelf stands sweeps (got key stamp value) answer for = absurd (for)
-  one h shelf stands sweeps (changed step look) answer for =
-      swept_one options base is_store small h shelf stands step look for.1.0 answer.0.0 answer.1 for.0 for.1.1 for.1.2
-  one h shelf stands sweeps (kept key stamp look) answer for = record { steps = tt; stands_then = stands }
+      kept_one g asked look looked for.0 for.1 stamp (refl, for.2.1)
+  one (flushes flush) (wrote step) answer for = flush_one g part step flush answer.0 for.0 for.1
+  one (flushes flush) (got key stamp value) answer for = absurd (for)
+  one (flushes flush) (changed step look) answer for = absurd (for)
+  one (flushes flush) (kept key stamp look) answer for = absurd (for)
+  one sweeps (wrote step) answer for = let both : Store ≡ Cache = sym g.is_store ∙ for.0 in absurd (cc)
+  one sweeps (got key stamp value) answer for = absurd (for)
+  one sweeps (changed step look) answer for = swept_one g step look for.1.0 answer.0.0 answer.1 for.0 for.1.1 for.1.2
+  one sweeps (kept key stamp look) answer for = record { steps = tt; stands_then = g.stands }
 
-  all_in_course : (all : List Served) (h : History) (shelf : Shelf) → Stands options base h shelf → AreServed options base part h all
-      → IsCourse Store shelf (course_of base part h all) (shelf_in shelf (course_of base part h all))
-  all_in_course [] h shelf stands served = refl
-  all_in_course (first ∷ later) h shelf stands served =
-      let came = one h shelf stands first.purpose first.answered served.0 served.1 in
-      then_course first shelf (deeds_of base part (length h) first.purpose first.answered) (course_of base part (behind h first.answered) later) came.steps
-      (all_in_course later (behind h first.answered) (left_by shelf (deeds_of base part (length h) first.purpose first.answered)) came.stands_then served.2)
+all_in_course : (options : Options) (base part : ℕ) (all : List Served) (h : History) (shelf : Shelf) → Begun options base h shelf → AreServed options base part h all
+    → IsCourse Store shelf (course_of base part h all) (shelf_in shelf (course_of base part h all))
+all_in_course options base part [] h shelf g served = refl
+all_in_course options base part (first ∷ later) h shelf g served =
+    let came = one part g first.purpose first.answered served.0 served.1 in
+    let deeds = deeds_of base part (length h) first.purpose first.answered in
+    let then_h = behind h first.answered in
+    then_course first shelf deeds (course_of base part then_h later) came.steps
+    (all_in_course options base part later then_h (left_by shelf deeds) (record { is_store = g.is_store; small = g.small; stands = came.stands_then }) served.2)
 
 pub courses : AreCoursesOfStore
-courses options base part all is_store small served = all_in_course options base part is_store small all [] empty (stands_empty options base) served
+courses options base part all is_store small served = all_in_course options base part all [] empty (record { is_store = is_store; small = small; stands = stands_empty options base }) served

@@ -3,4 +3,6 @@ mod Refusals
 mod Shelves
 mod Written
 mod Steps
+mod Carried
+mod Flushed
 mod Courses
