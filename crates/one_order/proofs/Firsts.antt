@@ -27,42 +27,42 @@ is_at s a = is_look a && (stamp_given a == s)
 -- those that stand first, and what stands behind them
 abbrev pub here : ℕ → List Answered → List Answered
 here s [] = []
-here s (a ∷ as) = cond (is_at s a) (a ∷ here s as) []
+here s (a ∷ following) = cond (is_at s a) (a ∷ here s following) []
 
 abbrev pub past : ℕ → List Answered → List Answered
 past s [] = []
-past s (a ∷ as) = cond (is_at s a) (past s as) (a ∷ as)
+past s (a ∷ following) = cond (is_at s a) (past s following) (a ∷ following)
 
-pub parts : (s : ℕ) (as : List Answered) → here s as ++ past s as ≡ as
+pub parts : (s : ℕ) (following : List Answered) → here s following ++ past s following ≡ following
 parts s [] = refl
-parts s (a ∷ as) = by (is_at s a) (parts s as)
+parts s (a ∷ following) = by (is_at s a) (parts s following)
   where
-    by : (b : Bool) → here s as ++ past s as ≡ as → cond b (a ∷ here s as) [] ++ cond b (past s as) (a ∷ as) ≡ a ∷ as
+    by : (b : Bool) → here s following ++ past s following ≡ following → cond b (a ∷ here s following) [] ++ cond b (past s following) (a ∷ following) ≡ a ∷ following
     by true rest = ap (λ l. a ∷ l) rest
     by false rest = refl
 
 -- What holds of all holds of what stands behind.
-pub all_past : (P : Answered → Type 0) (s : ℕ) (as : List Answered) → AllByRecursion P as → AllByRecursion P (past s as)
+pub all_past : (P : Answered → Type 0) (s : ℕ) (following : List Answered) → AllByRecursion P following → AllByRecursion P (past s following)
 all_past P s [] all = tt
-all_past P s (a ∷ as) all = by (is_at s a) (all_past P s as all.1)
+all_past P s (a ∷ following) all = by (is_at s a) (all_past P s following all.1)
   where
-    by : (b : Bool) → AllByRecursion P (past s as) → AllByRecursion P (cond b (past s as) (a ∷ as))
+    by : (b : Bool) → AllByRecursion P (past s following) → AllByRecursion P (cond b (past s following) (a ∷ following))
     by true rest = rest
     by false rest = all
 
 -- Looks make no step of the machine.
-no_step : (s : ℕ) (a : Answered) (as : List Answered) → is_at s a ≡ true → steps_of (a ∷ as) ≡ steps_of as
-no_step s (wrote step) as at = absurd (cc)
-no_step s (got key stamp value) as at = refl
-no_step s (changed step look) as at = absurd (cc)
-no_step s (kept key stamp look) as at = refl
+no_step : (s : ℕ) (a : Answered) (following : List Answered) → is_at s a ≡ true → steps_of (a ∷ following) ≡ steps_of following
+no_step s (wrote step) following at = absurd (cc)
+no_step s (got key stamp value) following at = refl
+no_step s (changed step look) following at = absurd (cc)
+no_step s (kept key stamp look) following at = refl
 
-pub steps_past : (s : ℕ) (as : List Answered) → steps_of (past s as) ≡ steps_of as
+pub steps_past : (s : ℕ) (following : List Answered) → steps_of (past s following) ≡ steps_of following
 steps_past s [] = refl
-steps_past s (a ∷ as) = by (is_at s a) refl (steps_past s as)
+steps_past s (a ∷ following) = by (is_at s a) refl (steps_past s following)
   where
-    by : (b : Bool) → is_at s a ≡ b → steps_of (past s as) ≡ steps_of as → steps_of (cond b (past s as) (a ∷ as)) ≡ steps_of (a ∷ as)
-    by true at same = same ∙ sym (no_step s a as at)
+    by : (b : Bool) → is_at s a ≡ b → steps_of (past s following) ≡ steps_of following → steps_of (cond b (past s following) (a ∷ following)) ≡ steps_of (a ∷ following)
+    by true at same = same ∙ sym (no_step s a following at)
     by false at same = refl
 
 -- Order
@@ -70,51 +70,51 @@ steps_past s (a ∷ as) = by (is_at s a) refl (steps_past s as)
 -- no answer has a lower stamp than one before it
 abbrev pub Pairs : List Answered → Type 0
 Pairs [] = Unit {0}
-Pairs (a ∷ as) = AllByRecursion (NoFall a) as × Pairs as
+Pairs (a ∷ following) = AllByRecursion (NoFall a) following × Pairs following
 
-each_later : (a : Answered) (as : List Answered) → ((j : ℕ) (d : Answered) → j < length as → NoFall a (slice_index_or as j d)) → AllByRecursion (NoFall a) as
+each_later : (a : Answered) (following : List Answered) → ((j : ℕ) (d : Answered) → j < length following → NoFall a (slice_index_or following j d)) → AllByRecursion (NoFall a) following
 each_later a [] all = tt
-each_later a (b ∷ as) all = (all 0 b (omega arith), each_later a as (λ j d less. all (suc j) d (omega arith)))
+each_later a (b ∷ following) all = (all 0 b (omega arith), each_later a following (λ j d less. all (suc j) d (omega arith)))
 
-pub pairs : (as : List Answered) → AllPairs NoFall as → Pairs as
+pub pairs : (following : List Answered) → AllPairs NoFall following → Pairs following
 pairs [] all = tt
-pairs (a ∷ as) all = (each_later a as (λ j d less. all 0 (suc j) d (omega arith) (omega arith)), pairs as (λ i j d less within. all (suc i) (suc j) d (omega arith) (omega arith)))
+pairs (a ∷ following) all = (each_later a following (λ j d less. all 0 (suc j) d (omega arith) (omega arith)), pairs following (λ i j d less within. all (suc i) (suc j) d (omega arith) (omega arith)))
 
-pub pairs_past : (s : ℕ) (as : List Answered) → Pairs as → Pairs (past s as)
+pub pairs_past : (s : ℕ) (following : List Answered) → Pairs following → Pairs (past s following)
 pairs_past s [] all = tt
-pairs_past s (a ∷ as) all = by (is_at s a) (pairs_past s as all.1)
+pairs_past s (a ∷ following) all = by (is_at s a) (pairs_past s following all.1)
   where
-    by : (b : Bool) → Pairs (past s as) → Pairs (cond b (past s as) (a ∷ as))
+    by : (b : Bool) → Pairs (past s following) → Pairs (cond b (past s following) (a ∷ following))
     by true rest = rest
     by false rest = all
 
 -- the first has no lower stamp than this
 abbrev pub IsLow : ℕ → List Answered → Type 0
 IsLow s [] = Unit {0}
-IsLow s (a ∷ as) = s ≤ stamp_given a
+IsLow s (a ∷ following) = s ≤ stamp_given a
 
-pub low_next : (s : ℕ) (a : Answered) (as : List Answered) → s ≤ stamp_given a → AllByRecursion (NoFall a) as → IsLow s as
+pub low_next : (s : ℕ) (a : Answered) (following : List Answered) → s ≤ stamp_given a → AllByRecursion (NoFall a) following → IsLow s following
 low_next s a [] low all = tt
-low_next s a (b ∷ as) low all = let rises : stamp_given a ≤ stamp_given b = all.0.0 in omega (arith, low, rises)
+low_next s a (b ∷ following) low all = let rises : stamp_given a ≤ stamp_given b = all.0.0 in omega (arith, low, rises)
 
-pub low_past : (s : ℕ) (as : List Answered) → Pairs as → IsLow s as → IsLow s (past s as)
+pub low_past : (s : ℕ) (following : List Answered) → Pairs following → IsLow s following → IsLow s (past s following)
 low_past s [] all low = tt
-low_past s (a ∷ as) all low = by (is_at s a) (low_past s as all.1 (low_next s a as low all.0))
+low_past s (a ∷ following) all low = by (is_at s a) (low_past s following all.1 (low_next s a following low all.0))
   where
-    by : (b : Bool) → IsLow s (past s as) → IsLow s (cond b (past s as) (a ∷ as))
+    by : (b : Bool) → IsLow s (past s following) → IsLow s (cond b (past s following) (a ∷ following))
     by true rest = rest
     by false rest = low
 
 -- the first is no look of this stamp
 abbrev pub IsAway : ℕ → List Answered → Type 0
 IsAway s [] = Unit {0}
-IsAway s (a ∷ as) = is_at s a ≡ false
+IsAway s (a ∷ following) = is_at s a ≡ false
 
-pub away_past : (s : ℕ) (as : List Answered) → IsAway s (past s as)
+pub away_past : (s : ℕ) (following : List Answered) → IsAway s (past s following)
 away_past s [] = tt
-away_past s (a ∷ as) = by (is_at s a) refl (away_past s as)
+away_past s (a ∷ following) = by (is_at s a) refl (away_past s following)
   where
-    by : (b : Bool) → is_at s a ≡ b → IsAway s (past s as) → IsAway s (cond b (past s as) (a ∷ as))
+    by : (b : Bool) → is_at s a ≡ b → IsAway s (past s following) → IsAway s (cond b (past s following) (a ∷ following))
     by true at rest = rest
     by false at rest = at
 
@@ -125,16 +125,16 @@ pub record Write (P : Answered → Type 0) (step : RunStep) : Type 0 where
   pub stamp : stamp_given answer ≡ step.stamp
   pub accepted : accepts answer ≡ is_accepted step.outcome
 
-pub first_write : (P : Answered → Type 0) (as : List Answered) (step : RunStep) (rest : List RunStep) → steps_of as ≡ step ∷ rest → AllByRecursion P as → Write P step
+pub first_write : (P : Answered → Type 0) (following : List Answered) (step : RunStep) (rest : List RunStep) → steps_of following ≡ step ∷ rest → AllByRecursion P following → Write P step
 first_write P [] step rest is all = absurd (cc)
-first_write P (wrote own ∷ as) step rest is all =
+first_write P (wrote own ∷ following) step rest is all =
     let same : own ≡ step = cc in
     record { answer = wrote own; holds = all.0; stamp = ap (λ (s : RunStep). s.stamp) same; accepted = ap (λ (s : RunStep). is_accepted s.outcome) same }
-first_write P (got key stamp value ∷ as) step rest is all = first_write P as step rest is all.1
-first_write P (changed own look ∷ as) step rest is all =
+first_write P (got key stamp value ∷ following) step rest is all = first_write P following step rest is all.1
+first_write P (changed own look ∷ following) step rest is all =
     let same : own ≡ step = cc in
     record { answer = changed own look; holds = all.0; stamp = ap (λ (s : RunStep). s.stamp) same; accepted = ap (λ (s : RunStep). is_accepted s.outcome) same }
-first_write P (kept key stamp look ∷ as) step rest is all = first_write P as step rest is all.1
+first_write P (kept key stamp look ∷ following) step rest is all = first_write P following step rest is all.1
 
 -- By front
 
@@ -142,15 +142,15 @@ abbrev pub pick_of : ℕ → Turn → Option Answered
 pick_of f turn = cond (turn.front == f) (Some turn.answered) None
 
 abbrev pub to_front : ℕ → List Answered → List Turn
-to_front f as = map (λ a. record { front = f; answered = a }) as
+to_front f following = map (λ a. record { front = f; answered = a }) following
 
-own : (f : ℕ) (as : List Answered) → answers_to f (to_front f as) ≡ as
+own : (f : ℕ) (following : List Answered) → answers_to f (to_front f following) ≡ following
 own f [] = refl
-own f (a ∷ as) = ap (λ b. cons_option (cond b (Some a) None) (answers_to f (to_front f as))) (eq-eqb f f refl) ∙ ap (λ l. a ∷ l) (own f as)
+own f (a ∷ following) = ap (λ b. cons_option (cond b (Some a) None) (answers_to f (to_front f following))) (eq-eqb f f refl) ∙ ap (λ l. a ∷ l) (own f following)
 
-another : (f g : ℕ) (as : List Answered) → (g == f) ≡ false → answers_to f (to_front g as) ≡ []
+another : (f g : ℕ) (following : List Answered) → (g == f) ≡ false → answers_to f (to_front g following) ≡ []
 another f g [] away = refl
-another f g (a ∷ as) away = ap (λ b. cons_option (cond b (Some a) None) (answers_to f (to_front g as))) away ∙ another f g as away
+another f g (a ∷ following) away = ap (λ b. cons_option (cond b (Some a) None) (answers_to f (to_front g following))) away ∙ another f g following away
 
 -- the looks that stand first at each front below a number
 abbrev pub heres : ℕ → (ℕ → List Answered) → ℕ → List Turn
@@ -162,9 +162,9 @@ all_heres P s L zero each = tt
 all_heres P s L (suc n) each =
     all_both P (heres s L n) (to_front n (here s (L n))) (all_heres P s L n (λ f less. each f (omega (arith, less)))) (each n (omega arith))
 
-pub all_to : (P : Turn → Type 0) (f : ℕ) (as : List Answered) → AllByRecursion (λ a. P (record { front = f; answered = a })) as → AllByRecursion P (to_front f as)
+pub all_to : (P : Turn → Type 0) (f : ℕ) (following : List Answered) → AllByRecursion (λ a. P (record { front = f; answered = a })) following → AllByRecursion P (to_front f following)
 all_to P f [] all = tt
-all_to P f (a ∷ as) all = (all.0, all_to P f as all.1)
+all_to P f (a ∷ following) all = (all.0, all_to P f following all.1)
 
 -- none of a front that comes later
 none_yet : (s : ℕ) (L : ℕ → List Answered) (n f : ℕ) → n ≤ f → answers_to f (heres s L n) ≡ []
@@ -188,15 +188,15 @@ apart n f le away = by (nat_lt n f) refl
 -- those of one front are its own
 pub heres_of : (s : ℕ) (L : ℕ → List Answered) (n f : ℕ) → (n ≤ f → L f ≡ []) → answers_to f (heres s L n) ≡ here s (L f)
 heres_of s L zero f few = ap (here s) (sym (few (omega arith)))
-heres_of s L (suc n) f few = by (n == f) refl
+heres_of s L (suc n) f few = by (n == f) refl (heres_of s L n f)
   where
     split : answers_to f (heres s L (suc n)) ≡ answers_to f (heres s L n) ++ answers_to f (to_front n (here s (L n)))
     split = filter_map-append (pick_of f) (heres s L n) (to_front n (here s (L n)))
 
-    by : (b : Bool) → (n == f) ≡ b → answers_to f (heres s L (suc n)) ≡ here s (L f)
-    by true same =
+    by : (b : Bool) → (n == f) ≡ b → ((n ≤ f → L f ≡ []) → answers_to f (heres s L n) ≡ here s (L f)) → answers_to f (heres s L (suc n)) ≡ here s (L f)
+    by true same before =
         let is : n ≡ f = eqb-true n f same in
         subst (λ m. answers_to m (heres s L (suc n)) ≡ here s (L m)) is (filter_map-append (pick_of n) (heres s L n) (to_front n (here s (L n))) ∙ ap (λ l. l ++ answers_to n (to_front n (here s (L n)))) (none_yet s L n n (omega arith)) ∙ own n (here s (L n)))
-    by false away =
+    by false away before =
         let rest : n ≤ f → L f ≡ [] = λ le. few (apart n f le away) in
-        split ∙ ap (λ l. answers_to f (heres s L n) ++ l) (another f n (here s (L n)) away) ∙ append-nil (answers_to f (heres s L n)) ∙ heres_of s L n f rest
+        split ∙ ap (λ l. answers_to f (heres s L n) ++ l) (another f n (here s (L n)) away) ∙ append-nil (answers_to f (heres s L n)) ∙ before rest

@@ -16,13 +16,13 @@ use Rattle.one_order.proofs.Nexts.{all_by, run_low, IsHere, looks_then, OfCut, o
 
 module _ (options : Options) (H : History) (count : ℕ) where
   -- those at one history, of a front
-  all_here : (h : History) (f : ℕ) (as : List Answered) → IsPrefix h H → f < count → AllByRecursion (OfCut options H) as
-      → AllByRecursion (λ a. IsHere options h a × (f < count)) (here (stamp_of options h) as)
+  all_here : (h : History) (f : ℕ) (following : List Answered) → IsPrefix h H → f < count → AllByRecursion (OfCut options H) following
+      → AllByRecursion (λ a. IsHere options h a × (f < count)) (here (stamp_of options h) following)
   all_here h f [] begun less cuts = tt
-  all_here h f (a ∷ as) begun less cuts = by (is_at (stamp_of options h) a) refl (all_here h f as begun less cuts.1)
+  all_here h f (a ∷ following) begun less cuts = by (is_at (stamp_of options h) a) refl (all_here h f following begun less cuts.1)
     where
-      by : (b : Bool) → is_at (stamp_of options h) a ≡ b → AllByRecursion (λ a. IsHere options h a × (f < count)) (here (stamp_of options h) as)
-          → AllByRecursion (λ a. IsHere options h a × (f < count)) (cond b (a ∷ here (stamp_of options h) as) [])
+      by : (b : Bool) → is_at (stamp_of options h) a ≡ b → AllByRecursion (λ a. IsHere options h a × (f < count)) (here (stamp_of options h) following)
+          → AllByRecursion (λ a. IsHere options h a × (f < count)) (cond b (a ∷ here (stamp_of options h) following) [])
       by true at rest = ((one_here options H h a begun at cuts.0, less), rest)
       by false at rest = tt
 
@@ -49,22 +49,22 @@ module _ (options : Options) (H : History) (count : ℕ) where
     pub each : (f : ℕ) → answers_to f (heres (stamp_of options h) L count) ≡ here (stamp_of options h) (L f)
     pub no_others : AllByRecursion (λ t. t.front < count) (heres (stamp_of options h) L count)
 
-  firsts : {P Q : Turn → Type 0} (ts : List Turn) → AllByRecursion (λ t. P t × Q t) ts → AllByRecursion P ts
-  firsts [] all = tt
-  firsts (t ∷ ts) all = (all.0.0, firsts ts all.1)
+  firsts : (P Q : Turn → Type 0) (ts : List Turn) → AllByRecursion (λ t. P t × Q t) ts → AllByRecursion P ts
+  firsts P Q [] all = tt
+  firsts P Q (t ∷ ts) all = (all.0.0, firsts P Q ts all.1)
 
-  seconds : {P Q : Turn → Type 0} (ts : List Turn) → AllByRecursion (λ t. P t × Q t) ts → AllByRecursion Q ts
-  seconds [] all = tt
-  seconds (t ∷ ts) all = (all.0.1, seconds ts all.1)
+  seconds : (P Q : Turn → Type 0) (ts : List Turn) → AllByRecursion (λ t. P t × Q t) ts → AllByRecursion Q ts
+  seconds P Q [] all = tt
+  seconds P Q (t ∷ ts) all = (all.0.1, seconds P Q ts all.1)
 
   abbrev Both : History → Turn → Type 0
   Both h t = IsHere options h t.answered × (t.front < count)
 
   looks : (h : History) (placed : List Placed) (L : ℕ → List Answered) → Fits h placed L → Looks h L
   looks h placed L fits = record {
-    here_are = firsts {P = λ t. IsHere options h t.answered} {Q = λ t. t.front < count} (heres (stamp_of options h) L count) all;
+    here_are = firsts (λ t. IsHere options h t.answered) (λ t. t.front < count) (heres (stamp_of options h) L count) all;
     each = λ f. heres_of (stamp_of options h) L count f (fits.few f);
-    no_others = seconds {P = λ t. IsHere options h t.answered} {Q = λ t. t.front < count} (heres (stamp_of options h) L count) all;
+    no_others = seconds (λ t. IsHere options h t.answered) (λ t. t.front < count) (heres (stamp_of options h) L count) all;
   }
     where
       all : AllByRecursion (Both h) (heres (stamp_of options h) L count)
@@ -134,14 +134,14 @@ module _ (options : Options) (H : History) (count : ℕ) where
         (subst (AllByRecursion (λ one. stamp_of options next ≤ one.stamp)) (sym (other_steps f apart)) (low_steps f))
 
     -- the answer to it stands first in what is left of its front's
-    module _ (a : Answered) (as : List Answered) (is : past s (L q.front) ≡ a ∷ as) where
-      turn : Turn
+    module _ (a : Answered) (following : List Answered) (is : past s (L q.front) ≡ a ∷ following) where
+      abbrev turn : Turn
       turn = record { front = q.front; answered = a }
 
-      cuts : AllByRecursion (OfCut options H) (a ∷ as)
+      cuts : AllByRecursion (OfCut options H) (a ∷ following)
       cuts = subst (AllByRecursion (OfCut options H)) is (all_past (OfCut options H) s (L q.front) (fits.cuts q.front))
 
-      pairs : Pairs (a ∷ as)
+      pairs : Pairs (a ∷ following)
       pairs = subst Pairs is (pairs_past s (L q.front) (fits.pairs q.front))
 
       low : s ≤ stamp_given a
@@ -150,18 +150,18 @@ module _ (options : Options) (H : History) (count : ℕ) where
       away : is_at s a ≡ false
       away = subst (IsAway s) is (away_past s (L q.front))
 
-      first : IsNext options H h q.step run begun a as (steps_by q.front later)
-      first = is_next options H h q.step run begun a as (steps_by q.front later) cuts.0 pairs.0 low away (ap steps_of (sym is) ∙ left_steps)
+      first : IsNext options H h q.step run begun a following (steps_by q.front later)
+      first = is_next options H h q.step run begun a following (steps_by q.front later) cuts.0 pairs.0 low away (ap steps_of (sym is) ∙ left_steps)
 
       abbrev left : ℕ → List Answered
-      left f = cond (q.front == f) as (past s (L f))
+      left f = cond (q.front == f) following (past s (L f))
 
       -- what holds of what is left of its front's and of each other's
-      for_left : (P : ℕ → List Answered → Type 0) → P q.front as → ((f : ℕ) → (q.front == f) ≡ false → P f (past s (L f))) → (f : ℕ) → P f (left f)
+      for_left : (P : ℕ → List Answered → Type 0) → P q.front following → ((f : ℕ) → (q.front == f) ≡ false → P f (past s (L f))) → (f : ℕ) → P f (left f)
       for_left P own others f = by (q.front == f) refl
         where
-          by : (b : Bool) → (q.front == f) ≡ b → P f (cond b as (past s (L f)))
-          by true same = subst (λ g. P g as) (eqb-true q.front f same) own
+          by : (b : Bool) → (q.front == f) ≡ b → P f (cond b following (past s (L f)))
+          by true same = subst (λ g. P g following) (eqb-true q.front f same) own
           by false apart = others f apart
 
       left_fits : Fits next later left
@@ -171,7 +171,7 @@ module _ (options : Options) (H : History) (count : ℕ) where
         steps = for_left (λ f l. steps_of l ≡ steps_by f later) first.tail other_steps;
         cuts = for_left (λ f l. AllByRecursion (OfCut options H) l) cuts.1 (λ f apart. all_past (OfCut options H) s (L f) (fits.cuts f));
         pairs = for_left (λ f l. Pairs l) pairs.1 (λ f apart. pairs_past s (L f) (fits.pairs f));
-        low = for_left (λ f l. IsLow (stamp_of options next) l) (low_next (stamp_of options next) a as (omega (arith, first.stamp, run.1)) pairs.0) low_other;
+        low = for_left (λ f l. IsLow (stamp_of options next) l) (low_next (stamp_of options next) a following (omega (arith, first.stamp, run.1)) pairs.0) low_other;
         few = for_left (λ f l. count ≤ f → l ≡ []) (λ le. absurd (omega (arith, le, fits.within.0))) (λ f apart le. ap (past s) (fits.few f le));
         within = fits.within.1;
       }
@@ -182,7 +182,7 @@ module _ (options : Options) (H : History) (count : ℕ) where
       behind_looks : (f : ℕ) → answers_to f (turn ∷ rest.turns) ≡ past s (L f)
       behind_looks f = by (q.front == f) refl (rest.each f)
         where
-          by : (b : Bool) → (q.front == f) ≡ b → answers_to f rest.turns ≡ cond b as (past s (L f)) → cons_option (cond b (Some a) None) (answers_to f rest.turns) ≡ past s (L f)
+          by : (b : Bool) → (q.front == f) ≡ b → answers_to f rest.turns ≡ cond b following (past s (L f)) → cons_option (cond b (Some a) None) (answers_to f rest.turns) ≡ past s (L f)
           by true same own = ap (λ l. a ∷ l) own ∙ sym is ∙ ap (λ g. past s (L g)) (eqb-true q.front f same)
           by false apart other = other
 
@@ -200,7 +200,7 @@ module _ (options : Options) (H : History) (count : ℕ) where
 
     go : (l : List Answered) → past s (L q.front) ≡ l → Merged h L
     go [] is = let none : [] ≡ q.step ∷ steps_by q.front later = ap steps_of (sym is) ∙ left_steps in absurd (cc)
-    go (a ∷ as) is = merged_here a as is
+    go (a ∷ following) is = merged_here a following is
 
     one_step : Merged h L
     one_step = go (past s (L q.front)) refl

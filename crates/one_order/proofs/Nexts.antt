@@ -138,26 +138,26 @@ module _ (options : Options) (H : History) where
       (subst (λ z. (stamp ≡ stamp_of options z) × IsLookAt options z key look) (same_cut h seen.cut begun (plain seen) (sym seen.holds.0 ∙ same)) seen.holds, refl)
 
   -- behind the last write all that is left is looks at the whole history
-  record IsLast (a : Answered) (as : List Answered) : Type 0 where
+  record IsLast (a : Answered) (following : List Answered) : Type 0 where
     pub at : is_at (stamp_of options H) a ≡ true
-    pub none : steps_of as ≡ []
+    pub none : steps_of following ≡ []
 
-  last_look : (a : Answered) (as : List Answered) → steps_of (a ∷ as) ≡ [] → OfCut a → stamp_of options H ≤ stamp_given a → IsLast a as
-  last_look (wrote step) as none seen low = absurd (cc)
-  last_look (got key stamp value) as none seen low =
+  last_look : (a : Answered) (following : List Answered) → steps_of (a ∷ following) ≡ [] → OfCut a → stamp_of options H ≤ stamp_given a → IsLast a following
+  last_look (wrote step) following none seen low = absurd (cc)
+  last_look (got key stamp value) following none seen low =
       let up = prefix_rises options seen.cut H (plain seen) in
       record { at = eq-eqb stamp (stamp_of options H) (omega (arith, up, low, seen.holds.0)); none = none }
-  last_look (changed step look) as none seen low = absurd (cc)
-  last_look (kept key stamp look) as none seen low =
+  last_look (changed step look) following none seen low = absurd (cc)
+  last_look (kept key stamp look) following none seen low =
       let up = prefix_rises options seen.cut H (plain seen) in
       record { at = eq-eqb stamp (stamp_of options H) (omega (arith, up, low, seen.holds.0)); none = none }
 
-  pub none_past : (as : List Answered) → steps_of as ≡ [] → AllByRecursion OfCut as → Pairs as → IsLow (stamp_of options H) as → past (stamp_of options H) as ≡ []
+  pub none_past : (following : List Answered) → steps_of following ≡ [] → AllByRecursion OfCut following → Pairs following → IsLow (stamp_of options H) following → past (stamp_of options H) following ≡ []
   none_past [] none cuts pairs low = refl
-  none_past (a ∷ as) none cuts pairs low =
-      let last = last_look a as none cuts.0 low in
-      ap (λ b. cond b (past (stamp_of options H) as) (a ∷ as)) last.at
-      ∙ none_past as last.none cuts.1 pairs.1 (low_next (stamp_of options H) a as low pairs.0)
+  none_past (a ∷ following) none cuts pairs low =
+      let last = last_look a following none cuts.0 low in
+      ap (λ b. cond b (past (stamp_of options H) following) (a ∷ following)) last.at
+      ∙ none_past following last.none cuts.1 pairs.1 (low_next (stamp_of options H) a following low pairs.0)
 
   -- One step
 
@@ -178,28 +178,28 @@ module _ (options : Options) (H : History) where
             absurd (eqb-false stamp (stamp_of options h) away (omega (arith, le, low, at)))
 
     -- what is left of other fronts has no lower stamp than the one behind it
-    pub head_low : (as : List Answered) → AllByRecursion OfCut as → IsLow (stamp_of options h) as → IsAway (stamp_of options h) as
-        → AllByRecursion (λ one. stamp_of options after ≤ one.stamp) (steps_of as) → IsLow (stamp_of options after) as
+    pub head_low : (following : List Answered) → AllByRecursion OfCut following → IsLow (stamp_of options h) following → IsAway (stamp_of options h) following
+        → AllByRecursion (λ one. stamp_of options after ≤ one.stamp) (steps_of following) → IsLow (stamp_of options after) following
     head_low [] cuts low away steps = tt
-    head_low (wrote own ∷ as) cuts low away steps = steps.0
-    head_low (got key stamp value ∷ as) cuts low away steps = look_low stamp cuts.0.cut (plain cuts.0) cuts.0.holds.0 away low
-    head_low (changed own look ∷ as) cuts low away steps = steps.0
-    head_low (kept key stamp look ∷ as) cuts low away steps = look_low stamp cuts.0.cut (plain cuts.0) cuts.0.holds.0 away low
+    head_low (wrote own ∷ following) cuts low away steps = steps.0
+    head_low (got key stamp value ∷ following) cuts low away steps = look_low stamp cuts.0.cut (plain cuts.0) cuts.0.holds.0 away low
+    head_low (changed own look ∷ following) cuts low away steps = steps.0
+    head_low (kept key stamp look ∷ following) cuts low away steps = look_low stamp cuts.0.cut (plain cuts.0) cuts.0.holds.0 away low
 
     -- What its front was answered next is the answer to it.
-    pub record IsNext (a : Answered) (as : List Answered) (rest : List RunStep) : Type 0 where
+    pub record IsNext (a : Answered) (following : List Answered) (rest : List RunStep) : Type 0 where
       pub answer : IsAnswerBehind options h a
       pub goes_to : behind h a ≡ after
       pub stamp : stamp_given a ≡ step.stamp
-      pub tail : steps_of as ≡ rest
+      pub tail : steps_of following ≡ rest
 
     -- a look is not, as its stamp would stand between
-    no_look : (a : Answered) (as : List Answered) (rest : List RunStep) (cut : History) → IsPrefix cut H → stamp_given a ≡ stamp_of options cut
-        → (stamp_given a == stamp_of options h) ≡ false → stamp_of options h ≤ stamp_given a → AllByRecursion (NoFall a) as → steps_of as ≡ step ∷ rest → ⊥
-    no_look a as rest cut is at away low pairs steps = by (is_accepted step.outcome) refl
+    no_look : (a : Answered) (following : List Answered) (rest : List RunStep) (cut : History) → IsPrefix cut H → stamp_given a ≡ stamp_of options cut
+        → (stamp_given a == stamp_of options h) ≡ false → stamp_of options h ≤ stamp_given a → AllByRecursion (NoFall a) following → steps_of following ≡ step ∷ rest → ⊥
+    no_look a following rest cut is at away low pairs steps = by (is_accepted step.outcome) refl
       where
         next : firsts_of.Write (NoFall a) step
-        next = first_write (NoFall a) as step rest steps pairs
+        next = first_write (NoFall a) following step rest steps pairs
 
         least : stamp_of options after ≤ stamp_given a
         least = look_low (stamp_given a) cut is at away low
@@ -213,21 +213,21 @@ module _ (options : Options) (H : History) where
             let up : stamp_given a ≤ stamp_given next.answer = next.holds.0 in
             eqb-false (stamp_given a) (stamp_of options h) away (omega (arith, same, up, low, next.stamp, run.1))
 
-    pub is_next : (a : Answered) (as : List Answered) (rest : List RunStep) → OfCut a → AllByRecursion (NoFall a) as → stamp_of options h ≤ stamp_given a → is_at (stamp_of options h) a ≡ false
-        → steps_of (a ∷ as) ≡ step ∷ rest → IsNext a as rest
-    is_next (wrote own) as rest seen pairs low away steps =
+    pub is_next : (a : Answered) (following : List Answered) (rest : List RunStep) → OfCut a → AllByRecursion (NoFall a) following → stamp_of options h ≤ stamp_given a → is_at (stamp_of options h) a ≡ false
+        → steps_of (a ∷ following) ≡ step ∷ rest → IsNext a following rest
+    is_next (wrote own) following rest seen pairs low away steps =
         let same : step ≡ own = cc in
-        let tails : steps_of as ≡ rest = cc in
+        let tails : steps_of following ≡ rest = cc in
         record {
           answer = subst (λ z. IsRunFrom options h (z ∷ [])) same run;
           goes_to = ap (λ z. h ++ history_of (z ∷ [])) (sym same);
           stamp = ap (λ (z : RunStep). z.stamp) (sym same);
           tail = tails;
         }
-    is_next (got key stamp value) as rest seen pairs low away steps = absurd (no_look (got key stamp value) as rest seen.cut (plain seen) seen.holds.0 away low pairs steps)
-    is_next (changed own look) as rest seen pairs low away steps =
+    is_next (got key stamp value) following rest seen pairs low away steps = absurd (no_look (got key stamp value) following rest seen.cut (plain seen) seen.holds.0 away low pairs steps)
+    is_next (changed own look) following rest seen pairs low away steps =
         let same : step ≡ own = cc in
-        let tails : steps_of as ≡ rest = cc in
+        let tails : steps_of following ≡ rest = cc in
         let ran : IsRunFrom options h (own ∷ []) = subst (λ z. IsRunFrom options h (z ∷ [])) same run in
         let now : IsPrefix (h ++ history_of (own ∷ [])) H = subst (λ z. IsPrefix (h ++ history_of (z ∷ [])) H) same begun in
         let cut : seen.cut ≡ h = append_cancel_right seen.cut h (history_of (own ∷ []))
@@ -238,4 +238,4 @@ module _ (options : Options) (H : History) where
           stamp = ap (λ (z : RunStep). z.stamp) (sym same);
           tail = tails;
         }
-    is_next (kept key stamp look) as rest seen pairs low away steps = absurd (no_look (kept key stamp look) as rest seen.cut (plain seen) seen.holds.0 away low pairs steps)
+    is_next (kept key stamp look) following rest seen pairs low away steps = absurd (no_look (kept key stamp look) following rest seen.cut (plain seen) seen.holds.0 away low pairs steps)

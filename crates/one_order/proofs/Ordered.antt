@@ -73,25 +73,25 @@ module _ (options : Options) (origin : History) (placed : List Placed) (run : Is
       value_told (got key stamp value) = value
       value_told _ = None
 
-  seen : (as : List Answered) → AllByRecursion (ServesLook options origin (steps_in placed)) as → AllByRecursion (ServesGet options origin whole) (filter is_get as) → AllByRecursion IsSeen as
+  seen : (following : List Answered) → AllByRecursion (ServesLook options origin (steps_in placed)) following → AllByRecursion (ServesGet options origin whole) (filter is_get following) → AllByRecursion IsSeen following
   seen [] looks gets = tt
-  seen (wrote step ∷ as) looks gets = ((tt, λ off. absurd (cc)), seen as looks.1 gets)
-  seen (got key stamp value ∷ as) looks gets = (of_get key stamp value gets.0, seen as looks.1 gets.1)
-  seen (changed step look ∷ as) looks gets = ((of_change step look looks.0, λ off. absurd (cc)), seen as looks.1 gets)
-  seen (kept key stamp look ∷ as) looks gets =
+  seen (wrote step ∷ following) looks gets = ((tt, λ off. absurd (cc)), seen following looks.1 gets)
+  seen (got key stamp value ∷ following) looks gets = (of_get key stamp value gets.0, seen following looks.1 gets.1)
+  seen (changed step look ∷ following) looks gets = ((of_change step look looks.0, λ off. absurd (cc)), seen following looks.1 gets)
+  seen (kept key stamp look ∷ following) looks gets =
       let up = prefix_rises options origin looks.0.cut looks.0.filled in
-      ((at_cut looks.0.cut looks.0.begins (looks.0.stamped, looks.0.looked), λ _. omega (arith, up, looks.0.stamped)), seen as looks.1 gets)
+      ((at_cut looks.0.cut looks.0.begins (looks.0.stamped, looks.0.looked), λ _. omega (arith, up, looks.0.stamped)), seen following looks.1 gets)
 
-  cuts_of : (as : List Answered) → AllByRecursion IsSeen as → AllByRecursion (OfCut options whole) as
+  cuts_of : (following : List Answered) → AllByRecursion IsSeen following → AllByRecursion (OfCut options whole) following
   cuts_of [] all = tt
-  cuts_of (a ∷ as) all = (all.0.0, cuts_of as all.1)
+  cuts_of (a ∷ following) all = (all.0.0, cuts_of following all.1)
 
-  low_of : (as : List Answered) → AllByRecursion IsSeen as → AllByRecursion (λ step. stamp_of options origin ≤ step.stamp) (steps_of as) → IsLow (stamp_of options origin) as
+  low_of : (following : List Answered) → AllByRecursion IsSeen following → AllByRecursion (λ step. stamp_of options origin ≤ step.stamp) (steps_of following) → IsLow (stamp_of options origin) following
   low_of [] all steps = tt
-  low_of (wrote step ∷ as) all steps = steps.0
-  low_of (got key stamp value ∷ as) all steps = all.0.1 refl
-  low_of (changed step look ∷ as) all steps = steps.0
-  low_of (kept key stamp look ∷ as) all steps = all.0.1 refl
+  low_of (wrote step ∷ following) all steps = steps.0
+  low_of (got key stamp value ∷ following) all steps = all.0.1 refl
+  low_of (changed step look ∷ following) all steps = steps.0
+  low_of (kept key stamp look ∷ following) all steps = all.0.1 refl
 
 pub ordered : StandInOneOrder
 ordered options origin fronts runs lawful p less = record {

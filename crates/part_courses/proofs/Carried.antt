@@ -148,7 +148,7 @@ module _ {options : Options} {base : ℕ} {h : History} {shelf : Shelf} (g : Beg
         absent : look.value ≡ None → Stands options base h (with_item key None shelf)
         absent empty = record {
           accepted = g.stands.accepted;
-          items = λ k. by (bytes_eq k key) refl k;
+          items = λ k. by (bytes_eq k key) k refl;
           stored = g.stands.stored;
           free = g.stands.free;
           flushes = g.stands.flushes;

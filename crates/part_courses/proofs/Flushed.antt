@@ -55,12 +55,12 @@ module _ {options : Options} {base : ℕ} {h : History} {shelf : Shelf} (g : Beg
       flushes_are : in_numbers base (flushes_in options.buckets (h ++ step.write ∷ [])) ≡ flushes_then number flush shelf.flushes
       flushes_are =
           ap (in_numbers base) (flushes_push options.buckets h step.write ∙ ap (λ b. cond b (flushes_then (suc n) (flush_in step.write.key) (flushes_in options.buckets h)) (flushes_in options.buckets h)) is_it ∙ ap (λ f. flushes_then (suc n) f (flushes_in options.buckets h)) flush_is)
-          ∙ numbered_flush base (suc n) flush (flushes_in options.buckets h)
+          ∙ numbered_flush base n flush (flushes_in options.buckets h)
           ∙ ap (λ m. flushes_then (numbered base m) flush (in_numbers base (flushes_in options.buckets h))) (omega arith)
           ∙ ap (flushes_then number flush) (sym g.stands.flushes)
 
       by : (on : Bool) → is_accepted step.outcome ≡ on → One options base shelf (h ++ cons_option (cond on (Some step.write) None) []) (flushed part number flush on ∷ [])
-      by false off = record { steps = (least, tt); stands_then = subst (λ z. Stands options base z shelf) (sym (append-nil h)) stands }
+      by false off = record { steps = (least, tt); stands_then = subst (λ z. Stands options base z shelf) (sym (append-nil h)) g.stands }
       by true on = record {
         steps = (least, tt);
         stands_then = stands_next g step.write step.outcome (record shelf { flushes = flushes_then number flush shelf.flushes; free = number }) (record {
@@ -109,7 +109,7 @@ module _ {options : Options} {base : ℕ} {h : History} {shelf : Shelf} (g : Beg
       off_flush = ap (λ feed. is_in_first options.buckets step.write && is_delete step.write.op && feed) kept_so.spelled ∙ no_feed_flushes (is_in_first options.buckets step.write) (is_delete step.write.op)
 
       by : (on : Bool) → is_accepted step.outcome ≡ on → One options base shelf (h ++ cons_option (cond on (Some step.write) None) []) (cond on (went look.when.second key ∷ []) [])
-      by false off = record { steps = tt; stands_then = subst (λ z. Stands options base z shelf) (sym (append-nil h)) stands }
+      by false off = record { steps = tt; stands_then = subst (λ z. Stands options base z shelf) (sym (append-nil h)) g.stands }
       by true on = record {
         steps = (none, tt);
         stands_then = stands_next g step.write step.outcome (with_item key None shelf) (record {

@@ -1,5 +1,5 @@
 -- What a decision writes, and what writes do not flush.
-use Rattle.std.proofs.Common.{◌≡◌, ◌≢◌, ◌==◌, ◌&&◌, ◌⊎◌, inl, inr, not, ℕ, suc, Bool, true, false, cond, List, [], Option, Some, None, is_some, bytes_eq, nat_lt, refl, sym, ap, ◌∙◌}
+use Rattle.std.proofs.Common.{◌≡◌, ◌≢◌, ◌==◌, ◌&&◌, ◌⊎◌, inl, inr, not, ℕ, suc, Bool, true, false, cond, List, [], Option, Some, None, is_some, bytes_eq, nat_lt, refl, sym, ap, ◌∙◌, eqb-true, arith}
 use Rattle.std.proofs.lemmas.Bool.{cond_both, true≢false}
 use Rattle.std.proofs.lemmas.Slice.Eq.{bytes_eq-Decides}
 use Rattle.partition_model.specs.declared.write.Op.{Op}
@@ -122,12 +122,16 @@ deletes_of first TouchOp feed is = absurd (true≢false (sym is ∙ never_flushe
 pub numbered_flush : (base n : ℕ) (flush : Flush) (flushes : Flushes) → in_numbers base (flushes_then (suc n) flush flushes) ≡ flushes_then (numbered base (suc n)) flush (in_numbers base flushes)
 numbered_flush base n flush flushes = by (nat_lt flush.asked flushes.due)
   where
-    made : ℕ → Flushes
-    made before = record { before = before; due = flush.due; after = numbered base (suc n) }
+    made : ℕ → ℕ → Flushes
+    made before behind = record { before = before; due = flush.due; after = behind }
 
-    by : (b : Bool) → made (number_of base (cond b flushes.before flushes.after)) ≡ made (cond b (number_of base flushes.before) (number_of base flushes.after))
-    by true = refl
-    by false = refl
+    some : (b : Bool) → (suc n == 0) ≡ b → number_of base (suc n) ≡ numbered base (suc n)
+    some true none = let is = eqb-true (suc n) 0 none in absurd (omega (arith, is))
+    some false is = ap (λ b. cond b 0 (numbered base (suc n))) is
+
+    by : (b : Bool) → made (number_of base (cond b flushes.before flushes.after)) (number_of base (suc n)) ≡ made (cond b (number_of base flushes.before) (number_of base flushes.after)) (numbered base (suc n))
+    by true = ap (made (number_of base flushes.before)) (some (suc n == 0) refl)
+    by false = ap (made (number_of base flushes.after)) (some (suc n == 0) refl)
 
 pub over_parts : (there_is low high : Bool) → (not there_is && low && high) ≡ true → there_is ≡ false
 over_parts true low high is = absurd (cc)
