@@ -10,7 +10,7 @@ use Rattle.partition_model.specs.Run.{history_of, IsRunFrom}
 use Rattle.partition_model.proofs.Runs.{history_cons}
 use Rattle.fronts.specs.Answered.{Answered, stamp_given, steps_of}
 use Rattle.fronts.specs.Placed.{Placed, steps_by, steps_in}
-use Rattle.one_order.specs.Order.{Turn, behind, AreInTurn, answers_to}
+use Rattle.one_order.specs.Order.{Turn, AreInTurn, answers_to}
 use Rattle.one_order.proofs.Firsts.{is_at, here, past, heres, pick_of, Pairs, IsLow, IsAway, parts, all_both, all_past, steps_past, pairs_past, low_next, low_past, away_past, heres_of, all_heres, all_to}
 use Rattle.one_order.proofs.Nexts.{all_by, run_low, IsHere, looks_then, OfCut, one_here, none_past, head_low, IsNext, is_next}
 

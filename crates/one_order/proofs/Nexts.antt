@@ -231,7 +231,7 @@ module _ (options : Options) (H : History) where
         let ran : IsRunFrom options h (own ∷ []) = subst (λ z. IsRunFrom options h (z ∷ [])) same run in
         let now : IsPrefix (h ++ history_of (own ∷ [])) H = subst (λ z. IsPrefix (h ++ history_of (z ∷ [])) H) same begun in
         let cut : seen.cut ≡ h = append_cancel_right seen.cut h (history_of (own ∷ []))
-            (one_cut options H own.stamp (seen.cut ++ history_of (own ∷ [])) (h ++ history_of (own ∷ [])) (record { begins = seen.begins; stamped = sym seen.holds.0.1 }) (record { begins = now; stamped = sym ran.1 })) in
+        (one_cut options H own.stamp (seen.cut ++ history_of (own ∷ [])) (h ++ history_of (own ∷ [])) (record { begins = seen.begins; stamped = sym seen.holds.0.1 }) (record { begins = now; stamped = sym ran.1 })) in
         record {
           answer = (ran, subst (λ z. IsLookAt options z own.write.key look) cut seen.holds.1);
           goes_to = ap (λ z. h ++ history_of (z ∷ [])) (sym same);

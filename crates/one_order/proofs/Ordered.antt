@@ -1,6 +1,6 @@
 -- Lawful answers of all fronts stand in one order.
 use Rattle.std.proofs.Common.{◌≡◌, ◌≤◌, ◌<◌, ℕ, Bool, true, false, cond, List, [], ◌∷◌, ◌++◌, length, filter, eqb, eqb-true, Option, Some, None, inl, inr, slice_get, refl, sym, ap, subst, ◌∙◌, append_assoc, arith}
-use Rattle.std.specs.List.{All, AllByRecursion, cons_option}
+use Rattle.std.specs.List.{AllByRecursion, cons_option}
 use Rattle.std.proofs.lemmas.List.Elements.{recursion_from_All}
 use Rattle.std.proofs.lemmas.List.{append-nil}
 use Rattle.std.proofs.lemmas.Option.{slice_get_cases, slice_get_within}
@@ -12,11 +12,11 @@ use Rattle.partition_model.proofs.Runs.{history-append, history_cons}
 use Rattle.fronts.specs.Answered.{Answered, wrote, got, changed, kept, stamp_given, is_get, steps_of, answers_of, gets_of}
 use Rattle.fronts.specs.Looks.{Look}
 use Rattle.fronts.specs.Placed.{Placed, steps_by, steps_in, history_in}
-use Rattle.served.specs.Served.{AnswersLawfully, ServesWrites, ServesLook, ServesGet, ServesChange, ServesKept}
-use Rattle.one_order.specs.Order.{OneOrder, StandInOneOrder}
+use Rattle.served.specs.Served.{ServesWrites, ServesLook, ServesGet, ServesChange}
+use Rattle.one_order.specs.Order.{StandInOneOrder}
 use Rattle.one_order.proofs.Firsts.{Pairs, IsLow, is_look, pairs}
 use Rattle.one_order.proofs.Nexts.{AtCut, OfCut, all_by, run_low}
-use Rattle.one_order.proofs.Merged.{Fits, Merged, merge}
+use Rattle.one_order.proofs.Merged.{Merged, merge}
 
 -- a run goes on behind its first steps
 run_behind : (options : Options) (h : History) (earlier later : List RunStep) → IsRunFrom options h (earlier ++ later) → IsRunFrom options (h ++ history_of earlier) later
