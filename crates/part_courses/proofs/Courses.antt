@@ -1,19 +1,18 @@
 -- The answers of a store's part, one behind another.
-use Rattle.std.proofs.Common.{◌≡◌, ℕ, ◌+◌, ◌<◌, ◌^◌, Bool, true, false, cond, List, [], ◌∷◌, ◌++◌, length, map, Option, Some, None, refl, sym, subst, ◌∙◌}
+use Rattle.std.proofs.Common.{◌≡◌, ℕ, List, [], ◌∷◌, ◌++◌, length, map, Option, Some, None, refl, sym, subst, ◌∙◌}
 use Rattle.partition_model.specs.declared.options.Mode.TheVariants.{Cache, Store}
 use Rattle.partition_model.specs.declared.options.Options.{Options}
 use Rattle.partition_model.specs.declared.write.Write.{Write}
 use Rattle.partition_model.specs.History.{History}
-use Rattle.memcached_commands.specs.declared.asks.Asked.{Asked}
 use Rattle.fronts.specs.Answered.{Answered, wrote, got, changed, kept}
 use Rattle.fronts.specs.Changing.{Becoming, stays, becomes, goes, write_for}
-use Rattle.fronts.specs.Looks.{Look, IsLookAt}
+use Rattle.fronts.specs.Looks.{IsLookAt}
 use Rattle.one_order.specs.Order.{IsAnswerBehind, behind}
 use Rattle.memcached_page.specs.Shelf.{Shelf, empty}
-use Rattle.memcached_page.specs.Course.{Deed, Done, after, IsDeed, IsCourse}
+use Rattle.memcached_page.specs.Course.{Deed, Done, after, IsCourse}
 use Rattle.memcached_page.specs.Kept.{shelf_in}
 use Rattle.part_courses.specs.Courses.{Purpose, asks, flushes, sweeps, Served, IsFor, AreServed, deeds_of, done_by, course_of, AreCoursesOfStore}
-use Rattle.part_courses.proofs.Shelves.{Stands, stands_empty}
+use Rattle.part_courses.proofs.Shelves.{stands_empty}
 use Rattle.part_courses.proofs.Steps.{Steps, left_by, Begun, One}
 use Rattle.part_courses.proofs.Carried.{kept_one, changed_one}
 use Rattle.part_courses.proofs.Flushed.{flush_one, swept_one}

@@ -1,5 +1,5 @@
 -- No command is decided to find no room.
-use Rattle.std.proofs.Common.{◌≡◌, ◌==◌, ℕ, List, Bool, true, false, cond, Option, Some, None, length, nat_lt, ◌+◌, refl}
+use Rattle.std.proofs.Common.{◌≡◌, ℕ, List, false, Option, Some, None, length, nat_lt, ◌+◌, refl}
 use Rattle.std.proofs.lemmas.Bool.{cond_both}
 use Rattle.memcached_text.specs.declared.limits.TheConstants.{MAX_TEXT_LEN}
 use Rattle.memcached_text.specs.declared.command.Wants.{Wants}
@@ -16,7 +16,7 @@ use Rattle.memcached_commands.specs.declared.ask.Ask.TheVariants.{Get, GetTouch,
 use Rattle.memcached_commands.specs.declared.ask.Initial.{Initial}
 use Rattle.memcached_commands.specs.declared.ask.Says.TheVariants.{Line, Refusal, Stores}
 use Rattle.memcached_commands.specs.Counting.{number_in}
-use Rattle.memcached_commands.specs.Decide.{Becoming, stays, becomes, goes, Decision, leaves, has_number, if_meant, is_wanted, missed, later_than, stored_over, joined_item, joins, counted_item, count_from, kept_until, end_by, begun, vivified, outdated, decide}
+use Rattle.memcached_commands.specs.Decide.{becomes, goes, Decision, leaves, has_number, if_meant, is_wanted, missed, later_than, stored_over, joined_item, joins, count_from, kept_until, end_by, begun, vivified, outdated, decide}
 use Rattle.memcached_page.specs.Course.{is_no_room}
 
 abbrev HasRoom : Decision → Type 0

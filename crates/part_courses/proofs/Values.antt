@@ -11,7 +11,7 @@ use Rattle.partition_model.specs.declared.write.Op.TheVariants.{Put, Del}
 use Rattle.partition_model.specs.Write.{write_of, size_of}
 use Rattle.partition_model.specs.Store as store
 use Rattle.partition_model.specs.StoreStep as ss
-use Rattle.partition_model.specs.History.{History, State, store_state, after, value_in, state_of, answer_of}
+use Rattle.partition_model.specs.History.{History, State, after, value_in, answer_of}
 use Rattle.partition_model.proofs.Histories.{state_snoc, stored_in}
 use Rattle.partition_model.proofs.StoreLaws.{others_same}
 

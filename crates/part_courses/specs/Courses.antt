@@ -1,15 +1,14 @@
 -- The answers of a part, and the deeds that they come to.
-use Rattle.std.specs.Prelude.{◌≡◌, ◌<◌, ◌+◌, ◌^◌, ◌&&◌, not, ℕ, Bool, true, false, ⊤, List, [], ◌∷◌, ◌++◌, length, map, is_some, Option, None, if◌then◌else◌}
+use Rattle.std.specs.Prelude.{◌≡◌, ◌<◌, ◌+◌, ◌^◌, ◌&&◌, not, ℕ, Bool, false, ⊤, List, [], ◌∷◌, ◌++◌, length, map, is_some, Option, None, if◌then◌else◌}
 use Rattle.partition_model.specs.declared.options.Mode.TheVariants.{Store}
 use Rattle.partition_model.specs.declared.options.Options.{Options}
 use Rattle.partition_model.specs.Write.{is_accepted}
 use Rattle.partition_model.specs.History.{History}
-use Rattle.partition_model.specs.Run.{RunStep}
 use Rattle.memcached_commands.specs.declared.asks.Asked.{Asked}
 use Rattle.memcached_commands.specs.Fit.{IsFitAsked}
 use Rattle.memcached_commands.specs.Moments.{found_in}
 use Rattle.fronts.specs.declared.flushes.Flush.{Flush}
-use Rattle.fronts.specs.Answered.{Answered, wrote, got, changed, kept}
+use Rattle.fronts.specs.Answered.{Answered, wrote, changed, kept}
 use Rattle.fronts.specs.Flushes.{begins_with_feed}
 use Rattle.fronts.specs.Looks.{Look}
 use Rattle.memcached_decisions.specs.Numbered.{numbered, moment_at, value_in}
