@@ -267,5 +267,5 @@ frames_wait most bytes waits = go (nat_lt (length bytes) FRAME_LEN) refl
     go : (t : Bool) → nat_lt (length bytes) FRAME_LEN ≡ t → length bytes < FRAME_LEN + MOST_EXTRAS + MAX_KEY_LEN + most
     go true is = omega (arith, ltb-true _ _ is)
     go false is =
-        let come = ltb-false _ _ is in
+        let come : FRAME_LEN ≤ length bytes = ltb-false _ _ is in
         omega (arith, length-drop FRAME_LEN bytes, waits_at most (header_in (take FRAME_LEN bytes)) (drop FRAME_LEN bytes) (subst IsMore (sym waits ∙ next_at most bytes come) tt))

@@ -16,8 +16,8 @@ regroup : (echo : Echo) (reply : FrameReply) (more : List ℕ) → reply_text ec
 unfolding reply_text
 regroup echo reply more =
     let header = header_text REPLY (reply_header echo reply) in
-    append_assoc (header ++ reply.extras ++ reply.key) reply.value more ∙ append_assoc (header ++ reply.extras) reply.key (reply.value ++ more)
-    ∙ append_assoc header reply.extras (reply.key ++ (reply.value ++ more))
+    append_assoc header (reply.extras ++ (reply.key ++ reply.value)) more
+    ∙ ap (λ text. header ++ text) (append_assoc reply.extras (reply.key ++ reply.value) more ∙ ap (λ text. reply.extras ++ text) (append_assoc reply.key reply.value more))
 
 is_header : (echo : Echo) (reply : FrameReply) → IsEcho echo → IsReply reply → IsHeader (reply_header echo reply)
 is_header echo reply is fits = record {

@@ -24,7 +24,7 @@ reply_header echo reply = record {
 
 -- the bytes of a reply
 unfoldable pub reply_text : Echo → FrameReply → List ℕ
-reply_text echo reply = header_text REPLY (reply_header echo reply) ++ reply.extras ++ reply.key ++ reply.value
+reply_text echo reply = header_text REPLY (reply_header echo reply) ++ (reply.extras ++ (reply.key ++ reply.value))
 
 -- its parts have lengths that a header can tell
 pub record IsReply (reply : FrameReply) : Type 0 where

@@ -1,8 +1,8 @@
 //! The header that every frame begins with.
-ghost use Rattle.std.specs.Prelude.{◌≡◌, ◌<◌, ◌≤◌, ◌++◌, length, take, drop, OnOk, IfSome, IfNone};
+ghost use Rattle.std.specs.Prelude.{◌≡◌, ◌<◌, ◌≤◌, length, take, drop, IfSome, IfNone};
 ghost use Rattle.memcached_frames.specs.Header.{header_in, header_text, IsOneHeader};
 
-use std::alloc::AllocError;
+use byteorder::{BigEndian, ByteOrder};
 
 /// The byte with which each request begins.
 pub const REQUEST: u8 = 128;
@@ -36,59 +36,33 @@ pub fn read_header(from: &[u8]) -> Option<(Header, &[u8])>
     ensures long { IfSome result (λ _. FRAME_LEN ≤ length from.now) }
     ensures none { IfNone result (length from.now < FRAME_LEN) }
 {
-    let [
-        _,
-        opcode,
-        k0,
-        k1,
-        extras_len,
-        _,
-        s0,
-        s1,
-        b0,
-        b1,
-        b2,
-        b3,
-        o0,
-        o1,
-        o2,
-        o3,
-        u0,
-        u1,
-        u2,
-        u3,
-        u4,
-        u5,
-        u6,
-        u7,
-        rest @ ..,
-    ] = from
-    else {
+    if from.len() < FRAME_LEN {
         return None;
-    };
+    }
+    let (front, rest) = from.split_at(FRAME_LEN);
     let header = Header {
-        opcode: *opcode,
-        key_len: u16::from_be_bytes([*k0, *k1]),
-        extras_len: *extras_len,
-        status: u16::from_be_bytes([*s0, *s1]),
-        body_len: u32::from_be_bytes([*b0, *b1, *b2, *b3]),
-        opaque: u32::from_be_bytes([*o0, *o1, *o2, *o3]),
-        unique: u64::from_be_bytes([*u0, *u1, *u2, *u3, *u4, *u5, *u6, *u7]),
+        opcode: front[1],
+        key_len: BigEndian::read_u16(&front[2..]),
+        extras_len: front[4],
+        status: BigEndian::read_u16(&front[6..]),
+        body_len: BigEndian::read_u32(&front[8..]),
+        opaque: BigEndian::read_u32(&front[12..]),
+        unique: BigEndian::read_u64(&front[16..]),
     };
     Some((header, rest))
 }
 
-/// Appends a header that begins with this byte.
+/// The bytes of a header that begins with this one.
 #[tactic(auto, unfolding(crate::specs::Header::header_text))]
-pub fn put_header(out: &mut Vec<u8>, magic: u8, header: Header) -> Result<(), AllocError>
-    ensures text { OnOk result (out.new.items ≡ out.old.items ++ header_text magic header) }
+pub fn header_bytes(magic: u8, header: Header) -> [u8; FRAME_LEN]
+    ensures { result ≡ header_text magic header }
 {
     let [k0, k1] = header.key_len.to_be_bytes();
     let [s0, s1] = header.status.to_be_bytes();
     let [b0, b1, b2, b3] = header.body_len.to_be_bytes();
     let [o0, o1, o2, o3] = header.opaque.to_be_bytes();
     let [u0, u1, u2, u3, u4, u5, u6, u7] = header.unique.to_be_bytes();
-    out.extend_from_slice(&[
+    [
         magic,
         header.opcode,
         k0,
@@ -113,7 +87,7 @@ pub fn put_header(out: &mut Vec<u8>, magic: u8, header: Header) -> Result<(), Al
         u5,
         u6,
         u7,
-    ])
+    ]
 }
 
 /// A header is read as it was written.

@@ -1,11 +1,11 @@
 //! The replies to frames.
-ghost use Rattle.std.specs.Prelude.{◌≡◌, ◌^◌, ◌<◌, ◌++◌, length, OnOk};
+ghost use Rattle.std.specs.Prelude.{◌≡◌, ◌^◌, ◌<◌, ◌++◌, length, flat_map, OnOk, OnErr};
 ghost use Rattle.memcached_frames.specs.Replies.{IsOneReply, parts_len, reply_header, reply_text};
 
 use crate::frame::Echo;
-use crate::header::{Header, REPLY, put_header};
+use crate::header::{Header, REPLY, header_bytes};
 use memcached_text::Text;
-use std::alloc::AllocError;
+use outside::NoMemory;
 
 /// What a reply has.
 #[derive(Drop)]
@@ -38,18 +38,40 @@ fn reply_header(echo: Echo, reply: &FrameReply) -> Header
     }
 }
 
-/// Appends a reply to the request of these.
+// Appends parts. Where memory runs out, nothing is appended.
+fn put_parts(out: &mut Vec<u8>, parts: &[&[u8]]) -> Result<(), NoMemory>
+    ensures ok { OnOk result (out.new.items ≡ out.old.items ++ flat_map (λ part. part.now) parts.now) }
+    ensures err { OnErr result (out.new.items ≡ out.old.items) }
+{
+    let start = out.len();
+    for part in parts {
+        if out.extend_from_slice(part).is_err() {
+            out.truncate(start);
+            return Err(NoMemory);
+        }
+    }
+    Ok(())
+}
+
+/// Appends a reply to the request of these. Where memory runs out, nothing is appended.
 #[tactic(auto, unfolding(crate::specs::Replies::reply_text))]
-pub fn put_reply(out: &mut Vec<u8>, echo: Echo, reply: &FrameReply) -> Result<(), AllocError>
+pub fn put_reply(out: &mut Vec<u8>, echo: Echo, reply: &FrameReply) -> Result<(), NoMemory>
     requires extras { length reply.now.extras < 2 ^ 8 }
     requires key { length reply.now.key < 2 ^ 16 }
     requires body { parts_len reply.now < 2 ^ 32 }
-    ensures text { OnOk result (out.new.items ≡ out.old.items ++ reply_text echo reply.now) }
+    ensures ok { OnOk result (out.new.items ≡ out.old.items ++ reply_text echo reply.now) }
+    ensures err { OnErr result (out.new.items ≡ out.old.items) }
 {
-    put_header(out, REPLY, reply_header(echo, reply))?;
-    out.extend_from_slice(reply.extras.bytes())?;
-    out.extend_from_slice(reply.key.bytes())?;
-    out.extend_from_slice(reply.value.bytes())
+    let header = header_bytes(REPLY, reply_header(echo, reply));
+    put_parts(
+        out,
+        &[
+            header.as_slice(),
+            reply.extras.bytes(),
+            reply.key.bytes(),
+            reply.value.bytes(),
+        ],
+    )
 }
 
 /// No reply begins another.
