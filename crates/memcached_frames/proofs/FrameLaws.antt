@@ -16,7 +16,7 @@ use Rattle.memcached_frames.specs.declared.frame.FrameNext.{FrameNext}
 use Rattle.memcached_frames.specs.declared.frame.FrameNext.TheVariants.{Whole, More, Over}
 use Rattle.memcached_frames.specs.Opcodes.{opcode_of, fits_extras}
 use Rattle.memcached_frames.specs.Header.{header_in, frame_len}
-use Rattle.memcached_frames.specs.Frames.{echo_of, value_len, request_in, fits, stale_of, dropped, frame_by, frame_of, frame_at, frame_next}
+use Rattle.memcached_frames.specs.Frames.{echo_of, value_len, frame_in, fits, stale_of, dropped, frame_by, frame_of, frame_at, frame_next}
 use Rattle.memcached_frames.specs.Laws.{FramesStay, TakesFrame, KeepsFrames, IsOver, EndsAtOnce, FramesWait}
 
 -- a key that has come is the same with more bytes behind it
@@ -28,9 +28,9 @@ same_key header body more come =
     rw behind (take-append-le header.key_len (drop header.extras_len body) more (omega arith))
 
 -- and so is a request
-same_request : (opcode : Opcode) (header : Header) (body more : List ℕ) → header.extras_len + header.key_len ≤ header.body_len → header.body_len ≤ length body
-    → request_in opcode header (body ++ more) ≡ request_in opcode header body
-same_request opcode header body more lengths come =
+same_frame : (opcode : Opcode) (header : Header) (body more : List ℕ) → header.extras_len + header.key_len ≤ header.body_len → header.body_len ≤ length body
+    → frame_in opcode header (body ++ more) ≡ frame_in opcode header body
+same_frame opcode header body more lengths come =
     let e = header.extras_len in
     let k = header.key_len in
     let left : length (drop e body) ≡ length body - e = length-drop e body in
@@ -62,7 +62,7 @@ short_stays most opcode header body more true lengths short is some = absurd (so
 short_stays most opcode header body more false lengths short is some =
     let come = ltb-false _ _ is in
     let longer : nat_lt (length (body ++ more)) header.body_len ≡ false = le-ltb _ _ (omega (arith, length-append body more)) in
-    rw (short, is, longer, same_request opcode header body more lengths come) refl
+    rw (short, is, longer, same_frame opcode header body more lengths come) refl
 
 by_stays : (most : ℕ) (opcode : Opcode) (header : Header) (body more : List ℕ) (large : Bool) → header.extras_len + header.key_len ≤ header.body_len
     → nat_lt most (value_len header) ≡ large → frame_by most opcode header body ≢ More
@@ -143,7 +143,7 @@ keeps_frames most bytes =
 
 -- what ends a connection does so by the header alone
 over_by : (most : ℕ) (opcode : Opcode) (header : Header) (body : List ℕ) (a b c : Bool) → IsOver (if a then (if b then More else dropped TooLarge (stale_of opcode.verb (take header.key_len (drop header.extras_len body))) header)
-    else (if c then More else Whole (request_in opcode header body) (echo_of header) (frame_len header))) → ⊥
+    else (if c then More else Whole (frame_in opcode header body) (echo_of header) (frame_len header))) → ⊥
 over_by most opcode header body true true c over = over
 over_by most opcode header body true false c over = over
 over_by most opcode header body false b true over = over
@@ -228,7 +228,7 @@ by_short : (most : ℕ) (opcode : Opcode) (header : Header) (body : List ℕ) (s
 unfolding frame_by
 by_short most opcode header body true large is waits = ltb-true _ _ is
 by_short most opcode header body false large is waits =
-    let same : frame_by most opcode header body ≡ Whole (request_in opcode header body) (echo_of header) (frame_len header) = rw (large, is) refl in
+    let same : frame_by most opcode header body ≡ Whole (frame_in opcode header body) (echo_of header) (frame_len header) = rw (large, is) refl in
     absurd (subst IsMore same waits)
 
 -- a body that waits is shorter than one that is as long as it may be

@@ -1,3 +1,4 @@
+pub mod FitLaws
 pub mod FrameLaws
 pub mod HeaderLaws
 pub mod ReplyLaws

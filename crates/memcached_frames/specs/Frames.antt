@@ -9,7 +9,7 @@ use Rattle.memcached_frames.specs.declared.header.Header.{Header}
 use Rattle.memcached_frames.specs.declared.frame.Echo.{Echo}
 use Rattle.memcached_frames.specs.declared.frame.FrameFault.{FrameFault}
 use Rattle.memcached_frames.specs.declared.frame.FrameFault.TheVariants.{Unknown, Invalid, TooLarge}
-use Rattle.memcached_frames.specs.declared.frame.Request.{Request}
+use Rattle.memcached_frames.specs.declared.frame.Frame.{Frame}
 use Rattle.memcached_frames.specs.declared.frame.FrameNext.{FrameNext}
 use Rattle.memcached_frames.specs.declared.frame.FrameNext.TheVariants.{Whole, Dropped, More, Over}
 use Rattle.memcached_frames.specs.Opcodes.{opcode_of, fits_extras, fits_key, has_value}
@@ -24,8 +24,8 @@ abbrev pub value_len : Header → ℕ
 value_len header = header.body_len - header.extras_len - header.key_len
 
 -- what a request says whose body stands at the front of these bytes
-abbrev pub request_in : Opcode → Header → List ℕ → Request
-request_in opcode header body = record {
+abbrev pub frame_in : Opcode → Header → List ℕ → Frame
+frame_in opcode header body = record {
   opcode = opcode;
   unique = header.unique;
   extras = take header.extras_len body;
@@ -53,7 +53,7 @@ frame_by most opcode header body =
     then (if nat_lt (length body) (header.extras_len + header.key_len) then More
     else dropped TooLarge (stale_of opcode.verb (take header.key_len (drop header.extras_len body))) header)
     else (if nat_lt (length body) header.body_len then More
-    else Whole (request_in opcode header body) (echo_of header) (frame_len header))
+    else Whole (frame_in opcode header body) (echo_of header) (frame_len header))
 
 -- one of an opcode that is carried out, or is not
 unfoldable pub frame_of : ℕ → Option Opcode → Header → List ℕ → FrameNext

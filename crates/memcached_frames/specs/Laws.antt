@@ -14,7 +14,7 @@ FramesStay = (most : ℕ) (bytes more : List ℕ) → frame_next most bytes ≢ 
 
 -- what takes or drops just so many bytes, or waits, or ends the connection
 abbrev pub TakesFrame : ℕ → FrameNext → Type 0
-TakesFrame len (Whole request echo taken) = taken ≡ len
+TakesFrame len (Whole frame echo taken) = taken ≡ len
 TakesFrame len (Dropped fault stale echo taken) = taken ≡ len
 TakesFrame len More = ⊤
 TakesFrame len (Over fault echo) = ⊤

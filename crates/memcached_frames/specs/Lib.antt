@@ -1,3 +1,4 @@
+pub mod Fit
 pub mod Frames
 pub mod Header
 pub mod Laws

@@ -1,6 +1,7 @@
 //! What a client's bytes begin with.
 ghost use Rattle.std.specs.Prelude.{◌≡◌, ◌<◌, ◌≤◌, ◌+◌, length};
-ghost use Rattle.memcached_frames.specs.Frames.{echo_of, fits, stale_of, request_in, frame_by, frame_of, frame_at, frame_next};
+ghost use Rattle.memcached_frames.specs.Frames.{echo_of, fits, stale_of, frame_in, frame_by, frame_of, frame_at, frame_next};
+ghost use Rattle.memcached_frames.specs.Fit.{IsFitNext};
 ghost use Rattle.memcached_frames.specs.Header.{frame_len};
 ghost use Rattle.memcached_frames.specs.Laws.{EndsAtOnce, FramesStay, FramesWait, KeepsFrames};
 
@@ -26,9 +27,9 @@ pub struct Echo {
     pub opaque: u32,
 }
 
-/// A request, whose parts lie in the client's bytes.
+/// The frame of a request, whose parts lie in the client's bytes.
 #[derive(Drop)]
-pub struct Request<'a> {
+pub struct Frame<'a> {
     pub opcode: Opcode,
     /// The unique number that the item must have, or 0.
     pub unique: u64,
@@ -40,9 +41,9 @@ pub struct Request<'a> {
 /// What a client's bytes begin with, where they are a request.
 #[derive(Drop)]
 pub enum FrameNext<'a> {
-    /// A request, which takes so many bytes.
+    /// One that is carried out, which takes so many bytes.
     Whole {
-        request: Request<'a>,
+        frame: Frame<'a>,
         echo: Echo,
         len: usize,
     },
@@ -132,7 +133,7 @@ fn frame_by<'a>(most: usize, opcode: Opcode, header: &Header, body: &'a [u8]) ->
     }
     let (value, _) = behind.split_at(value_len);
     FrameNext::Whole {
-        request: Request {
+        frame: Frame {
             opcode,
             unique: header.unique,
             extras: extras.into(),
@@ -181,7 +182,8 @@ fn frame_at<'a>(most: usize, header: &Header, body: &'a [u8]) -> FrameNext<'a>
 /// it is `More`.
 #[tactic(auto, unfolding(crate::specs::Frames::frame_next))]
 pub fn next_frame(from: &[u8], most: usize) -> FrameNext
-    ensures { result ≡ frame_next most from.now }
+    ensures next { result ≡ frame_next most from.now }
+    ensures fit { IsFitNext most result }
 {
     match read_header(from) {
         Some((header, body)) => frame_at(most, &header, body),

@@ -1,5 +1,6 @@
 //! The replies to frames.
-ghost use Rattle.std.specs.Prelude.{◌≡◌, ◌^◌, ◌<◌, ◌++◌, length, flat_map, OnOk, OnErr};
+ghost use Rattle.std.specs.Prelude.{◌≡◌, ◌^◌, ◌<◌, ◌≤◌, ◌+◌, ◌++◌, length, flat_map, sum_by, OnOk, OnErr};
+ghost use Rattle.memcached_frames.specs.declared.header.TheConstants.{FRAME_LEN};
 ghost use Rattle.memcached_frames.specs.Replies.{IsOneReply, parts_len, reply_header, reply_text};
 
 use crate::frame::Echo;
@@ -42,6 +43,7 @@ fn reply_header(echo: Echo, reply: &FrameReply) -> Header
 fn put_parts(out: &mut Vec<u8>, parts: &[&[u8]]) -> Result<(), NoMemory>
     ensures ok { OnOk result (out.new.items ≡ out.old.items ++ flat_map (λ part. part.now) parts.now) }
     ensures err { OnErr result (out.new.items ≡ out.old.items) }
+    ensures short { length out.new.items ≤ length out.old.items + sum_by (λ part. length part.now) parts.now }
 {
     let start = out.len();
     for part in parts {
@@ -61,6 +63,7 @@ pub fn put_reply(out: &mut Vec<u8>, echo: Echo, reply: &FrameReply) -> Result<()
     requires body { parts_len reply.now < 2 ^ 32 }
     ensures ok { OnOk result (out.new.items ≡ out.old.items ++ reply_text echo reply.now) }
     ensures err { OnErr result (out.new.items ≡ out.old.items) }
+    ensures short { length out.new.items ≤ length out.old.items + FRAME_LEN + parts_len reply.now }
 {
     let header = header_bytes(REPLY, reply_header(echo, reply));
     put_parts(

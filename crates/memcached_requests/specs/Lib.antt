@@ -1,0 +1,7 @@
+pub mod FrameReplies
+pub mod FrameRequests
+pub mod Laws
+pub mod Lines
+pub mod Next
+pub mod Replies
+pub mod Requests

@@ -1,0 +1,20 @@
+//! What a client of any protocol may rely on.
+ghost use Rattle.memcached_requests.specs.Laws.{AsksAlike, IsTold, NeverHidesFaults, NextStays, NextWaits, TakesSome};
+
+/// What bytes begin with stays so whatever follows, so it does not matter in which pieces they come. What does not end the connection takes some of them, and few wait.
+pub fn one_next()
+    ensures stays { NextStays }
+    ensures takes { TakesSome }
+    ensures waits { NextWaits }
+{}
+
+/// A frame wants what its line wants, where there is one.
+pub fn asks_alike()
+    ensures { AsksAlike }
+{}
+
+/// Whoever is quiet is told what goes wrong, and whoever is not is told all.
+pub fn told_replies()
+    ensures faults { NeverHidesFaults }
+    ensures told { IsTold }
+{}
