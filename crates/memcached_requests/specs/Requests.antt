@@ -1,16 +1,18 @@
 -- What a client wants.
-use Rattle.std.specs.Prelude.{⊤, ℕ, Bool, false, List, [], ◌∷◌, Option, Some, None}
+use Rattle.std.specs.Prelude.{◌≤◌, ⊤, ℕ, Bool, false, List, [], ◌∷◌, Option, Some, None}
 use Rattle.std.specs.List.{AllByRecursion}
 use Rattle.memcached_text.specs.declared.fault.Fault.{Fault}
+use Rattle.memcached_text.specs.declared.limits.TheConstants.{MAX_TEXT_LEN}
 use Rattle.memcached_text.specs.Fit.{IsFitKey}
 use Rattle.memcached_text.specs.Lifetimes.{IsDue}
 use Rattle.memcached_commands.specs.declared.ask.Ask.TheVariants.{Spoil}
 use Rattle.memcached_commands.specs.declared.ask.Says.TheVariants.{Refusal}
 use Rattle.memcached_commands.specs.declared.asks.Asked.{Asked}
+use Rattle.memcached_commands.specs.Answers.{shown_len}
 use Rattle.memcached_commands.specs.Asks.{asked}
 use Rattle.memcached_commands.specs.Fit.{IsFitAsked}
 use Rattle.memcached_requests.specs.declared.request.Request.{Request}
-use Rattle.memcached_requests.specs.declared.request.Request.TheVariants.{Keys, Flush, Said}
+use Rattle.memcached_requests.specs.declared.request.Request.TheVariants.{Keys, Flush, Stats, Said}
 use Rattle.memcached_requests.specs.declared.request.Next.{Next}
 use Rattle.memcached_requests.specs.declared.request.Next.TheVariants.{Whole, More}
 
@@ -46,7 +48,8 @@ IsFitStale (Some key) = IsFitKey key
 abbrev pub IsFitRequest : Request → Type 0
 IsFitRequest (Keys asks) = AllByRecursion IsFitAsked asks
 IsFitRequest (Flush due) = IsDue due
-IsFitRequest _ = ⊤
+IsFitRequest Stats = ⊤
+IsFitRequest (Said says) = shown_len says ≤ MAX_TEXT_LEN
 
 abbrev pub IsFitNext : Next → Type 0
 IsFitNext (Whole request style len last) = IsFitRequest request

@@ -79,8 +79,8 @@ fn not_stored_frame<'a>(verb: Verb) -> FrameReply<'a>
     }
 }
 
-// The name of a version, as its line tells it.
-fn version_name() -> &'static [u8]
+/// The name of the version, as its line tells it.
+pub fn version_name() -> &'static [u8]
     ensures { result.now ≡ version_name }
 {
     let (_, name) = reply_line(Reply::Version).split_at(8);

@@ -13,7 +13,7 @@ mod next;
 mod reply;
 mod request;
 
-pub use frame_reply::NO_ITEM;
+pub use frame_reply::{NO_ITEM, version_name};
 pub use laws::{asks_alike, one_next, told_replies};
 pub use next::next_command;
 pub use reply::{put_said, put_stat};
