@@ -51,7 +51,7 @@ pub enum Next<'a> {
 impl<'a> Next<'a> {
     /// The bytes that it takes, or that are dropped.
     #[inline(always)]
-    pub fn len(&self) -> usize
+    pub fn taken(&self) -> usize
         ensures { result ≡ len_of self.now }
     {
         match self {
