@@ -1,3 +1,4 @@
 pub mod AlikeLaws
 pub mod NextLaws
+pub mod StatLaws
 pub mod ToldLaws

@@ -9,7 +9,7 @@ use Rattle.memcached_text.proofs.NextLaws as texts
 use Rattle.memcached_frames.specs.declared.header.TheConstants.{FRAME_LEN, REQUEST}
 use Rattle.memcached_frames.specs.declared.frame.FrameNext.{FrameNext}
 use Rattle.memcached_frames.specs.declared.frame.FrameNext.TheVariants as of_frames
-use Rattle.memcached_frames.specs.Header.{header_in, frame_len}
+use Rattle.memcached_frames.specs.Header.{header_in}
 use Rattle.memcached_frames.specs.Frames.{frame_next}
 use Rattle.memcached_frames.specs.Laws.{TakesFrame}
 use Rattle.memcached_frames.proofs.FrameLaws.{frames_stay, frames_wait, keeps_frames}
@@ -67,7 +67,7 @@ pub takes_some : TakesSome
 takes_some bytes = go (is_frame bytes) refl
   where
     go : (t : Bool) → is_frame bytes ≡ t → TakesOne (next_of bytes)
-    go true is = subst TakesOne (sym (as_frame bytes is)) (frame_takes _ (frame_next MAX_TEXT_LEN bytes) (keeps_frames MAX_TEXT_LEN bytes))
+    go true is = subst TakesOne (sym (as_frame bytes is)) (frame_takes (header_in (take FRAME_LEN bytes)).body_len (frame_next MAX_TEXT_LEN bytes) (keeps_frames MAX_TEXT_LEN bytes))
     go false is = subst TakesOne (sym (as_line bytes is)) (line_takes (length bytes) (text.next_of bytes) (texts.within bytes))
 
 -- What waits

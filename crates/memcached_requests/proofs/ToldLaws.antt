@@ -11,17 +11,17 @@ use Rattle.memcached_requests.specs.FrameReplies.{said_frame, told_as, unless_hi
 use Rattle.memcached_requests.specs.Laws.{NeverHidesFaults, IsTold}
 
 -- what is not hidden is told
-told : (echo : Echo) (key : List ℕ) (says : Says) → ((told_as echo).quiet && is_hidden says (said_frame (told_as echo) key says).status) ≡ false
+told : (echo : Echo) (key : List ℕ) (says : Says) → (is_hidden says (said_frame (told_as echo) key says).status && (told_as echo).quiet) ≡ false
     → frame_text echo key says ≡ reply_text echo (said_frame (told_as echo) key says)
 unfolding frame_text
 told echo key says shown = ap (λ hidden. unless_hidden hidden echo (said_frame (told_as echo) key says)) shown
 
-pub is_told : IsTold
-is_told echo key says quiet = told echo key says (ap (λ q. q && is_hidden says (said_frame (told_as echo) key says).status) quiet)
-
 both_false : (a b : Bool) → b ≡ false → (a && b) ≡ false
 both_false true b is = is
 both_false false b is = refl
+
+pub is_told : IsTold
+is_told echo key says quiet = told echo key says (both_false (is_hidden says (said_frame (told_as echo) key says).status) _ quiet)
 
 not_none : (n : ℕ) → 1 < n → (n == 0) ≡ false
 not_none n high = go (n == 0) refl
@@ -45,4 +45,4 @@ shown opcode key (Leases item left wins) high = refl
 shown opcode key Nothing high = let one = missed_status opcode.named key in absurd (omega (arith, high, one))
 
 pub never_hides_faults : NeverHidesFaults
-never_hides_faults echo key says high = told echo key says (both_false (told_as echo).quiet _ (shown (told_as echo) key says high))
+never_hides_faults echo key says high = told echo key says (ap (λ hidden. hidden && (told_as echo).quiet) (shown (told_as echo) key says high))

@@ -1,5 +1,5 @@
 -- What is replied to frames.
-use Rattle.std.specs.Prelude.{◌≡◌, ◌≤◌, ℕ, ◌==◌, ◌&&◌, Bool, true, false, List, [], length, take, drop, codes, Option, Some, None, if◌then◌else◌}
+use Rattle.std.specs.Prelude.{◌≡◌, ◌≤◌, ℕ, ◌==◌, ◌&&◌, Bool, true, false, List, [], length, take, drop, codes, Option, Some, None}
 use Rattle.std.specs.Int.{w32, w64, to_be_bytes}
 use Rattle.memcached_text.specs.declared.fault.Fault.{Fault}
 use Rattle.memcached_text.specs.declared.fault.Fault.TheVariants as faults
@@ -63,10 +63,14 @@ abbrev pub missed_frame : Bool → List ℕ → FrameReply
 missed_frame true key = record { status = 1; unique = 0; extras = []; key = key; value = [] }
 missed_frame false key = not_found
 
--- a touch shows no value
+-- A touch shows no value, and a key is shown where that is wanted.
 abbrev pub shown_value : Verb → List ℕ → List ℕ
 shown_value verbs.Touch value = []
 shown_value _ value = value
+
+abbrev pub shown_key : Bool → List ℕ → List ℕ
+shown_key true key = key
+shown_key false key = []
 
 -- one that found an item
 abbrev pub found_frame : Opcode → List ℕ → Item → FrameReply
@@ -74,7 +78,7 @@ found_frame opcode key item = record {
   status = 0;
   unique = item.unique;
   extras = to_be_bytes w32 item.flags;
-  key = if opcode.named then key else [];
+  key = shown_key opcode.named key;
   value = shown_value opcode.verb item.value;
 }
 
@@ -115,7 +119,7 @@ unless_hidden false echo reply = reply_text echo reply
 
 -- what is told of what was said, by an opcode
 abbrev pub told_by : Opcode → Echo → List ℕ → Says → List ℕ
-told_by opcode echo key says = unless_hidden (opcode.quiet && is_hidden says (said_frame opcode key says).status) echo (said_frame opcode key says)
+told_by opcode echo key says = unless_hidden (is_hidden says (said_frame opcode key says).status && opcode.quiet) echo (said_frame opcode key says)
 
 -- The reply to a frame.
 unfoldable pub frame_text : Echo → List ℕ → Says → List ℕ
@@ -123,8 +127,8 @@ frame_text echo key says = told_by (told_as echo) echo key says
 
 -- no more than a header and some words
 pub record IsShort (reply : FrameReply) : Type 0 where
-  pub extras : reply.extras ≡ []
-  pub key : reply.key ≡ []
+  pub extras : length reply.extras ≡ 0
+  pub key : length reply.key ≡ 0
   pub value : length reply.value ≤ 46
 
 -- one thing that is counted

@@ -4,7 +4,7 @@ ghost use Rattle.std.specs.Int.{w64, to_be_bytes};
 ghost use Rattle.memcached_text.specs.declared.limits.TheConstants.{MAX_FRAME_LEN, MAX_KEY_LEN, MAX_TEXT_LEN};
 ghost use Rattle.memcached_commands.specs.Answers.{shown_len};
 ghost use Rattle.memcached_frames.specs.Replies.{reply_text};
-ghost use Rattle.memcached_requests.specs.FrameReplies.{done, failed, not_found, exists, refusal_frame, not_stored_frame, version_name, line_frame, missed_frame, shown_value, found_frame, told_number, told_as, IsShort, unless_hidden, frame_text, count_frame};
+ghost use Rattle.memcached_requests.specs.FrameReplies.{done, failed, not_found, exists, refusal_frame, not_stored_frame, version_name, line_frame, missed_frame, shown_key, shown_value, found_frame, told_number, told_as, IsShort, unless_hidden, frame_text, count_frame};
 
 use memcached_commands::Says;
 use memcached_frames::{Echo, FrameReply, Opcode, Verb, opcode_of, put_reply};
@@ -104,7 +104,10 @@ fn line_frame<'a>(verb: Verb, reply: Reply) -> FrameReply<'a>
 
 // A get that found nothing.
 fn missed_frame<'a>(named: bool, key: &'a [u8]) -> FrameReply<'a>
-    ensures { result ≡ missed_frame named key.now }
+    ensures is { result ≡ missed_frame named key.now }
+    ensures extras { length result.extras ≡ 0 }
+    ensures key { length result.key ≤ length key.now }
+    ensures value { length result.value ≤ 46 }
 {
     if !named {
         return not_found();
@@ -139,14 +142,21 @@ fn shown_value<'a>(verb: Verb, value: &'a [u8]) -> &'a [u8]
     }
 }
 
+fn shown_key<'a>(named: bool, key: &'a [u8]) -> &'a [u8]
+    ensures shown { result.now ≡ shown_key named key.now }
+    ensures short { length result.now ≤ length key.now }
+{
+    if named { key } else { b"".as_slice() }
+}
+
 // Appends a reply of words alone, which a quiet frame is told only where it did not go as asked.
 fn put_words(out: &mut Vec<u8>, echo: Echo, quiet: bool, reply: &FrameReply) -> Result<(), NoMemory>
     requires short { IsShort reply.now }
-    ensures ok { OnOk result (out.new.items ≡ out.old.items ++ unless_hidden (quiet && (reply.now.status == 0)) echo reply.now) }
+    ensures ok { OnOk result (out.new.items ≡ out.old.items ++ unless_hidden ((reply.now.status == 0) && quiet) echo reply.now) }
     ensures err { OnErr result (out.new.items ≡ out.old.items) }
     ensures short { length out.new.items ≤ length out.old.items + MAX_FRAME_LEN }
 {
-    if quiet && reply.status == 0 {
+    if reply.status == 0 && quiet {
         return Ok(());
     }
     put_reply(out, echo, reply)
@@ -167,12 +177,11 @@ fn put_found(
     ensures short { length out.new.items ≤ length out.old.items + length key.now + length item.now.value + MAX_FRAME_LEN }
 {
     let flags = item.flags.to_be_bytes();
-    let key = if opcode.named { key } else { b"".as_slice() };
     let reply = FrameReply {
         status: 0,
         unique: item.unique,
         extras: flags.as_slice().into(),
-        key: key.into(),
+        key: shown_key(opcode.named, key).into(),
         value: shown_value(opcode.verb, item.value.bytes()).into(),
     };
     put_reply(out, echo, &reply)
@@ -186,7 +195,7 @@ fn put_counted(
     number: u64,
     unique: Option<u64>,
 ) -> Result<(), NoMemory>
-    ensures ok { OnOk result (out.new.items ≡ out.old.items ++ unless_hidden (quiet && (0 == 0)) echo (done (to_be_bytes w64 number) (told_number unique))) }
+    ensures ok { OnOk result (out.new.items ≡ out.old.items ++ unless_hidden quiet echo (done (to_be_bytes w64 number) (told_number unique))) }
     ensures err { OnErr result (out.new.items ≡ out.old.items) }
     ensures short { length out.new.items ≤ length out.old.items + MAX_FRAME_LEN }
 {

@@ -1,6 +1,5 @@
 //! What a client's bytes begin with.
-ghost use Rattle.std.specs.Prelude.{◌≡◌, ◌<◌, length};
-ghost use Rattle.memcached_text.specs.declared.limits.TheConstants.{MAX_WAITING_LEN};
+ghost use Rattle.std.specs.Prelude.{◌≡◌};
 ghost use Rattle.memcached_requests.specs.Next.{is_frame, next_of};
 ghost use Rattle.memcached_requests.specs.Requests.{IsFitNext};
 
@@ -26,7 +25,6 @@ fn is_frame(from: &[u8]) -> bool
 #[tactic(auto, unfolding(crate::specs::Next::next_of))]
 pub fn next_command(from: &[u8]) -> Next
     ensures next { result ≡ next_of from.now }
-    ensures waits { result ≡ Next.More → length from.now < MAX_WAITING_LEN }
     ensures fit { IsFitNext result }
 {
     if is_frame(from) {
