@@ -1,10 +1,11 @@
 -- What bytes begin with asks of few keys, in whatever protocol.
 use Rattle.std.proofs.Common.{◌≡◌, ◌+◌, ◌<◌, ◌≤◌, ◌^◌, ◌==◌, ℕ, Bool, true, false, true≢false, List, [], ◌∷◌, length, refl, sym, ap, subst, arith}
-use Rattle.std.specs.Prelude.{Some, None, if◌then◌else◌}
+use Rattle.std.specs.Prelude.{Option, Some, None, if◌then◌else◌}
 use Rattle.memcached_text.specs.declared.limits.TheConstants.{MAX_LINE_LEN, MAX_TEXT_LEN}
 use Rattle.memcached_text.specs.declared.command.Command.{Command}
 use Rattle.memcached_text.specs.declared.command.Command.TheVariants as commands
 use Rattle.memcached_text.specs.declared.command.Topic.TheVariants.{Server, NoPart}
+use Rattle.memcached_text.specs.declared.lifetime.Lifetime.{Lifetime}
 use Rattle.memcached_text.specs.declared.reply.Reply.TheVariants.{End, NotFound}
 use Rattle.memcached_text.specs.declared.next.Next as lines
 use Rattle.memcached_text.specs.declared.next.Next.TheVariants as of_lines
@@ -25,7 +26,7 @@ use Rattle.memcached_requests.specs.declared.request.Request.{Request}
 use Rattle.memcached_requests.specs.declared.request.Request.TheVariants.{Keys, Stats, Said}
 use Rattle.memcached_requests.specs.declared.request.Next.{Next}
 use Rattle.memcached_requests.specs.Requests.{asks_in, asks_of, len_of}
-use Rattle.memcached_requests.specs.Lines.{of_line, request_of}
+use Rattle.memcached_requests.specs.Lines.{of_line, request_of, request_by as line_request}
 use Rattle.memcached_requests.specs.FrameRequests.{is_part, of_frame, request_by, stats_of}
 use Rattle.memcached_requests.specs.Next.{is_frame, next_of}
 use Rattle.memcached_requests.proofs.NextLaws.{as_frame, as_line}
@@ -39,9 +40,14 @@ pub record FewAsks (come : ℕ) (next : Next) : Type 0 where
 
 -- Lines
 
+-- a get that has no keys is replied to at once
+get_asks : (none : Bool) (keys : List (List ℕ)) (unique : Bool) (lifetime : Option Lifetime)
+    → length (asks_of (line_request (if none then Some End else None) (commands.Get keys unique lifetime))) ≤ length (asked.asks_of (commands.Get keys unique lifetime))
+get_asks true keys unique lifetime = omega arith
+get_asks false keys unique lifetime = omega arith
+
 line_asks : (command : Command) → length (asks_of (request_of command)) ≤ length (asked.asks_of command)
-line_asks (commands.Get [] unique lifetime) = omega arith
-line_asks (commands.Get (key ∷ keys) unique lifetime) = omega arith
+line_asks (commands.Get keys unique lifetime) = get_asks (length keys == 0) keys unique lifetime
 line_asks (commands.Store wants key flags lifetime value quiet) = omega arith
 line_asks (commands.Join side key value quiet) = omega arith
 line_asks (commands.Count direction key delta quiet) = omega arith
