@@ -1,5 +1,5 @@
 //! What a line of the text protocol wants.
-ghost use Rattle.std.specs.Prelude.{◌≡◌, ◌==◌, length};
+ghost use Rattle.std.specs.Prelude.{◌≡◌, ◌==◌, false, length};
 ghost use Rattle.memcached_text.specs.Fit.{IsFit, IsFitNext};
 ghost use Rattle.memcached_requests.specs.Lines.{plain_reply, request_of, style_of, is_quit, of_line};
 ghost use Rattle.memcached_requests.specs.Requests as requests;
