@@ -1,6 +1,6 @@
 -- What frames begin with is fit.
-use Rattle.std.specs.Prelude.{⊤, if◌then◌else◌}
-use Rattle.std.proofs.Common.{◌≡◌, ℕ, ◌+◌, ◌-◌, ◌<◌, ◌≤◌, ◌&&◌, Bool, true, false, List, length, take, drop, Option, Some, None, nat_lt, refl, sym, subst, ap, ◌∙◌, arith}
+use Rattle.std.specs.Prelude.{if◌then◌else◌}
+use Rattle.std.proofs.Common.{◌≡◌, ℕ, ◌+◌, ◌≤◌, ◌&&◌, Bool, true, false, List, length, take, drop, Option, Some, None, nat_lt, refl, ap, ◌∙◌, arith}
 use Rattle.std.proofs.lemmas.List.{length-drop, length-take, length-take-le}
 use Rattle.std.proofs.lemmas.Bool.{ltb-false}
 use borrow.Author.Tests.{ltb-true}
@@ -11,7 +11,7 @@ use Rattle.memcached_frames.specs.declared.opcode.Opcode.{Opcode}
 use Rattle.memcached_frames.specs.declared.header.Header.{Header}
 use Rattle.memcached_frames.specs.declared.frame.FrameFault.TheVariants.{Unknown, Invalid, TooLarge}
 use Rattle.memcached_frames.specs.declared.frame.FrameNext.{FrameNext}
-use Rattle.memcached_frames.specs.declared.frame.FrameNext.TheVariants.{Whole, Dropped, More, Over}
+use Rattle.memcached_frames.specs.declared.frame.FrameNext.TheVariants.{Whole, More, Over}
 use Rattle.memcached_frames.specs.Opcodes.{opcode_of, fits_extras, fits_key}
 use Rattle.memcached_frames.specs.Header.{frame_len}
 use Rattle.memcached_frames.specs.Frames.{echo_of, value_len, frame_in, fits, stale_of, dropped, frame_by, frame_of, frame_at}

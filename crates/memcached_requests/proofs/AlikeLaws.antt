@@ -1,5 +1,5 @@
 -- A frame wants what its line wants.
-use Rattle.std.proofs.Common.{◌≡◌, Some, None, refl}
+use Rattle.std.proofs.Common.{◌≡◌, None, refl}
 use Rattle.memcached_frames.specs.declared.opcode.Verb.{Verb}
 use Rattle.memcached_frames.specs.declared.opcode.Verb.TheVariants as verbs
 use Rattle.memcached_frames.specs.declared.frame.Frame.{Frame}

@@ -9,7 +9,6 @@ use Rattle.memcached_text.specs.declared.command.Direction.{Direction}
 use Rattle.memcached_text.specs.declared.command.Direction.TheVariants as directions
 use Rattle.memcached_text.specs.declared.fault.Fault.{Fault}
 use Rattle.memcached_text.specs.declared.fault.Fault.TheVariants as faults
-use Rattle.memcached_text.specs.declared.reply.Reply.{Reply}
 use Rattle.memcached_text.specs.declared.reply.Reply.TheVariants as replies
 use Rattle.memcached_text.specs.declared.lifetime.Lifetime.{Lifetime}
 use Rattle.memcached_text.specs.declared.lifetime.Lifetime.TheVariants.{Forever, For, Until}

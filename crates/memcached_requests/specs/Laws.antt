@@ -1,12 +1,11 @@
 -- What a client of any protocol may rely on.
-use Rattle.std.specs.Prelude.{◌≡◌, ◌≢◌, ⊤, ℕ, ◌<◌, Bool, true, false, List, [], ◌∷◌, ◌++◌, length, drop, Option, Some, None, if◌then◌else◌}
+use Rattle.std.specs.Prelude.{◌≡◌, ◌≢◌, ⊤, ℕ, ◌<◌, false, List, [], ◌∷◌, ◌++◌, length, drop, Option, Some, None}
 use Rattle.std.specs.Int.{w32, w64, from_be_bytes}
 use Rattle.memcached_text.specs.declared.limits.TheConstants.{MAX_WAITING_LEN}
 use Rattle.memcached_text.specs.declared.command.Command.{Command}
 use Rattle.memcached_text.specs.declared.command.Command.TheVariants as commands
 use Rattle.memcached_text.specs.declared.command.Direction.TheVariants as directions
 use Rattle.memcached_text.specs.declared.command.Side.TheVariants.{Front, Back}
-use Rattle.memcached_text.specs.declared.command.Topic.TheVariants.{Server}
 use Rattle.memcached_text.specs.declared.command.Wants.TheVariants.{Whatever, Absent, Present}
 use Rattle.memcached_commands.specs.declared.ask.Says.{Says}
 use Rattle.memcached_frames.specs.declared.opcode.Verb.{Verb}
@@ -18,7 +17,7 @@ use Rattle.memcached_requests.specs.declared.request.Request.{Request}
 use Rattle.memcached_requests.specs.declared.request.Next.TheVariants.{More}
 use Rattle.memcached_requests.specs.Requests.{is_last, len_of}
 use Rattle.memcached_requests.specs.Lines.{request_of}
-use Rattle.memcached_requests.specs.FrameRequests.{lifetime_at, due_in, initial_of, request_by, request_in}
+use Rattle.memcached_requests.specs.FrameRequests.{lifetime_at, due_in, initial_of, request_in}
 use Rattle.memcached_requests.specs.FrameReplies.{said_frame, told_as, frame_text}
 use Rattle.memcached_requests.specs.Next.{next_of}
 
