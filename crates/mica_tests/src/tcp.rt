@@ -74,6 +74,23 @@ fn two_clients_hear_their_own(rt: HostRuntime) -> Result<(), Fail> {
     Ok(())
 }
 
+// What is longer than the room of a read is read in pieces, in order, and nothing of another client stands between.
+#[test]
+fn a_long_talk_is_read_in_pieces(rt: HostRuntime) -> Result<(), Fail> {
+    let flags = Flags::new();
+    let (mut share, port) = new_share(&rt, StdClock::new(&rt), &flags, 8);
+    let (mut one, first) = share.join(&rt, port)?;
+    let (mut two, second) = share.join(&rt, port)?;
+    one.write_all(b"get fruit\r\nget other\r\n")?;
+    let mut out = [0; 16];
+    let input = share.input_of(&rt, first, &mut out);
+    assert!(&rt; matches!(input, Ok(Input::Bytes(16))) && out.starts_with(b"get fruit\r\nget o"));
+    expect_said(&rt, &mut share, &mut two, second, b"se")?;
+    let input = share.read(first, &mut out);
+    assert!(&rt; matches!(input, Ok(Input::All(6))) && out.starts_with(b"ther\r\n"));
+    expect_said(&rt, &mut share, &mut two, second, b"cond")
+}
+
 /// Writes bytes that count up to 250 again and again, as far as they are taken, and says how many were.
 fn fill(rt: &impl Abort, share: &mut Share<'_, impl Wait, StdClock>, number: u32) -> u32 {
     let mut piece = [0; 4_016];
