@@ -196,7 +196,8 @@ fn put_all(
     put_lines(out, style, &about_lines(about, counts))?;
     put_lines(out, style, &command_lines(counts))?;
     put_wears(out, style, partitions.min(MOST_PARTITIONS), wears)?;
-    put_said(out, style, true, b"", &Says::Line(Reply::End))
+    put_said(out, style, true, b"", &Says::Line(Reply::End))?;
+    Ok(())
 }
 
 /// Appends what a server tells of itself. When out of memory, nothing is appended.

@@ -30,12 +30,13 @@ returns-clause-ok c =
 
 pub returns-clause-short : goal.returns-clause-short
 returns-clause-short c =
+    let name = ap length c.version_name.ensures in
     let about = ap (sum_by most_len) c.about_lines.ensures.are in
     let commands = ap (sum_by most_len) c.command_lines.ensures.are in
     omega (
       arith,
       c.in_ok-put_stat.ensures.short,
-      c.version_name.ensures,
+      name,
       c.in_ok-put_lines.ensures.short,
       about,
       c.in_ok-put_lines-2.ensures.short,
