@@ -1,5 +1,5 @@
 -- What bytes begin with asks of few keys, in whatever protocol.
-use Rattle.std.proofs.Common.{◌≡◌, ◌+◌, ◌<◌, ◌≤◌, ◌^◌, ◌==◌, ℕ, Bool, true, false, true≢false, List, [], ◌∷◌, length, refl, sym, ap, subst, arith}
+use Rattle.std.proofs.Common.{◌≡◌, ◌+◌, ◌<◌, ◌≤◌, ◌^◌, ◌==◌, ℕ, Bool, true, false, true≢false, List, [], ◌∷◌, length, take, refl, sym, ap, subst, arith}
 use Rattle.std.specs.Prelude.{Option, Some, None, if◌then◌else◌}
 use Rattle.memcached_text.specs.declared.limits.TheConstants.{MAX_LINE_LEN, MAX_TEXT_LEN}
 use Rattle.memcached_text.specs.declared.command.Command.{Command}
@@ -19,6 +19,7 @@ use Rattle.memcached_frames.specs.declared.opcode.Verb.TheVariants as verbs
 use Rattle.memcached_frames.specs.declared.frame.Frame.{Frame}
 use Rattle.memcached_frames.specs.declared.frame.FrameNext.{FrameNext}
 use Rattle.memcached_frames.specs.declared.frame.FrameNext.TheVariants as of_frames
+use Rattle.memcached_frames.specs.Header.{header_in}
 use Rattle.memcached_frames.specs.Frames.{frame_next}
 use Rattle.memcached_frames.specs.Laws.{TakesFrame}
 use Rattle.memcached_frames.proofs.FrameLaws.{keeps_frames}
@@ -113,7 +114,8 @@ pub few_asks : (bytes : List ℕ) → FewAsks (length bytes) (next_of bytes)
 few_asks bytes = either (is_frame bytes) refl
   where
     either : (t : Bool) → is_frame bytes ≡ t → FewAsks (length bytes) (next_of bytes)
-    either true is = subst (FewAsks (length bytes)) (sym (as_frame bytes is)) (of_frame_few (length bytes) _ (frame_next MAX_TEXT_LEN bytes) (some_come bytes is) (keeps_frames MAX_TEXT_LEN bytes))
+    either true is = subst (FewAsks (length bytes)) (sym (as_frame bytes is))
+        (of_frame_few (length bytes) (header_in (take FRAME_LEN bytes)).body_len (frame_next MAX_TEXT_LEN bytes) (some_come bytes is) (keeps_frames MAX_TEXT_LEN bytes))
     either false is = subst (FewAsks (length bytes)) (sym (as_line bytes is)) (of_line_few (length bytes) (text.next_of bytes) (few_asked bytes))
 
 -- the keys of what bytes begin with can be counted

@@ -50,3 +50,6 @@ returns-clause-answered g c =
 
 pub returns-clause-short : goal.returns-clause-short
 returns-clause-short g c = omega (arith, c.put_said.ensures.short, ap length c.bytes-key.ensures, c.requires.fit.0.1, c.says-says.ensures.short)
+
+pub put_said-requires-clause-key : goal.put_said-requires-clause-key
+put_said-requires-clause-key g c = omega (arith, c.requires.fit.0.1, ap length c.bytes-key.ensures)

@@ -1,5 +1,5 @@
 use Rattle.std.proofs.Common.{◌≡◌, ◌++◌, true, [], codes, flat_map, min, ap, ◌∙◌, arith}
-use Rattle.std.specs.Prelude.{sum_by}
+use Rattle.std.specs.Prelude.{length, sum_by}
 use Rattle.partition_model.specs.declared.options.TheConstants.{MOST_PARTITIONS}
 use Rattle.memcached_text.specs.declared.reply.Reply.TheVariants.{End}
 use Rattle.memcached_commands.specs.declared.ask.Says.TheVariants.{Line}
