@@ -160,7 +160,7 @@ returns-in-Ok-answer_asks-clause-answered g c =
     let replies = subst (λ (s : Style). RepliesFirst base s (drop done (asks_in next)) c.args.limits r.0 before after count left) c.style_of-style.ensures said in (
       r.0,
       asks_go options F.is_alone base c.args.second next done c.requires.open old new keyed r.0 first,
-      subst (λ (w : Bool). Replies options base next done c.args.limits r.0 before after (progress_of (done + count) w)) (sym c.is_empty-in-Ok-answer_asks.ensures)
+      subst (λ (w : Bool). Replies options base next done c.args.limits r.0 before after (progress_of (done + count) w)) (sym c.is_empty.ensures)
           (asks_reply options F.is_alone base c.args.second next done c.requires.open old new keyed r.0 c.args.limits before after count left some first.to_asks replies),
       r.3,
       r.4 ∙ (λ i. tally_after_all c.args.numbering.base c.args.numbering.partitions (asks_are i) r.0
