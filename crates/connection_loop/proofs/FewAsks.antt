@@ -1,5 +1,5 @@
 -- What bytes begin with asks of few keys, in whatever protocol.
-use Rattle.std.proofs.Common.{◌≡◌, ◌+◌, ◌<◌, ◌≤◌, ◌^◌, ◌==◌, ℕ, Bool, true, false, true≢false, List, [], ◌∷◌, length, take, refl, sym, ap, subst, arith}
+use Rattle.std.proofs.Common.{◌≡◌, ◌+◌, ◌<◌, ◌≤◌, ◌^◌, ◌==◌, ℕ, Bool, true, false, true≢false, List, [], ◌∷◌, length, take, refl, sym, subst, arith}
 use Rattle.std.specs.Prelude.{Option, Some, None, if◌then◌else◌}
 use Rattle.memcached_text.specs.declared.limits.TheConstants.{MAX_LINE_LEN, MAX_TEXT_LEN}
 use Rattle.memcached_text.specs.declared.command.Command.{Command}
@@ -23,12 +23,11 @@ use Rattle.memcached_frames.specs.Header.{header_in}
 use Rattle.memcached_frames.specs.Frames.{frame_next}
 use Rattle.memcached_frames.specs.Laws.{TakesFrame}
 use Rattle.memcached_frames.proofs.FrameLaws.{keeps_frames}
-use Rattle.memcached_requests.specs.declared.request.Request.{Request}
-use Rattle.memcached_requests.specs.declared.request.Request.TheVariants.{Keys, Stats, Said}
+use Rattle.memcached_requests.specs.declared.request.Request.TheVariants.{Stats, Said}
 use Rattle.memcached_requests.specs.declared.request.Next.{Next}
 use Rattle.memcached_requests.specs.Requests.{asks_in, asks_of, len_of}
 use Rattle.memcached_requests.specs.Lines.{of_line, request_of, request_by as line_request}
-use Rattle.memcached_requests.specs.FrameRequests.{is_part, of_frame, request_by, stats_of}
+use Rattle.memcached_requests.specs.FrameRequests.{is_part, of_frame, request_by}
 use Rattle.memcached_requests.specs.Next.{is_frame, next_of}
 use Rattle.memcached_requests.proofs.NextLaws.{as_frame, as_line}
 use Rattle.connection_loop.proofs.Few.{AsksFew, few_asked}
