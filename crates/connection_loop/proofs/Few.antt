@@ -1,5 +1,5 @@
 -- A command asks of no more keys than its line has words, so of no more than the line has bytes.
-use Rattle.std.proofs.Common.{◌≡◌, ℕ, ◌+◌, ◌^◌, ◌<◌, ◌≤◌, Bool, true, false, ◌&&◌, ◌||◌, cond, List, [], ◌∷◌, ◌++◌, length, Option, Some, None, nat_lt, refl, sym, ap, subst, arith, codes, length-append}
+use Rattle.std.proofs.Common.{◌≡◌, ℕ, ◌+◌, ◌≤◌, Bool, true, false, ◌&&◌, ◌||◌, cond, List, [], ◌∷◌, ◌++◌, length, Option, Some, None, nat_lt, refl, sym, ap, subst, arith, codes, length-append}
 use Rattle.std.specs.Prelude.{⊤, ◌==◌, bytes_eq, find, option_map, option_and_then}
 use Rattle.std.specs.Option.{IfSome}
 use Rattle.std.specs.List.{AllByRecursion, list_all, slice_split}
@@ -280,7 +280,7 @@ line_says line rest some =
     let less = shorter line in
     says_few (length line + 1) some (line_of (words_of (without_return line))) rest (line_few (length line + 1) some (words_of (without_return line)) (omega (arith, words, less)))
 
--- What bytes begin with asks of no more keys than there are bytes, than a line has, and than it takes.
+-- What a line asks is of no more keys than there are bytes, than a line has, and than it takes.
 pub record AsksFew (come : ℕ) (next : Next) : Type 0 where
   pub within : length (asks_in next) ≤ come
   pub counted : length (asks_in next) ≤ MAX_LINE_LEN + 1
@@ -299,13 +299,9 @@ next_few bytes (Some x) has = cond_both (nat_lt MAX_LINE_LEN (length x.0)) LongL
     let line = few.0 in
     record { within = omega (arith, line, whole, length-append x.0 (10 ∷ x.1)); counted = omega (arith, line, short); taken = few.1 })
 
-pub few_asks : (bytes : List ℕ) → AsksFew (length bytes) (next_of bytes)
-few_asks bytes = either (is_binary bytes) refl
+pub few_asked : (bytes : List ℕ) → AsksFew (length bytes) (next_of bytes)
+few_asked bytes = either (is_binary bytes) refl
   where
     either : (t : Bool) → is_binary bytes ≡ t → AsksFew (length bytes) (next_of bytes)
     either true binary = subst (AsksFew (length bytes)) (sym (binary_is bytes binary)) (asks_none _ _ refl)
     either false text = subst (AsksFew (length bytes)) (sym (next_is bytes (line_at bytes) text refl)) (next_few bytes (line_at bytes) (line_found bytes))
-
--- the keys of what bytes begin with can be counted
-pub few_asks_of : (next : Next) (bytes : List ℕ) → next ≡ next_of bytes → length (asks_in next) < 2 ^ 64
-few_asks_of next bytes is = subst (λ n. length (asks_in n) < 2 ^ 64) (sym is) (let few = (few_asks bytes).counted in omega (arith, few))

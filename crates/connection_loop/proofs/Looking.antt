@@ -4,7 +4,7 @@ use Rattle.std.specs.Prelude.{Option, Some, None, IfSome, MatchResult, Result, O
 use Rattle.std.proofs.lemmas.List.{append-nil, drop_all}
 use Rattle.partition_model.specs.declared.options.Options.{Options}
 use Rattle.memcached_text.specs.declared.limits.TheConstants.{MAX_WAITING_LEN}
-use Rattle.memcached_text.specs.Next.{next_of}
+use Rattle.memcached_requests.specs.Next.{next_of}
 use Rattle.connections.specs.State.{held}
 use Rattle.connections.specs.Log.{Log, connections_of}
 use Rattle.fronts.specs.Answered.{Answered}
@@ -15,7 +15,7 @@ use Rattle.connection_loop.specs.Clients.{IsClient}
 use Rattle.connection_loop.specs.Open.{OnLogs}
 use Rattle.connection_loop.specs.Traffic.{OnHeld}
 use Rattle.connection_loop.specs.Reached.{Position, position_at, position_of, Reaches, GoesOnTo, SpokeFrom, SpokeBehind, HaltsAs}
-use Rattle.connection_loop.proofs.Few.{few_asks}
+use Rattle.connection_loop.proofs.FewAsks.{few_asks}
 use Rattle.connection_loop.proofs.Reaching.{read_more, halts_more, nothing_next}
 
 -- of a command that was answered in part something is kept, so nothing is to be dropped

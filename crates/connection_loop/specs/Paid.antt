@@ -3,9 +3,9 @@
 -- A read allows two asks for each byte that it gives. One pays for the visit that read it; the other is kept until the byte is answered. So what is left with
 -- more to do may always be asked for again.
 use Rattle.std.specs.Prelude.{◌≡◌, ◌⊎◌, ℕ, ◌+◌, ◌-◌, ◌<◌, ◌≤◌, ⊤, true, false, List, [], length, Option, Some, None}
-use Rattle.memcached_text.specs.declared.next.Next.TheVariants.{More}
+use Rattle.memcached_requests.specs.declared.request.Next.TheVariants.{More}
 use Rattle.memcached_text.specs.declared.limits.TheConstants.{MAX_WAITING_LEN}
-use Rattle.memcached_text.specs.Next.{next_of}
+use Rattle.memcached_requests.specs.Next.{next_of}
 use Rattle.command_answers.specs.Exchange.{IsOpenAt}
 use Rattle.connections.specs.declared.connections.Input.{Input}
 use Rattle.connections.specs.declared.connections.Input.TheVariants.{Bytes, All}

@@ -1,8 +1,8 @@
 //! What a front holds of one connection.
 ghost use Rattle.std.specs.Prelude.{◌≡◌, ℕ, false, []};
 ghost use Rattle.partition_model.specs.declared.options.Options.{Options};
-ghost use Rattle.memcached_text.specs.declared.next.Next.TheVariants.{More};
-ghost use Rattle.memcached_text.specs.Next.{next_of};
+ghost use Rattle.memcached_requests.specs.declared.request.Next.TheVariants.{More};
+ghost use Rattle.memcached_requests.specs.Next.{next_of};
 ghost use Rattle.connection_loop.specs.Clients.{IsClient};
 ghost use Rattle.connection_loop.specs.Reached.{Reaches, position_of};
 

@@ -1,8 +1,8 @@
 //! What is made of the bytes of a connection that lie there.
 ghost use Rattle.std.specs.Prelude.{◌≡◌, ◌<◌, ◌≤◌, [], length, IfOk, MatchResult, OnOk};
 ghost use Rattle.memcached_text.specs.declared.limits.TheConstants.{MAX_WAITING_LEN};
-ghost use Rattle.memcached_text.specs.declared.next.Next.TheVariants.{More};
-ghost use Rattle.memcached_text.specs.Next.{next_of};
+ghost use Rattle.memcached_requests.specs.declared.request.Next.TheVariants.{More};
+ghost use Rattle.memcached_requests.specs.Next.{next_of};
 ghost use Rattle.command_answers.specs.Exchange.{IsOpenAt};
 ghost use Rattle.connection_loop.specs.Calls.{KeepsHand};
 ghost use Rattle.connection_loop.specs.declared.desk.TheConstants.{MOST_UNSENT};

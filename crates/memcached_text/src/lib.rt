@@ -27,11 +27,12 @@ mod storage_line;
 mod text;
 mod words;
 
+pub use append::append_parts;
 pub use command::{Command, Direction, Side, Topic, Wants};
 pub use fault::Fault;
 pub use item::{Item, marked, put_item, read_item};
 pub use laws::{one_answer, one_command, one_item, one_meaning, one_place, quiet_as_asked};
-pub use lifetime::{Due, Lifetime};
+pub use lifetime::{Due, Lifetime, MAX_SECONDS};
 pub use limits::{
     HEADER_LEN, MAX_FRAME_LEN, MAX_KEY_LEN, MAX_LINE_LEN, MAX_REPLY_LEN, MAX_TEXT_LEN,
     MAX_WAITING_LEN,

@@ -24,4 +24,4 @@ pub const MAX_WAITING_LEN: usize = MAX_LINE_LEN + 1 + MAX_TEXT_LEN + 2;
 pub const MAX_FRAME_LEN: usize = 78;
 
 /// The most bytes that are replied to one key, or to a command that has none.
-pub const MAX_REPLY_LEN: usize = 8_960;
+pub const MAX_REPLY_LEN: usize = 12_288;

@@ -1,7 +1,7 @@
 use Rattle.std.proofs.Common.{◌≡◌, ◌∙◌, length, sym, ap, subst, arith}
 use Rattle.std.proofs.lemmas.List.{length-drop, take_rest}
 use Rattle.std.proofs.lemmas.Result.{err_from_is_err_and}
-use Rattle.memcached_text.specs.Next.{next_of}
+use Rattle.memcached_requests.specs.Next.{next_of}
 use Rattle.connection_loop.specs.Paid.{Speaks}
 use Rattle.connection_loop.specs.Reached.{Position, GoesOnTo, HaltsAs, position_at, position_in, position_of}
 use Rattle.connection_loop.proofs.Advancing.{looks_short}

@@ -3,7 +3,7 @@ use Rattle.std.specs.Prelude.{Ok, Err, None}
 use Rattle.std.proofs.lemmas.List.{length-take, take_at}
 use Rattle.std.proofs.lemmas.Result.{err_from_is_err_and}
 use Rattle.memcached_text.specs.declared.limits.TheConstants.{MAX_WAITING_LEN}
-use Rattle.memcached_text.specs.Next.{next_of}
+use Rattle.memcached_requests.specs.Next.{next_of}
 use Rattle.command_answers.specs.Exchange.{IsOpenAt}
 use Rattle.connections.specs.Log.{second_of}
 use Rattle.connection_loop.specs.Reached.{Position, GoesOnTo, SpokeFrom, SpokeBehind, HaltsAs, position_at, position_of}
