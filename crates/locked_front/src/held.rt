@@ -18,10 +18,7 @@ use partition_words::LendPartition;
 use turn_book::Taker;
 
 /// Does a write in the partition that is held of the lock, as its `write` does.
-pub(crate) fn write_held<
-    J: ServerPlan,
-    P: LendPartition<Reader = ReaderSeat, Note = Note> + Drop,
->(
+pub(crate) fn write_held<J: ServerPlan, P: LendPartition<Reader = ReaderSeat, Note = Note> + Drop>(
     lock: &PartitionLock<J, P>,
     held: &mut Held<OwnedPartition<J, P>>,
     taker: &mut Taker<Step>,
