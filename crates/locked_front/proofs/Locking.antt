@@ -1,8 +1,9 @@
--- Locks in order.
+-- Locks in order, and what lies under them.
 use Rattle.std.proofs.Common.{◌≡◌, ◌⊎◌, inl, inr, ℕ, zero, suc, List, [], ◌∷◌, ◌++◌, length, slice_get, Some, refl, sym, ap, ◌∙◌, arith}
 use Rattle.std.proofs.lemmas.Option.{slice_get_within}
 use Rattle.numbered_lock.specs.Lock.{LockView}
 use Rattle.locked_front.specs.Locks.{AreInOrder}
+use Rattle.locked_front.specs.Owned.{Owned}
 
 pub none_in_order : AreInOrder []
 none_in_order p lock at = absurd (let low = slice_get_within [] p lock at in omega arith)
@@ -22,3 +23,7 @@ one_more xs x each is p lock at = elim (at_end xs x p lock at) as (λ _. lock.nu
   | inl h ↦ each p lock h
   | inr h ↦ ap (λ (l : LockView). l.number) h.1 ∙ is ∙ sym h.0
 ]
+
+-- the number of what lies under a lock
+abbrev pub number_of : Owned → ℕ
+number_of owned = owned.number

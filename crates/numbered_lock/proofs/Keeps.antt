@@ -1,5 +1,6 @@
 -- Each step at a lock keeps its rule.
 use Rattle.std.proofs.Common.{◌≡◌, ◌≢◌, ℕ, zero, suc, ◌<◌, ◌==◌, List, [], ◌∷◌, ◌++◌, get_or, set, sym, refl, ap, ◌∙◌, subst, ◌⊎◌, ⊎_elim, arith, Option, Some, None}
+use Rattle.std.proofs.Math.Dec.{eqb-suc-zero}
 use prog.Atomic.{either}
 use mathlib.Core.Option.{Option as Home, some, none, some-injective, some-ne-none}
 use lib.ListN.{get_elem?}
@@ -22,13 +23,6 @@ module _ {X : Type 0} where
   pub lies_there : (held : List (ℕ × Option X)) (x : X) (y : Option X) → held ≡ (0, Some x) ∷ [] → held ≡ (0, y) ∷ rest held → y ≡ Some x
   lies_there held x y is at = ap slot_in (sym at ∙ is)
 
-  abbrev or_else : X → Option X → X
-  or_else a None = a
-  or_else a (Some b) = b
-
-  pub some_is : (a b : X) → Some a ≡ Some b → a ≡ b
-  some_is a b e = ap (or_else a) e
-
   -- what was found under a free lock is held
   pub holds_taken : (number_of : X → ℕ) (table : TableId) (number : ℕ) (at : TableId) (me now : Seated X) → at ≡ table → me ≡ (seat_view number, [])
       → ((x : X) × (number_of x ≡ me.0.number) × (now ≡ (me.0, (0, Some x) ∷ me.1))) → IsHeld number_of (lock_view table number) at now
@@ -40,7 +34,7 @@ module _ {X : Type 0} where
 
 pub up_exchange : (n : ℕ) → 0 < either (n == 0) 1 n
 up_exchange zero = omega arith
-up_exchange (suc n) = omega arith
+up_exchange (suc n) = subst (λ b. 0 < either b 1 (suc n)) (sym (eqb-suc-zero n)) (omega arith)
 
 module _ {X : Type 0} (number_of : X → ℕ) (number : ℕ) where
   abbrev Views : List LockSeatView → Type 0
@@ -104,8 +98,8 @@ module _ {X : Type 0} (number_of : X → ℕ) (number : ℕ) where
   as_kept s h i = record { words = sym h.words_are i; homes = sym h.homes_are i; views = s.views }
 
   -- a step to a word other than 0 takes what lies there, where the lock is free
-  pub may_take : (slots id : ℕ) (me : Seated X) (f : ℕ → ℕ) (a b : ℕ) → ((n : ℕ) → 0 < f n) → Allows (IsKept number_of number) slots id me 0 f (takes_it number_of (step slots 0 a b none) me)
-  may_take slots id me f a b up s h many at small = subst (λ (t : State (Option X) LockSeatView). Taken t id me f) (as_kept s h) (taken s.views h.word h.others h.home id me f up h.stands h.knows (h.knows id me.0 at))
+  pub may_take : (slots id : ℕ) (me : Seated X) (f : ℕ → ℕ) → ((n : ℕ) → 0 < f n) → Allows (IsKept number_of number) slots id me 0 f (takes_it number_of (step slots 0 0 0 none) me)
+  may_take slots id me f up s h many at small = subst (λ (t : State (Option X) LockSeatView). Taken t id me f) (as_kept s h) (taken s.views h.word h.others h.home id me f up h.stands h.knows (h.knows id me.0 at))
 
   -- a step to 0 puts back what was held, where it has the number
   pub may_give : (slots id : ℕ) (me : Seated X) (x : X) → me.1 ≡ (0, Some x) ∷ [] → number_of x ≡ number

@@ -6,6 +6,8 @@
 
 mod lock;
 mod rule;
+#[cfg(test)]
+mod tests;
 
 pub use lock::{Held, NumberedLock};
 pub use rule::{LockRule, LockSeatView, Numbered};

@@ -1,16 +1,29 @@
-use Rattle.std.proofs.Common.{◌≡◌, ℕ, ◌∷◌, Some, sym, ap, ◌∙◌}
-use Rattle.atomic_table.specs.Table.{rest}
-use Rattle.numbered_lock.proofs.Keeps.{one_slot, lies_there, some_is}
-use Rattle.locked_front.specs.Owned.{Owned}
+use Rattle.std.proofs.Common.{◌≡◌, ℕ, sym, ap, ◌∙◌, subst}
+use Rattle.std.proofs.lemmas.Option.{IfSome_then}
+use Rattle.numbered_lock.proofs.Holding.{may_lend, has_number, never_none, stays_held}
+use Rattle.partition_model.specs.Write.{write_of}
+use Rattle.locked_front.specs.Owned.{Owned, TookTurn}
+use Rattle.locked_front.proofs.Locking.{number_of}
 use Rattle.locked_front.proofs.held.write_held.Goals as goal
 
 pub slot_mut-requires : goal.slot_mut-requires
-slot_mut-requires g c =
-    let held = c.requires.held in
-    (held.2.table_is ∙ sym c.shared.ensures, (Some held.0, one_slot _ (0, Some held.0) (ap (λ m. m.1) held.2.me_is)))
+slot_mut-requires g c = (c.requires.held.2.table_is ∙ sym c.shared.ensures, may_lend number_of _ _ _ c.requires.held)
+
+pub unreachable-requires : goal.unreachable-requires
+unreachable-requires g c = never_none number_of _ _ _ c.requires.held c.slot_mut.result.now c.slot_mut.ensures.value c.in-None.is
 
 pub write-requires-clause-own : goal.write-requires-clause-own
 write-requires-clause-own g c =
-    let held = c.requires.held in
-    let same = some_is held.0 c.in-Some.part.now (sym (lies_there _ held.0 c.slot_mut.result.now (ap (λ m. m.1) held.2.me_is) c.slot_mut.ensures.value) ∙ c.in-Some.is) in
-    c.requires.own ∙ ap g.J.ServerPlan.plan.books (sym held.1 ∙ ap (λ (o : Owned). o.number) same)
+    c.requires.own ∙ ap g.J.ServerPlan.plan.books (sym (has_number number_of _ _ _ c.requires.held c.slot_mut.result.now c.in-Some.part.now c.slot_mut.ensures.value c.in-Some.is))
+
+pub returns-in-Some-clause-held : goal.returns-in-Some-clause-held
+returns-in-Some-clause-held g c =
+    let same = has_number number_of _ _ _ c.requires.held c.slot_mut.result.now c.in-Some.part.now c.slot_mut.ensures.value c.in-Some.is in
+    stays_held number_of _ _ _ c.requires.held c.write.new.part (c.write.ensures.number ∙ same)
+
+pub returns-in-Some-clause-written : goal.returns-in-Some-clause-written
+returns-in-Some-clause-written g c =
+    let same = has_number number_of _ _ _ c.requires.held c.slot_mut.result.now c.in-Some.part.now c.slot_mut.ensures.value c.in-Some.is in
+    let part = c.in-Some.part.now in
+    IfSome_then c.write.result c.write.ensures.written (λ w took. (part.owner.history,
+        subst (λ (n : ℕ). TookTurn g.J.ServerPlan.plan n c.args.least part.owner.history c.args.taker.now c.write.new.taker (write_of c.args.op c.args.key.now c.args.value.now) w.outcome w.learned) same took))

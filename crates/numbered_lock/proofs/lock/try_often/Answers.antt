@@ -1,11 +1,12 @@
 use Rattle.std.proofs.Common.{ℕ, ◌<◌, ◌==◌, ◌∙◌, ap, sym, subst, arith}
+use prog.Atomic.{either}
 use Rattle.numbered_lock.proofs.Keeps.{may_take, up_exchange, holds_taken}
 use Rattle.numbered_lock.proofs.lock.try_often.Goals as goal
 
 pub compare_exchange-requires : goal.compare_exchange-requires
 compare_exchange-requires g c =
     let shared = c.args.shared.now in
-    (c.loop.invariant.0 ∙ c.requires.table, c.requires.words, may_take g.X.Numbered.number shared.key shared.table_id.slots _ c.loop.seat.me _ _ _ up_exchange)
+    (c.loop.invariant.0 ∙ c.requires.table, c.requires.words, may_take g.X.Numbered.number shared.key shared.table_id.slots c.loop.seat.id c.loop.seat.me (λ n. either (n == 0) 1 n) up_exchange)
 
 pub returns-then-compare_exchange-eq-FREE-clause-held : goal.returns-then-compare_exchange-eq-FREE-clause-held
 returns-then-compare_exchange-eq-FREE-clause-held g c _ =

@@ -5,7 +5,7 @@ use Rattle.numbered_lock.proofs.lock.wait.Goals as goal
 pub swap-requires : goal.swap-requires
 swap-requires g c =
     let shared = c.args.shared.now in
-    (c.loop.invariant.0 ∙ c.requires.table, c.requires.words, may_take g.X.Numbered.number shared.key shared.table_id.slots _ c.loop.seat.me _ _ _ (λ n. omega (arith)))
+    (c.loop.invariant.0 ∙ c.requires.table, c.requires.words, may_take g.X.Numbered.number shared.key shared.table_id.slots c.loop.seat.id c.loop.seat.me (λ _. 2) (λ n. omega (arith)))
 
 pub returns-then-swap-eq-FREE : goal.returns-then-swap-eq-FREE
 returns-then-swap-eq-FREE g c =
