@@ -1,5 +1,5 @@
 -- What is found in what is held of a lock, and what may be left there.
-use Rattle.std.proofs.Common.{◌≡◌, ℕ, List, [], ◌∷◌, ap, sym, ◌∙◌, Option, Some, None}
+use Rattle.std.proofs.Common.{◌≡◌, ℕ, ◌∷◌, ap, sym, ◌∙◌, Option, Some, None, arith}
 use Rattle.std.proofs.lemmas.Option.{same_Some}
 use Rattle.atomic_table.specs.Table.{rest}
 use Rattle.atomic_table.specs.Seated.{TableId}
@@ -16,7 +16,7 @@ module _ {X : Type 0} (number_of : X → ℕ) (lock : LockView) (table : TableId
   has_number y x at is = ap number_of (same_Some x held.0 (sym is ∙ lies_there me.1 held.0 y (ap (λ m. m.1) held.2.me_is) at)) ∙ held.1
 
   pub never_none : (y : Option X) → me.1 ≡ (0, y) ∷ rest me.1 → y ≡ None → ⊥
-  never_none y at is = let there = lies_there me.1 held.0 y (ap (λ m. m.1) held.2.me_is) at in grind (is, there)
+  never_none y at is = let there = lies_there me.1 held.0 y (ap (λ m. m.1) held.2.me_is) at in grind (arith, is, there)
 
   -- what has the number may be left there
   pub stays_held : (y : X) → number_of y ≡ lock.number → IsHeld number_of lock table (me.0, (0, Some y) ∷ rest me.1)

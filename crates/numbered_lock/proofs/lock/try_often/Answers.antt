@@ -1,4 +1,4 @@
-use Rattle.std.proofs.Common.{ℕ, ◌<◌, ◌==◌, ◌∙◌, ap, sym, subst, arith}
+use Rattle.std.proofs.Common.{◌==◌, ◌∙◌, arith}
 use prog.Atomic.{either}
 use Rattle.numbered_lock.proofs.Keeps.{may_take, up_exchange, holds_taken}
 use Rattle.numbered_lock.proofs.lock.try_often.Goals as goal

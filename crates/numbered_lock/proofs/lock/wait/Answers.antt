@@ -1,4 +1,4 @@
-use Rattle.std.proofs.Common.{ℕ, ◌<◌, ◌∙◌, ap, sym, subst, arith}
+use Rattle.std.proofs.Common.{◌∙◌, arith}
 use Rattle.numbered_lock.proofs.Keeps.{may_take, holds_taken}
 use Rattle.numbered_lock.proofs.lock.wait.Goals as goal
 
