@@ -24,5 +24,7 @@ pub returns-clause-looked : goal.returns-clause-looked
 returns-clause-looked g c =
     let same = has_number number_of _ _ _ c.requires.held c.slot_mut.result.now c.in-Some.part c.slot_mut.ensures.value c.in-Some.is in
     let part = c.in-Some.part in
-    IfSome_then c.change.result c.change.ensures.looked (λ r took. (part.owner.history,
-        subst (λ (n : ℕ). TookLook g.J.ServerPlan.plan n c.args.least c.args.second part.owner.history c.args.key.now (g.D.Decide.needs c.args.decide.now) (g.D.Decide.becoming c.args.decide.now) c.args.taker.now c.change.new.taker r.0 c.change.new.found r.1) same took))
+    IfSome_then c.change.result c.change.ensures.looked (λ r took. (
+      part.owner.history,
+      subst (λ (n : ℕ). TookLook g.J.ServerPlan.plan n c.args.least c.args.second part.owner.history c.args.key.now (g.D.Decide.needs c.args.decide.now) (g.D.Decide.becoming c.args.decide.now) c.args.taker.now c.change.new.taker r.0 c.change.new.found r.1) same took,
+    ))

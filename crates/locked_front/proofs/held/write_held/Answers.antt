@@ -25,5 +25,7 @@ pub returns-clause-written : goal.returns-clause-written
 returns-clause-written g c =
     let same = has_number number_of _ _ _ c.requires.held c.slot_mut.result.now c.in-Some.part c.slot_mut.ensures.value c.in-Some.is in
     let part = c.in-Some.part in
-    IfSome_then c.write.result c.write.ensures.written (λ w took. (part.owner.history,
-        subst (λ (n : ℕ). TookTurn g.J.ServerPlan.plan n c.args.least part.owner.history c.args.taker.now c.write.new.taker (write_of c.args.op c.args.key.now c.args.value.now) w.outcome w.learned) same took))
+    IfSome_then c.write.result c.write.ensures.written (λ w took. (
+      part.owner.history,
+      subst (λ (n : ℕ). TookTurn g.J.ServerPlan.plan n c.args.least part.owner.history c.args.taker.now c.write.new.taker (write_of c.args.op c.args.key.now c.args.value.now) w.outcome w.learned) same took,
+    ))

@@ -1,4 +1,4 @@
-use Rattle.std.proofs.Common.{◌≡◌, [], ap, sym, ◌∙◌, subst, arith}
+use Rattle.std.proofs.Common.{◌∙◌, subst, arith}
 use Rattle.numbered_lock.specs.Lock.{LockView, IsHeld}
 use Rattle.numbered_lock.proofs.Keeps.{enters}
 use Rattle.numbered_lock.proofs.lock.NumberedLock.hold.Goals as goal
