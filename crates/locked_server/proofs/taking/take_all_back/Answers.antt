@@ -16,8 +16,8 @@ loop-lock-init g c =
     let all = c.into_iter-lock-iterator.ensures.into_iter_gives.0 in
     record {
       each = record { each = λ p left at. absurd (let low = slice_get_within (map (view g) c.args.parts.now.items) p left at in omega (arith, ap length (ap (map (view g)) c.requires.none))) };
-      many = omega (arith, ap length c.requires.none, ap length all, c.into_locks.ensures.many);
-      order = λ k lock at. omega (arith, ap length c.requires.none, c.into_locks.ensures.order k lock (ap (λ l. slice_get l k) (sym all) ∙ at));
+      many = omega (arith, ap length c.requires.none, ap length all, c.into_locks-lock-items.ensures.many);
+      order = λ k lock at. omega (arith, ap length c.requires.none, c.into_locks-lock-items.ensures.order k lock (ap (λ l. slice_get l k) (sym all) ∙ at));
       room = c.requires.room;
     }
 
