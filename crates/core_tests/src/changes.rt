@@ -12,7 +12,7 @@ use crate::change_rows::{DISPLACED, ROWS, Row};
 use any_partition::OnTable;
 use cache_partition::CachePartition;
 use fronts::{Changes, Decide, Front, When};
-use locked_front::{LockedFront, LockedPart, OwnedPartition, ServerPlan};
+use locked_front::{LockedFront, LockedPart, PartitionLocks, ServerPlan};
 use locked_server::{FilledPart, lend_hand, lock_parts, open_parts};
 use mica_words::{key_fits, value_fits};
 use partition_model::{Answer, Change, ItemBuf, Mode, Op, Options, Outcome};
@@ -21,8 +21,8 @@ use partition_words::LendPartition;
 use std::alloc::Global;
 use std::marker::Brand;
 use std::process::Abort;
+use std::sync::Wait;
 use std::sync::atomic::AtomicBool;
-use std::sync::{Mutex, Wait};
 use std::test::Fail;
 use std::thread::{Threads, join};
 use store_partition::StorePartition;
@@ -233,7 +233,7 @@ pub(crate) fn front_of<
 >(
     rt: &'a R,
     options: &Options,
-    locks: &'a [Mutex<OwnedPartition<J, P>>],
+    locks: &'a PartitionLocks<J, P>,
     number: u32,
     hand: Vec<LockedPart>,
     ended: &'a AtomicBool,
@@ -241,7 +241,7 @@ pub(crate) fn front_of<
     requires valid { IsPossible options.now }
     requires named { options.now ≡ J.plan.options }
     requires low { number < J.plan.fronts }
-    requires locks { length locks.now ≡ options.now.partitions }
+    requires locks { locks.now ≡ options.now.partitions }
     requires hand { AreNewParts J.plan number hand.items }
     ensures { turns_left result.parts ≡ most_turns }
 {
@@ -267,8 +267,8 @@ fn change_by_two<
     let second = lend_hand::<J, P>(alloc, &mut parts, 1)?;
     let locks = lock_parts::<J, P>(alloc, parts)?;
     let ended = AtomicBool::new(false);
-    let mut first = front_of(rt, options, locks.as_slice(), 0, first, &ended);
-    let second = front_of(rt, options, locks.as_slice(), 1, second, &ended);
+    let mut first = front_of(rt, options, &locks, 0, first, &ended);
+    let second = front_of(rt, options, &locks, 1, second, &ended);
     expect_rows(rt, &mut first, rows)?;
     let (one, two) = (Room::new(alloc)?, Room::new(alloc)?);
     let (mut first, _) = join(

@@ -149,7 +149,7 @@ fn sweep_by_one<
     let hand = lend_hand::<J, P>(alloc, &mut parts, 0)?;
     let locks = lock_parts::<J, P>(alloc, parts)?;
     let ended = AtomicBool::new(false);
-    let mut front = front_of(rt, options, locks.as_slice(), 0, hand, &ended);
+    let mut front = front_of(rt, options, &locks, 0, hand, &ended);
     match options.mode {
         Mode::Cache => what_is_used_stays(rt, &mut front),
         Mode::Store => what_is_over_goes(rt, &mut front),

@@ -1,4 +1,6 @@
 //! What the program says of itself.
+ghost use Rattle.std.specs.Prelude.{◌≡◌};
+ghost use Rattle.daemon_words.specs.About.{answer_text};
 
 use crate::question::Question;
 
@@ -53,7 +55,9 @@ Examples
 ";
 
 /// What is said to a question.
-pub fn answer_to(question: Question) -> &'static str {
+pub fn answer_to(question: Question) -> &'static str
+    ensures { result.now ≡ answer_text question }
+{
     match question {
         Question::Help => HELP,
         Question::Version => VERSION,

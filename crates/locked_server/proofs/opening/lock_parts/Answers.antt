@@ -14,8 +14,8 @@ pub loop-filled-init : goal.loop-filled-init
 loop-filled-init g c =
     let all = c.into_iter-filled-iterator.ensures.into_iter_gives.0 in
     record {
-      many = omega (arith, ap length all, ap length c.in_ok-locks.ensures.items);
-      number = sym (ap length c.in_ok-locks.ensures.items);
+      many = omega (arith, ap length all, c.in_ok-locks.ensures);
+      number = sym c.in_ok-locks.ensures;
       each = λ p filled at. subst (λ (q : ℕ). IsPlanned g.J.ServerPlan.plan g.J.ServerPlan.plan.fronts q filled) (omega arith)
           (c.requires.of.each p filled (ap (λ l. slice_get (map (view g) l) p) (sym all) ∙ at));
     }
@@ -38,10 +38,10 @@ overflow_add-number g c =
 pub loop-filled-preserved : goal.loop-filled-preserved
 loop-filled-preserved g c =
     let head = c.in-Some.ensures.steps.0 in
-    let pushed = c.in_ok-push.ensures.items in
+    let pushed = c.in_ok-push.ensures in
     record {
-      many = omega (arith, c.loop-filled.invariant.many, ap length head, ap length pushed, length_push c.loop-filled.locks.items _);
-      number = omega (arith, c.loop-filled.invariant.number, ap length pushed, length_push c.loop-filled.locks.items _);
+      many = omega (arith, c.loop-filled.invariant.many, ap length head, pushed);
+      number = omega (arith, c.loop-filled.invariant.number, pushed);
       each = λ p filled at. subst (λ (q : ℕ). IsPlanned g.J.ServerPlan.plan g.J.ServerPlan.plan.fronts q filled) (omega arith)
           (c.loop-filled.invariant.each (suc p) filled (ap (λ l. slice_get (map (view g) l) (suc p)) head ∙ at));
     }
