@@ -1,9 +1,11 @@
 -- What bytes begin with stays so whatever follows, and waits for no more than a line and a block.
-use Rattle.std.proofs.Common.{◌≡◌, ◌≢◌, ℕ, ◌+◌, ◌-◌, ◌<◌, ◌≤◌, Bool, true, false, cond, List, [], ◌∷◌, ◌++◌, length, take, drop, replicate, Option, Some, None, nat_lt, refl, sym, ap, subst, ◌∙◌, arith, length-append, append_assoc}
+use Rattle.std.proofs.Common.{◌≡◌, ◌≢◌, ℕ, ◌+◌, ◌-◌, ◌<◌, ◌≤◌, Bool, true, false, cond, List, [], ◌∷◌, ◌++◌, length, take, drop, replicate, Option, Some, None, nat_lt, nat_eq, codes, ◌||◌, refl, sym, ap, subst, ◌∙◌, arith, length-append, append_assoc}
+use Rattle.std.specs.List.{starts_with}
 use Rattle.std.proofs.lemmas.List.{take_at, take-append-le, drop-append-le, take-append-drop, length-drop, length-take-le, length-replicate}
 use Rattle.std.proofs.Math.Seq.{drop-append-add}
-use Rattle.std.proofs.lemmas.Bool.{lt-ltb, le-ltb, ltb-false, cond_both}
-use borrow.Author.Tests.{ltb-true}
+use Rattle.std.proofs.lemmas.Bool.{lt-ltb, le-ltb, ltb-true, ltb-false, cond_both}
+use Rattle.std.proofs.lemmas.Bool.Decides.{Decides-eqb}
+use Rattle.std.proofs.lemmas.Slice.Eq.{starts_is}
 use Rattle.memcached_text.specs.declared.limits.TheConstants.{MAX_TEXT_LEN, MAX_LINE_LEN, MAX_GET_LINE_LEN, MAX_WAITING_LEN}
 use Rattle.memcached_text.specs.declared.storage_line.ItemLine.{ItemLine}
 use Rattle.memcached_text.specs.declared.line.Line.{Line}
@@ -12,12 +14,16 @@ use Rattle.memcached_text.specs.declared.block.TheConstants.{END_LEN}
 use Rattle.memcached_text.specs.declared.block.Block.{Block}
 use Rattle.memcached_text.specs.declared.block.Block.TheVariants as blocks
 use Rattle.memcached_text.specs.declared.next.Next.TheVariants.{Command, More, LongLine}
-use Rattle.memcached_text.specs.declared.command.Command.TheVariants.{Quit}
+use Rattle.memcached_text.specs.declared.command.Command.TheVariants.{Quit, Get}
+use Rattle.memcached_text.specs.declared.fault.Fault.TheVariants.{Unknown, Format}
 use Rattle.memcached_text.specs.Lines.{Lacks, HasLine, line_at, words_of, without_return}
-use Rattle.memcached_text.specs.Forms.{line_of}
+use Rattle.memcached_text.specs.Line.{refused}
+use Rattle.memcached_text.specs.KeyLine.{get_line}
+use Rattle.memcached_text.specs.Forms.{line_of, or_unknown, ends_as_http}
 use Rattle.memcached_text.specs.Block.{block_at}
 use Rattle.memcached_text.specs.Next.{blocked, storing_at, says_at, next_in, is_binary, is_get, most_line, next_of, IsWithin}
 use Rattle.memcached_text.specs.Spelling.{Stays, Waits}
+use Rattle.memcached_text.proofs.WordLaws.{words_of_word}
 use Rattle.memcached_text.proofs.LineLaws.{IsFound, line_found, line_at_fed, line_at_none}
 
 -- a block that has come is the same with more bytes behind it
@@ -269,9 +275,51 @@ text_waits bytes waits = go (is_binary bytes) refl
     go true is = let here = binary_is bytes is in cc
     go false is = is
 
+-- a line of a get
+
+got_ends : (t : Bool) (keys : List (List ℕ)) (unique : Bool) (len : ℕ) (rest : List ℕ) → says_at (cond t (lines.Whole (Get keys unique None)) (refused Format false)) len rest ≢ More
+unfolding says_at
+got_ends true keys unique len rest is = cc
+got_ends false keys unique len rest is = cc
+
+unknown_ends : (len : ℕ) (rest : List ℕ) → says_at (refused Unknown false) len rest ≢ More
+unfolding says_at
+unknown_ends len rest is = cc
+
+unfolded_get : (unique : Bool) (words : List (List ℕ)) (len : ℕ) (rest : List ℕ) → says_at (or_unknown (cond unique (codes "gets") (codes "get") ∷ words) (get_line unique words)) len rest ≢ More
+unfolding get_line ends_as_http
+unfolded_get unique (key ∷ keys) len rest is = got_ends _ (key ∷ keys) unique len rest is
+unfolded_get true [] len rest is = unknown_ends len rest is
+unfolded_get false [] len rest is = unknown_ends len rest is
+
+named_get : (unique : Bool) (words : List (List ℕ)) → line_of (cond unique (codes "gets") (codes "get") ∷ words) ≡ or_unknown (cond unique (codes "gets") (codes "get") ∷ words) (get_line unique words)
+unfolding line_of
+named_get true words = refl
+named_get false words = refl
+
+spaced : (tail : List ℕ) → without_return (32 ∷ tail) ≡ 32 ∷ without_return tail
+spaced [] = refl
+spaced (b ∷ tail) = refl
+
+opens : (unique : Bool) (tail : List ℕ) → words_of (without_return (cond unique (codes "gets") (codes "get") ++ 32 ∷ tail)) ≡ cond unique (codes "gets") (codes "get") ∷ words_of (without_return tail)
+opens true tail = ap (λ t. words_of (codes "gets" ++ t)) (spaced tail) ∙ words_of_word (codes "gets") (without_return tail) (omega arith) (cc, (cc, (cc, (cc, tt))))
+opens false tail = ap (λ t. words_of (codes "get" ++ t)) (spaced tail) ∙ words_of_word (codes "get") (without_return tail) (omega arith) (cc, (cc, (cc, tt)))
+
+-- it waits for no block
+get_ends : (line : List ℕ) (len : ℕ) (rest : List ℕ) → is_get line ≡ true → says_at (line_of (words_of (without_return line))) len rest ≢ More
+unfolding is_get
+get_ends line len rest is waits = go (starts_with nat_eq line (codes "get ")) refl
+  where
+    ends : (unique : Bool) (tail : List ℕ) → line ≡ cond unique (codes "gets") (codes "get") ++ 32 ∷ tail → ⊥
+    ends unique tail same = unfolded_get unique (words_of (without_return tail)) len rest (sym (ap (λ l. says_at l len rest) (ap (λ t. line_of (words_of (without_return t))) same ∙ ap line_of (opens unique tail) ∙ named_get unique _)) ∙ waits)
+
+    go : (t : Bool) → starts_with nat_eq line (codes "get ") ≡ t → ⊥
+    go true get = ends false (drop 4 line) ((starts_is Decides-eqb line (codes "get ") true (sym get)).0 refl)
+    go false get = ends true (drop 5 line) ((starts_is Decides-eqb line (codes "gets ") true (sym (sym (ap (λ t. t || starts_with nat_eq line (codes "gets ")) get) ∙ is))).0 refl)
+
 -- bytes that wait are fewer than a line and a block
 pub waits_within : (bytes : List ℕ) → next_of bytes ≡ More → length bytes < MAX_WAITING_LEN
-unfolding next_in
+unfolding next_in most_line
 waits_within bytes waits = go (line_at bytes) refl (line_found bytes)
   where
     text : is_binary bytes ≡ false
@@ -281,13 +329,19 @@ waits_within bytes waits = go (line_at bytes) refl (line_found bytes)
     short true is none = let here : next_of bytes ≡ LongLine = next_is bytes None text none ∙ rw is refl in cc
     short false is none = let most = ltb-false _ _ is in omega (arith, most, may_be_most bytes)
 
+    -- where a block is waited for, the line is no get
+    storing : (x : List ℕ × List ℕ) (t : Bool) → is_get x.0 ≡ t → nat_lt (most_line x.0) (length x.0) ≡ false → line_at bytes ≡ Some x → length x.0 ≤ MAX_LINE_LEN
+    storing x true get is found =
+        let here : next_of bytes ≡ says_at (line_of (words_of (without_return x.0))) (length x.0 + 1) x.1 = next_is bytes (Some x) text found ∙ rw is refl in
+        absurd (get_ends x.0 (length x.0 + 1) x.1 get (sym here ∙ waits))
+    storing x false get is found = let most : most_line x.0 ≡ MAX_LINE_LEN = rw get refl in omega (arith, most, ltb-false _ _ is)
+
     behind : (x : List ℕ × List ℕ) (t u : Bool) → nat_lt (most_line x.0) (length x.0) ≡ t → nat_lt (length x.1) (MAX_TEXT_LEN + END_LEN) ≡ u → line_at bytes ≡ Some x → HasLine bytes x.0 x.1 → length bytes < MAX_WAITING_LEN
     behind x true u is few found has = let here : next_of bytes ≡ LongLine = next_is bytes (Some x) text found ∙ rw is refl in cc
     behind x false true is few found has =
-        let most = ltb-false _ _ is in
         let less = ltb-true _ _ few in
         let whole : length bytes ≡ length (x.0 ++ 10 ∷ x.1) = ap length has.whole in
-        omega (arith, most, less, whole, may_be_most x.0, length-append x.0 (10 ∷ x.1))
+        omega (arith, less, whole, storing x (is_get x.0) refl is found, length-append x.0 (10 ∷ x.1))
     behind x false false is few found has = absurd (line_ends bytes x.0 x.1 text found (ltb-false _ _ few) waits)
 
     go : (o : Option (List ℕ × List ℕ)) → line_at bytes ≡ o → IsFound bytes o → length bytes < MAX_WAITING_LEN

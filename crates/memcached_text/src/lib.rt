@@ -43,5 +43,5 @@ pub use number::number_of;
 pub use reply::{Reply, fault_line, put_last_value, put_number, put_stat, put_value, reply_line};
 pub use spelled::spelled_key;
 pub use text::Text;
-pub use waiting::{lacks_feed, waits_for_line, whole_len};
+pub use waiting::{lacks_feed, waits_for_line};
 pub use words::Words;

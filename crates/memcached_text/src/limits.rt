@@ -20,8 +20,8 @@ pub const MAX_LINE_LEN: usize = 65_536;
 /// The longest line of a get, in bytes, without its line feed: clients put each key that is asked for at once into one.
 pub const MAX_GET_LINE_LEN: usize = 1_048_576;
 
-/// Bytes that wait for more are fewer than so many: the longest line, its line feed, and a block with its two last bytes.
-pub const MAX_WAITING_LEN: usize = MAX_LINE_LEN + 1 + MAX_GET_LINE_LEN + 2;
+/// Bytes that wait for more are fewer than so many: a line, its line feed, and a block with its two last bytes. Nor is the line of a get longer.
+pub const MAX_WAITING_LEN: usize = MAX_LINE_LEN + 1 + MAX_TEXT_LEN + 2;
 
 /// The most bytes of a reply to one key that are neither of the key nor of a value.
 pub const MAX_FRAME_LEN: usize = 78;

@@ -39,7 +39,7 @@ pub enum Next<'a> {
 }
 
 // The line without the one carriage return at its end, if it has one.
-pub fn without_return(line: &[u8]) -> &[u8]
+fn without_return(line: &[u8]) -> &[u8]
     ensures { result.now ≡ without_return line.now }
 {
     match line.strip_suffix(b"\r".as_slice()) {
@@ -139,7 +139,7 @@ pub fn most_line(from: &[u8]) -> usize
 // The line at the front, without its line feed, and the bytes behind that. None where no line ends within as many bytes
 // as it may have.
 #[tactic(auto, using(crate::proofs::NextLaws::may_be_most))]
-pub fn first_line(from: &[u8]) -> Option<(&[u8], &[u8])>
+fn first_line(from: &[u8]) -> Option<(&[u8], &[u8])>
     ensures { MatchOption result (Lacks 10 (take (min (length from.now) (most_line from.now + 1)) from.now))
         (λ parts. HasLine from.now parts.0.now parts.1.now × (length parts.0.now ≤ most_line parts.0.now)) }
 {
