@@ -1,6 +1,7 @@
 use Rattle.std.proofs.Common.{ℕ, suc, length, map, slice_get, sym, ap, ◌∙◌, subst, arith}
 use Rattle.std.specs.Vec.Iter.{into_iter_items}
-use Rattle.std.proofs.lemmas.List.{length-map, length_push}
+use Rattle.std.proofs.lemmas.List.{length-map}
+use Rattle.locked_front.specs.Owned.{Owned}
 use Rattle.locked_server.specs.declared.opening.FilledPart.{FilledPart}
 use Rattle.locked_server.specs.Opening.{FilledView, IsPlanned, filled_view}
 use Rattle.locked_server.proofs.Lending.{new_desk, first_planned}
@@ -30,6 +31,9 @@ pub new-requires-clause-flushes : goal.new-requires-clause-flushes
 new-requires-clause-flushes g c =
     (first_planned g.J.ServerPlan.plan c.loop-filled.number (map (view g) (into_iter_items c.loop-filled.filled-iterator)) (map (view g) (into_iter_items c.next.new.self)) (view g c.in-Some.filled)
     (ap (map (view g)) c.in-Some.ensures.steps.0) c.loop-filled.invariant.each).flushes
+
+pub push-requires : goal.push-requires
+push-requires g c = ap (λ (o : Owned). o.number) c.new.ensures ∙ c.loop-filled.invariant.number
 
 pub overflow_add-number : goal.overflow_add-number
 overflow_add-number g c =
