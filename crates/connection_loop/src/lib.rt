@@ -52,9 +52,9 @@ pub use answer::{Halt, HowFar, LIMITS, MOST_COMMANDS, answer_bytes, most_writes}
 pub use calls::{ask_again, close, receive, send};
 pub use client::Client;
 pub use clients::Clients;
-pub use desk::{Desk, MOST_UNSENT};
+pub use desk::{Desk, MOST_UNSENT, ROOM_LEN};
 pub use hand::Hand;
-pub use kept::KeptBytes;
+pub use kept::{Filled, KeptBytes, MOST_READ};
 pub use serve::serve_connections;
 pub use unsent::Unsent;
 pub use visit::After;
