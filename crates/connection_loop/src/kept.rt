@@ -1,5 +1,5 @@
 //! Bytes that are kept from one visit of a connection to the next.
-ghost use Rattle.std.specs.Prelude.{◌≡◌, ◌⊎◌, ◌<◌, ◌≤◌, ◌+◌, ◌++◌, false, true, [], length, take, drop, IfOk, IfSome, MatchResult, vec_len};
+ghost use Rattle.std.specs.Prelude.{◌≡◌, ◌<◌, ◌≤◌, ◌+◌, ◌++◌, false, true, [], length, drop, IfErr, IfOk, IfSome, MatchResult, vec_len};
 ghost use Rattle.memcached_text.specs.declared.limits.TheConstants.{MAX_WAITING_LEN};
 ghost use Rattle.memcached_text.specs.Lines.{Lacks};
 ghost use Rattle.connections.specs.Calls.{Leaves};
@@ -89,6 +89,7 @@ impl Filled {
         ensures kept { bytes_of self.new ≡ bytes_of self.old ++ drop (length (bytes_of self.old)) (bytes_of self.new) }
         ensures short { length (bytes_of self.new) ≤ MAX_WAITING_LEN }
         ensures grown { IfOk result (λ input. grown input (length (bytes_of self.old)) (length (bytes_of self.new))) }
+        ensures broken { IfErr result (λ _. self.new ≡ self.old) }
         ensures reads { OnLogs (OnHeld number (ReadsTo (λ input. input) (drop (length (bytes_of self.old)) (bytes_of self.new)) result)) (C.log connections.old) (C.log connections.new) }
         ensures open { IfSome (C.log connections.new) (IsOpen number (asks + filled_on (length (bytes_of self.old)) (length (bytes_of self.new)))) }
         ensures keeps { OnLogs Keeps (C.log connections.old) (C.log connections.new) }
@@ -106,18 +107,23 @@ impl Filled {
         Ok(Some(input))
     }
 
-    /// Whether no line feed is among the bytes. Those that were looked through are not looked at again.
-    fn lacks_line(&mut self) -> bool
+    /// Looks through the bytes that were not looked through before.
+    fn look_through(&mut self)
         requires filled { IsFilled self.old }
         ensures filled { IsFilled self.new }
         ensures bytes { bytes_of self.new ≡ bytes_of self.old }
-        ensures lacks { result ≡ true → Lacks 10 (bytes_of self.old) }
     {
         if lacks_feed(&self.room[self.seen..self.len]) {
             self.seen = self.len;
-            return true;
         }
-        false
+    }
+
+    /// Whether all bytes were looked through, and none is a line feed.
+    fn lacks_line(&self) -> bool
+        requires filled { IsFilled self.now }
+        ensures { result ≡ true → Lacks 10 (bytes_of self.now) }
+    {
+        self.seen == self.len
     }
 }
 
@@ -163,12 +169,11 @@ impl KeptBytes {
         }
     }
 
-    /// Whether no line feed is among the bytes.
-    pub fn lacks_line(&mut self) -> bool
-        ensures same { self.new ≡ self.old }
-        ensures lacks { result ≡ true → Lacks 10 self.old }
+    /// Whether it is known that no line feed is among the bytes.
+    pub fn lacks_line(&self) -> bool
+        ensures { result ≡ true → Lacks 10 self.now }
     {
-        match &mut self.buffer {
+        match &self.buffer {
             Some(buffer) => buffer.lacks_line(),
             None => true,
         }
@@ -181,11 +186,25 @@ impl KeptBytes {
         number: u32,
         asks: u64,
     ) -> Result<Result<Option<Input>, Broken>, NoMemory>
+        requires some { 0 < length self.old }
+        requires short { length self.old ≤ MAX_WAITING_LEN }
+        requires open { IfSome (C.log connections.old) (IsOpen number asks) }
+        ensures kept { self.new ≡ self.old ++ drop (length self.old) self.new }
+        ensures short { length self.new ≤ MAX_WAITING_LEN }
+        ensures grown { MatchResult result (λ r. MatchResult r (λ input. grown input (length self.old) (length self.new)) (λ _. self.new ≡ self.old)) (λ _. self.new ≡ self.old) }
+        ensures reads { MatchResult result (λ r. OnLogs (OnHeld number (ReadsTo (λ input. input) (drop (length self.old) self.new) r)) (C.log connections.old) (C.log connections.new))
+            (λ _. connections.new ≡ connections.old) }
+        ensures open { IfSome (C.log connections.new) (IsOpen number (asks + filled_on (length self.old) (length self.new))) }
+        ensures keeps { OnLogs Keeps (C.log connections.old) (C.log connections.new) }
+        ensures port { Leaves C.log C.has_ended C.faults C.share C.reports connections.old connections.new }
+        ensures rises { C.last connections.old ≤ C.last connections.new }
     {
         let Some(buffer) = &mut self.buffer else {
             return Ok(Ok(None));
         };
         buffer.widen()?;
-        Ok(buffer.read_on(connections, number, asks))
+        let input = buffer.read_on(connections, number, asks);
+        buffer.look_through();
+        Ok(input)
     }
 }

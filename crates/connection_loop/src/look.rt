@@ -46,9 +46,8 @@ impl<'a> Lying<'a> {
     }
 
     /// Whether they are known to be no whole command, by what was looked through before and what came since.
-    fn waits(&mut self) -> bool
-        ensures same { bytes_at self.new ≡ bytes_at self.old }
-        ensures waits { result ≡ true → next_of (bytes_at self.old) ≡ More }
+    fn waits(&self) -> bool
+        ensures { result ≡ true → next_of (bytes_at self.now) ≡ More }
     {
         match self {
             Lying::Room(_) => false,
@@ -105,24 +104,23 @@ impl Client {
 fn answer_lying<F: CountsWrites>(
     hand: &mut Hand<F>,
     buffers: &mut Buffers,
-    lying: &mut Lying,
+    lying: &Lying,
     done: usize,
     out: &mut Vec<u8>,
 ) -> Result<HowFar, NoMemory>
-    requires open { IsOpenAt (next_of (bytes_at lying.old)) done }
+    requires open { IsOpenAt (next_of (bytes_at lying.now)) done }
     requires partitions { hand.old.numbering.partitions ≡ (F.options hand.old.front).partitions }
-    ensures bytes { bytes_at lying.new ≡ bytes_at lying.old }
-    ensures within { IfOk result (λ a. a.taken ≤ length (bytes_at lying.old)) }
-    ensures open { IfOk result (λ a. IsOpenAt (next_of (drop a.taken (bytes_at lying.old))) a.done) }
-    ensures waits { IfOk result (λ a. a.halt ≡ Halt.Needs → next_of (drop a.taken (bytes_at lying.old)) ≡ More) }
+    ensures within { IfOk result (λ a. a.taken ≤ length (bytes_at lying.now)) }
+    ensures open { IfOk result (λ a. IsOpenAt (next_of (drop a.taken (bytes_at lying.now))) a.done) }
+    ensures waits { IfOk result (λ a. a.halt ≡ Halt.Needs → next_of (drop a.taken (bytes_at lying.now)) ≡ More) }
     ensures advances { IfOk result (λ a. Advances (MayAnswer hand.old.numbering.partitions (F.left hand.old.front) × (length out.old.items < LIMITS.bytes))
-        ((a.halt ≡ Halt.Needs) × (next_of (bytes_at lying.old) ≡ More)) (position_at (bytes_at lying.old) done) (position_in (bytes_at lying.old) a)) }
+        ((a.halt ≡ Halt.Needs) × (next_of (bytes_at lying.now) ≡ More)) (position_at (bytes_at lying.now) done) (position_in (bytes_at lying.now) a)) }
     ensures short { length out.new.items ≤ max (length out.old.items) LIMITS.bytes + MAX_REPLY_LEN }
     ensures talk { GoesBySome (F.options hand.old.front) F.is_alone (F.sessions hand.old.front) (F.left hand.old.front) hand.old.second (F.sessions hand.new.front) (F.left hand.new.front) hand.new.second
-        (λ answers. (length answers ≤ most_answers (F.options hand.old.front)) × MatchResult result (λ a. GoesOnTo (F.options hand.old.front) hand.old.numbering.base (position_at (bytes_at lying.old) done) answers out.old.items out.new.items
-        (HaltsAs (F.options hand.old.front) hand.old.numbering.base (length (bytes_at lying.old)) a.halt (position_in (bytes_at lying.old) a))
+        (λ answers. (length answers ≤ most_answers (F.options hand.old.front)) × MatchResult result (λ a. GoesOnTo (F.options hand.old.front) hand.old.numbering.base (position_at (bytes_at lying.now) done) answers out.old.items out.new.items
+        (HaltsAs (F.options hand.old.front) hand.old.numbering.base (length (bytes_at lying.now)) a.halt (position_in (bytes_at lying.now) a))
         × SpeaksWhere (MayAnswer hand.old.numbering.partitions (F.left hand.old.front) × (length out.old.items < LIMITS.bytes)) a.halt answers out.old.items out.new.items)
-        (λ _. SpokeFrom (F.options hand.old.front) hand.old.numbering.base (length (bytes_at lying.old)) (position_at (bytes_at lying.old) done) answers)) }
+        (λ _. SpokeFrom (F.options hand.old.front) hand.old.numbering.base (length (bytes_at lying.now)) (position_at (bytes_at lying.now) done) answers)) }
     ensures second { hand.new.second ≡ hand.old.second }
     ensures same { KeepsHand F.options F.number F.stands hand.old hand.new }
 {
@@ -139,7 +137,7 @@ fn answer_lying<F: CountsWrites>(
 pub(crate) fn look_at<F: CountsWrites>(
     hand: &mut Hand<F>,
     client: &mut Client,
-    mut lying: Lying,
+    lying: Lying,
     done: usize,
     buffers: &mut Buffers,
     replies: &mut Vec<u8>,
@@ -165,7 +163,7 @@ pub(crate) fn look_at<F: CountsWrites>(
     ensures same { KeepsHand F.options F.number F.stands hand.old hand.new }
 {
     replies.clear();
-    let answered = answer_lying(hand, buffers, &mut lying, done, replies)?;
+    let answered = answer_lying(hand, buffers, &lying, done, replies)?;
     client.dropping = answered.dropping;
     client.leaving = answered.halt == Halt::Leaves;
     client.keep(hand.alloc, lying, answered)?;

@@ -221,16 +221,13 @@ fn answer_own<F: CountsWrites, C: Connections>(
     ensures port { Leaves C.log C.has_ended C.faults C.share C.reports connections.old connections.new }
     ensures same { KeepsHand F.options F.number F.stands hand.old hand.new }
 {
-    let mut kept = mem::replace(&mut client.kept, KeptBytes::nothing());
-    let input = match kept.read_on(connections, number, client.asks)? {
+    let input = match client.read_on(connections, number)? {
         Ok(input) => input,
         Err(Broken) => return Ok(Err(Broken)),
     };
-    if let Some(Input::Bytes(count) | Input::All(count)) = input {
-        client.asks = client.asks.saturating_add(2 * count as u64);
-    }
     count_input(input, &mut buffers.tally);
     hand.second = connections.second();
+    let kept = mem::replace(&mut client.kept, KeptBytes::nothing());
     let halt = look_at(hand, client, Lying::Own(kept), 0, buffers, replies)?;
     Ok(Ok((halt, input)))
 }
