@@ -58,7 +58,7 @@ impl<'a> Lying<'a> {
     /// Those behind so many. Where all are left, their own buffer is.
     fn behind(self, alloc: Global, taken: usize, halt: Halt) -> Result<KeptBytes, NoMemory>
         requires { taken ≤ length (bytes_at self) }
-        ensures { IfOk result (λ kept. kept ≡ drop taken (bytes_at self)) }
+        ensures { IfOk result (λ kept. kept ≡ drop taken (bytes_at self.entry)) }
     {
         match self {
             Lying::Room(bytes) => keep_rest(alloc, &bytes[taken..], halt),
@@ -88,7 +88,7 @@ impl Client {
         requires dropped { 0 < self.old.dropping → drop far.taken (bytes_at lying) ≡ [] }
         requires paid { unanswered (position_at (drop far.taken (bytes_at lying)) far.done) ≤ self.old.asks }
         ensures client { IfOk result (λ _. IsClient self.new) }
-        ensures kept { OnOk result ((self.new.kept ≡ drop far.taken (bytes_at lying)) × (self.new.done ≡ far.done)) }
+        ensures kept { OnOk result ((self.new.kept ≡ drop far.taken (bytes_at lying.entry)) × (self.new.done ≡ far.done)) }
         ensures dropping { self.new.dropping ≡ self.old.dropping }
         ensures leaving { self.new.leaving ≡ self.old.leaving }
         ensures unsent { self.new.unsent ≡ self.old.unsent }
@@ -152,13 +152,13 @@ pub(crate) fn look_at<F: CountsWrites>(
     ensures unsent { client.new.unsent ≡ client.old.unsent }
     ensures asks { client.new.asks ≡ client.old.asks }
     ensures waits { IfOk result (λ halt. halt ≡ Halt.Needs → next_of client.new.kept ≡ More) }
-    ensures advances { IfOk result (λ halt. Advances (MayAnswer hand.old.numbering.partitions (F.left hand.old.front)) ((halt ≡ Halt.Needs) × (next_of (bytes_at lying) ≡ More))
-        (position_at (bytes_at lying) done) (position_of client.new)) }
+    ensures advances { IfOk result (λ halt. Advances (MayAnswer hand.old.numbering.partitions (F.left hand.old.front)) ((halt ≡ Halt.Needs) × (next_of (bytes_at lying.entry) ≡ More))
+        (position_at (bytes_at lying.entry) done) (position_of client.new)) }
     ensures talk { GoesBySome (F.options hand.old.front) F.is_alone (F.sessions hand.old.front) (F.left hand.old.front) hand.old.second (F.sessions hand.new.front) (F.left hand.new.front) hand.new.second
-        (λ answers. (length answers ≤ most_answers (F.options hand.old.front)) × MatchResult result (λ halt. GoesOnTo (F.options hand.old.front) hand.old.numbering.base (position_at (bytes_at lying) done) answers [] replies.new.items
-        (HaltsAs (F.options hand.old.front) hand.old.numbering.base (length (bytes_at lying)) halt (position_of client.new))
+        (λ answers. (length answers ≤ most_answers (F.options hand.old.front)) × MatchResult result (λ halt. GoesOnTo (F.options hand.old.front) hand.old.numbering.base (position_at (bytes_at lying.entry) done) answers [] replies.new.items
+        (HaltsAs (F.options hand.old.front) hand.old.numbering.base (length (bytes_at lying.entry)) halt (position_of client.new))
         × SpeaksWhere (MayAnswer hand.old.numbering.partitions (F.left hand.old.front)) halt answers [] replies.new.items)
-        (λ _. SpokeFrom (F.options hand.old.front) hand.old.numbering.base (length (bytes_at lying)) (position_at (bytes_at lying) done) answers)) }
+        (λ _. SpokeFrom (F.options hand.old.front) hand.old.numbering.base (length (bytes_at lying.entry)) (position_at (bytes_at lying.entry) done) answers)) }
     ensures second { hand.new.second ≡ hand.old.second }
     ensures same { KeepsHand F.options F.number F.stands hand.old hand.new }
 {

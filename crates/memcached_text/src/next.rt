@@ -117,6 +117,7 @@ fn says_at<'a>(line: Line<'a>, len: usize, rest: &'a [u8]) -> Next<'a>
 }
 
 // Whether the bytes begin as the line of a get.
+#[tactic(auto, unfolding(crate::specs::Next::is_get))]
 fn is_get(from: &[u8]) -> bool
     ensures { result ≡ is_get from.now }
 {
@@ -124,6 +125,7 @@ fn is_get(from: &[u8]) -> bool
 }
 
 // How long the line at the front may be.
+#[tactic(auto, unfolding(crate::specs::Next::most_line))]
 pub fn most_line(from: &[u8]) -> usize
     ensures { result ≡ most_line from.now }
 {
@@ -136,6 +138,7 @@ pub fn most_line(from: &[u8]) -> usize
 
 // The line at the front, without its line feed, and the bytes behind that. None where no line ends within as many bytes
 // as it may have.
+#[tactic(auto, using(crate::proofs::NextLaws::may_be_most))]
 pub fn first_line(from: &[u8]) -> Option<(&[u8], &[u8])>
     ensures { MatchOption result (Lacks 10 (take (min (length from.now) (most_line from.now + 1)) from.now))
         (λ parts. HasLine from.now parts.0.now parts.1.now × (length parts.0.now ≤ most_line parts.0.now)) }
@@ -157,6 +160,7 @@ pub fn is_binary(from: &[u8]) -> bool
 }
 
 // What the bytes begin with, by the line at their front.
+#[tactic(auto, using(crate::proofs::NextLaws::may_be_most))]
 fn front_line(from: &[u8]) -> Next
     ensures { result ≡ next_of from.now }
 {

@@ -22,6 +22,7 @@ pub fn lacks_feed(from: &[u8]) -> bool
 }
 
 /// Whether bytes with no line feed wait for more.
+#[tactic(auto, using(crate::proofs::NextLaws::no_line_short))]
 pub fn waits_for_line(from: &[u8]) -> bool
     requires { Lacks 10 from.now }
     ensures { result ≡ true → next_of from.now ≡ Next.More }
