@@ -5,5 +5,5 @@ use Rattle.connection_loop.specs.declared.look.Lying.TheVariants.{Room, Own}
 
 -- the bytes, wherever they lie
 abbrev pub bytes_at : Lying → List ℕ
-bytes_at (Room bytes) = bytes
+bytes_at (Room bytes) = bytes.now
 bytes_at (Own kept) = kept
