@@ -96,7 +96,11 @@ impl Filled {
         ensures port { Leaves C.log C.has_ended C.faults C.share C.reports connections.old connections.new }
         ensures rises { C.last connections.old ≤ C.last connections.new }
     {
-        let end = self.room.len().min(MAX_WAITING_LEN).min(self.len + MOST_READ);
+        let end = self
+            .room
+            .len()
+            .min(MAX_WAITING_LEN)
+            .min(self.len + MOST_READ);
         if end <= self.len {
             return Ok(None);
         }

@@ -3,13 +3,13 @@ ghost use Rattle.std.specs.Prelude.{◌≡◌, ◌<◌, ◌≤◌, true, length}
 ghost use Rattle.memcached_text.specs.Lines.{Lacks};
 ghost use Rattle.memcached_text.specs.Next.{next_of};
 
+use crate::Words;
 use crate::block::END_LEN;
 use crate::forms::line_of;
 use crate::limits::MAX_WAITING_LEN;
 use crate::line::Line;
 use crate::next::{Next, first_line, is_binary, most_line, without_return};
 use crate::split::split_at_byte;
-use crate::Words;
 
 /// Whether no byte is a line feed.
 pub fn lacks_feed(from: &[u8]) -> bool
