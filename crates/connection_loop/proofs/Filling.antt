@@ -1,16 +1,12 @@
 -- What lies in the room after a read behind what was kept.
-use Rattle.std.proofs.Common.{◌≡◌, ◌⊎◌, inl, inr, ℕ, ◌+◌, ◌≤◌, List, [], ◌++◌, length, take, drop, refl, sym, ap, ◌∙◌, subst, arith}
-use Rattle.std.specs.Prelude.{⊤, Option, None, Some, IfSome, Ok}
+use Rattle.std.proofs.Common.{◌≡◌, ◌⊎◌, inl, inr, ℕ, ◌+◌, ◌≤◌, List, ◌++◌, length, take, drop, sym, ap, ◌∙◌, subst, arith}
+use Rattle.std.specs.Prelude.{Ok}
 use Rattle.std.proofs.Math.Seq.{take-add}
-use Rattle.std.proofs.lemmas.List.{take_at, drop_at, drop_all, drop-take, length-take, take-append-le}
+use Rattle.std.proofs.lemmas.List.{take_at, take_all, drop_at, drop-take, length-take, take-append-le, take-take}
 use Rattle.connections.specs.declared.connections.Input.{Input}
 use Rattle.connections.specs.declared.connections.Input.TheVariants.{Bytes, All}
 use Rattle.connections.specs.Calls.{FitsRoom}
-use Rattle.connections.specs.Log.{connections_of, Log}
-use Rattle.connections.specs.State.{held}
-use Rattle.connection_loop.specs.Held.{filled_bytes}
-use Rattle.connection_loop.specs.Open.{OnLogs}
-use Rattle.connection_loop.specs.Traffic.{OnHeld, Reads, ReadsTo, bytes_read}
+use Rattle.connection_loop.specs.Traffic.{bytes_read}
 
 -- a read gave so many bytes, all that came or not
 pub some_read : (out : List ℕ) (room : ℕ) (input : Input) (count : ℕ) → (input ≡ Bytes count) ⊎ (input ≡ All count) → FitsRoom room input
@@ -40,15 +36,31 @@ filled_read kept copied after out behind had count copy many fits =
     sym (ap (λ n. drop n (take (had + count) room)) (sym many) ∙ drop-take had count room
     ∙ ap (take count) (ap (drop had) (room_is kept copied after out behind had copy many) ∙ drop_at kept (out ++ behind) had (sym many)) ∙ take-append-le count out behind fits)
 
--- no room was left to read anything
-pub filled_none : (number had : ℕ) (kept room : List ℕ) → had ≡ length kept → (log : Option Log)
-    → OnLogs (OnHeld number (ReadsTo (λ (f : ℕ × Option Input). f.1) (filled_bytes (length kept) room (Ok (had, None))) (Ok (had, None)))) log log
-filled_none number had kept room many None = tt
-filled_none number had kept room many (Some a) = by (held number (connections_of a))
-  where
-    none : drop (length kept) (take had room) ≡ []
-    none = drop_all (length kept) (take had room) (let len = length-take had room in omega (arith, len, many))
+-- A buffer
 
-    by : (h : Option ℕ) → IfSome h (λ c. Reads c (drop (length kept) (take had room)) a a × ⊤)
-    by None = tt
-    by (Some c) = (subst (λ b. Reads c b a a) (sym none) (record { schedule = refl; piece = refl; mets = []; each = tt; at = 0; entries = refl }), tt)
+-- more room leaves what lies in front
+pub widened : (items rest : List ℕ) (n len : ℕ) → len ≤ n → len ≤ length items → take len (take n items ++ rest) ≡ take len items
+widened items rest n len within fits =
+    let most : len ≤ length (take n items) = let count = length-take n items in omega (arith, count, within, fits) in
+    take-append-le len (take n items) rest most ∙ take-take len n items within
+
+-- so a copy of bytes
+pub copied_wide : (bytes rest : List ℕ) (n len : ℕ) → len ≡ length bytes → len ≤ n → take len (take n bytes ++ rest) ≡ bytes
+copied_wide bytes rest n len is within = widened bytes rest n len within (omega (arith, is)) ∙ take_all len bytes (omega (arith, is))
+
+-- What a read changes of a buffer lies behind the bytes that are kept; those in front stand, and some more are kept.
+pub read_behind : (items out behind : List ℕ) (len count : ℕ) → len ≤ length items
+    → take (len + count) (take len items ++ (out ++ behind)) ≡ take len items ++ drop (length (take len items)) (take (len + count) (take len items ++ (out ++ behind)))
+read_behind items out behind len count fits =
+    let room = take len items ++ (out ++ behind) in
+    let many : length (take len items) ≡ len = let is = length-take len items in omega (arith, is, fits) in
+    let front : take len room ≡ take len items = take_at (take len items) (out ++ behind) len many in
+    take-add len count room ∙ ap (λ k. k ++ take count (drop len room)) front ∙ ap (λ t. take len items ++ t) (sym (drop-take len count room)) ∙ ap (λ n. take len items ++ drop n (take (len + count) room)) (sym many)
+
+-- and these are what it gave
+pub read_gave : (items out behind : List ℕ) (len count : ℕ) → len ≤ length items → count ≤ length out
+    → take count out ≡ drop (length (take len items)) (take (len + count) (take len items ++ (out ++ behind)))
+read_gave items out behind len count fits some =
+    let room = take len items ++ (out ++ behind) in
+    let many : length (take len items) ≡ len = let is = length-take len items in omega (arith, is, fits) in
+    sym (ap (λ n. drop n (take (len + count) room)) many ∙ drop-take len count room ∙ ap (take count) (drop_at (take len items) (out ++ behind) len many) ∙ take-append-le count out behind some)

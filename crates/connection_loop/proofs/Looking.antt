@@ -18,18 +18,19 @@ use Rattle.connection_loop.specs.Reached.{Position, position_at, position_of, Re
 use Rattle.connection_loop.proofs.Few.{few_asks}
 use Rattle.connection_loop.proofs.Reaching.{read_more, halts_more, nothing_next}
 
--- of a command that was answered in part something is kept, so nothing is to be dropped
-none_dropped : (client : Client) → IsClient client → 0 < client.done → client.dropping ≡ 0
-none_dropped client fit some = by client.dropping fit.dropped
+-- where something is kept, nothing is to be dropped
+pub kept_none : (client : Client) → IsClient client → 0 < length client.kept → client.dropping ≡ 0
+kept_none client fit there = by client.dropping fit.dropped
   where
-    there : 0 < length client.kept
-    there =
-        let few = (few_asks client.kept).within in
-        elim fit.begun as (λ _. 0 < length client.kept) [ inl first ↦ absurd (omega (arith, first, some)) | inr less ↦ omega (arith, less, few) ]
-
     by : (n : ℕ) → (0 < n → client.kept ≡ []) → n ≡ 0
     by zero none = refl
     by (suc n) none = let empty = ap length (none (omega arith)) in absurd (omega (arith, empty, there))
+
+-- of a command that was answered in part something is kept
+none_dropped : (client : Client) → IsClient client → 0 < client.done → client.dropping ≡ 0
+none_dropped client fit some =
+    let few = (few_asks client.kept).within in
+    kept_none client fit (elim fit.begun as (λ _. 0 < length client.kept) [ inl first ↦ absurd (omega (arith, first, some)) | inr less ↦ omega (arith, less, few) ])
 
 module _ (options : Options) (base : ℕ) where
   -- A command that was answered in part is answered further.
