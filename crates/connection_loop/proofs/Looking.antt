@@ -9,14 +9,15 @@ use Rattle.connections.specs.State.{held}
 use Rattle.connections.specs.Log.{Log, connections_of}
 use Rattle.fronts.specs.Answered.{Answered}
 use Rattle.connection_loop.specs.declared.answer.Halt.{Halt}
-use Rattle.connection_loop.specs.declared.answer.Halt.TheVariants.{Needs}
+use Rattle.connection_loop.specs.declared.answer.Halt.TheVariants.{Enough, Needs}
 use Rattle.connection_loop.specs.declared.client.Client.{Client}
 use Rattle.connection_loop.specs.Clients.{IsClient}
 use Rattle.connection_loop.specs.Open.{OnLogs}
 use Rattle.connection_loop.specs.Traffic.{OnHeld}
 use Rattle.connection_loop.specs.Reached.{Position, position_at, position_of, Reaches, GoesOnTo, SpokeFrom, SpokeBehind, HaltsAs}
 use Rattle.connection_loop.proofs.Few.{few_asks}
-use Rattle.connection_loop.proofs.Reaching.{read_more, halts_more, nothing_next}
+use Rattle.connection_loop.proofs.Reaching.{on_none, read_more, halts_more, nothing_next}
+use Rattle.connection_loop.proofs.Talking.{spoke_halts}
 
 -- where something is kept, nothing is to be dropped
 pub kept_none : (client : Client) → IsClient client → 0 < length client.kept → client.dropping ≡ 0
@@ -53,6 +54,10 @@ module _ (options : Options) (base : ℕ) where
       let at = subst (λ n. Reaches options base (record { bytes = client.kept; done = client.done; dropping = n }) received given due) none r in
       let s = spoke received given due at in
       record { talk = s.talk; few = let f = s.few in let short = fit.short in omega (arith, f, short) }
+
+  -- Nothing is answered.
+  pub lacks_none : (client : Client) → IsClient client → SpokeFrom options base MAX_WAITING_LEN (position_of client) []
+  lacks_none client fit = spoke_halts options base Enough (position_of client) (position_of client) [] [] [] MAX_WAITING_LEN fit.begun fit.short (on_none options base (position_of client) [])
 
   -- Bytes were read, and what is to be dropped of them is left out.
   module _ (client : Client) (bytes more : List ℕ) (first : client.done ≡ 0) (all : bytes ≡ client.kept ++ more) where

@@ -13,7 +13,7 @@ use std::alloc::Global;
 pub const MOST_UNSENT: usize = LIMITS.bytes + MAX_REPLY_LEN;
 
 /// So many bytes lie in the room of the front at most: those that are kept of a client, and those that are read behind them.
-pub const ROOM_LEN: usize = 131_072;
+pub const ROOM_LEN: usize = 65_536;
 
 /// Room for what is looked at of a connection, for replies, and for values, and what the front counts.
 #[derive(Drop)]

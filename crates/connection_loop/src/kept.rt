@@ -9,8 +9,9 @@ ghost use Rattle.connection_loop.specs.Traffic.{OnHeld, ReadsTo};
 
 use crate::calls::receive;
 use crate::desk::ROOM_LEN;
+use crate::waiting::{lacks_feed, wider};
 use connections::{Broken, Connections, Input};
-use memcached_text::{MAX_WAITING_LEN, lacks_feed, whole_len};
+use memcached_text::MAX_WAITING_LEN;
 use outside::NoMemory;
 use std::alloc::Global;
 use std::marker::Model;
@@ -59,7 +60,7 @@ impl Filled {
         Ok(Filled { room, len, seen: 0 })
     }
 
-    /// Makes room behind the bytes where there is none: for the command that they begin with, where its line tells how long it is, else for as many again.
+    /// Makes room behind the bytes where there is none.
     fn widen(&mut self) -> Result<(), NoMemory>
         requires filled { IsFilled self.old }
         ensures filled { IsFilled self.new }
@@ -69,8 +70,7 @@ impl Filled {
         if self.len < self.room.len() {
             return Ok(());
         }
-        let whole = whole_len(&self.room[..self.len]);
-        self.room.resize(whole.max(self.len), 0)?;
+        self.room.resize(wider(self.len), 0)?;
         Ok(())
     }
 

@@ -48,6 +48,7 @@ mod serve;
 mod unsent;
 mod visit;
 mod visits;
+mod waiting;
 
 pub use answer::{Halt, HowFar, LIMITS, MOST_COMMANDS, answer_bytes, most_writes};
 pub use calls::{ask_again, close, receive, send};

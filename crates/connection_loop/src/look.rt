@@ -18,9 +18,9 @@ use crate::answer::{Halt, HowFar, answer_bytes};
 use crate::client::Client;
 use crate::hand::Hand;
 use crate::kept::KeptBytes;
+use crate::waiting::{waits_for_line, wider};
 use command_answers::{Buffers, load_ahead};
 use fronts::CountsWrites;
-use memcached_text::{waits_for_line, whole_len};
 use outside::NoMemory;
 use std::alloc::Global;
 
@@ -68,12 +68,12 @@ impl<'a> Lying<'a> {
     }
 }
 
-/// Keeps a copy of what is left. Where that is the beginning of a command, and no short one, there is room for the whole.
+/// Keeps a copy of what is left. Where that is the beginning of a command, and no short one, there is room for more.
 fn keep_rest(alloc: Global, bytes: &[u8], halt: Halt) -> Result<KeptBytes, NoMemory>
     ensures { IfOk result (λ kept. kept ≡ bytes.now) }
 {
     let whole = match halt {
-        Halt::Needs if bytes.len() > SHORT_LEN => whole_len(bytes),
+        Halt::Needs if bytes.len() > SHORT_LEN => wider(bytes.len()),
         _ => bytes.len(),
     };
     KeptBytes::copy_of(alloc, bytes, whole)

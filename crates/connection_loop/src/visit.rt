@@ -221,7 +221,8 @@ fn answer_own<F: CountsWrites, C: Connections>(
     ensures port { Leaves C.log C.has_ended C.faults C.share C.reports connections.old connections.new }
     ensures same { KeepsHand F.options F.number F.stands hand.old hand.new }
 {
-    let input = match client.read_on(connections, number)? {
+    let read = client.read_on(connections, number)?;
+    let input = match read {
         Ok(input) => input,
         Err(Broken) => return Ok(Err(Broken)),
     };
