@@ -1,12 +1,15 @@
 -- What lies in the room after a read behind what was kept.
-use Rattle.std.proofs.Common.{◌≡◌, ◌⊎◌, inl, inr, ℕ, ◌+◌, ◌≤◌, List, ◌++◌, length, take, drop, sym, ap, ◌∙◌, subst, arith}
-use Rattle.std.specs.Prelude.{Ok}
+use Rattle.std.proofs.Common.{◌≡◌, ◌⊎◌, inl, inr, ℕ, ◌+◌, ◌≤◌, List, [], ◌++◌, length, take, drop, refl, sym, ap, ◌∙◌, subst, arith}
+use Rattle.std.specs.Prelude.{⊤, Option, None, Some, IfSome, Ok}
 use Rattle.std.proofs.Math.Seq.{take-add}
-use Rattle.std.proofs.lemmas.List.{take_at, take_all, drop_at, drop-take, length-take, take-append-le, take-take}
+use Rattle.std.proofs.lemmas.List.{take_at, take_all, drop_all, drop_at, drop-take, length-take, take-append-le, take-take}
 use Rattle.connections.specs.declared.connections.Input.{Input}
 use Rattle.connections.specs.declared.connections.Input.TheVariants.{Bytes, All}
 use Rattle.connections.specs.Calls.{FitsRoom}
-use Rattle.connection_loop.specs.Traffic.{bytes_read}
+use Rattle.connections.specs.Log.{connections_of, Log}
+use Rattle.connections.specs.State.{held}
+use Rattle.connection_loop.specs.Open.{OnLogs}
+use Rattle.connection_loop.specs.Traffic.{OnHeld, Reads, ReadsTo, bytes_read}
 
 -- a read gave so many bytes, all that came or not
 pub some_read : (out : List ℕ) (room : ℕ) (input : Input) (count : ℕ) → (input ≡ Bytes count) ⊎ (input ≡ All count) → FitsRoom room input
@@ -64,3 +67,15 @@ read_gave items out behind len count fits some =
     let room = take len items ++ (out ++ behind) in
     let many : length (take len items) ≡ len = let is = length-take len items in omega (arith, is, fits) in
     sym (ap (λ n. drop n (take (len + count) room)) many ∙ drop-take len count room ∙ ap (take count) (drop_at (take len items) (out ++ behind) len many) ∙ take-append-le count out behind some)
+
+-- nothing was read, as there was no room
+pub read_none : (number : ℕ) (bytes : List ℕ) (log : Option Log) → OnLogs (OnHeld number (ReadsTo (λ (i : Option Input). i) (drop (length bytes) bytes) (Ok None))) log log
+read_none number bytes None = tt
+read_none number bytes (Some a) = by (held number (connections_of a))
+  where
+    none : drop (length bytes) bytes ≡ []
+    none = drop_all (length bytes) bytes (omega arith)
+
+    by : (h : Option ℕ) → IfSome h (λ c. Reads c (drop (length bytes) bytes) a a × ⊤)
+    by None = tt
+    by (Some c) = (subst (λ b. Reads c b a a) (sym none) (record { schedule = refl; piece = refl; mets = []; each = tt; at = 0; entries = refl }), tt)

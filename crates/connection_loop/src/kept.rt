@@ -48,6 +48,7 @@ impl Model for KeptBytes {
 
 impl Filled {
     /// These bytes, with room for so many in all.
+    #[tactic(auto, using(crate::proofs::Filling::copied_wide))]
     fn new(alloc: Global, bytes: &[u8], whole: usize) -> Result<Filled, NoMemory>
         requires some { 0 < length bytes.now }
         ensures filled { IfOk result IsFilled }
@@ -61,6 +62,7 @@ impl Filled {
     }
 
     /// Makes room behind the bytes where there is none.
+    #[tactic(auto, using(crate::proofs::Filling::widened))]
     fn widen(&mut self) -> Result<(), NoMemory>
         requires filled { IsFilled self.old }
         ensures filled { IsFilled self.new }
@@ -75,6 +77,7 @@ impl Filled {
     }
 
     /// Reads once behind the bytes. They are no more than may be kept; where they are as many, nothing is read.
+    #[tactic(auto, using(crate::proofs::Filling::read_behind, crate::proofs::Filling::read_gave, crate::proofs::Filling::read_none, crate::proofs::Opening::same_keeps, crate::proofs::Opening::fewer_asks))]
     fn read_on<C: Connections>(
         &mut self,
         connections: &mut C,
