@@ -84,6 +84,7 @@ impl Client {
         };
         if let Some(Input::Bytes(count) | Input::All(count)) = input {
             self.asks = self.asks.saturating_add(2 * count as u64);
+            return Ok(Ok(input));
         }
         Ok(Ok(input))
     }

@@ -110,6 +110,7 @@ impl Filled {
         let input = receive(connections, number, asks, &mut self.room[self.len..end])?;
         if let Input::Bytes(count) | Input::All(count) = input {
             self.len += count;
+            return Ok(Some(input));
         }
         Ok(Some(input))
     }
