@@ -1,9 +1,13 @@
 -- One look at what is kept of a client, and at what was read behind it.
-use Rattle.std.proofs.Common.{◌≡◌, ℕ, zero, suc, ◌-◌, ◌≤◌, ◌<◌, inl, inr, List, [], ◌++◌, length, drop, refl, sym, ap, ◌∙◌, subst, arith, length-drop}
+use Rattle.std.proofs.Common.{◌≡◌, ℕ, zero, suc, ◌-◌, ◌≤◌, ◌<◌, inl, inr, true, true≢false, List, [], ◌∷◌, ◌++◌, length, drop, refl, sym, ap, ◌∙◌, subst, arith, length-drop}
 use Rattle.std.specs.Prelude.{Option, Some, None, IfSome, MatchResult, Result, Ok, Err}
 use Rattle.std.proofs.lemmas.List.{append-nil, drop_all}
 use Rattle.partition_model.specs.declared.options.Options.{Options}
-use Rattle.memcached_text.specs.declared.limits.TheConstants.{MAX_WAITING_LEN}
+use Rattle.std.proofs.lemmas.Bool.{ne_eqb}
+use borrow.Author.Tests.{ltb-true}
+use Rattle.memcached_text.specs.declared.limits.TheConstants.{MAX_LINE_LEN, MAX_WAITING_LEN}
+use Rattle.memcached_text.specs.declared.next.Next.TheVariants.{More}
+use Rattle.memcached_text.specs.Lines.{Lacks}
 use Rattle.memcached_text.specs.Next.{next_of}
 use Rattle.connections.specs.State.{held}
 use Rattle.connections.specs.Log.{Log, connections_of}
@@ -12,6 +16,8 @@ use Rattle.connection_loop.specs.declared.answer.Halt.{Halt}
 use Rattle.connection_loop.specs.declared.answer.Halt.TheVariants.{Enough, Needs}
 use Rattle.connection_loop.specs.declared.client.Client.{Client}
 use Rattle.connection_loop.specs.Clients.{IsClient}
+use Rattle.memcached_text.proofs.NextLaws.{no_line_short}
+use Rattle.connection_loop.specs.Lying.{begins_text}
 use Rattle.connection_loop.specs.Open.{OnLogs}
 use Rattle.connection_loop.specs.Traffic.{OnHeld}
 use Rattle.connection_loop.specs.Reached.{Position, position_at, position_of, Reaches, GoesOnTo, SpokeFrom, SpokeBehind, HaltsAs}
@@ -32,6 +38,11 @@ none_dropped : (client : Client) → IsClient client → 0 < client.done → cli
 none_dropped client fit some =
     let few = (few_asks client.kept).within in
     kept_none client fit (elim fit.begun as (λ _. 0 < length client.kept) [ inl first ↦ absurd (omega (arith, first, some)) | inr less ↦ omega (arith, less, few) ])
+
+-- a line that has no end yet waits for more
+pub waits_short : (bytes : List ℕ) → begins_text bytes ≡ true → length bytes ≤ MAX_LINE_LEN → Lacks 10 bytes → next_of bytes ≡ More
+waits_short [] text short lacks = absurd (true≢false (sym text))
+waits_short (first ∷ bytes) text short lacks = no_line_short (first ∷ bytes) (ne_eqb first 128 (λ same. let less = ltb-true first 128 text in absurd (omega (arith, less, same)))) short lacks
 
 module _ (options : Options) (base : ℕ) where
   -- A command that was answered in part is answered further.

@@ -1,5 +1,5 @@
--- Where the bytes of a connection lie.
-use Rattle.std.specs.Prelude.{ℕ, List}
+-- Where the bytes of a connection lie, and how they begin.
+use Rattle.std.specs.Prelude.{ℕ, Bool, false, List, [], ◌∷◌, nat_lt}
 use Rattle.connection_loop.specs.declared.look.Lying.{Lying}
 use Rattle.connection_loop.specs.declared.look.Lying.TheVariants.{Room, Own}
 
@@ -7,3 +7,8 @@ use Rattle.connection_loop.specs.declared.look.Lying.TheVariants.{Room, Own}
 abbrev pub bytes_at : Lying → List ℕ
 bytes_at (Room bytes) = bytes.now
 bytes_at (Own kept) = kept
+
+-- they begin as text does
+abbrev pub begins_text : List ℕ → Bool
+begins_text [] = false
+begins_text (first ∷ bytes) = nat_lt first 128

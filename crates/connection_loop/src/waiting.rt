@@ -4,6 +4,7 @@ ghost use Rattle.memcached_text.specs.declared.limits.TheConstants.{MAX_WAITING_
 ghost use Rattle.memcached_text.specs.declared.next.Next.TheVariants.{More};
 ghost use Rattle.memcached_text.specs.Lines.{Lacks};
 ghost use Rattle.memcached_text.specs.Next.{next_of};
+ghost use Rattle.connection_loop.specs.Lying.{begins_text};
 
 use memcached_text::{MAX_LINE_LEN, MAX_WAITING_LEN};
 use memchr::memchr;
@@ -18,15 +19,23 @@ pub fn lacks_feed(bytes: &[u8]) -> bool
     }
 }
 
+/// Whether bytes begin as text does: each request of the binary protocol begins with a byte above.
+fn begins_text(bytes: &[u8]) -> bool
+    ensures { result ≡ begins_text bytes.now }
+{
+    match bytes {
+        [first, ..] => *first < 128,
+        [] => false,
+    }
+}
+
 /// Whether bytes with no line feed are the beginning of a line.
+#[tactic(auto, using(crate::proofs::Looking::waits_short))]
 pub fn waits_for_line(bytes: &[u8]) -> bool
     requires { Lacks 10 bytes.now }
     ensures { result ≡ true → next_of bytes.now ≡ More }
 {
-    match bytes {
-        [first, ..] => *first < 128 && bytes.len() <= MAX_LINE_LEN,
-        [] => false,
-    }
+    begins_text(bytes) && bytes.len() <= MAX_LINE_LEN
 }
 
 /// How much room so many bytes get that wait for more: for as many again, but for no more than may wait.
