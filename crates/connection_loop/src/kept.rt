@@ -72,7 +72,9 @@ impl Filled {
         if self.len < self.room.len() {
             return Ok(());
         }
-        self.room.resize(wider(self.len), 0)?;
+        let whole = wider(self.len);
+        self.room.reserve_exact(whole - self.len)?;
+        self.room.resize(whole, 0)?;
         Ok(())
     }
 
