@@ -1,14 +1,18 @@
 -- What lies in the room after a read behind what was kept.
-use Rattle.std.proofs.Common.{◌≡◌, ◌⊎◌, inl, inr, ℕ, ◌+◌, ◌≤◌, List, [], ◌++◌, length, take, drop, refl, sym, ap, ◌∙◌, subst, arith}
+use Rattle.std.proofs.Common.{◌≡◌, ◌⊎◌, inl, inr, ℕ, ◌+◌, ◌-◌, ◌<◌, ◌≤◌, List, [], ◌++◌, length, take, drop, refl, sym, ap, ◌∙◌, subst, arith}
 use Rattle.std.specs.Prelude.{⊤, Option, None, Some, IfSome, Ok}
 use Rattle.std.proofs.Math.Seq.{take-add}
 use Rattle.std.proofs.lemmas.List.{take_at, take_all, drop_all, drop_at, drop-take, length-take, take-append-le, take-take}
+use Rattle.memcached_text.specs.Lines.{Lacks}
+use Rattle.memcached_text.proofs.LineLaws.{Lacks_append}
 use Rattle.connections.specs.declared.connections.Input.{Input}
-use Rattle.connections.specs.declared.connections.Input.TheVariants.{Bytes, All}
+use Rattle.connections.specs.declared.connections.Input.TheVariants.{Bytes, All, Later, Ended}
 use Rattle.connections.specs.Calls.{FitsRoom}
 use Rattle.connections.specs.Log.{connections_of, Log}
 use Rattle.connections.specs.State.{held}
+use Rattle.connection_loop.specs.Buffers.{count_in, grown}
 use Rattle.connection_loop.specs.Open.{OnLogs}
+use Rattle.connection_loop.specs.Paid.{PaysThese}
 use Rattle.connection_loop.specs.Traffic.{OnHeld, Reads, ReadsTo, bytes_read}
 
 -- a read gave so many bytes, all that came or not
@@ -51,22 +55,47 @@ widened items rest n len within fits =
 pub copied_wide : (bytes rest : List ℕ) (n len : ℕ) → len ≡ length bytes → len ≤ n → take len (take n bytes ++ rest) ≡ bytes
 copied_wide bytes rest n len is within = widened bytes rest n len within (omega (arith, is)) ∙ take_all len bytes (omega (arith, is))
 
+-- where those in front have no line feed, and those behind have none, none has one
+pub looked_through : (items : List ℕ) (seen len : ℕ) → seen ≤ len → Lacks 10 (take seen items) → Lacks 10 (take (len - seen) (drop seen items)) → Lacks 10 (take len items)
+looked_through items seen len within front behind =
+    let parts : take (seen + (len - seen)) items ≡ take seen items ++ take (len - seen) (drop seen items) = take-add seen (len - seen) items in
+    let all : seen + (len - seen) ≡ len = omega (arith, within) in
+    subst (λ n. Lacks 10 (take n items)) all (subst (Lacks 10) (sym parts) (Lacks_append 10 (take seen items) (take (len - seen) (drop seen items)) front behind))
+
 -- What a read changes of a buffer lies behind the bytes that are kept; those in front stand, and some more are kept.
-pub read_behind : (items out behind : List ℕ) (len count : ℕ) → len ≤ length items
-    → take (len + count) (take len items ++ (out ++ behind)) ≡ take len items ++ drop (length (take len items)) (take (len + count) (take len items ++ (out ++ behind)))
-read_behind items out behind len count fits =
-    let room = take len items ++ (out ++ behind) in
-    let many : length (take len items) ≡ len = let is = length-take len items in omega (arith, is, fits) in
-    let front : take len room ≡ take len items = take_at (take len items) (out ++ behind) len many in
-    take-add len count room ∙ ap (λ k. k ++ take count (drop len room)) front ∙ ap (λ t. take len items ++ t) (sym (drop-take len count room)) ∙ ap (λ n. take len items ++ drop n (take (len + count) room)) (sym many)
+pub read_behind : (items copied out behind : List ℕ) (len count : ℕ) → copied ≡ items → len ≤ length copied
+    → take (len + count) (take len copied ++ (out ++ behind)) ≡ take len items ++ drop (length (take len items)) (take (len + count) (take len copied ++ (out ++ behind)))
+read_behind items copied out behind len count is fits =
+    let room = take len copied ++ (out ++ behind) in
+    let many : length (take len copied) ≡ len = let come = length-take len copied in omega (arith, come, fits) in
+    let front : take len room ≡ take len copied = take_at (take len copied) (out ++ behind) len many in
+    subst (λ b. take (len + count) room ≡ take len b ++ drop (length (take len b)) (take (len + count) room)) is
+    (take-add len count room ∙ ap (λ k. k ++ take count (drop len room)) front ∙ ap (λ t. take len copied ++ t) (sym (drop-take len count room)) ∙ ap (λ n. take len copied ++ drop n (take (len + count) room)) (sym many))
 
 -- and these are what it gave
-pub read_gave : (items out behind : List ℕ) (len count : ℕ) → len ≤ length items → count ≤ length out
-    → take count out ≡ drop (length (take len items)) (take (len + count) (take len items ++ (out ++ behind)))
-read_gave items out behind len count fits some =
-    let room = take len items ++ (out ++ behind) in
-    let many : length (take len items) ≡ len = let is = length-take len items in omega (arith, is, fits) in
-    sym (ap (λ n. drop n (take (len + count) room)) many ∙ drop-take len count room ∙ ap (take count) (drop_at (take len items) (out ++ behind) len many) ∙ take-append-le count out behind some)
+pub read_gave : (items copied out behind : List ℕ) (len count : ℕ) → copied ≡ items → len ≤ length copied → count ≤ length out
+    → take count out ≡ drop (length (take len items)) (take (len + count) (take len copied ++ (out ++ behind)))
+read_gave items copied out behind len count is fits some =
+    let room = take len copied ++ (out ++ behind) in
+    let many : length (take len copied) ≡ len = let come = length-take len copied in omega (arith, come, fits) in
+    subst (λ b. take count out ≡ drop (length (take len b)) (take (len + count) room)) is
+    (sym (ap (λ n. drop n (take (len + count) room)) many ∙ drop-take len count room ∙ ap (take count) (drop_at (take len copied) (out ++ behind) len many) ∙ take-append-le count out behind some))
+
+-- How many bytes a read gave, and that these are paid for
+
+pub grown_count : (had has : ℕ) (input : Option Input) → grown input had has → has ≡ had + count_in input
+grown_count had has None g = omega (arith, g.0)
+grown_count had has (Some (Bytes count)) g = g.0
+grown_count had has (Some (All count)) g = g.0
+grown_count had has (Some Later) g = omega (arith, g)
+grown_count had has (Some Ended) g = omega (arith, g)
+
+pub grown_pays : (asks had has : ℕ) (input : Option Input) → grown input had has → had ≤ asks → (had < has → has < asks) → PaysThese asks had has input
+grown_pays asks had has None g paid more = (omega (arith, g.0, paid), g.1)
+grown_pays asks had has (Some (Bytes count)) g paid more = let some : had < has = omega (arith, g.0, g.1) in (more some, some)
+grown_pays asks had has (Some (All count)) g paid more = let some : had < has = omega (arith, g.0, g.1) in (more some, some)
+grown_pays asks had has (Some Later) g paid more = omega (arith, g, paid)
+grown_pays asks had has (Some Ended) g paid more = omega (arith, g, paid)
 
 -- nothing was read, as there was no room
 pub read_none : (number : ℕ) (bytes : List ℕ) (log : Option Log) → OnLogs (OnHeld number (ReadsTo (λ (i : Option Input). i) (drop (length bytes) bytes) (Ok None))) log log

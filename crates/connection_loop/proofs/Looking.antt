@@ -33,6 +33,16 @@ kept_none client fit there = by client.dropping fit.dropped
     by zero none = refl
     by (suc n) none = let empty = ap length (none (omega arith)) in absurd (omega (arith, empty, there))
 
+-- more is kept of a client, and is paid for
+pub grown_client : (client : Client) (kept : List ℕ) (asks : ℕ) → IsClient client → client.done ≡ 0 → 0 < length client.kept → length kept ≤ MAX_WAITING_LEN → length kept ≤ asks
+    → IsClient (record { kept = kept; done = client.done; dropping = client.dropping; leaving = client.leaving; unsent = client.unsent; asks = asks })
+grown_client client kept asks fit first some short paid = record {
+  short = short;
+  begun = inl first;
+  dropped = λ more. let none = kept_none client fit some in absurd (omega (arith, none, more));
+  paid = omega (arith, first, paid);
+}
+
 -- of a command that was answered in part something is kept
 none_dropped : (client : Client) → IsClient client → 0 < client.done → client.dropping ≡ 0
 none_dropped client fit some =

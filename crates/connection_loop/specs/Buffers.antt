@@ -23,6 +23,12 @@ abbrev pub bytes_in : Option (Box Filled) → List ℕ
 bytes_in None = []
 bytes_in (Some buffer) = bytes_of buffer.value
 
+-- how many bytes a read gave
+abbrev pub count_in : Option Input → ℕ
+count_in (Some (Bytes count)) = count
+count_in (Some (All count)) = count
+count_in _ = 0
+
 -- how far a read brought the bytes that are kept; where none was made, there was no room for more
 abbrev pub grown : Option Input → ℕ → ℕ → Type 0
 grown None had has = (has ≡ had) × (had ≡ MAX_WAITING_LEN)

@@ -11,7 +11,7 @@ ghost use Rattle.connection_loop.specs.Paid.{PaysThese};
 ghost use Rattle.connection_loop.specs.Reached.{Reaches, position_of};
 ghost use Rattle.connection_loop.specs.Traffic.{OnHeld, ReadsTo};
 
-use crate::kept::KeptBytes;
+use crate::kept::{KeptBytes, count_of};
 use crate::unsent::Unsent;
 use connections::{Broken, Connections, Input};
 use outside::NoMemory;
@@ -78,14 +78,13 @@ impl Client {
         ensures port { Leaves C.log C.has_ended C.faults C.share C.reports connections.old connections.new }
         ensures rises { C.last connections.old ≤ C.last connections.new }
     {
-        let input = match self.kept.read_on(connections, number, self.asks)? {
+        let read = self.kept.read_on(connections, number, self.asks)?;
+        let input = match read {
             Ok(input) => input,
             Err(Broken) => return Ok(Err(Broken)),
         };
-        if let Some(Input::Bytes(count) | Input::All(count)) = input {
-            self.asks = self.asks.saturating_add(2 * count as u64);
-            return Ok(Ok(input));
-        }
+        let count = count_of(input) as u64;
+        self.asks = self.asks.saturating_add(count.saturating_mul(2));
         Ok(Ok(input))
     }
 }

@@ -3,7 +3,7 @@ ghost use Rattle.std.specs.Prelude.{◌≡◌, ◌<◌, ◌≤◌, ◌+◌, ◌+
 ghost use Rattle.memcached_text.specs.declared.limits.TheConstants.{MAX_WAITING_LEN};
 ghost use Rattle.memcached_text.specs.Lines.{Lacks};
 ghost use Rattle.connections.specs.Calls.{Leaves};
-ghost use Rattle.connection_loop.specs.Buffers.{IsFilled, bytes_of, grown, filled_on};
+ghost use Rattle.connection_loop.specs.Buffers.{IsFilled, bytes_of, count_in, grown, filled_on};
 ghost use Rattle.connection_loop.specs.Open.{IsOpen, Keeps, OnLogs};
 ghost use Rattle.connection_loop.specs.Traffic.{OnHeld, ReadsTo};
 
@@ -46,6 +46,16 @@ impl Model for KeptBytes {
     ghost invariant = { λ k. IfSome k.buffer (λ buffer. IsFilled buffer.value) };
 }
 
+/// How many bytes a read gave.
+pub fn count_of(input: Option<Input>) -> usize
+    ensures { result ≡ count_in input }
+{
+    match input {
+        Some(Input::Bytes(count) | Input::All(count)) => count,
+        _ => 0,
+    }
+}
+
 impl Filled {
     /// These bytes, with room for so many in all.
     #[tactic(auto, using(crate::proofs::Filling::copied_wide))]
@@ -79,7 +89,7 @@ impl Filled {
     }
 
     /// Reads once behind the bytes. They are no more than may be kept; where they are as many, nothing is read.
-    #[tactic(auto, using(crate::proofs::Filling::read_behind, crate::proofs::Filling::read_gave, crate::proofs::Filling::read_none, crate::proofs::Opening::same_keeps, crate::proofs::Opening::fewer_asks))]
+    #[tactic(auto, using(crate::proofs::Filling::widened, crate::proofs::Opening::same_keeps, crate::proofs::Opening::fewer_asks))]
     fn read_on<C: Connections>(
         &mut self,
         connections: &mut C,
@@ -94,7 +104,7 @@ impl Filled {
         ensures kept { bytes_of self.new ≡ bytes_of self.old ++ drop (length (bytes_of self.old)) (bytes_of self.new) }
         ensures short { length (bytes_of self.new) ≤ MAX_WAITING_LEN }
         ensures grown { IfOk result (λ input. grown input (length (bytes_of self.old)) (length (bytes_of self.new))) }
-        ensures broken { IfErr result (λ _. self.new ≡ self.old) }
+        ensures broken { IfErr result (λ _. bytes_of self.new ≡ bytes_of self.old) }
         ensures reads { OnLogs (OnHeld number (ReadsTo (λ input. input) (drop (length (bytes_of self.old)) (bytes_of self.new)) result)) (C.log connections.old) (C.log connections.new) }
         ensures open { IfSome (C.log connections.new) (IsOpen number (asks + filled_on (length (bytes_of self.old)) (length (bytes_of self.new)))) }
         ensures keeps { OnLogs Keeps (C.log connections.old) (C.log connections.new) }
