@@ -1,5 +1,5 @@
 -- What lies in the room after a read behind what was kept.
-use Rattle.std.proofs.Common.{◌≡◌, ◌⊎◌, inl, inr, ℕ, ◌+◌, ◌-◌, ◌<◌, ◌≤◌, List, [], ◌++◌, length, take, drop, refl, sym, ap, ◌∙◌, subst, arith}
+use Rattle.std.proofs.Common.{◌≡◌, ◌⊎◌, inl, inr, ℕ, ◌+◌, ◌-◌, ◌<◌, ◌≤◌, List, [], ◌++◌, length, take, drop, refl, sym, ap, ◌∙◌, subst, append_assoc, arith}
 use Rattle.std.specs.Prelude.{⊤, Option, None, Some, IfSome, Ok}
 use Rattle.std.proofs.Math.Seq.{take-add}
 use Rattle.std.proofs.lemmas.List.{take_at, take_all, drop_all, drop_at, drop-take, length-take, take-append-le, take-take}
@@ -62,24 +62,34 @@ looked_through items seen len within front behind =
     let all : seen + (len - seen) ≡ len = omega (arith, within) in
     subst (λ n. Lacks 10 (take n items)) all (subst (Lacks 10) (sym parts) (Lacks_append 10 (take seen items) (take (len - seen) (drop seen items)) front behind))
 
--- What a read changes of a buffer lies behind the bytes that are kept; those in front stand, and some more are kept.
-pub read_behind : (items copied out behind : List ℕ) (len count : ℕ) → copied ≡ items → len ≤ length copied
-    → take (len + count) (take len copied ++ (out ++ behind)) ≡ take len items ++ drop (length (take len items)) (take (len + count) (take len copied ++ (out ++ behind)))
-read_behind items copied out behind len count is fits =
-    let room = take len copied ++ (out ++ behind) in
+-- A read changes what lies behind the bytes that are kept: so many bytes of the room, which is as long as it was
+into_room : (copied out behind more : List ℕ) (whole len count : ℕ) → len + count ≤ whole
+    → take (len + count) (take whole ((take len copied ++ (out ++ behind)) ++ more)) ≡ take (len + count) (take len copied ++ (out ++ (behind ++ more)))
+into_room copied out behind more whole len count within =
+    take-take (len + count) whole ((take len copied ++ (out ++ behind)) ++ more) within
+    ∙ ap (take (len + count)) (append_assoc (take len copied) (out ++ behind) more ∙ ap (λ t. take len copied ++ t) (append_assoc out behind more))
+
+-- those in front stand, and some more are kept
+pub read_behind : (items copied out behind more : List ℕ) (whole len count : ℕ) → copied ≡ items → len ≤ length copied → len + count ≤ whole
+    → take (len + count) (take whole ((take len copied ++ (out ++ behind)) ++ more))
+    ≡ take len items ++ drop (length (take len items)) (take (len + count) (take whole ((take len copied ++ (out ++ behind)) ++ more)))
+read_behind items copied out behind more whole len count is fits within =
+    let room = take len copied ++ (out ++ (behind ++ more)) in
     let many : length (take len copied) ≡ len = let come = length-take len copied in omega (arith, come, fits) in
-    let front : take len room ≡ take len copied = take_at (take len copied) (out ++ behind) len many in
-    subst (λ b. take (len + count) room ≡ take len b ++ drop (length (take len b)) (take (len + count) room)) is
-    (take-add len count room ∙ ap (λ k. k ++ take count (drop len room)) front ∙ ap (λ t. take len copied ++ t) (sym (drop-take len count room)) ∙ ap (λ n. take len copied ++ drop n (take (len + count) room)) (sym many))
+    let front : take len room ≡ take len copied = take_at (take len copied) (out ++ (behind ++ more)) len many in
+    subst (λ b. b ≡ take len items ++ drop (length (take len items)) b) (sym (into_room copied out behind more whole len count within))
+    (subst (λ b. take (len + count) room ≡ take len b ++ drop (length (take len b)) (take (len + count) room)) is
+    (take-add len count room ∙ ap (λ k. k ++ take count (drop len room)) front ∙ ap (λ t. take len copied ++ t) (sym (drop-take len count room)) ∙ ap (λ n. take len copied ++ drop n (take (len + count) room)) (sym many)))
 
 -- and these are what it gave
-pub read_gave : (items copied out behind : List ℕ) (len count : ℕ) → copied ≡ items → len ≤ length copied → count ≤ length out
-    → take count out ≡ drop (length (take len items)) (take (len + count) (take len copied ++ (out ++ behind)))
-read_gave items copied out behind len count is fits some =
-    let room = take len copied ++ (out ++ behind) in
+pub read_gave : (items copied out behind more : List ℕ) (whole len count : ℕ) → copied ≡ items → len ≤ length copied → len + count ≤ whole → count ≤ length out
+    → take count out ≡ drop (length (take len items)) (take (len + count) (take whole ((take len copied ++ (out ++ behind)) ++ more)))
+read_gave items copied out behind more whole len count is fits within some =
+    let room = take len copied ++ (out ++ (behind ++ more)) in
     let many : length (take len copied) ≡ len = let come = length-take len copied in omega (arith, come, fits) in
-    subst (λ b. take count out ≡ drop (length (take len b)) (take (len + count) room)) is
-    (sym (ap (λ n. drop n (take (len + count) room)) many ∙ drop-take len count room ∙ ap (take count) (drop_at (take len copied) (out ++ behind) len many) ∙ take-append-le count out behind some))
+    subst (λ b. take count out ≡ drop (length (take len items)) b) (sym (into_room copied out behind more whole len count within))
+    (subst (λ b. take count out ≡ drop (length (take len b)) (take (len + count) room)) is
+    (sym (ap (λ n. drop n (take (len + count) room)) many ∙ drop-take len count room ∙ ap (take count) (drop_at (take len copied) (out ++ (behind ++ more)) len many) ∙ take-append-le count out (behind ++ more) some)))
 
 -- How many bytes a read gave, and that these are paid for
 

@@ -41,7 +41,7 @@ pub returns-then-waits-clause-advances : goal.returns-then-waits-clause-advances
 returns-then-waits-clause-advances g c =
     let at = c.at.ensures in
     let more = c.waits.ensures c.if-waits.true in
-    stays (bytes_at c.args.lying.now) c.args.done 0 c.args.done (inl (tt, refl, refl)) c.at.result at.0 at.1 at.2 (λ fresh none may. (at.3, more))
+    stays {fresh = c.args.done ≡ c.args.done} (bytes_at c.args.lying.now) c.args.done 0 c.args.done (inl (refl, refl, refl)) c.at.result at.0 at.1 at.2 (λ fresh none may. (at.3, more))
 
 pub returns-then-waits-clause-waits : goal.returns-then-waits-clause-waits
 returns-then-waits-clause-waits g c = λ is. ap (λ n. next_of (drop n (bytes_at c.args.lying.now))) c.at.ensures.0 ∙ c.waits.ensures c.if-waits.true

@@ -25,6 +25,7 @@ paid_as : Client → Client → Client
 paid_as client read = record { kept = client.kept; done = client.done; dropping = client.dropping; leaving = client.leaving; unsent = client.unsent; asks = read.asks }
 
 pub returns-clause-talk : goal.returns-clause-talk
+unfolding paid_as
 returns-clause-talk g c =
     let options = g.F.Front.options c.args.hand.now.front in
     let base = c.args.hand.now.numbering.base in
@@ -130,6 +131,7 @@ returns-in-Err-clause-talk g c =
     )
 
 pub returns-clause-again : goal.returns-clause-again
+unfolding paid_as
 returns-clause-again g c =
     let client = c.args.client.now in
     let read = c.read_on.new.self in

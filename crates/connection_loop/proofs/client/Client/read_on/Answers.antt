@@ -16,7 +16,7 @@ returns-clause-client g c =
     let grew = subst (λ x. MatchResult x (λ input. grown input (length client.kept) (length kept)) (λ _. kept ≡ client.kept)) c.in-Ok.is c.in_ok-read.ensures.grown in
     let more = grown_count (length client.kept) (length kept) c.in-Ok.input grew in
     grown_client client kept _ c.requires.client c.requires.first c.requires.some c.read_on.ensures.short
-    (omega (arith, more, c.count_of.ensures, c.requires.first, c.requires.client.paid, c.read_on.ensures.short))
+    (omega (arith, more, c.count_of-count.ensures, c.requires.first, c.requires.client.paid, c.read_on.ensures.short))
 
 pub returns-clause-pays : goal.returns-clause-pays
 returns-clause-pays g c =
@@ -25,7 +25,7 @@ returns-clause-pays g c =
     let grew = subst (λ x. MatchResult x (λ input. grown input (length client.kept) (length kept)) (λ _. kept ≡ client.kept)) c.in-Ok.is c.in_ok-read.ensures.grown in
     let more = grown_count (length client.kept) (length kept) c.in-Ok.input grew in
     grown_pays _ (length client.kept) (length kept) c.in-Ok.input grew (omega (arith, more, c.requires.first, c.requires.client.paid, c.read_on.ensures.short))
-    (λ some. omega (arith, some, more, c.count_of.ensures, c.requires.first, c.requires.client.paid, c.read_on.ensures.short))
+    (λ some. omega (arith, some, more, c.count_of-count.ensures, c.requires.first, c.requires.client.paid, c.read_on.ensures.short))
 
 pub returns-clause-open : goal.returns-clause-open
 returns-clause-open g c =
@@ -33,7 +33,7 @@ returns-clause-open g c =
     let kept = c.read_on.new.self in
     let grew = subst (λ x. MatchResult x (λ input. grown input (length client.kept) (length kept)) (λ _. kept ≡ client.kept)) c.in-Ok.is c.in_ok-read.ensures.grown in
     let more = grown_count (length client.kept) (length kept) c.in-Ok.input grew in
-    fewer_asks c.args.number (client.asks + filled_on (length client.kept) (length kept)) _ (g.C.Connections.log c.read_on.new.connections) (omega (arith, more, c.count_of.ensures)) c.read_on.ensures.«open»
+    fewer_asks c.args.number (client.asks + filled_on (length client.kept) (length kept)) _ (g.C.Connections.log c.read_on.new.connections) (omega (arith, more, c.count_of-count.ensures)) c.read_on.ensures.«open»
 
 pub returns-clause-reads : goal.returns-clause-reads
 returns-clause-reads g c =
