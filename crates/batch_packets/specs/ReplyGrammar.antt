@@ -26,8 +26,8 @@ status_byte Touched = 12
 abbrev pub is_status : ℕ → ℕ → Bool
 is_status version byte =
     nat_lt byte 8
-    || (version == 1 && byte == 9)
     || byte == 10
+    || (version == 1 && byte == 9)
     || (version == 2 && (byte == 11 || byte == 12))
 
 -- the bytes that a value of this status may have: a hit alone has one
