@@ -24,7 +24,7 @@ use Rattle.memcached_text.specs.Block.{block_at}
 use Rattle.memcached_text.specs.Next.{blocked, storing_at, says_at, next_in, is_binary, is_get, most_line, next_of, IsWithin}
 use Rattle.memcached_text.specs.Spelling.{Stays, Waits}
 use Rattle.memcached_text.proofs.WordLaws.{words_of_word}
-use Rattle.memcached_text.proofs.LineLaws.{IsFound, line_found, line_at_fed, line_at_none}
+use Rattle.memcached_text.proofs.LineLaws.{lacks_is, IsFound, line_found, line_at_fed, line_at_none}
 
 -- a block that has come is the same with more bytes behind it
 block_stays : (len : ℕ) (bytes more : List ℕ) → block_at len bytes ≢ blocks.Waiting → block_at len (bytes ++ more) ≡ block_at len bytes
@@ -301,9 +301,21 @@ spaced : (tail : List ℕ) → without_return (32 ∷ tail) ≡ 32 ∷ without_r
 spaced [] = refl
 spaced (b ∷ tail) = refl
 
-opens : (unique : Bool) (tail : List ℕ) → words_of (without_return (cond unique (codes "gets") (codes "get") ++ 32 ∷ tail)) ≡ cond unique (codes "gets") (codes "get") ∷ words_of (without_return tail)
-opens true tail = ap (λ t. words_of (codes "gets" ++ t)) (spaced tail) ∙ words_of_word (codes "gets") (without_return tail) (omega arith) (cc, (cc, (cc, (cc, tt))))
-opens false tail = ap (λ t. words_of (codes "get" ++ t)) (spaced tail) ∙ words_of_word (codes "get") (without_return tail) (omega arith) (cc, (cc, (cc, tt)))
+word_returned : (word tail : List ℕ) → without_return (word ++ 32 ∷ tail) ≡ word ++ 32 ∷ without_return tail
+word_returned [] tail = spaced tail
+word_returned (b ∷ []) tail = ap (λ t. b ∷ t) (spaced tail)
+word_returned (b ∷ c ∷ word) tail = ap (λ t. b ∷ t) (word_returned (c ∷ word) tail)
+
+opens : (word tail : List ℕ) → 0 < length word → Lacks 32 word → words_of (without_return (word ++ 32 ∷ tail)) ≡ word ∷ words_of (without_return tail)
+opens word tail some lacks = ap words_of (word_returned word tail) ∙ words_of_word word (without_return tail) some lacks
+
+name_lacks : (unique : Bool) → Lacks 32 (cond unique (codes "gets") (codes "get"))
+name_lacks true = lacks_is 32 (codes "gets") refl
+name_lacks false = lacks_is 32 (codes "get") refl
+
+name_some : (unique : Bool) → 0 < length (cond unique (codes "gets") (codes "get"))
+name_some true = omega arith
+name_some false = omega arith
 
 -- it waits for no block
 get_ends : (line : List ℕ) (len : ℕ) (rest : List ℕ) → is_get line ≡ true → says_at (line_of (words_of (without_return line))) len rest ≢ More
@@ -311,7 +323,7 @@ unfolding is_get
 get_ends line len rest is waits = go (starts_with nat_eq line (codes "get ")) refl
   where
     ends : (unique : Bool) (tail : List ℕ) → line ≡ cond unique (codes "gets") (codes "get") ++ 32 ∷ tail → ⊥
-    ends unique tail same = unfolded_get unique (words_of (without_return tail)) len rest (sym (ap (λ l. says_at l len rest) (ap (λ t. line_of (words_of (without_return t))) same ∙ ap line_of (opens unique tail) ∙ named_get unique _)) ∙ waits)
+    ends unique tail same = unfolded_get unique (words_of (without_return tail)) len rest (sym (ap (λ l. says_at l len rest) (ap (λ t. line_of (words_of (without_return t))) same ∙ ap line_of (opens _ tail (name_some unique) (name_lacks unique)) ∙ named_get unique _)) ∙ waits)
 
     go : (t : Bool) → starts_with nat_eq line (codes "get ") ≡ t → ⊥
     go true get = ends false (drop 4 line) ((starts_is Decides-eqb line (codes "get ") true (sym get)).0 refl)
