@@ -9,7 +9,7 @@ overflow_mul-amount c =
     let few = units_few c.args.unit c.in_ok-count.count c.args.most c.requires within.1 in
     omega arith
 
-pub returns-then-least-amount-clause-range : goal.returns-then-amount-ge-least-clause-range
+pub returns-then-least-amount-clause-range : goal.returns-then-least-amount-clause-range
 returns-then-least-amount-clause-range c =
     let within = number_bounds 1 (c.args.most / c.args.unit) c.args.digits.now c.in_ok-count.count (sym c.in_ok-count.ensures) in
     let few = units_few c.args.unit c.in_ok-count.count c.args.most c.requires within.1 in
