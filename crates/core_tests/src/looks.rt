@@ -157,13 +157,7 @@ fn look_beside<
     J: ServerPlan,
     P: LendPartition<Reader = ReaderSeat, Note = Note> + Drop,
     F: Changes,
->(
-    rt: &R,
-    lock: &PartitionLock<J, P>,
-    one: &mut F,
-    two: &mut F,
-    room: &mut Room,
-) -> Result<(), Fail>
+>(rt: &R, lock: &PartitionLock<J, P>, one: &mut F, two: &mut F, room: &mut Room) -> Result<(), Fail>
     requires one { 0 < F.left one.old }
     requires two { 2 ≤ F.left two.old }
     ensures one { F.left one.old ≤ F.left one.new }
