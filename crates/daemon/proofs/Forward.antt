@@ -24,12 +24,12 @@ module _ {X Y : Type 0} (f : X → Y) where
   pairs_before : (R : Y → Y → Type 0) (xs : List X) → AllPairs R (map f xs) → AllPairs (λ x y. R (f x) (f y)) xs
   pairs_before R xs h i j d lt within =
       subst (λ (y : Y). R y (f (slice_index_or xs j d))) (get_or-map f xs i d (f d) (omega arith))
-      (subst (λ (y : Y). R (slice_index_or (map f xs) i (f d)) y) (get_or-map f xs j d (f d) within) (h i j (f d) lt (omega (arith, length-map f xs))))
+      (subst (λ (y : Y). R (slice_index_or (map f xs) i (f d)) y) (get_or-map f xs j d (f d) within) (h i j (f d) lt (omega (arith, length-map xs f))))
 
   pairs_mapped : (R : Y → Y → Type 0) (xs : List X) → AllPairs (λ x y. R (f x) (f y)) xs → AllPairs R (map f xs)
   pairs_mapped R [] h i j e lt within = absurd (omega (arith, within))
   pairs_mapped R (x ∷ xs) h i j e lt within =
-      let short = omega (arith, length-map f (x ∷ xs)) in
+      let short : j < length (x ∷ xs) = omega (arith, length-map (x ∷ xs) f) in
       subst (λ (y : Y). R y (slice_index_or (map f (x ∷ xs)) j e)) (sym (get_or-map f (x ∷ xs) i x e (omega (arith, short))))
       (subst (λ (y : Y). R (f (slice_index_or (x ∷ xs) i x)) y) (sym (get_or-map f (x ∷ xs) j x e short)) (h i j x lt short))
 
@@ -72,12 +72,12 @@ swept_marked (a ∷ swept) = ap (λ l. a ∷ l) (swept_marked swept)
 
 mine_given : (c : ℕ) (given : List Given) → map answer_in (filter (λ m. m.mine) (map (given_mark c) given)) ≡ given_to c given
 mine_given c [] = refl
-mine_given c (g ∷ given) = go (g.to == c)
+mine_given c (g ∷ given) = go (g.to == c) (mine_given c given)
   where
-    go : (t : Bool) → map answer_in (cond t (given_mark c g ∷ filter (λ m. m.mine) (map (given_mark c) given)) (filter (λ m. m.mine) (map (given_mark c) given)))
+    go : (t : Bool) → map answer_in (filter (λ m. m.mine) (map (given_mark c) given)) ≡ given_to c given → map answer_in (cond t (given_mark c g ∷ filter (λ m. m.mine) (map (given_mark c) given)) (filter (λ m. m.mine) (map (given_mark c) given)))
         ≡ answers_in (cond t (g ∷ filter (λ g. g.to == c) given) (filter (λ g. g.to == c) given))
-    go true = ap (λ l. g.answered ∷ l) (mine_given c given)
-    go false = mine_given c given
+    go true is = ap (λ l. g.answered ∷ l) is
+    go false is = is
 
 none_swept : (swept : List Answered) → filter (λ m. m.mine) (map swept_mark swept) ≡ []
 none_swept [] = refl
@@ -86,8 +86,9 @@ none_swept (a ∷ swept) = none_swept swept
 all_marked : (c : ℕ) (turns : List Turn) → map answer_in (marked c turns) ≡ answered_in turns
 all_marked c [] = refl
 all_marked c (turn ∷ earlier) =
-    map-append answer_in (marked c earlier) _ ∙ ap (λ l. map answer_in (marked c earlier) ++ l) (map-append answer_in (map (given_mark c) turn.given) _)
-    ∙ rw (all_marked c earlier, given_marked c turn.given, swept_marked turn.swept) refl
+    let given = map (given_mark c) turn.given in
+    map-append answer_in (marked c earlier ++ given) (map swept_mark turn.swept)
+    ∙ rw (map-append answer_in (marked c earlier) given, all_marked c earlier, given_marked c turn.given, swept_marked turn.swept) refl
 
 given_in_turn : (c : ℕ) (given more : List Given) → given_to c (given ++ more) ≡ given_to c given ++ given_to c more
 given_in_turn c given more = ap answers_in (filter-append (λ g. g.to == c) given more) ∙ map-append (λ g. g.answered) (filter (λ g. g.to == c) given) _
@@ -101,8 +102,9 @@ mine_append a b = ap (map answer_in) (filter-append (λ m. m.mine) a b) ∙ map-
 mine_marked : (c : ℕ) (turns : List Turn) → mine (marked c turns) ≡ given_to c (given_in turns)
 mine_marked c [] = refl
 mine_marked c (turn ∷ earlier) =
-    mine_append (marked c earlier) _ ∙ ap (λ l. mine (marked c earlier) ++ l) (mine_append (map (given_mark c) turn.given) _ ∙ rw (none_swept turn.swept) (append-nil _) ∙ mine_given c turn.given)
-    ∙ ap (λ l. l ++ given_to c turn.given) (mine_marked c earlier) ∙ sym (given_in_turn c (given_in earlier) turn.given)
+    let given = map (given_mark c) turn.given in
+    mine_append (marked c earlier ++ given) (map swept_mark turn.swept) ∙ ap (λ l. mine (marked c earlier ++ given) ++ map answer_in l) (none_swept turn.swept) ∙ append-nil _
+    ∙ mine_append (marked c earlier) given ∙ rw (mine_marked c earlier, mine_given c turn.given) (sym (given_in_turn c (given_in earlier) turn.given))
 
 pub goes_forward : (options : Options) (c : ℕ) (turns : List Turn) → GoesForward options (answered_in turns) → GoesForward options (given_to c (given_in turns))
 goes_forward options c turns forward p low =
@@ -111,4 +113,4 @@ goes_forward options c turns forward p low =
     let all : filter here (answered_in turns) ≡ map answer_in (filter of (marked c turns)) = ap (filter here) (sym (all_marked c turns)) ∙ filter_mapped answer_in here (marked c turns) in
     let own : map answer_in (filter (λ m. m.mine) (filter of (marked c turns))) ≡ filter here (given_to c (given_in turns)) =
     ap (map answer_in) (filter_swap (λ m. m.mine) of (marked c turns)) ∙ sym (filter_mapped answer_in here (filter (λ m. m.mine) (marked c turns))) ∙ ap (filter here) (mine_marked c turns) in
-    subst (AllPairs NoFall) own (pairs_mapped answer_in NoFall _ (AllPairs-filter _ (λ m. m.mine) (filter of (marked c turns)) (pairs_before answer_in NoFall _ (subst (AllPairs NoFall) all (forward p low)))))
+    subst (AllPairs NoFall) own (pairs_mapped answer_in NoFall _ (AllPairs-filter (λ x y. NoFall (answer_in x) (answer_in y)) (λ m. m.mine) (filter of (marked c turns)) (pairs_before answer_in NoFall _ (subst (AllPairs NoFall) all (forward p low)))))
