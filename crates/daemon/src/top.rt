@@ -31,6 +31,7 @@ use partition_model::{Options, Write};
 use partition_sizes::start_bytes;
 use server_words::PortOptions;
 use std::alloc::Global;
+use std::net::Ipv4Addr;
 use std::sync::Wait;
 use std::sync::atomic::{AtomicBool, Ordering};
 use std::thread::Threads;
@@ -110,7 +111,8 @@ fn serve_aloud<W: Threads + Wait + Sync, K: Sink + Drop, N: Net, L: Listeners, G
         }
         Err(Stop::Unheard(_)) => {
             let port = streams.ports.port;
-            let unbound = Unbound::connections(streams.address, port, streams.ports.fronts);
+            let address = streams.address.unwrap_or(Ipv4Addr::UNSPECIFIED);
+            let unbound = Unbound::connections(address, port, streams.ports.fronts);
             speaker.reason = unbound_reason(shared.alloc, unbound);
             speaker.doubt = Doubt::Port(unbound);
             write_unbound(shared.alloc, port, &mut speaker.sink)

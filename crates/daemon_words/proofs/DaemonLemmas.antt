@@ -17,7 +17,7 @@ use Rattle.option_words.specs.declared.words_fault.WordsFault.TheVariants.{Usage
 use Rattle.option_words.specs.Words.{Text, given_by, text_of}
 use Rattle.option_words.specs.Settings.{mode, tries, port, value_of, ◌>>=◌}
 use Rattle.daemon_words.specs.Memory.{memory_of}
-use Rattle.daemon_words.specs.StreamWords.{memcached, threads, listen, connections, no_streams, gives_streams, some_streams, streams_by, streams_given}
+use Rattle.daemon_words.specs.StreamWords.{threads, listen, connections, idle, port_given, socket_given, no_streams, gives_streams, some_streams, streams_by, streams_given}
 use Rattle.daemon_words.specs.DaemonWords.{Service, partitions, buckets, spares, words, wear, memory_name, sizes_by_words, sizes_by, sizes_given, mode_given, service_options, image_name, fronts, lasting_ports, no_ports, ports_by, ports_given, may_fill, daemon_names, daemon_given, daemon_of, gives_size, ArePossibleFronts, IsDaemonReading}
 use Rattle.option_words.proofs.ValueLemmas.{both_told, value_bounds, power_value, one_kilo, required_bounds}
 use Rattle.daemon_words.proofs.MemoryLemmas.{memory_bounds}
@@ -108,12 +108,14 @@ lasting_valid given ports is =
 -- of connections
 some_streams_valid : (given : Text → Option Text) (streams : StreamOptions) → some_streams given ≡ Some streams → InRange 1 MOST_FRONTS streams.ports.fronts
 some_streams_valid given streams is =
-    let p = both_told (value_of memcached given) _ streams is in
-    let f = both_told (value_of threads given) _ streams p.2 in
+    let p = both_told (port_given given) _ streams is in
+    let k = both_told (socket_given given) _ streams p.2 in
+    let f = both_told (value_of threads given) _ streams k.2 in
     let l = both_told (value_of listen given) _ streams f.2 in
     let c = both_told (value_of connections given) _ streams l.2 in
-    let made : StreamOptions = record { ports = record { port = p.0; fronts = f.0 }; address = l.0; connections = c.0 } in
-    subst (λ (s : StreamOptions). InRange 1 MOST_FRONTS s.ports.fronts) (ap (λ o. unwrap_or o made) c.2)
+    let i = both_told (value_of idle given) _ streams c.2 in
+    let made : StreamOptions = record { ports = record { port = p.0; has_socket = k.0; fronts = f.0 }; address = l.0; connections = c.0; idle = i.0 } in
+    subst (λ (s : StreamOptions). InRange 1 MOST_FRONTS s.ports.fronts) (ap (λ o. unwrap_or o made) i.2)
     (value_bounds threads.name 1 MOST_FRONTS 4 (given threads.name) f.0 (omega arith, omega arith) f.1)
 
 streams_alone : (streams : StreamOptions) → InRange 1 MOST_FRONTS streams.ports.fronts → ArePossibleFronts no_ports streams.ports

@@ -1,8 +1,10 @@
--- The words of fronts behind connections: their port, the address that it is of, how many threads serve it, and how many connections all have at most.
-use Rattle.std.specs.Prelude.{ℕ, ◌==◌, ◌||◌, Bool, true, false, List, [], ◌∷◌, Option, Some, None, is_none, is_some, codes, if◌then◌else◌}
-use Rattle.std.specs.List.{before_first, after_first}
+-- The words of fronts behind connections: their port, the first address that it is of, a Unix socket beside it or in its place, how many threads serve them, how many connections all have at most, and how long
+-- one may be silent.
+use Rattle.std.specs.Prelude.{ℕ, ◌==◌, ◌||◌, ◌&&◌, Bool, true, false, List, [], ◌∷◌, Option, Some, None, is_none, is_some, option_map, codes, if◌then◌else◌}
+use Rattle.std.specs.List.{before_first, after_first, list_any}
 use Rattle.std.specs.declared.net.ipv4_addr.Ipv4Addr.{Ipv4Addr}
 use Rattle.server_words.specs.declared.limits.TheConstants.{MOST_FRONTS}
+use Rattle.daemon_words.specs.declared.streams.TheConstants.{MOST_IDLE}
 use Rattle.daemon_words.specs.declared.streams.StreamOptions.{StreamOptions}
 use Rattle.option_words.specs.Words.{Text}
 use Rattle.option_words.specs.Settings.{Setting, number, port, number_of, value_of, ◌>>=◌}
@@ -33,6 +35,21 @@ address_of text =
     octet_of (behind_dot (behind_dot (behind_dot text))) >>= λ d.
     Some (address a b c d)
 
+abbrev pub is_comma : ℕ → Bool
+is_comma x = x == 44
+
+abbrev pub is_colon : ℕ → Bool
+is_colon x = x == 58
+
+-- the text before the first comma, or all of it where there is none
+abbrev pub first_listed : Text → Text
+first_listed text = before_first is_comma text
+
+-- The address of the place by a list of addresses: the first of them, where it is one of IPv4. One with a colon is of IPv6, or stands before its port. What it is, and
+-- what else is listed, an adapter is told apart.
+abbrev pub place_of : Text → Option (Option Ipv4Addr)
+place_of list = if list_any is_colon (first_listed list) then Some None else option_map Some (address_of (first_listed list))
+
 -- the port, which is memcached's own where none is given, and how many fronts there are, each in a thread
 abbrev pub memcached : Setting ℕ
 memcached = number (codes "memcached") 1 65535 11211
@@ -40,34 +57,62 @@ memcached = number (codes "memcached") 1 65535 11211
 abbrev pub threads : Setting ℕ
 threads = number (codes "threads") 1 MOST_FRONTS 4
 
--- the address that the port is of, which is the machine's own where none is given
-abbrev pub listen : Setting Ipv4Addr
-listen = record { name = codes "listen"; meaning = address_of; default = Some (address 127 0 0 1) }
+-- the first address that the port is of, where it is one of IPv4: the machine's own where none is given
+abbrev pub listen : Setting (Option Ipv4Addr)
+listen = record { name = codes "listen"; meaning = place_of; default = Some (Some (address 127 0 0 1)) }
 
 -- the most connections that all fronts have together at a time
 abbrev pub connections : Setting ℕ
 connections = number (codes "connections") 1 65536 1024
 
+-- the options that name a Unix socket, and who may come there
+abbrev pub socket_name : Text
+socket_name = codes "socket"
+
+abbrev pub socket_mode_name : Text
+socket_mode_name = codes "socket-mode"
+
+-- how many seconds a connection may be silent, where that is not 0
+abbrev pub idle : Setting ℕ
+idle = number (codes "idle-timeout") 0 MOST_IDLE 0
+
 -- the names of these options
 abbrev pub stream_names : List Text
-stream_names = memcached.name ∷ threads.name ∷ listen.name ∷ connections.name ∷ []
+stream_names = memcached.name ∷ threads.name ∷ listen.name ∷ connections.name ∷ socket_name ∷ socket_mode_name ∷ idle.name ∷ []
 
 -- there are no such fronts
 abbrev pub no_streams : StreamOptions
-no_streams = record { ports = record { port = 0; fronts = 0 }; address = address 127 0 0 1; connections = 0 }
+no_streams = record { ports = record { port = 0; has_socket = false; fronts = 0 }; address = None; connections = 0; idle = 0 }
 
 -- one of the options is given that are of such fronts
 abbrev pub gives_streams : (Text → Option Text) → Bool
-gives_streams given = is_some (given memcached.name) || is_some (given threads.name) || is_some (given listen.name) || is_some (given connections.name)
+gives_streams given =
+    is_some (given memcached.name) || is_some (given threads.name) || is_some (given listen.name) || is_some (given connections.name)
+    || is_some (given socket_name) || is_some (given socket_mode_name) || is_some (given idle.name)
 
--- fronts behind one port
+-- the port, and none where a socket is named, and neither a port nor an address
+abbrev pub port_given : (Text → Option Text) → Option ℕ
+port_given given = if is_some (given socket_name) && is_none (given memcached.name) && is_none (given listen.name) then Some 0 else value_of memcached given
+
+-- whether a socket is named, without which it has no mode
+abbrev pub socket_given : (Text → Option Text) → Option Bool
+socket_given given = if is_none (given socket_name) && is_some (given socket_mode_name) then None else Some (is_some (given socket_name))
+
+-- fronts behind one port, a socket, or both
 abbrev pub some_streams : (Text → Option Text) → Option StreamOptions
 some_streams given =
-    value_of memcached given >>= λ port.
+    port_given given >>= λ port.
+    socket_given given >>= λ socket.
     value_of threads given >>= λ threads.
     value_of listen given >>= λ address.
     value_of connections given >>= λ connections.
-    Some (record { ports = record { port = port; fronts = threads }; address = address; connections = connections })
+    value_of idle given >>= λ idle.
+    Some (record {
+      ports = record { port = port; has_socket = socket; fronts = threads };
+      address = address;
+      connections = connections;
+      idle = idle;
+    })
 
 -- a server is of one protocol: there are such fronts where no port of datagrams is given
 abbrev pub has_streams : (Text → Option Text) → Bool

@@ -1,7 +1,8 @@
 //! The options of `micad`, for whoever is told which words it knows.
 
+use crate::doors::{are_listed, mode_of};
 use crate::memory::memory_of;
-use crate::streams::address_of;
+use crate::streams::MOST_IDLE;
 use option_words::number_of;
 use partition_model::{MOST_PARTITIONS, MOST_SPARES, MOST_WEAR, MOST_WORDS};
 use server_words::MOST_FRONTS;
@@ -15,8 +16,11 @@ pub(crate) enum Values {
     Number(&'static str, u64, u64),
     PowerOfTwo(u64),
     Memory,
-    Address,
+    /// Addresses with a comma between each and the next.
+    Addresses,
     File,
+    /// Who may come to a socket.
+    Octal,
     /// The number that says that there is no port of memcached's datagrams.
     NoPort,
     User,
@@ -33,7 +37,8 @@ impl Values {
                 None => false,
             },
             Values::Memory => memory_of(text).is_some(),
-            Values::Address => address_of(text).is_some(),
+            Values::Addresses => are_listed(text),
+            Values::Octal => mode_of(text).is_some(),
             Values::File => true,
             Values::NoPort => text == "0",
             Values::User => true,
@@ -47,11 +52,13 @@ impl Values {
             Values::Number(what, _, _) => match *what {
                 "a port" => "11211",
                 "a port of datagrams" => "9000",
+                "a number of seconds" => "600",
                 _ => "1024",
             },
             Values::PowerOfTwo(_) => "1024",
             Values::Memory => "1G",
-            Values::Address => "127.0.0.1",
+            Values::Addresses => "127.0.0.1",
+            Values::Octal => "700",
             Values::File => "items.image",
             Values::NoPort => "0",
             Values::User => "memcache",
@@ -68,9 +75,10 @@ impl fmt::Display for Values {
             Values::Memory => f.write_str(
                 "it is 64M to 512G: a number of bytes, or with K, M or G behind it of KiB, MiB or GiB",
             ),
-            Values::Address => f.write_str(
-                "it is one IPv4 address, as 127.0.0.1 or 0.0.0.0; names and IPv6 are not taken",
+            Values::Addresses => f.write_str(
+                "it is addresses with a comma between them, as 127.0.0.1,::1 or 0.0.0.0,[::]:11211; names and * are not taken",
             ),
+            Values::Octal => f.write_str("it is a mode in octal, 0 to 777, as 700"),
             Values::File => f.write_str("it is a file"),
             Values::NoPort => f.write_str(
                 "memcached's clients are served over TCP alone, so it is 0",
@@ -81,13 +89,16 @@ impl fmt::Display for Values {
 }
 
 /// The long names of all options, and of questions.
-pub(crate) static NAMES: [&str; 17] = [
+pub(crate) static NAMES: [&str; 20] = [
     "--mode",
     "--memcached",
     "--memory",
     "--threads",
     "--listen",
     "--connections",
+    "--socket",
+    "--socket-mode",
+    "--idle-timeout",
     "--port",
     "--fronts",
     "--image",
@@ -108,7 +119,10 @@ pub(crate) fn values_of(name: &str) -> Option<Values> {
         "--memcached" => Some(Values::Number("a port", 1, 65_535)),
         "--memory" => Some(Values::Memory),
         "--threads" => Some(Values::Number("it", 1, u64::from(MOST_FRONTS))),
-        "--listen" => Some(Values::Address),
+        "--listen" => Some(Values::Addresses),
+        "--socket" => Some(Values::File),
+        "--socket-mode" => Some(Values::Octal),
+        "--idle-timeout" => Some(Values::Number("a number of seconds", 0, u64::from(MOST_IDLE))),
         "--connections" => Some(Values::Number("it", 1, 65_536)),
         "--port" => Some(Values::Number("a port of datagrams", 1_024, 65_000)),
         "--fronts" => Some(Values::Number("it", 1, u64::from(MOST_FRONTS))),
@@ -130,6 +144,8 @@ pub(crate) fn long_of(name: &str) -> &str {
         "-l" => "--listen",
         "-c" => "--connections",
         "-t" => "--threads",
+        "-s" => "--socket",
+        "-a" => "--socket-mode",
         "-m" => "--memory",
         "-M" => "--mode",
         _ => name,

@@ -18,13 +18,13 @@ pub struct DaemonOptions<'a> {
     pub options: Options,
     /// The ports of datagrams: none beside ports of connections.
     pub ports: PortOptions,
-    /// The port of connections: none beside ports of datagrams.
+    /// The port of connections and their socket: none beside ports of datagrams.
     pub streams: StreamOptions,
     /// The file whose image fills the store.
     pub image: Option<&'a str>,
 }
 
-static DAEMON_OPTIONS: [&str; 15] = [
+static DAEMON_OPTIONS: [&str; 18] = [
     "mode",
     "partitions",
     "buckets",
@@ -40,6 +40,9 @@ static DAEMON_OPTIONS: [&str; 15] = [
     "threads",
     "listen",
     "connections",
+    "socket",
+    "socket-mode",
+    "idle-timeout",
 ];
 
 // The sizes that are given one by one.

@@ -5,7 +5,8 @@ ghost use Rattle.std.specs.Process.{exit_status};
 ghost use Rattle.option_words.specs.ProgramWords.{words_of};
 ghost use Rattle.daemon.specs.Exit.{EndsBy};
 
-use crate::host_causes::doubt_text;
+use crate::host_causes::{doubt_text, refused_text};
+use crate::host_doors::Asked;
 use crate::host_files::HostFiles;
 use crate::host_start::begin;
 use daemon::{DaemonStatus, Ending, Process, Speaker, exit_code, run_daemon};
@@ -20,10 +21,20 @@ use std::sync::Wait;
 use std::sync::atomic::{AtomicBool, Ordering};
 use std::thread::Threads;
 use std::{io, time};
-use tcp_connections::TcpListeners;
+use tcp_connections::{Refused, TcpListeners};
 
 /// Says on standard error why the program ends, where there is a reason. What can't be said is left out.
-fn say_why<R: AllocGlobal + Eprint + Sockets + Files, K>(rt: &R, speaker: &Speaker<K>) {
+fn say_why<R: AllocGlobal + Eprint + Sockets + Files, K>(
+    rt: &R,
+    speaker: &Speaker<K>,
+    refused: Option<&Refused>,
+) {
+    if let Some(refused) = refused {
+        if let Some(text) = refused_text(rt.alloc(), refused) {
+            let _ = eprintln!(rt; "micad: {text}");
+            return;
+        }
+    }
     if speaker.reason.is_empty() {
         return;
     }
@@ -72,11 +83,11 @@ pub fn refused_on_host<R: Threads + Wait + Sync + AllocGlobal + Env + Eprint + F
     }
 }
 
-/// Answers the words that the program was started with, or serves by them, and then says why that ended. It ends with 0 where these ask a question, and where a
+/// Answers the words that the program was started with, or serves by them, at the doors that they ask for beside the place's own, and then says why that ended. It ends with 0 where these ask a question, and where a
 /// signal asked for its end. `main` runs it beside the look for signals: a handle that opens files goes to a thread only there.
 pub fn run_on_host<
     R: Threads + Wait + Sync + AllocGlobal + Eprint + Files + Print + Sockets + time::Clock,
->(rt: &R, args: io::Result<Args>, pid: u32, flags: &Flags) -> ExitCode
+>(rt: &R, args: io::Result<Args>, pid: u32, flags: &Flags, asked: Asked) -> ExitCode
     ensures { EndsBy (words_of string_bytes args) (exit_status result) }
 {
     let alloc = rt.alloc();
@@ -91,6 +102,8 @@ pub fn run_on_host<
         pid,
     };
     let mut speaker = Speaker::new(alloc, StdSink::new(io::writer(rt)));
+    let mut listeners = TcpListeners::new(rt, alloc, clock, &flags.ended, &flags.stopping);
+    listeners.set_doors(asked.doors, asked.idle);
     let code = run_daemon(
         &process,
         args,
@@ -98,10 +111,10 @@ pub fn run_on_host<
         &mut HostFiles::new(rt),
         &mut speaker,
         &mut UdpNet::failing_whole(rt, &flags.ended, &flags.stopping),
-        &mut TcpListeners::new(rt, alloc, clock, &flags.ended, &flags.stopping),
+        &mut listeners,
         &mut Left::nothing(),
     );
-    say_why(rt, &speaker);
+    say_why(rt, &speaker, listeners.refused());
     flags.over.store(true, Ordering::Relaxed);
     code
 }

@@ -1,5 +1,6 @@
 //! What is done and told before the words are read as a server's.
 
+use crate::host_doors::has_doors;
 use crate::host_files::HostFiles;
 use crate::host_stop::say_unseen;
 use daemon::{is_run_by, start_text};
@@ -50,6 +51,9 @@ pub fn begin<R: AllocGlobal + Env + Eprint + Files>(rt: &R, process: u32) -> boo
         Err(NoMemory) => return true,
     };
     let words = behind_name(words.as_slice());
+    if !has_doors(rt, alloc, words) {
+        return false;
+    }
     let system = HostFiles::new(rt);
     let Some(text) = start_text(alloc, &system, words, process) else {
         return true;

@@ -4,11 +4,14 @@
 
 mod host;
 mod host_causes;
+mod host_doors;
 mod host_files;
 mod host_start;
 mod host_stop;
 
+use daemon::{DaemonStatus, Ending, exit_code};
 use host::{Flags, refused_on_host, run_on_host};
+use host_doors::asked_on_host;
 use host_stop::watch;
 use std::env;
 use std::process::{self, ExitCode};
@@ -21,11 +24,14 @@ fn main(rt: HostRuntime) -> ExitCode {
     }
     let alloc = rt.alloc();
     let args = env::args(&rt);
+    let Ok(asked) = asked_on_host(&rt) else {
+        return exit_code(Ending::Ended(DaemonStatus::NoMemory));
+    };
     let flags = Flags::new();
     let ((), code) = join(
         &rt,
         || watch(&rt, alloc, &flags.stopping, &flags.over),
-        || run_on_host(&rt, args, pid, &flags),
+        || run_on_host(&rt, args, pid, &flags, asked),
     );
     code
 }
