@@ -19,7 +19,8 @@ pub(crate) enum Values {
     /// Addresses with a comma between each and the next.
     Addresses,
     File,
-    /// Who may come to a socket.
+    /// The path of a socket, and who may come there.
+    Path,
     Octal,
     /// The number that says that there is no port of memcached's datagrams.
     NoPort,
@@ -40,6 +41,7 @@ impl Values {
             Values::Addresses => are_listed(text),
             Values::Octal => mode_of(text).is_some(),
             Values::File => true,
+            Values::Path => !text.is_empty(),
             Values::NoPort => text == "0",
             Values::User => true,
         }
@@ -60,6 +62,7 @@ impl Values {
             Values::Addresses => "127.0.0.1",
             Values::Octal => "700",
             Values::File => "items.image",
+            Values::Path => "/run/micad.sock",
             Values::NoPort => "0",
             Values::User => "memcache",
         }
@@ -80,6 +83,7 @@ impl fmt::Display for Values {
             ),
             Values::Octal => f.write_str("it is a mode in octal, 0 to 777, as 700"),
             Values::File => f.write_str("it is a file"),
+            Values::Path => f.write_str("it is the path of a socket"),
             Values::NoPort => f.write_str(
                 "memcached's clients are served over TCP alone, so it is 0",
             ),
@@ -120,7 +124,7 @@ pub(crate) fn values_of(name: &str) -> Option<Values> {
         "--memory" => Some(Values::Memory),
         "--threads" => Some(Values::Number("it", 1, u64::from(MOST_FRONTS))),
         "--listen" => Some(Values::Addresses),
-        "--socket" => Some(Values::File),
+        "--socket" => Some(Values::Path),
         "--socket-mode" => Some(Values::Octal),
         "--idle-timeout" => Some(Values::Number("a number of seconds", 0, u64::from(MOST_IDLE))),
         "--connections" => Some(Values::Number("it", 1, 65_536)),
