@@ -36,7 +36,7 @@ static FOREIGN: [Foreign; 31] = [
     Foreign {
         short: "-I",
         long: "--max-item-size",
-        instead: "a value has 8176 bytes at most: leave it out",
+        instead: "a value has 1048576 bytes at most: leave it out",
     },
     Foreign {
         short: "-r",
