@@ -6,6 +6,8 @@ use Rattle.std.specs.declared.net.ipv4_addr.Ipv4Addr.{Ipv4Addr}
 use Rattle.server_words.specs.declared.limits.TheConstants.{MOST_FRONTS}
 use Rattle.daemon_words.specs.declared.streams.TheConstants.{MOST_IDLE}
 use Rattle.daemon_words.specs.declared.streams.StreamOptions.{StreamOptions}
+use Rattle.daemon_words.specs.declared.memory.TheConstants.{MOST_ITEM_SIZE}
+use Rattle.daemon_words.specs.Memory.{amount_of}
 use Rattle.option_words.specs.Words.{Text}
 use Rattle.option_words.specs.Settings.{Setting, number, port, number_of, value_of, ◌>>=◌}
 
@@ -76,9 +78,13 @@ socket_mode_name = codes "socket-mode"
 abbrev pub idle : Setting ℕ
 idle = number (codes "idle-timeout") 0 MOST_IDLE 0
 
+-- the longest value that is taken: a bound below that of the protocol is not served, so it is this one
+abbrev pub item_size : Setting ℕ
+item_size = record { name = codes "item-size"; meaning = amount_of MOST_ITEM_SIZE MOST_ITEM_SIZE; default = Some MOST_ITEM_SIZE }
+
 -- the names of these options
 abbrev pub stream_names : List Text
-stream_names = memcached.name ∷ threads.name ∷ listen.name ∷ connections.name ∷ socket_name ∷ socket_mode_name ∷ idle.name ∷ []
+stream_names = memcached.name ∷ threads.name ∷ listen.name ∷ connections.name ∷ socket_name ∷ socket_mode_name ∷ idle.name ∷ item_size.name ∷ []
 
 -- there are no such fronts
 abbrev pub no_streams : StreamOptions
@@ -88,7 +94,7 @@ no_streams = record { ports = record { port = 0; has_socket = false; fronts = 0 
 abbrev pub gives_streams : (Text → Option Text) → Bool
 gives_streams given =
     is_some (given memcached.name) || is_some (given threads.name) || is_some (given listen.name) || is_some (given connections.name)
-    || is_some (given socket_name) || is_some (given socket_mode_name) || is_some (given idle.name)
+    || is_some (given socket_name) || is_some (given socket_mode_name) || is_some (given idle.name) || is_some (given item_size.name)
 
 -- the port, and none where a socket is named, and neither a port nor an address
 abbrev pub port_given : (Text → Option Text) → Option ℕ
@@ -107,6 +113,7 @@ some_streams given =
     value_of listen given >>= λ address.
     value_of connections given >>= λ connections.
     value_of idle given >>= λ idle.
+    value_of item_size given >>= λ longest.
     Some (record {
       ports = record { port = port; has_socket = socket; fronts = threads };
       address = address;

@@ -2,7 +2,7 @@
 
 use crate::doors::{are_listed, mode_of};
 use crate::memory::memory_of;
-use crate::streams::MOST_IDLE;
+use crate::streams::{MOST_IDLE, item_size_of};
 use option_words::number_of;
 use partition_model::{MOST_PARTITIONS, MOST_SPARES, MOST_WEAR, MOST_WORDS};
 use server_words::MOST_FRONTS;
@@ -16,6 +16,7 @@ pub(crate) enum Values {
     Number(&'static str, u64, u64),
     PowerOfTwo(u64),
     Memory,
+    ItemSize,
     /// Addresses with a comma between each and the next.
     Addresses,
     File,
@@ -38,6 +39,7 @@ impl Values {
                 None => false,
             },
             Values::Memory => memory_of(text).is_some(),
+            Values::ItemSize => item_size_of(text).is_some(),
             Values::Addresses => are_listed(text),
             Values::Octal => mode_of(text).is_some(),
             Values::File => true,
@@ -59,6 +61,7 @@ impl Values {
             },
             Values::PowerOfTwo(_) => "1024",
             Values::Memory => "1G",
+            Values::ItemSize => "1M",
             Values::Addresses => "127.0.0.1",
             Values::Octal => "700",
             Values::File => "items.image",
@@ -78,6 +81,9 @@ impl fmt::Display for Values {
             Values::Memory => f.write_str(
                 "it is 64M to 512G: a number of bytes, or with K, M or G behind it of KiB, MiB or GiB",
             ),
+            Values::ItemSize => f.write_str(
+                "every value of up to 1M is taken, and no shorter bound is served: give 1M, or leave it out",
+            ),
             Values::Addresses => f.write_str(
                 "it is addresses with a comma between them, as 127.0.0.1,::1 or 0.0.0.0,[::]:11211; names and * are not taken",
             ),
@@ -93,7 +99,7 @@ impl fmt::Display for Values {
 }
 
 /// The long names of all options, and of questions.
-pub(crate) static NAMES: [&str; 20] = [
+pub(crate) static NAMES: [&str; 21] = [
     "--mode",
     "--memcached",
     "--memory",
@@ -103,6 +109,7 @@ pub(crate) static NAMES: [&str; 20] = [
     "--socket",
     "--socket-mode",
     "--idle-timeout",
+    "--item-size",
     "--port",
     "--fronts",
     "--image",
@@ -128,6 +135,7 @@ pub(crate) fn values_of(name: &str) -> Option<Values> {
         "--socket-mode" => Some(Values::Octal),
         "--idle-timeout" => Some(Values::Number("a number of seconds", 0, u64::from(MOST_IDLE))),
         "--connections" => Some(Values::Number("it", 1, 65_536)),
+        "--item-size" => Some(Values::ItemSize),
         "--port" => Some(Values::Number("a port of datagrams", 1_024, 65_000)),
         "--fronts" => Some(Values::Number("it", 1, u64::from(MOST_FRONTS))),
         "--image" => Some(Values::File),
@@ -152,6 +160,7 @@ pub(crate) fn long_of(name: &str) -> &str {
         "-a" => "--socket-mode",
         "-m" => "--memory",
         "-M" => "--mode",
+        "-I" => "--item-size",
         _ => name,
     }
 }

@@ -24,7 +24,7 @@ pub struct DaemonOptions<'a> {
     pub image: Option<&'a str>,
 }
 
-static DAEMON_OPTIONS: [&str; 18] = [
+static DAEMON_OPTIONS: [&str; 19] = [
     "mode",
     "partitions",
     "buckets",
@@ -43,6 +43,7 @@ static DAEMON_OPTIONS: [&str; 18] = [
     "socket",
     "socket-mode",
     "idle-timeout",
+    "item-size",
 ];
 
 // The sizes that are given one by one.

@@ -3,8 +3,9 @@ ghost use Rattle.std.specs.Prelude.{◌≡◌};
 ghost use Rattle.std.specs.List.{list_any};
 ghost use Rattle.clap.specs.Matches.{first_value, found_of};
 ghost use Rattle.option_words.specs.Settings.{value_of};
-ghost use Rattle.daemon_words.specs.StreamWords.{before_dot, behind_dot, first_listed, is_colon, octet_of, address_of, place_of, listen, port_given, socket_given, gives_streams, some_streams, has_streams, streams_given};
+ghost use Rattle.daemon_words.specs.StreamWords.{before_dot, behind_dot, first_listed, is_colon, octet_of, address_of, place_of, listen, item_size, port_given, socket_given, gives_streams, some_streams, has_streams, streams_given};
 
+use crate::memory::{MOST_ITEM_SIZE, amount_of};
 use clap::ArgMatches;
 use option_words::{count, number_of};
 use server_words::MOST_FRONTS;
@@ -124,6 +125,22 @@ fn socket_given(found: &ArgMatches<'_>) -> Option<bool>
     Some(is_named)
 }
 
+/// The longest value, where it is one that is served.
+pub(crate) fn item_size_of(text: &str) -> Option<u64>
+    ensures { result ≡ item_size.meaning text.now }
+{
+    amount_of(text, MOST_ITEM_SIZE, MOST_ITEM_SIZE)
+}
+
+fn item_size(found: &ArgMatches<'_>) -> Option<u64>
+    ensures { result ≡ value_of item_size (first_value (found_of found.now)) }
+{
+    match found.get_str("item-size") {
+        Some(text) => item_size_of(text),
+        None => Some(MOST_ITEM_SIZE),
+    }
+}
+
 // Whether one of the options is given that are of such fronts.
 fn gives_streams(found: &ArgMatches<'_>) -> bool
     ensures { result ≡ gives_streams (first_value (found_of found.now)) }
@@ -135,6 +152,7 @@ fn gives_streams(found: &ArgMatches<'_>) -> bool
         || found.get_str("socket").is_some()
         || found.get_str("socket-mode").is_some()
         || found.get_str("idle-timeout").is_some()
+        || found.get_str("item-size").is_some()
 }
 
 // Fronts behind one port, each in a thread.
@@ -147,6 +165,7 @@ fn some_streams(found: &ArgMatches<'_>) -> Option<StreamOptions>
     let address = listen(found)?;
     let connections = count(found, "connections", 1, 65_536, 1_024)?;
     let idle = count(found, "idle-timeout", 0, MOST_IDLE, 0)?;
+    item_size(found)?;
     Some(StreamOptions {
         ports: StreamPorts {
             port,

@@ -69,6 +69,7 @@ fn of_another_protocol(words: &[String]) -> Option<Refusal<'static>> {
         "--socket",
         "--socket-mode",
         "--idle-timeout",
+        "--item-size",
     ] {
         if gives(words, name) {
             return Some(Refusal::Apart(*name));
