@@ -1,7 +1,7 @@
 //! What is told at the start, for whoever reads the journal.
 ghost use Rattle.std.specs.Prelude.{◌≡◌};
 
-use crate::SystemFiles;
+use crate::{Machine, SystemFiles};
 use crate::proc_files::open_limit;
 use daemon_words::{
     DaemonOptions, Doors, VERSION, doors_given, long_words, question_of, read_daemon, value_given,
@@ -148,9 +148,9 @@ fn text_of<S: SystemFiles>(
     system: &S,
     long: &[String],
     verbosity: u32,
-    process: u32,
+    machine: Machine,
 ) -> Option<String> {
-    let asked = read_daemon(alloc, long).ok()?;
+    let asked = read_daemon(alloc, long, machine.processors).ok()?;
     let doors = doors_given(alloc, long, &asked.streams).ok()??;
     let sizes = ["--partitions", "--buckets", "--spares", "--words"];
     let is_sized = sizes.iter().any(|name| value_given(long, name).is_some());
@@ -163,7 +163,7 @@ fn text_of<S: SystemFiles>(
         asked: &asked,
         doors,
         memory,
-        process,
+        process: machine.process,
         allowed: open_limit(alloc, system),
         verbosity,
     };
@@ -175,13 +175,13 @@ pub fn start_text<S: SystemFiles>(
     alloc: Global,
     system: &S,
     words: &[String],
-    process: u32,
+    machine: Machine,
 ) -> Option<String> {
     if question_of(words).is_some() {
         return None;
     }
     match long_words(alloc, words) {
-        Ok(long) => text_of(alloc, system, long.as_slice(), verbosity(words), process),
+        Ok(long) => text_of(alloc, system, long.as_slice(), verbosity(words), machine),
         Err(NoMemory) => None,
     }
 }

@@ -1,6 +1,6 @@
 -- The words of fronts behind connections: their port, the first address that it is of, a Unix socket beside it or in its place, how many threads serve them, how many connections all have at most, and how long
 -- one may be silent.
-use Rattle.std.specs.Prelude.{ℕ, ◌==◌, ◌||◌, ◌&&◌, Bool, true, false, List, [], ◌∷◌, Option, Some, None, is_none, is_some, option_map, codes, if◌then◌else◌}
+use Rattle.std.specs.Prelude.{ℕ, ◌==◌, ◌||◌, ◌&&◌, Bool, true, false, List, [], ◌∷◌, min, max, Option, Some, None, is_none, is_some, option_map, codes, if◌then◌else◌}
 use Rattle.std.specs.List.{before_first, after_first, list_any}
 use Rattle.std.specs.declared.net.ipv4_addr.Ipv4Addr.{Ipv4Addr}
 use Rattle.server_words.specs.declared.limits.TheConstants.{MOST_FRONTS}
@@ -52,12 +52,20 @@ first_listed text = before_first is_comma text
 abbrev pub place_of : Text → Option (Option Ipv4Addr)
 place_of list = if list_any is_colon (first_listed list) then Some None else option_map Some (address_of (first_listed list))
 
--- the port, which is memcached's own where none is given, and how many fronts there are, each in a thread
+-- the port, which is memcached's own where none is given
 abbrev pub memcached : Setting ℕ
 memcached = number (codes "memcached") 1 65535 11211
 
-abbrev pub threads : Setting ℕ
-threads = number (codes "threads") 1 MOST_FRONTS 4
+-- how many threads there are where no number is given: as memcached's, or as many as there are processors, where these are fewer
+abbrev pub threads_for : ℕ → ℕ
+threads_for processors = max 1 (min 4 processors)
+
+-- how many fronts there are, each in a thread, beside so many processors
+abbrev pub threads_name : Text
+threads_name = codes "threads"
+
+abbrev pub threads : ℕ → Setting ℕ
+threads processors = number threads_name 1 MOST_FRONTS (threads_for processors)
 
 -- the first address that the port is of, where it is one of IPv4: the machine's own where none is given
 abbrev pub listen : Setting (Option Ipv4Addr)
@@ -84,7 +92,7 @@ item_size = record { name = codes "item-size"; meaning = amount_of MOST_ITEM_SIZ
 
 -- the names of these options
 abbrev pub stream_names : List Text
-stream_names = memcached.name ∷ threads.name ∷ listen.name ∷ connections.name ∷ socket_name ∷ socket_mode_name ∷ idle.name ∷ item_size.name ∷ []
+stream_names = memcached.name ∷ threads_name ∷ listen.name ∷ connections.name ∷ socket_name ∷ socket_mode_name ∷ idle.name ∷ item_size.name ∷ []
 
 -- there are no such fronts
 abbrev pub no_streams : StreamOptions
@@ -93,7 +101,7 @@ no_streams = record { ports = record { port = 0; has_socket = false; fronts = 0 
 -- one of the options is given that are of such fronts
 abbrev pub gives_streams : (Text → Option Text) → Bool
 gives_streams given =
-    is_some (given memcached.name) || is_some (given threads.name) || is_some (given listen.name) || is_some (given connections.name)
+    is_some (given memcached.name) || is_some (given threads_name) || is_some (given listen.name) || is_some (given connections.name)
     || is_some (given socket_name) || is_some (given socket_mode_name) || is_some (given idle.name) || is_some (given item_size.name)
 
 -- the port, and none where a socket is named, and neither a port nor an address
@@ -105,11 +113,11 @@ abbrev pub socket_given : (Text → Option Text) → Option Bool
 socket_given given = if is_none (given socket_name) && is_some (given socket_mode_name) then None else Some (is_some (given socket_name))
 
 -- fronts behind one port, a socket, or both
-abbrev pub some_streams : (Text → Option Text) → Option StreamOptions
-some_streams given =
+abbrev pub some_streams : ℕ → (Text → Option Text) → Option StreamOptions
+some_streams processors given =
     port_given given >>= λ port.
     socket_given given >>= λ socket.
-    value_of threads given >>= λ threads.
+    value_of (threads processors) given >>= λ threads.
     value_of listen given >>= λ address.
     value_of connections given >>= λ connections.
     value_of idle given >>= λ idle.
@@ -126,9 +134,9 @@ abbrev pub has_streams : (Text → Option Text) → Bool
 has_streams given = is_none (given port.name)
 
 -- where there are none, nothing is said of them
-abbrev pub streams_by : (Text → Option Text) → Bool → Option StreamOptions
-streams_by given true = some_streams given
-streams_by given false = if gives_streams given then None else Some no_streams
+abbrev pub streams_by : ℕ → (Text → Option Text) → Bool → Option StreamOptions
+streams_by processors given true = some_streams processors given
+streams_by processors given false = if gives_streams given then None else Some no_streams
 
-abbrev pub streams_given : (Text → Option Text) → Option StreamOptions
-streams_given given = streams_by given (has_streams given)
+abbrev pub streams_given : ℕ → (Text → Option Text) → Option StreamOptions
+streams_given processors given = streams_by processors given (has_streams given)

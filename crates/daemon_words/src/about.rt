@@ -18,7 +18,7 @@ it, or behind = as in --memory=1G. Defaults stand in brackets.
 
 The port for memcached's clients
   -p, --memcached PORT      the TCP port, 1 to 65535 [11211]
-  -t, --threads N           so many threads serve it, 1 to 64 [4]
+  -t, --threads N           so many threads serve it, 1 to 64 [4, or the processors where these are fewer]
   -l, --listen ADDRESSES    its addresses, with a comma between them: of IPv4, where 0.0.0.0 is every one, and of IPv6,
                             where :: is every one [127.0.0.1]
   -s, --socket PATH         a Unix socket; without -p and -l beside it there is no TCP port [none]

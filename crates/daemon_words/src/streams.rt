@@ -3,7 +3,7 @@ ghost use Rattle.std.specs.Prelude.{◌≡◌};
 ghost use Rattle.std.specs.List.{list_any};
 ghost use Rattle.clap.specs.Matches.{first_value, found_of};
 ghost use Rattle.option_words.specs.Settings.{value_of};
-ghost use Rattle.daemon_words.specs.StreamWords.{before_dot, behind_dot, first_listed, is_colon, octet_of, address_of, place_of, listen, item_size, port_given, socket_given, gives_streams, some_streams, has_streams, streams_given};
+ghost use Rattle.daemon_words.specs.StreamWords.{before_dot, behind_dot, first_listed, is_colon, octet_of, address_of, place_of, listen, item_size, threads_for, port_given, socket_given, gives_streams, some_streams, has_streams, streams_given};
 
 use crate::memory::{MOST_ITEM_SIZE, amount_of};
 use clap::ArgMatches;
@@ -141,6 +141,13 @@ fn item_size(found: &ArgMatches<'_>) -> Option<u64>
     }
 }
 
+// How many threads there are where no number is given: as memcached's, or as many as there are processors, where these are fewer.
+fn threads_for(processors: u32) -> u32
+    ensures { result ≡ threads_for processors }
+{
+    processors.min(4).max(1)
+}
+
 // Whether one of the options is given that are of such fronts.
 fn gives_streams(found: &ArgMatches<'_>) -> bool
     ensures { result ≡ gives_streams (first_value (found_of found.now)) }
@@ -156,12 +163,12 @@ fn gives_streams(found: &ArgMatches<'_>) -> bool
 }
 
 // Fronts behind one port, each in a thread.
-fn some_streams(found: &ArgMatches<'_>) -> Option<StreamOptions>
-    ensures { result ≡ some_streams (first_value (found_of found.now)) }
+fn some_streams(found: &ArgMatches<'_>, processors: u32) -> Option<StreamOptions>
+    ensures { result ≡ some_streams processors (first_value (found_of found.now)) }
 {
     let port = port_given(found)?;
     let has_socket = socket_given(found)?;
-    let fronts = count(found, "threads", 1, MOST_FRONTS, 4)?;
+    let fronts = count(found, "threads", 1, MOST_FRONTS, threads_for(processors))?;
     let address = listen(found)?;
     let connections = count(found, "connections", 1, 65_536, 1_024)?;
     let idle = count(found, "idle-timeout", 0, MOST_IDLE, 0)?;
@@ -186,11 +193,11 @@ pub(crate) fn has_streams(found: &ArgMatches<'_>) -> bool
 }
 
 /// The fronts behind connections. Where there are none, nothing may be said of them.
-pub fn streams_given(found: &ArgMatches<'_>) -> Option<StreamOptions>
-    ensures { result ≡ streams_given (first_value (found_of found.now)) }
+pub fn streams_given(found: &ArgMatches<'_>, processors: u32) -> Option<StreamOptions>
+    ensures { result ≡ streams_given processors (first_value (found_of found.now)) }
 {
     if has_streams(found) {
-        return some_streams(found);
+        return some_streams(found, processors);
     }
     if gives_streams(found) {
         return None;

@@ -9,7 +9,7 @@ use crate::host_causes::{doubt_text, refused_text};
 use crate::host_doors::Asked;
 use crate::host_files::HostFiles;
 use crate::host_start::begin;
-use daemon::{DaemonStatus, Ending, Process, Speaker, exit_code, run_daemon};
+use daemon::{DaemonStatus, Ending, Machine, Process, Speaker, exit_code, run_daemon};
 use host_outside::{StdClock, StdSink, UdpNet};
 use locked_server::Left;
 use outside::{FreeGate, NoMemory, rehearse};
@@ -19,7 +19,7 @@ use std::process::ExitCode;
 use std::rt::{Env, Files};
 use std::sync::Wait;
 use std::sync::atomic::{AtomicBool, Ordering};
-use std::thread::Threads;
+use std::thread::{Threads, available_parallelism};
 use std::{io, time};
 use tcp_connections::{Refused, TcpListeners};
 
@@ -67,15 +67,23 @@ impl Flags {
     }
 }
 
+/// How many processors there are for the process; so many as no machine has, where the system does not say it.
+pub fn processors_of<R: Threads>(rt: &R) -> u32 {
+    match available_parallelism(rt) {
+        Ok(count) => u32::try_from(count.get()).unwrap_or(u32::MAX),
+        Err(_) => u32::MAX,
+    }
+}
+
 /// What the program ends with before it serves: where it may not begin, or there is no thread for the look for signals.
 pub fn refused_on_host<R: Threads + Wait + Sync + AllocGlobal + Env + Eprint + Files + Sockets>(
     rt: &R,
-    pid: u32,
+    machine: Machine,
 ) -> Option<ExitCode>
     ensures ends { IfSome result (λ code. (words : Option (List (List ℕ))) → EndsBy words (exit_status code)) }
     ensures in_vain { IfSome result (λ code. 0 < exit_status code) }
 {
-    if !begin(rt, pid) {
+    if !begin(rt, machine) {
         return Some(exit_code(Ending::Ended(DaemonStatus::Usage)));
     }
     match rehearse(rt, rt.alloc(), 1) {
@@ -88,7 +96,7 @@ pub fn refused_on_host<R: Threads + Wait + Sync + AllocGlobal + Env + Eprint + F
 /// signal asked for its end. `main` runs it beside the look for signals: a handle that opens files goes to a thread only there.
 pub fn run_on_host<
     R: Threads + Wait + Sync + AllocGlobal + Eprint + Files + Print + Sockets + time::Clock,
->(rt: &R, args: io::Result<Args>, pid: u32, flags: &Flags, asked: Asked) -> ExitCode
+>(rt: &R, args: io::Result<Args>, machine: Machine, flags: &Flags, asked: Asked) -> ExitCode
     ensures { EndsBy (words_of string_bytes args) (exit_status result) }
 {
     let alloc = rt.alloc();
@@ -100,7 +108,8 @@ pub fn run_on_host<
         gate: &FreeGate,
         ended: &flags.ended,
         stopping: &flags.stopping,
-        pid,
+        pid: machine.process,
+        processors: machine.processors,
     };
     let mut speaker = Speaker::new(alloc, StdSink::new(io::writer(rt)));
     let mut listeners = TcpListeners::new(rt, alloc, clock, &flags.ended, &flags.stopping);

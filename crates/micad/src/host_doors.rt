@@ -17,13 +17,17 @@ pub struct Asked {
 }
 
 // What words ask for, where they give a server; and whether their doors are such.
-fn asked_by(alloc: Global, words: &[String]) -> Result<(Asked, bool), NoMemory> {
+fn asked_by(
+    alloc: Global,
+    words: &[String],
+    processors: u32,
+) -> Result<(Asked, bool), NoMemory> {
     let mut asked = Asked {
         doors: Vec::new(alloc),
         idle: 0,
     };
     let long = long_words(alloc, words)?;
-    let Ok(read) = read_daemon(alloc, long.as_slice()) else {
+    let Ok(read) = read_daemon(alloc, long.as_slice(), processors) else {
         return Ok((asked, true));
     };
     asked.idle = read.streams.idle;
@@ -43,11 +47,11 @@ fn asked_by(alloc: Global, words: &[String]) -> Result<(Asked, bool), NoMemory> 
 }
 
 /// Says so where the words name a door that is none. Whether they name none such.
-pub fn has_doors<R: Eprint>(rt: &R, alloc: Global, words: &[String]) -> bool {
+pub fn has_doors<R: Eprint>(rt: &R, alloc: Global, words: &[String], processors: u32) -> bool {
     if question_of(words).is_some() {
         return true;
     }
-    if let Ok((_, false)) = asked_by(alloc, words) {
+    if let Ok((_, false)) = asked_by(alloc, words, processors) {
         if let Ok(text) = refusal_text(alloc, words) {
             let _ = eprintln!(rt; "micad: {text}");
         }
@@ -57,8 +61,8 @@ pub fn has_doors<R: Eprint>(rt: &R, alloc: Global, words: &[String]) -> bool {
 }
 
 /// What the words ask for that the program was started with.
-pub fn asked_on_host<R: AllocGlobal + Env>(rt: &R) -> Result<Asked, NoMemory> {
+pub fn asked_on_host<R: AllocGlobal + Env>(rt: &R, processors: u32) -> Result<Asked, NoMemory> {
     let alloc = rt.alloc();
     let words = all_words(alloc, env::args(rt))?;
-    Ok(asked_by(alloc, behind_name(words.as_slice()))?.0)
+    Ok(asked_by(alloc, behind_name(words.as_slice()), processors)?.0)
 }
