@@ -9,8 +9,8 @@ overflow_mul-amount c =
     let few = units_few c.args.unit c.in_ok-count.count c.args.most c.requires within.1 in
     omega arith
 
-pub returns-then-amount-ge-least-clause-range : goal.returns-then-amount-ge-least-clause-range
-returns-then-amount-ge-least-clause-range c =
+pub returns-then-least-amount-clause-range : goal.returns-then-least-amount-clause-range
+returns-then-least-amount-clause-range c =
     let within = number_bounds 1 (c.args.most / c.args.unit) c.args.digits.now c.in_ok-count.count (sym c.in_ok-count.ensures) in
     let few = units_few c.args.unit c.in_ok-count.count c.args.most c.requires within.1 in
     (omega arith, few)
