@@ -1,8 +1,8 @@
 //! What is told at the start, for whoever reads the journal.
 ghost use Rattle.std.specs.Prelude.{◌≡◌};
 
-use crate::{Machine, SystemFiles};
 use crate::proc_files::open_limit;
+use crate::{Machine, SystemFiles};
 use daemon_words::{
     DaemonOptions, Doors, VERSION, doors_given, long_words, question_of, read_daemon, value_given,
     verbosity,

@@ -3,8 +3,8 @@
 use crate::port::{Flags, Share, Ways, share_behind};
 use connections::{Event, Input};
 use host_outside::StdClock;
-use std::io::{ErrorKind, Read, Write};
 use std::fs::Files;
+use std::io::{ErrorKind, Read, Write};
 use std::net::{Net as Sockets, SocketAddr, TcpListener, TcpStream};
 use std::os::unix::fs::PermissionsExt;
 use std::os::unix::net::{UnixListener, UnixStream};
@@ -118,7 +118,8 @@ fn each_door_leads_to_one_place(rt: HostRuntime) -> Result<(), Fail> {
             doors.push(Door::Address(local))?;
         }
         doors.push(door_at(&rt, path.as_str())?)?;
-        let Ok(mut share) = share_behind(&rt, StdClock::new(&rt), &flags, port, ways(doors, 8)) else {
+        let Ok(mut share) = share_behind(&rt, StdClock::new(&rt), &flags, port, ways(doors, 8))
+        else {
             continue;
         };
         let own = SocketAddr::from(([127, 0, 0, 1], port));
@@ -220,7 +221,8 @@ fn a_full_port_leaves_the_path_open(rt: HostRuntime) -> Result<(), Fail> {
     for port in 47_800..47_900u16 {
         let mut doors = Vec::new(rt.alloc());
         doors.push(door_at(&rt, path.as_str())?)?;
-        let Ok(mut share) = share_behind(&rt, StdClock::new(&rt), &flags, port, ways(doors, 1)) else {
+        let Ok(mut share) = share_behind(&rt, StdClock::new(&rt), &flags, port, ways(doors, 1))
+        else {
             continue;
         };
         let own = SocketAddr::from(([127, 0, 0, 1], port));

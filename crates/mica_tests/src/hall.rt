@@ -3,8 +3,8 @@
 use crate::port::{Flags, Share, shares_at};
 use connections::{Event, Input};
 use host_outside::StdClock;
-use std::io::{Read, Write};
 use std::fs::Files;
+use std::io::{Read, Write};
 use std::net::{Net as Sockets, OpenStream, TcpStream};
 use std::process::Abort;
 use std::sync::Wait;

@@ -4,9 +4,9 @@ ghost use Rattle.mica_tests.specs.Ended.{has_ended};
 
 use connections::{Broken, Connections, Event, Input, Listeners, Place};
 use outside::{Clock, Failed};
-use std::net::{Ipv4Addr, Net as Sockets, TcpListener, TcpStream};
 use std::fs::Files;
 use std::io::ErrorKind;
+use std::net::{Ipv4Addr, Net as Sockets, TcpListener, TcpStream};
 use std::process::Abort;
 use std::sync::Wait;
 use std::sync::atomic::AtomicBool;
@@ -263,7 +263,13 @@ pub(crate) fn shares_at<
     'a,
     R: AllocGlobal + Files + Sockets + Wait + Sync,
     K: Clock + Copy + Drop + Send,
->(rt: &'a R, clock: K, flags: &'a Flags, port: u16, most: u32) -> Option<(Share<'a, R, K>, Share<'a, R, K>)> {
+>(
+    rt: &'a R,
+    clock: K,
+    flags: &'a Flags,
+    port: u16,
+    most: u32,
+) -> Option<(Share<'a, R, K>, Share<'a, R, K>)> {
     let address = Ipv4Addr::LOCALHOST;
     let mut places = Vec::with_capacity(rt.alloc(), 1).ok()?;
     places.push_reserved(Place { address, port });

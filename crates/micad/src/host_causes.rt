@@ -1,10 +1,10 @@
 //! Why this machine gives no port, or no file.
 
 use daemon::{Doubt, Unbound};
+use std::alloc::Global;
 use std::fs;
 use std::io::{self, ErrorKind};
 use std::net::{Ipv4Addr, Net as Sockets, TcpListener, UdpSocket};
-use std::alloc::Global;
 use std::rt::Files;
 use tcp_connections::{Door, Refused};
 

@@ -17,11 +17,7 @@ pub struct Asked {
 }
 
 // What words ask for, where they give a server; and whether their doors are such.
-fn asked_by(
-    alloc: Global,
-    words: &[String],
-    processors: u32,
-) -> Result<(Asked, bool), NoMemory> {
+fn asked_by(alloc: Global, words: &[String], processors: u32) -> Result<(Asked, bool), NoMemory> {
     let mut asked = Asked {
         doors: Vec::new(alloc),
         idle: 0,
