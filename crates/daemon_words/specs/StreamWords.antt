@@ -98,11 +98,14 @@ stream_names = memcached.name ∷ threads_name ∷ listen.name ∷ connections.n
 abbrev pub no_streams : StreamOptions
 no_streams = record { ports = record { port = 0; has_socket = false; fronts = 0 }; address = None; connections = 0; idle = 0 }
 
--- one of the options is given that are of such fronts
+-- one of the options is given that are of a port or a socket
+abbrev pub gives_door : (Text → Option Text) → Bool
+gives_door given = is_some (given memcached.name) || is_some (given listen.name) || is_some (given socket_name) || is_some (given socket_mode_name)
+
+-- or another one that is of such fronts
 abbrev pub gives_streams : (Text → Option Text) → Bool
 gives_streams given =
-    is_some (given memcached.name) || is_some (given threads_name) || is_some (given listen.name) || is_some (given connections.name)
-    || is_some (given socket_name) || is_some (given socket_mode_name) || is_some (given idle.name) || is_some (given item_size.name)
+    gives_door given || is_some (given threads_name) || is_some (given connections.name) || is_some (given idle.name) || is_some (given item_size.name)
 
 -- the port, and none where a socket is named, and neither a port nor an address
 abbrev pub port_given : (Text → Option Text) → Option ℕ

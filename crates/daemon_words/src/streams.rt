@@ -3,7 +3,7 @@ ghost use Rattle.std.specs.Prelude.{◌≡◌};
 ghost use Rattle.std.specs.List.{list_any};
 ghost use Rattle.clap.specs.Matches.{first_value, found_of};
 ghost use Rattle.option_words.specs.Settings.{value_of};
-ghost use Rattle.daemon_words.specs.StreamWords.{before_dot, behind_dot, first_listed, is_colon, octet_of, address_of, place_of, listen, item_size, threads_for, port_given, socket_given, gives_streams, some_streams, has_streams, streams_given};
+ghost use Rattle.daemon_words.specs.StreamWords.{before_dot, behind_dot, first_listed, is_colon, octet_of, address_of, place_of, listen, item_size, threads_for, port_given, socket_given, gives_door, gives_streams, some_streams, has_streams, streams_given};
 
 use crate::memory::{MOST_ITEM_SIZE, amount_of};
 use clap::ArgMatches;
@@ -148,16 +148,23 @@ fn threads_for(processors: u32) -> u32
     processors.min(4).max(1)
 }
 
-// Whether one of the options is given that are of such fronts.
+// Whether one of the options is given that are of a port or a socket.
+fn gives_door(found: &ArgMatches<'_>) -> bool
+    ensures { result ≡ gives_door (first_value (found_of found.now)) }
+{
+    found.get_str("memcached").is_some()
+        || found.get_str("listen").is_some()
+        || found.get_str("socket").is_some()
+        || found.get_str("socket-mode").is_some()
+}
+
+// Whether one of these is given, or another one that is of such fronts.
 fn gives_streams(found: &ArgMatches<'_>) -> bool
     ensures { result ≡ gives_streams (first_value (found_of found.now)) }
 {
-    found.get_str("memcached").is_some()
+    gives_door(found)
         || found.get_str("threads").is_some()
-        || found.get_str("listen").is_some()
         || found.get_str("connections").is_some()
-        || found.get_str("socket").is_some()
-        || found.get_str("socket-mode").is_some()
         || found.get_str("idle-timeout").is_some()
         || found.get_str("item-size").is_some()
 }
