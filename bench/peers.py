@@ -116,12 +116,23 @@ def run_on(processors, *words):
     return subprocess.run([str(word) for word in words], capture_output=True, text=True, timeout=600, check=True, preexec_fn=on).stdout
 
 
-class Line:
-    """A connection that is written to and read from by whole lines and blocks."""
+def reach(door, seconds=30):
+    """A socket that is connected to a door: a port, an address with its port, or the path of a Unix socket."""
+    if isinstance(door, (str, pathlib.Path)):
+        client = socket.socket(socket.AF_UNIX)
+        client.settimeout(seconds)
+        client.connect(str(door))
+        return client
+    client = socket.create_connection(door if isinstance(door, tuple) else (HOST, door), timeout=seconds)
+    client.setsockopt(socket.IPPROTO_TCP, socket.TCP_NODELAY, 1)
+    return client
 
-    def __init__(self, port, seconds=30):
-        self.socket = socket.create_connection((HOST, port), timeout=seconds)
-        self.socket.setsockopt(socket.IPPROTO_TCP, socket.TCP_NODELAY, 1)
+
+class Line:
+    """A connection to a door that is written to and read from by whole lines and blocks."""
+
+    def __init__(self, door, seconds=30):
+        self.socket = reach(door, seconds)
         self.kept = b""
 
     def send(self, text):

@@ -1,4 +1,5 @@
 -- What a server that stays up writes, and what it leaves.
+use Rattle.std.specs.declared.net.ipv4_addr.Ipv4Addr.{Ipv4Addr}
 use Rattle.std.specs.Prelude.{◌≡◌, ◌+◌, ◌-◌, ◌<◌, ◌≤◌, ◌==◌, ◌⊎◌, ◌++◌, ◌∷◌, [], ℕ, List, length, take, codes, Option, Some, None, IfSome, Result, Ok, Err, if◌then◌else◌}
 use Rattle.std.specs.Fmt.{decimal}
 use Rattle.std.specs.Io.KnownBytes.{Appends}
@@ -18,6 +19,7 @@ use Rattle.locked_server.specs.Causes.{IsCauseOfStop, Leaves, PortFacts}
 use Rattle.daemon_words.specs.declared.streams.StreamOptions.{StreamOptions}
 use Rattle.daemon_words.specs.declared.streams.StreamPorts.{StreamPorts}
 use Rattle.daemon_words.specs.DaemonWords.{Service}
+use Rattle.daemon_words.specs.StreamWords.{address}
 use Rattle.daemon.specs.declared.status.DaemonStatus.{DaemonStatus}
 use Rattle.daemon.specs.declared.status.DaemonStatus.TheVariants.{Usage, NoMemory, NetFault, WriteFault, ImageRefused, UsedUp, Stopped}
 use Rattle.server_words.specs.Output.{SinkFacts, with_line_feed}
@@ -30,9 +32,14 @@ use Rattle.daemon.specs.Filling.{Fills, IsDueOfFile, KeepsFiles}
 abbrev pub range_text : List ℕ → ℕ → ℕ → List ℕ
 range_text before first count = if count == 0 then [] else before ++ decimal first ++ codes " to " ++ decimal (first + count - 1)
 
--- the port of connections, where there are fronts behind it
+-- a port, where there is one
+abbrev pub port_text : ℕ → List ℕ
+port_text port = if port == 0 then [] else codes " " ++ decimal port
+
+-- the port of connections, and that there is a socket, where there are fronts behind them
 abbrev pub place_text : StreamPorts → List ℕ
-place_text streams = if streams.fronts == 0 then [] else codes " memcached " ++ decimal streams.port
+place_text streams =
+    if streams.fronts == 0 then [] else codes " memcached" ++ port_text streams.port ++ (if streams.has_socket then codes " socket" else [])
 
 -- the line that says that all ports are had: those of datagrams and that of connections
 abbrev pub ready_text : PortOptions → StreamPorts → List ℕ
@@ -56,9 +63,9 @@ pub record DaemonOutside : Type 0 where
 abbrev pub daemon_outside : SinkFacts → PortFacts → List KeptSeat → ℕ → DaemonOutside
 daemon_outside sink ports tables lacked = record { sink = sink; ports = ports; tables = tables; lacked = lacked }
 
--- the line that names a port which was not had
+-- the line that names a port which was not had; with a socket alone there is none
 abbrev pub unbound_text : ℕ → List ℕ
-unbound_text port = codes "port " ++ decimal port ++ codes " not bound\n"
+unbound_text port = if port == 0 then codes "socket not bound\n" else codes "port " ++ decimal port ++ codes " not bound\n"
 
 -- What is written last, by what the server came to, and the status. The place of connections is told by its port. Totals come where it is used up,
 -- and where it was told to stop.
@@ -86,9 +93,14 @@ pub record BindsNothing (old new : DaemonOutside) : Type 0 where
   pub tables : new.tables ≡ old.tables
   pub lacked : new.lacked ≡ old.lacked
 
+-- the place of an address and a port; where its first address is none of IPv4, it has no door but those that an adapter is told apart
+abbrev pub place_at : Option Ipv4Addr → ℕ → Place
+place_at (Some address) port = record { address = address; port = port }
+place_at None port = record { address = address 0 0 0 0; port = 0 }
+
 -- the places of connections that words name: one, where there are fronts behind it
 abbrev pub places_of : StreamOptions → List Place
-places_of streams = if streams.ports.fronts == 0 then [] else record { address = streams.address; port = streams.ports.port } ∷ []
+places_of streams = if streams.ports.fronts == 0 then [] else place_at streams.address streams.ports.port ∷ []
 
 -- the listeners were told places, none of which was listened at, and how many connections all shares have together at most
 abbrev pub placed : List Place → ℕ → DaemonOutside → DaemonOutside

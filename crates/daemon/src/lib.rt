@@ -32,7 +32,7 @@ pub use free_memory::{SystemFiles, free_by};
 pub use laws::{headline, headline_at_fault, headline_at_stop};
 pub use memory_files::MemFiles;
 pub use proc_files::is_run_by;
-pub use process::{Process, Start};
+pub use process::{Machine, Process, Start};
 pub use program::{answer_or_serve, begins_above, ending_number, exit_code, run_daemon};
 pub use signals::{StopSignals, stop_signals};
 pub use speaker::{Doubt, Speaker, Unbound};

@@ -1,11 +1,25 @@
 //! The place of connections that words name.
 ghost use Rattle.std.specs.Prelude.{◌≡◌, IfOk};
-ghost use Rattle.daemon.specs.Daemon.{places_of};
+ghost use Rattle.daemon.specs.Daemon.{place_at, places_of};
 
 use connections::Place;
 use daemon_words::StreamOptions;
 use outside::NoMemory;
 use std::alloc::Global;
+use std::net::Ipv4Addr;
+
+// The place of an address and a port. Where its first address is none of IPv4, its port is 0: it has no door but those that an adapter is told apart.
+fn place_at(address: Option<Ipv4Addr>, port: u16) -> Place
+    ensures { result ≡ place_at address port }
+{
+    match address {
+        Some(address) => Place { address, port },
+        None => Place {
+            address: Ipv4Addr::UNSPECIFIED,
+            port: 0,
+        },
+    }
+}
 
 /// The place of connections, where there are fronts of these.
 pub(crate) fn places_of(alloc: Global, streams: &StreamOptions) -> Result<Vec<Place>, NoMemory>
@@ -13,10 +27,7 @@ pub(crate) fn places_of(alloc: Global, streams: &StreamOptions) -> Result<Vec<Pl
 {
     let mut places = Vec::with_capacity(alloc, 1)?;
     if streams.ports.fronts > 0 {
-        places.push_reserved(Place {
-            address: streams.address,
-            port: streams.ports.port,
-        });
+        places.push_reserved(place_at(streams.address, streams.ports.port));
     }
     Ok(places)
 }

@@ -17,6 +17,17 @@ pub struct Process<'a, W, G> {
     pub stopping: &'a AtomicBool,
     /// The number of the process.
     pub pid: u32,
+    /// How many processors there are.
+    pub processors: u32,
+}
+
+/// What a server is told of where it runs.
+#[derive(Clone, Copy)]
+pub struct Machine {
+    /// The number of the process.
+    pub process: u32,
+    /// How many processors there are for it.
+    pub processors: u32,
 }
 
 /// When a server starts.

@@ -1,7 +1,7 @@
 //! The sink of a server that stays up, with the line that it is to write once it has its ports.
 ghost use Rattle.std.specs.Prelude.{◌≡◌, ◌+◌, ◌≤◌, string_bytes, IfOk};
 ghost use Rattle.server_words.specs.PossiblePorts.{IsPossiblePorts};
-ghost use Rattle.daemon.specs.Daemon.{place_text, range_text, ready_text, unbound_text};
+ghost use Rattle.daemon.specs.Daemon.{place_text, port_text, range_text, ready_text, unbound_text};
 
 use connections::Connections;
 use daemon_words::StreamPorts;
@@ -114,15 +114,29 @@ fn range_text(alloc: Global, before: &str, first: u16, count: u32) -> Result<Str
     }
 }
 
-// The port of connections, where there are fronts behind it.
+// A port, where there is one.
+fn port_text(alloc: Global, port: u16) -> Result<String, NoMemory>
+    ensures { IfOk result (λ text. string_bytes text ≡ port_text port) }
+{
+    if port == 0 {
+        return Ok(String::new(alloc));
+    }
+    match format!(in alloc; " {port}") {
+        Ok(text) => Ok(text),
+        Err(_) => Err(NoMemory),
+    }
+}
+
+// The port of connections, and that there is a socket, where there are fronts behind them.
 fn place_text(alloc: Global, streams: &StreamPorts) -> Result<String, NoMemory>
     ensures { IfOk result (λ text. string_bytes text ≡ place_text streams.now) }
 {
     if streams.fronts == 0 {
         return Ok(String::new(alloc));
     }
-    let port = streams.port;
-    match format!(in alloc; " memcached {port}") {
+    let port = port_text(alloc, streams.port)?;
+    let socket = if streams.has_socket { " socket" } else { "" };
+    match format!(in alloc; " memcached{port}{socket}") {
         Ok(text) => Ok(text),
         Err(_) => Err(NoMemory),
     }
@@ -145,10 +159,13 @@ pub(crate) fn ready_line(
     }
 }
 
-/// The line that names a port which was not had.
+/// The line that names a port which was not had. With a socket alone there is none.
 pub(crate) fn unbound_line(alloc: Global, port: u16) -> Result<String, NoMemory>
     ensures { IfOk result (λ line. string_bytes line ≡ unbound_text port) }
 {
+    if port == 0 {
+        return Ok(String::from_str(alloc, "socket not bound\n")?);
+    }
     match format!(in alloc; "port {port} not bound\n") {
         Ok(line) => Ok(line),
         Err(_) => Err(NoMemory),

@@ -1,10 +1,11 @@
 //! What is told at the start, for whoever reads the journal.
 ghost use Rattle.std.specs.Prelude.{◌≡◌};
 
-use crate::SystemFiles;
 use crate::proc_files::open_limit;
+use crate::{Machine, SystemFiles};
 use daemon_words::{
-    DaemonOptions, VERSION, long_words, question_of, read_daemon, value_given, verbosity,
+    DaemonOptions, Doors, VERSION, doors_given, long_words, question_of, read_daemon, value_given,
+    verbosity,
 };
 use outside::NoMemory;
 use partition_model::{Mode, Options};
@@ -15,7 +16,9 @@ use std::fmt;
 // How many descriptors a server wants.
 fn descriptors_of(asked: &DaemonOptions<'_>) -> u64 {
     let fronts = u64::from(asked.streams.ports.fronts);
+    let sockets = u64::from(asked.streams.ports.has_socket);
     u64::from(asked.streams.connections)
+        .saturating_mul(sockets.saturating_add(1))
         .saturating_add(2u64.saturating_mul(fronts))
         .saturating_add(u64::from(asked.ports.fronts))
         .saturating_add(4)
@@ -30,6 +33,7 @@ fn items_of(options: &Options) -> u64 {
 #[derive(Drop)]
 struct StartText<'a> {
     asked: &'a DaemonOptions<'a>,
+    doors: Doors<'a>,
     /// As it was typed, where it was.
     memory: Option<&'a str>,
     process: u32,
@@ -70,14 +74,21 @@ impl StartText<'_> {
         if streams.ports.fronts == 0 {
             return Ok(());
         }
-        let address = streams.address;
-        let port = streams.ports.port;
+        let doors = &self.doors;
         let threads = streams.ports.fronts;
         let most = streams.connections;
         write!(
             f,
-            "micad: memcached's clients at {address}:{port}, by {threads} threads, {most} connections in all\n"
-        )
+            "micad: memcached's clients at {doors}, by {threads} threads, {most} connections in all\n"
+        )?;
+        let seconds = streams.idle;
+        if seconds > 0 {
+            write!(
+                f,
+                "micad: a connection that is silent for {seconds} seconds is closed\n"
+            )?;
+        }
+        Ok(())
     }
 
     fn write_ports<W: fmt::Write>(&self, f: &mut fmt::Formatter<W>) -> fmt::Result {
@@ -137,9 +148,10 @@ fn text_of<S: SystemFiles>(
     system: &S,
     long: &[String],
     verbosity: u32,
-    process: u32,
+    machine: Machine,
 ) -> Option<String> {
-    let asked = read_daemon(alloc, long).ok()?;
+    let asked = read_daemon(alloc, long, machine.processors).ok()?;
+    let doors = doors_given(alloc, long, &asked.streams).ok()??;
     let sizes = ["--partitions", "--buckets", "--spares", "--words"];
     let is_sized = sizes.iter().any(|name| value_given(long, name).is_some());
     let memory = if is_sized {
@@ -149,8 +161,9 @@ fn text_of<S: SystemFiles>(
     };
     let text = StartText {
         asked: &asked,
+        doors,
         memory,
-        process,
+        process: machine.process,
         allowed: open_limit(alloc, system),
         verbosity,
     };
@@ -162,13 +175,13 @@ pub fn start_text<S: SystemFiles>(
     alloc: Global,
     system: &S,
     words: &[String],
-    process: u32,
+    machine: Machine,
 ) -> Option<String> {
     if question_of(words).is_some() {
         return None;
     }
     match long_words(alloc, words) {
-        Ok(long) => text_of(alloc, system, long.as_slice(), verbosity(words), process),
+        Ok(long) => text_of(alloc, system, long.as_slice(), verbosity(words), machine),
         Err(NoMemory) => None,
     }
 }

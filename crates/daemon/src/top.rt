@@ -31,6 +31,7 @@ use partition_model::{Options, Write};
 use partition_sizes::start_bytes;
 use server_words::PortOptions;
 use std::alloc::Global;
+use std::net::Ipv4Addr;
 use std::sync::Wait;
 use std::sync::atomic::{AtomicBool, Ordering};
 use std::thread::Threads;
@@ -110,7 +111,8 @@ fn serve_aloud<W: Threads + Wait + Sync, K: Sink + Drop, N: Net, L: Listeners, G
         }
         Err(Stop::Unheard(_)) => {
             let port = streams.ports.port;
-            let unbound = Unbound::connections(streams.address, port, streams.ports.fronts);
+            let address = streams.address.unwrap_or(Ipv4Addr::UNSPECIFIED);
+            let unbound = Unbound::connections(address, port, streams.ports.fronts);
             speaker.reason = unbound_reason(shared.alloc, unbound);
             speaker.doubt = Doubt::Port(unbound);
             write_unbound(shared.alloc, port, &mut speaker.sink)
@@ -208,7 +210,7 @@ pub fn daemon<W: Threads + Wait + Sync, F: Files, K: Sink + Drop, N: Net, L: Lis
     requires net { N.binds net.old ≡ 0 }
     requires tables { left.old.tables ≡ [] }
     requires uncounted { left.old.lacked ≡ 0 }
-    ensures { KeepsUp (daemon_of (map string_bytes words.now)) start.base (files_facts F.file F.free F.faults files.old) (files_facts F.file F.free F.faults files.new)
+    ensures { KeepsUp (daemon_of process.now.processors (map string_bytes words.now)) start.base (files_facts F.file F.free F.faults files.old) (files_facts F.file F.free F.faults files.new)
         (daemon_outside (sink_facts K.Sink speaker.old.sink) (ports_at N.Net L.Listeners net.old listeners.old) left.old.tables left.old.lacked)
         (daemon_outside (sink_facts K.Sink speaker.new.sink) (ports_at N.Net L.Listeners net.new listeners.new) left.new.tables left.new.lacked) result }
 {
@@ -217,7 +219,7 @@ pub fn daemon<W: Threads + Wait + Sync, F: Files, K: Sink + Drop, N: Net, L: Lis
         ports,
         streams,
         image,
-    } = match read_daemon(process.alloc, words) {
+    } = match read_daemon(process.alloc, words, process.processors) {
         Ok(read) => read,
         Err(WordsFault::Usage) => return DaemonStatus::Usage,
         Err(WordsFault::NoMemory) => return DaemonStatus::NoMemory,

@@ -17,7 +17,7 @@ use Rattle.option_words.specs.declared.words_fault.WordsFault.TheVariants.{Usage
 use Rattle.option_words.specs.Words.{Text, given_by, text_of}
 use Rattle.option_words.specs.Settings.{mode, tries, port, value_of, ◌>>=◌}
 use Rattle.daemon_words.specs.Memory.{memory_of}
-use Rattle.daemon_words.specs.StreamWords.{memcached, threads, listen, connections, item_size, no_streams, gives_streams, some_streams, streams_by, streams_given}
+use Rattle.daemon_words.specs.StreamWords.{threads_name, threads_for, threads, listen, connections, idle, item_size, port_given, socket_given, no_streams, gives_streams, some_streams, streams_by, streams_given}
 use Rattle.daemon_words.specs.DaemonWords.{Service, partitions, buckets, spares, words, wear, memory_name, sizes_by_words, sizes_by, sizes_given, mode_given, service_options, image_name, fronts, lasting_ports, no_ports, ports_by, ports_given, may_fill, daemon_names, daemon_given, daemon_of, gives_size, ArePossibleFronts, IsDaemonReading}
 use Rattle.option_words.proofs.ValueLemmas.{both_told, value_bounds, power_value, one_kilo, required_bounds}
 use Rattle.daemon_words.proofs.MemoryLemmas.{amounts_within}
@@ -106,16 +106,18 @@ lasting_valid given ports is =
     })
 
 -- of connections
-some_streams_valid : (given : Text → Option Text) (streams : StreamOptions) → some_streams given ≡ Some streams → InRange 1 MOST_FRONTS streams.ports.fronts
-some_streams_valid given streams is =
-    let p = both_told (value_of memcached given) _ streams is in
-    let f = both_told (value_of threads given) _ streams p.2 in
+some_streams_valid : (processors : ℕ) (given : Text → Option Text) (streams : StreamOptions) → some_streams processors given ≡ Some streams → InRange 1 MOST_FRONTS streams.ports.fronts
+some_streams_valid processors given streams is =
+    let p = both_told (port_given given) _ streams is in
+    let k = both_told (socket_given given) _ streams p.2 in
+    let f = both_told (value_of (threads processors) given) _ streams k.2 in
     let l = both_told (value_of listen given) _ streams f.2 in
     let c = both_told (value_of connections given) _ streams l.2 in
-    let i = both_told (value_of item_size given) _ streams c.2 in
-    let made : StreamOptions = record { ports = record { port = p.0; fronts = f.0 }; address = l.0; connections = c.0 } in
+    let e = both_told (value_of idle given) _ streams c.2 in
+    let i = both_told (value_of item_size given) _ streams e.2 in
+    let made : StreamOptions = record { ports = record { port = p.0; has_socket = k.0; fronts = f.0 }; address = l.0; connections = c.0; idle = e.0 } in
     subst (λ (s : StreamOptions). InRange 1 MOST_FRONTS s.ports.fronts) (ap (λ o. unwrap_or o made) i.2)
-    (value_bounds threads.name 1 MOST_FRONTS 4 (given threads.name) f.0 (omega arith, omega arith) f.1)
+    (value_bounds threads_name 1 MOST_FRONTS (threads_for processors) (given threads_name) f.0 (omega arith, omega arith) f.1)
 
 streams_alone : (streams : StreamOptions) → InRange 1 MOST_FRONTS streams.ports.fronts → ArePossibleFronts no_ports streams.ports
 streams_alone streams few = record {
@@ -131,20 +133,20 @@ unless_given true made a none = absurd (none-some a none)
 unless_given false made a same = ap (λ o. unwrap_or o made) same
 
 -- the ports of one protocol, by whether its first port is one of datagrams
-ports_valid : (given : Text → Option Text) (first : Option Text) (ports : PortOptions) (streams : StreamOptions) → ports_by given first ≡ Some ports
-    → streams_by given (is_none first) ≡ Some streams → ArePossibleFronts ports streams.ports
-ports_valid given None ports streams p s =
-    subst (λ (o : PortOptions). ArePossibleFronts o streams.ports) (unless_given (is_some (given fronts.name)) no_ports ports p) (streams_alone streams (some_streams_valid given streams s))
-ports_valid given (Some text) ports streams p s =
+ports_valid : (processors : ℕ) (given : Text → Option Text) (first : Option Text) (ports : PortOptions) (streams : StreamOptions) → ports_by given first ≡ Some ports
+    → streams_by processors given (is_none first) ≡ Some streams → ArePossibleFronts ports streams.ports
+ports_valid processors given None ports streams p s =
+    subst (λ (o : PortOptions). ArePossibleFronts o streams.ports) (unless_given (is_some (given fronts.name)) no_ports ports p) (streams_alone streams (some_streams_valid processors given streams s))
+ports_valid processors given (Some text) ports streams p s =
     subst (λ (o : StreamOptions). ArePossibleFronts ports o.ports) (unless_given (gives_streams given) no_streams streams s) (lasting_valid given ports p)
 
-pub service_valid : (given : Text → Option Text) (service : Service) → daemon_given given ≡ Some service → IsPossible service.options × ArePossibleFronts service.ports service.streams.ports
-service_valid given service is =
+pub service_valid : (processors : ℕ) (given : Text → Option Text) (service : Service) → daemon_given processors given ≡ Some service → IsPossible service.options × ArePossibleFronts service.ports service.streams.ports
+service_valid processors given service is =
     let o = both_told (service_options given) _ service is in
     let p = both_told (ports_given given) _ service o.2 in
-    let s = both_told (streams_given given) _ service p.2 in
+    let s = both_told (streams_given processors given) _ service p.2 in
     let made : Service = record { options = o.0; ports = p.0; streams = s.0; image = given image_name } in
-    told made (may_fill o.0.mode (given image_name)) (service_possible given o.0 o.1) (ports_valid given (given port.name) p.0 s.0 p.1 s.1) s.2
+    told made (may_fill o.0.mode (given image_name)) (service_possible given o.0 o.1) (ports_valid processors given (given port.name) p.0 s.0 p.1 s.1) s.2
   where
     told : (made : Service) (fills : Bool) → IsPossible made.options → ArePossibleFronts made.ports made.streams.ports
         → (if fills then Some made else None) ≡ Some service → IsPossible service.options × ArePossibleFronts service.ports service.streams.ports
@@ -152,7 +154,7 @@ service_valid given service is =
     told made false o p none = absurd (none-some service none)
 
 -- words that give nothing to the options give no such server
-pub daemon_none : (known : List Text) → known ≡ daemon_names → (words : List Text) (fault : WordsFault) → (fault ≡ Usage → given_by known words ≡ None)
-    → IsDaemonReading (daemon_of words) (Err fault)
-daemon_none known same typed Usage none = ap (λ r. r >>= λ given. daemon_given (text_of given)) (ap (λ n. given_by n typed) (sym same) ∙ none refl)
-daemon_none known same typed NoMemory none = tt
+pub daemon_none : (processors : ℕ) (known : List Text) → known ≡ daemon_names → (words : List Text) (fault : WordsFault) → (fault ≡ Usage → given_by known words ≡ None)
+    → IsDaemonReading (daemon_of processors words) (Err fault)
+daemon_none processors known same typed Usage none = ap (λ r. r >>= λ given. daemon_given processors (text_of given)) (ap (λ n. given_by n typed) (sym same) ∙ none refl)
+daemon_none processors known same typed NoMemory none = tt

@@ -126,18 +126,18 @@ abbrev pub may_fill : Mode → Option Text → Bool
 may_fill Store image = true
 may_fill Cache image = is_none image
 
-abbrev pub daemon_given : (Text → Option Text) → Option Service
-daemon_given given =
+abbrev pub daemon_given : ℕ → (Text → Option Text) → Option Service
+daemon_given processors given =
     service_options given >>= λ options.
     ports_given given >>= λ ports.
-    streams_given given >>= λ streams.
+    streams_given processors given >>= λ streams.
     if may_fill options.mode (given image_name)
     then Some (record { options = options; ports = ports; streams = streams; image = given image_name })
     else None
 
--- what words give
-abbrev pub daemon_of : List Text → Option Service
-daemon_of words = read_as daemon_names daemon_given words
+-- what words give beside so many processors
+abbrev pub daemon_of : ℕ → List Text → Option Service
+daemon_of processors words = read_as daemon_names (daemon_given processors) words
 
 -- of what was read
 abbrev pub service_of : DaemonOptions → Service

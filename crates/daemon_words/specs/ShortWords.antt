@@ -33,6 +33,13 @@ spelt_for_items word =
     else (if bytes_eq word (codes "-M") then (codes "--mode=store" ∷ [], Nothing)
     else spelt_plainly word))
 
+-- what a word stands for that names a door
+abbrev pub spelt_for_doors : Text → List Text × Waiting
+spelt_for_doors word =
+    if bytes_eq word (codes "-s") then (codes "--socket" ∷ [], Value)
+    else (if bytes_eq word (codes "-a") then (codes "--socket-mode" ∷ [], Value)
+    else spelt_for_items word)
+
 -- what a word stands for that is no value, and what the next one is
 abbrev pub spelt : Text → List Text × Waiting
 spelt word =
@@ -40,7 +47,7 @@ spelt word =
     else (if bytes_eq word (codes "-c") then (codes "--connections" ∷ [], Value)
     else (if bytes_eq word (codes "-l") then (codes "--listen" ∷ [], Value)
     else (if bytes_eq word (codes "-t") then (codes "--threads" ∷ [], Value)
-    else spelt_for_items word)))
+    else spelt_for_doors word)))
 
 -- no option takes this word
 abbrev pub untaken : List Text

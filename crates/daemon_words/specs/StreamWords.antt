@@ -1,8 +1,10 @@
--- The words of fronts behind connections: their port, the address that it is of, how many threads serve it, and how many connections all have at most.
-use Rattle.std.specs.Prelude.{ℕ, ◌==◌, ◌||◌, Bool, true, false, List, [], ◌∷◌, Option, Some, None, is_none, is_some, codes, if◌then◌else◌}
-use Rattle.std.specs.List.{before_first, after_first}
+-- The words of fronts behind connections: their port, the first address that it is of, a Unix socket beside it or in its place, how many threads serve them, how many connections all have at most, and how long
+-- one may be silent.
+use Rattle.std.specs.Prelude.{ℕ, ◌==◌, ◌||◌, ◌&&◌, Bool, true, false, List, [], ◌∷◌, min, max, Option, Some, None, is_none, is_some, option_map, codes, if◌then◌else◌}
+use Rattle.std.specs.List.{before_first, after_first, list_any}
 use Rattle.std.specs.declared.net.ipv4_addr.Ipv4Addr.{Ipv4Addr}
 use Rattle.server_words.specs.declared.limits.TheConstants.{MOST_FRONTS}
+use Rattle.daemon_words.specs.declared.streams.TheConstants.{MOST_IDLE}
 use Rattle.daemon_words.specs.declared.streams.StreamOptions.{StreamOptions}
 use Rattle.daemon_words.specs.declared.memory.TheConstants.{MOST_ITEM_SIZE}
 use Rattle.daemon_words.specs.Memory.{amount_of}
@@ -35,20 +37,54 @@ address_of text =
     octet_of (behind_dot (behind_dot (behind_dot text))) >>= λ d.
     Some (address a b c d)
 
--- the port, which is memcached's own where none is given, and how many fronts there are, each in a thread
+abbrev pub is_comma : ℕ → Bool
+is_comma x = x == 44
+
+abbrev pub is_colon : ℕ → Bool
+is_colon x = x == 58
+
+-- the text before the first comma, or all of it where there is none
+abbrev pub first_listed : Text → Text
+first_listed text = before_first is_comma text
+
+-- The address of the place by a list of addresses: the first of them, where it is one of IPv4. One with a colon is of IPv6, or stands before its port. What it is, and
+-- what else is listed, an adapter is told apart.
+abbrev pub place_of : Text → Option (Option Ipv4Addr)
+place_of list = if list_any is_colon (first_listed list) then Some None else option_map Some (address_of (first_listed list))
+
+-- the port, which is memcached's own where none is given
 abbrev pub memcached : Setting ℕ
 memcached = number (codes "memcached") 1 65535 11211
 
-abbrev pub threads : Setting ℕ
-threads = number (codes "threads") 1 MOST_FRONTS 4
+-- how many threads there are where no number is given: as memcached's, or as many as there are processors, where these are fewer
+abbrev pub threads_for : ℕ → ℕ
+threads_for processors = max 1 (min 4 processors)
 
--- the address that the port is of, which is the machine's own where none is given
-abbrev pub listen : Setting Ipv4Addr
-listen = record { name = codes "listen"; meaning = address_of; default = Some (address 127 0 0 1) }
+-- how many fronts there are, each in a thread, beside so many processors
+abbrev pub threads_name : Text
+threads_name = codes "threads"
+
+abbrev pub threads : ℕ → Setting ℕ
+threads processors = number threads_name 1 MOST_FRONTS (threads_for processors)
+
+-- the first address that the port is of, where it is one of IPv4: the machine's own where none is given
+abbrev pub listen : Setting (Option Ipv4Addr)
+listen = record { name = codes "listen"; meaning = place_of; default = Some (Some (address 127 0 0 1)) }
 
 -- the most connections that all fronts have together at a time
 abbrev pub connections : Setting ℕ
 connections = number (codes "connections") 1 65536 1024
+
+-- the options that name a Unix socket, and who may come there
+abbrev pub socket_name : Text
+socket_name = codes "socket"
+
+abbrev pub socket_mode_name : Text
+socket_mode_name = codes "socket-mode"
+
+-- how many seconds a connection may be silent, where that is not 0
+abbrev pub idle : Setting ℕ
+idle = number (codes "idle-timeout") 0 MOST_IDLE 0
 
 -- the longest value that is taken: a bound below that of the protocol is not served, so it is this one
 abbrev pub item_size : Setting ℕ
@@ -56,34 +92,54 @@ item_size = record { name = codes "item-size"; meaning = amount_of MOST_ITEM_SIZ
 
 -- the names of these options
 abbrev pub stream_names : List Text
-stream_names = memcached.name ∷ threads.name ∷ listen.name ∷ connections.name ∷ item_size.name ∷ []
+stream_names = memcached.name ∷ threads_name ∷ listen.name ∷ connections.name ∷ socket_name ∷ socket_mode_name ∷ idle.name ∷ item_size.name ∷ []
 
 -- there are no such fronts
 abbrev pub no_streams : StreamOptions
-no_streams = record { ports = record { port = 0; fronts = 0 }; address = address 127 0 0 1; connections = 0 }
+no_streams = record { ports = record { port = 0; has_socket = false; fronts = 0 }; address = None; connections = 0; idle = 0 }
 
--- one of the options is given that are of such fronts
+-- one of the options is given that are of a port or a socket
+abbrev pub gives_door : (Text → Option Text) → Bool
+gives_door given = is_some (given memcached.name) || is_some (given listen.name) || is_some (given socket_name) || is_some (given socket_mode_name)
+
+-- or another one that is of such fronts
 abbrev pub gives_streams : (Text → Option Text) → Bool
-gives_streams given = is_some (given memcached.name) || is_some (given threads.name) || is_some (given listen.name) || is_some (given connections.name) || is_some (given item_size.name)
+gives_streams given =
+    gives_door given || is_some (given threads_name) || is_some (given connections.name) || is_some (given idle.name) || is_some (given item_size.name)
 
--- fronts behind one port
-abbrev pub some_streams : (Text → Option Text) → Option StreamOptions
-some_streams given =
-    value_of memcached given >>= λ port.
-    value_of threads given >>= λ threads.
+-- the port, and none where a socket is named, and neither a port nor an address
+abbrev pub port_given : (Text → Option Text) → Option ℕ
+port_given given = if is_some (given socket_name) && is_none (given memcached.name) && is_none (given listen.name) then Some 0 else value_of memcached given
+
+-- whether a socket is named, without which it has no mode
+abbrev pub socket_given : (Text → Option Text) → Option Bool
+socket_given given = if is_none (given socket_name) && is_some (given socket_mode_name) then None else Some (is_some (given socket_name))
+
+-- fronts behind one port, a socket, or both
+abbrev pub some_streams : ℕ → (Text → Option Text) → Option StreamOptions
+some_streams processors given =
+    port_given given >>= λ port.
+    socket_given given >>= λ socket.
+    value_of (threads processors) given >>= λ threads.
     value_of listen given >>= λ address.
     value_of connections given >>= λ connections.
+    value_of idle given >>= λ idle.
     value_of item_size given >>= λ longest.
-    Some (record { ports = record { port = port; fronts = threads }; address = address; connections = connections })
+    Some (record {
+      ports = record { port = port; has_socket = socket; fronts = threads };
+      address = address;
+      connections = connections;
+      idle = idle;
+    })
 
 -- a server is of one protocol: there are such fronts where no port of datagrams is given
 abbrev pub has_streams : (Text → Option Text) → Bool
 has_streams given = is_none (given port.name)
 
 -- where there are none, nothing is said of them
-abbrev pub streams_by : (Text → Option Text) → Bool → Option StreamOptions
-streams_by given true = some_streams given
-streams_by given false = if gives_streams given then None else Some no_streams
+abbrev pub streams_by : ℕ → (Text → Option Text) → Bool → Option StreamOptions
+streams_by processors given true = some_streams processors given
+streams_by processors given false = if gives_streams given then None else Some no_streams
 
-abbrev pub streams_given : (Text → Option Text) → Option StreamOptions
-streams_given given = streams_by given (has_streams given)
+abbrev pub streams_given : ℕ → (Text → Option Text) → Option StreamOptions
+streams_given processors given = streams_by processors given (has_streams given)

@@ -18,9 +18,14 @@ it, or behind = as in --memory=1G. Defaults stand in brackets.
 
 The port for memcached's clients
   -p, --memcached PORT      the TCP port, 1 to 65535 [11211]
-  -t, --threads N           so many threads serve it, 1 to 64 [4]
-  -l, --listen ADDRESS      its IPv4 address; 0.0.0.0 is every one [127.0.0.1]
-  -c, --connections N       the most connections of all threads together, 1 to 65536 [1024]
+  -t, --threads N           so many threads serve it, 1 to 64 [4, or the processors where these are fewer]
+  -l, --listen ADDRESSES    its addresses, with a comma between them: of IPv4, where 0.0.0.0 is every one, and of IPv6,
+                            where :: is every one [127.0.0.1]
+  -s, --socket PATH         a Unix socket; without -p and -l beside it there is no TCP port [none]
+  -a, --socket-mode MODE    who may come there, in octal [700]
+  -c, --connections N       the most connections over TCP, and as many over the socket, 1 to 65536 [1024]
+      --idle-timeout SECONDS
+                            closes a connection that is silent for so long, 1 to 2592000 [0: never]
   -U 0                      no port of memcached's datagrams, which there is not in any case
 
 Ports for batches of requests

@@ -14,14 +14,14 @@ static FOREIGN: [Foreign; 31] = [
         instead: "it stays in the foreground: take Type=exec of a unit, or & of a shell",
     },
     Foreign {
-        short: "-s",
+        short: "--unix-socket",
         long: "--unix-socket",
-        instead: "there are no Unix sockets: take -l and -p",
+        instead: "take --socket PATH, or -s",
     },
     Foreign {
-        short: "-a",
+        short: "--unix-mask",
         long: "--unix-mask",
-        instead: "there are no Unix sockets: take -l and -p",
+        instead: "take --socket-mode MODE, or -a",
     },
     Foreign {
         short: "-A",
@@ -71,7 +71,7 @@ static FOREIGN: [Foreign; 31] = [
     Foreign {
         short: "-o",
         long: "--extended",
-        instead: "none of these settings has a part here: leave it out",
+        instead: "take --idle-timeout SECONDS for idle_timeout; the others have no part here: leave them out",
     },
     Foreign {
         short: "-f",

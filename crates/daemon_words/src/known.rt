@@ -1,7 +1,8 @@
 //! The options of `micad`, for whoever is told which words it knows.
 
+use crate::doors::{are_listed, mode_of};
 use crate::memory::memory_of;
-use crate::streams::{address_of, item_size_of};
+use crate::streams::{MOST_IDLE, item_size_of};
 use option_words::number_of;
 use partition_model::{MOST_PARTITIONS, MOST_SPARES, MOST_WEAR, MOST_WORDS};
 use server_words::MOST_FRONTS;
@@ -16,8 +17,12 @@ pub(crate) enum Values {
     PowerOfTwo(u64),
     Memory,
     ItemSize,
-    Address,
+    /// Addresses with a comma between each and the next.
+    Addresses,
     File,
+    /// The path of a socket, and who may come there.
+    Path,
+    Octal,
     /// The number that says that there is no port of memcached's datagrams.
     NoPort,
     User,
@@ -35,8 +40,10 @@ impl Values {
             },
             Values::Memory => memory_of(text).is_some(),
             Values::ItemSize => item_size_of(text).is_some(),
-            Values::Address => address_of(text).is_some(),
+            Values::Addresses => are_listed(text),
+            Values::Octal => mode_of(text).is_some(),
             Values::File => true,
+            Values::Path => !text.is_empty(),
             Values::NoPort => text == "0",
             Values::User => true,
         }
@@ -49,13 +56,16 @@ impl Values {
             Values::Number(what, _, _) => match *what {
                 "a port" => "11211",
                 "a port of datagrams" => "9000",
+                "a number of seconds" => "600",
                 _ => "1024",
             },
             Values::PowerOfTwo(_) => "1024",
             Values::Memory => "1G",
             Values::ItemSize => "1M",
-            Values::Address => "127.0.0.1",
+            Values::Addresses => "127.0.0.1",
+            Values::Octal => "700",
             Values::File => "items.image",
+            Values::Path => "/run/micad.sock",
             Values::NoPort => "0",
             Values::User => "memcache",
         }
@@ -74,10 +84,12 @@ impl fmt::Display for Values {
             Values::ItemSize => f.write_str(
                 "every value of up to 1M is taken, and no shorter bound is served: give 1M, or leave it out",
             ),
-            Values::Address => f.write_str(
-                "it is one IPv4 address, as 127.0.0.1 or 0.0.0.0; names and IPv6 are not taken",
+            Values::Addresses => f.write_str(
+                "it is addresses with a comma between them, as 127.0.0.1,::1 or 0.0.0.0,[::]:11211; names and * are not taken",
             ),
+            Values::Octal => f.write_str("it is a mode in octal, 0 to 777, as 700"),
             Values::File => f.write_str("it is a file"),
+            Values::Path => f.write_str("it is the path of a socket"),
             Values::NoPort => f.write_str(
                 "memcached's clients are served over TCP alone, so it is 0",
             ),
@@ -87,13 +99,16 @@ impl fmt::Display for Values {
 }
 
 /// The long names of all options, and of questions.
-pub(crate) static NAMES: [&str; 18] = [
+pub(crate) static NAMES: [&str; 21] = [
     "--mode",
     "--memcached",
     "--memory",
     "--threads",
     "--listen",
     "--connections",
+    "--socket",
+    "--socket-mode",
+    "--idle-timeout",
     "--item-size",
     "--port",
     "--fronts",
@@ -115,7 +130,10 @@ pub(crate) fn values_of(name: &str) -> Option<Values> {
         "--memcached" => Some(Values::Number("a port", 1, 65_535)),
         "--memory" => Some(Values::Memory),
         "--threads" => Some(Values::Number("it", 1, u64::from(MOST_FRONTS))),
-        "--listen" => Some(Values::Address),
+        "--listen" => Some(Values::Addresses),
+        "--socket" => Some(Values::Path),
+        "--socket-mode" => Some(Values::Octal),
+        "--idle-timeout" => Some(Values::Number("a number of seconds", 0, u64::from(MOST_IDLE))),
         "--connections" => Some(Values::Number("it", 1, 65_536)),
         "--item-size" => Some(Values::ItemSize),
         "--port" => Some(Values::Number("a port of datagrams", 1_024, 65_000)),
@@ -138,6 +156,8 @@ pub(crate) fn long_of(name: &str) -> &str {
         "-l" => "--listen",
         "-c" => "--connections",
         "-t" => "--threads",
+        "-s" => "--socket",
+        "-a" => "--socket-mode",
         "-m" => "--memory",
         "-M" => "--mode",
         "-I" => "--item-size",

@@ -7,6 +7,7 @@
 
 mod about;
 mod at_start;
+mod doors;
 mod foreign;
 mod known;
 mod memory;
@@ -20,6 +21,7 @@ mod wrong_word;
 
 pub use about::{VERSION, answer_to};
 pub use at_start::verbosity;
+pub use doors::{Doors, doors_given};
 pub use options::{DaemonOptions, read_daemon};
 pub use question::{Question, question_of};
 pub use refusal::refusal_text;

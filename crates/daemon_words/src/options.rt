@@ -18,13 +18,13 @@ pub struct DaemonOptions<'a> {
     pub options: Options,
     /// The ports of datagrams: none beside ports of connections.
     pub ports: PortOptions,
-    /// The port of connections: none beside ports of datagrams.
+    /// The port of connections and their socket: none beside ports of datagrams.
     pub streams: StreamOptions,
     /// The file whose image fills the store.
     pub image: Option<&'a str>,
 }
 
-static DAEMON_OPTIONS: [&str; 16] = [
+static DAEMON_OPTIONS: [&str; 19] = [
     "mode",
     "partitions",
     "buckets",
@@ -40,6 +40,9 @@ static DAEMON_OPTIONS: [&str; 16] = [
     "threads",
     "listen",
     "connections",
+    "socket",
+    "socket-mode",
+    "idle-timeout",
     "item-size",
 ];
 
@@ -139,12 +142,12 @@ fn ports_given(found: &ArgMatches<'_>) -> Option<PortOptions>
 }
 
 // What a server that stays up is to do, by the texts of its options. An image fills a store, and no cache.
-fn daemon_options<'a>(found: &ArgMatches<'a>) -> Option<DaemonOptions<'a>>
-    ensures { option_map service_of result ≡ daemon_given (first_value (found_of found.now)) }
+fn daemon_options<'a>(found: &ArgMatches<'a>, processors: u32) -> Option<DaemonOptions<'a>>
+    ensures { option_map service_of result ≡ daemon_given processors (first_value (found_of found.now)) }
 {
     let options = service_options(found)?;
     let ports = ports_given(found)?;
-    let streams = streams_given(found)?;
+    let streams = streams_given(found, processors)?;
     let image = found.get_str("image");
     if options.mode == Mode::Cache && image.is_some() {
         return None;
@@ -157,12 +160,16 @@ fn daemon_options<'a>(found: &ArgMatches<'a>) -> Option<DaemonOptions<'a>>
     })
 }
 
-/// The partitions, the ports and the image that the words after the program's name give.
-pub fn read_daemon<'a>(alloc: Global, words: &'a [String]) -> Result<DaemonOptions<'a>, WordsFault>
-    ensures { IsDaemonReading (daemon_of (map string_bytes words.entry.now)) result }
+/// The partitions, the ports and the image that the words after the program's name give on a machine with so many processors.
+pub fn read_daemon<'a>(
+    alloc: Global,
+    words: &'a [String],
+    processors: u32,
+) -> Result<DaemonOptions<'a>, WordsFault>
+    ensures { IsDaemonReading (daemon_of processors (map string_bytes words.entry.now)) result }
 {
     let found = matches_of(alloc, "micad", DAEMON_OPTIONS.as_slice(), words)?;
-    match daemon_options(&found) {
+    match daemon_options(&found, processors) {
         Some(options) => Ok(options),
         None => Err(WordsFault::Usage),
     }

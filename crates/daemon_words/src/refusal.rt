@@ -30,6 +30,10 @@ pub(crate) enum Refusal<'a> {
     /// An option of memcached's clients beside a port of datagrams.
     Apart(&'static str),
     FrontsAlone,
+    /// The mode of a socket that is not named.
+    ModeAlone,
+    /// An address of another port than the server's.
+    OtherPort(&'a str),
     NoMode,
     ImageInCache,
 }
@@ -71,6 +75,11 @@ impl fmt::Display for Refusal<'_> {
             ),
             Refusal::FrontsAlone => f.write_str(
                 "--fronts wants --port PORT beside it; memcached's clients want --threads",
+            ),
+            Refusal::ModeAlone => f.write_str("--socket-mode wants --socket PATH beside it"),
+            Refusal::OtherPort(address) => write!(
+                f,
+                "--listen {address}: a server has one port, --memcached's: leave the port out, or start one server for each"
             ),
             Refusal::NoMode => f.write_str(
                 "--port is of batches over UDP and wants --mode cache or --mode store beside it; memcached's clients want -p",

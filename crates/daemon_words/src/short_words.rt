@@ -2,7 +2,7 @@
 ghost use Rattle.std.specs.Prelude.{◌≡◌, ◌++◌, ◌∷◌, [], map, string_bytes, codes, IfOk, OnOk, if◌then◌else◌};
 ghost use Rattle.std.specs.List.{list_any};
 ghost use Rattle.option_words.specs.Words.{begins_with_hyphen, is_equals_sign};
-ghost use Rattle.daemon_words.specs.ShortWords.{wants_value, spelt_plainly, spelt_for_items, spelt, untaken, step, left_over, long_words};
+ghost use Rattle.daemon_words.specs.ShortWords.{wants_value, spelt_plainly, spelt_for_items, spelt_for_doors, spelt, untaken, step, left_over, long_words};
 
 use outside::NoMemory;
 use std::alloc::Global;
@@ -91,6 +91,17 @@ fn spell_for_items(alloc: Global, long: &mut Vec<String>, word: &str) -> Result<
     }
 }
 
+// Adds what a word stands for that names a door.
+fn spell_for_doors(alloc: Global, long: &mut Vec<String>, word: &str) -> Result<Waiting, NoMemory>
+    ensures { IfOk result (λ next. (map string_bytes long.new.items ≡ map string_bytes long.old.items ++ (spelt_for_doors word.now).0) × (next ≡ (spelt_for_doors word.now).1)) }
+{
+    match word {
+        "-s" => add_before(alloc, long, "--socket", Waiting::Value),
+        "-a" => add_before(alloc, long, "--socket-mode", Waiting::Value),
+        _ => spell_for_items(alloc, long, word),
+    }
+}
+
 // Adds what a word stands for that is no value.
 fn spell(alloc: Global, long: &mut Vec<String>, word: &str) -> Result<Waiting, NoMemory>
     ensures { IfOk result (λ next. (map string_bytes long.new.items ≡ map string_bytes long.old.items ++ (spelt word.now).0) × (next ≡ (spelt word.now).1)) }
@@ -100,7 +111,7 @@ fn spell(alloc: Global, long: &mut Vec<String>, word: &str) -> Result<Waiting, N
         "-c" => add_before(alloc, long, "--connections", Waiting::Value),
         "-l" => add_before(alloc, long, "--listen", Waiting::Value),
         "-t" => add_before(alloc, long, "--threads", Waiting::Value),
-        _ => spell_for_items(alloc, long, word),
+        _ => spell_for_doors(alloc, long, word),
     }
 }
 

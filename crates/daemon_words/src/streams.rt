@@ -1,8 +1,9 @@
 //! The words of fronts behind connections.
 ghost use Rattle.std.specs.Prelude.{◌≡◌};
+ghost use Rattle.std.specs.List.{list_any};
 ghost use Rattle.clap.specs.Matches.{first_value, found_of};
 ghost use Rattle.option_words.specs.Settings.{value_of};
-ghost use Rattle.daemon_words.specs.StreamWords.{before_dot, behind_dot, octet_of, address_of, listen, item_size, gives_streams, some_streams, has_streams, streams_given};
+ghost use Rattle.daemon_words.specs.StreamWords.{before_dot, behind_dot, first_listed, is_colon, octet_of, address_of, place_of, listen, item_size, threads_for, port_given, socket_given, gives_door, gives_streams, some_streams, has_streams, streams_given};
 
 use crate::memory::{MOST_ITEM_SIZE, amount_of};
 use clap::ArgMatches;
@@ -10,19 +11,25 @@ use option_words::{count, number_of};
 use server_words::MOST_FRONTS;
 use std::net::Ipv4Addr;
 
-/// A port of connections, and how many fronts share it, each in a thread. There may be none.
+/// The most seconds for which a connection may be silent: a month.
+pub(crate) const MOST_IDLE: u32 = 2_592_000;
+
+/// The port of connections, where it is not 0, whether there is a Unix socket too, and how many fronts share them, each in a thread. There may be none.
 #[derive(Clone, Copy)]
 pub struct StreamPorts {
     pub port: u16,
+    pub has_socket: bool,
     pub fronts: u32,
 }
 
-/// The fronts behind connections: their port, the address that it is of, and the most connections that all have together at a time.
+/// The fronts behind connections: their port; the first address that it is of, where that is one of IPv4; the most connections that all have together at a time, over TCP and
+/// over the socket; and how many seconds one may be silent, where that is not 0.
 #[derive(Clone, Copy)]
 pub struct StreamOptions {
     pub ports: StreamPorts,
-    pub address: Ipv4Addr,
+    pub address: Option<Ipv4Addr>,
     pub connections: u32,
+    pub idle: u32,
 }
 
 // The text before the first dot and the text behind it: all and nothing where there is none.
@@ -52,14 +59,70 @@ pub(crate) fn address_of(text: &str) -> Option<Ipv4Addr>
     Some(Ipv4Addr::new(octet_of(a)?, octet_of(b)?, octet_of(c)?, octet_of(d)?))
 }
 
-// The address that the port is of.
-fn listen(found: &ArgMatches<'_>) -> Option<Ipv4Addr>
+// The text before the first comma: all where there is none.
+fn first_listed(text: &str) -> &str
+    ensures { result.now ≡ first_listed text.now }
+{
+    match text.split_once(',') {
+        Some((first, _)) => first,
+        None => text,
+    }
+}
+
+fn has_colon(text: &[u8]) -> bool
+    ensures { result ≡ list_any is_colon text.now }
+{
+    for byte in text {
+        if *byte == b':' {
+            return true;
+        }
+    }
+    false
+}
+
+// The address of the place by a list: the first one. One with a colon is of IPv6, or stands before its port: what it is an adapter is told apart.
+fn place_of(list: &str) -> Option<Option<Ipv4Addr>>
+    ensures { result ≡ place_of list.now }
+{
+    let first = first_listed(list);
+    if has_colon(first.as_bytes()) {
+        return Some(None);
+    }
+    Some(Some(address_of(first)?))
+}
+
+// The first address that the port is of, where it is one of IPv4.
+fn listen(found: &ArgMatches<'_>) -> Option<Option<Ipv4Addr>>
     ensures { result ≡ value_of listen (first_value (found_of found.now)) }
 {
     match found.get_str("listen") {
-        Some(text) => address_of(text),
-        None => Some(Ipv4Addr::LOCALHOST),
+        Some(list) => place_of(list),
+        None => Some(Some(Ipv4Addr::LOCALHOST)),
     }
+}
+
+// The port: none where a socket is named, and neither a port nor an address.
+fn port_given(found: &ArgMatches<'_>) -> Option<u16>
+    ensures { result ≡ port_given (first_value (found_of found.now)) }
+{
+    let is_alone = found.get_str("socket").is_some()
+        && found.get_str("memcached").is_none()
+        && found.get_str("listen").is_none();
+    if is_alone {
+        return Some(0);
+    }
+    Some(count(found, "memcached", 1, 65_535, 11_211)? as u16)
+}
+
+// Whether a socket is named. Without one it has no mode.
+fn socket_given(found: &ArgMatches<'_>) -> Option<bool>
+    ensures { result ≡ socket_given (first_value (found_of found.now)) }
+{
+    let is_named = found.get_str("socket").is_some();
+    if !is_named && found.get_str("socket-mode").is_some() {
+        return None;
+    }
+    Some(is_named)
 }
 
 /// The longest value, where it is one that is served.
@@ -78,30 +141,54 @@ fn item_size(found: &ArgMatches<'_>) -> Option<u64>
     }
 }
 
-// Whether one of the options is given that are of such fronts.
+// How many threads there are where no number is given: as memcached's, or as many as there are processors, where these are fewer.
+fn threads_for(processors: u32) -> u32
+    ensures { result ≡ threads_for processors }
+{
+    processors.min(4).max(1)
+}
+
+// Whether one of the options is given that are of a port or a socket.
+fn gives_door(found: &ArgMatches<'_>) -> bool
+    ensures { result ≡ gives_door (first_value (found_of found.now)) }
+{
+    found.get_str("memcached").is_some()
+        || found.get_str("listen").is_some()
+        || found.get_str("socket").is_some()
+        || found.get_str("socket-mode").is_some()
+}
+
+// Whether one of these is given, or another one that is of such fronts.
 fn gives_streams(found: &ArgMatches<'_>) -> bool
     ensures { result ≡ gives_streams (first_value (found_of found.now)) }
 {
-    found.get_str("memcached").is_some()
+    gives_door(found)
         || found.get_str("threads").is_some()
-        || found.get_str("listen").is_some()
         || found.get_str("connections").is_some()
+        || found.get_str("idle-timeout").is_some()
         || found.get_str("item-size").is_some()
 }
 
 // Fronts behind one port, each in a thread.
-fn some_streams(found: &ArgMatches<'_>) -> Option<StreamOptions>
-    ensures { result ≡ some_streams (first_value (found_of found.now)) }
+fn some_streams(found: &ArgMatches<'_>, processors: u32) -> Option<StreamOptions>
+    ensures { result ≡ some_streams processors (first_value (found_of found.now)) }
 {
-    let port = count(found, "memcached", 1, 65_535, 11_211)? as u16;
-    let fronts = count(found, "threads", 1, MOST_FRONTS, 4)?;
+    let port = port_given(found)?;
+    let has_socket = socket_given(found)?;
+    let fronts = count(found, "threads", 1, MOST_FRONTS, threads_for(processors))?;
     let address = listen(found)?;
     let connections = count(found, "connections", 1, 65_536, 1_024)?;
+    let idle = count(found, "idle-timeout", 0, MOST_IDLE, 0)?;
     item_size(found)?;
     Some(StreamOptions {
-        ports: StreamPorts { port, fronts },
+        ports: StreamPorts {
+            port,
+            has_socket,
+            fronts,
+        },
         address,
         connections,
+        idle,
     })
 }
 
@@ -113,18 +200,23 @@ pub(crate) fn has_streams(found: &ArgMatches<'_>) -> bool
 }
 
 /// The fronts behind connections. Where there are none, nothing may be said of them.
-pub fn streams_given(found: &ArgMatches<'_>) -> Option<StreamOptions>
-    ensures { result ≡ streams_given (first_value (found_of found.now)) }
+pub fn streams_given(found: &ArgMatches<'_>, processors: u32) -> Option<StreamOptions>
+    ensures { result ≡ streams_given processors (first_value (found_of found.now)) }
 {
     if has_streams(found) {
-        return some_streams(found);
+        return some_streams(found, processors);
     }
     if gives_streams(found) {
         return None;
     }
     Some(StreamOptions {
-        ports: StreamPorts { port: 0, fronts: 0 },
-        address: Ipv4Addr::LOCALHOST,
+        ports: StreamPorts {
+            port: 0,
+            has_socket: false,
+            fronts: 0,
+        },
+        address: None,
         connections: 0,
+        idle: 0,
     })
 }

@@ -1,8 +1,10 @@
 //! What is wrong with words each of which is right alone.
 
+use crate::doors::of_another_port;
 use crate::known::{NAMES, long_of};
 use crate::refusal::Refusal;
 use crate::wrong_word::parts_of;
+use option_words::number_of;
 
 // How often an option is named.
 fn count_of(words: &[String], name: &str) -> u32 {
@@ -64,6 +66,9 @@ fn of_another_protocol(words: &[String]) -> Option<Refusal<'static>> {
         "--threads",
         "--listen",
         "--connections",
+        "--socket",
+        "--socket-mode",
+        "--idle-timeout",
         "--item-size",
     ] {
         if gives(words, name) {
@@ -71,6 +76,20 @@ fn of_another_protocol(words: &[String]) -> Option<Refusal<'static>> {
         }
     }
     None
+}
+
+// What is wrong with the doors for memcached's clients.
+fn wrong_doors<'a>(words: &'a [String]) -> Option<Refusal<'a>> {
+    if gives(words, "--socket-mode") && !gives(words, "--socket") {
+        return Some(Refusal::ModeAlone);
+    }
+    let port = match value_given(words, "--memcached") {
+        Some(text) => number_of(text, 1, 65_535)?,
+        None => 11_211,
+    };
+    let list = value_given(words, "--listen")?;
+    let other = of_another_port(list, port as u16)?;
+    Some(Refusal::OtherPort(other))
 }
 
 // The option that is given twice, or beside one that stands in its place.
@@ -91,11 +110,14 @@ fn doubled(words: &[String]) -> Option<Refusal<'static>> {
 }
 
 /// Why words are refused each of which is right alone.
-pub(crate) fn wrong_together(words: &[String]) -> Refusal<'static> {
+pub(crate) fn wrong_together<'a>(words: &'a [String]) -> Refusal<'a> {
     if let Some(refusal) = doubled(words) {
         return refusal;
     }
     if let Some(refusal) = of_another_protocol(words) {
+        return refusal;
+    }
+    if let Some(refusal) = wrong_doors(words) {
         return refusal;
     }
     if gives(words, "--port") && !gives(words, "--mode") {

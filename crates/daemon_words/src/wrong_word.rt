@@ -66,7 +66,7 @@ fn wrong_name<'a>(alloc: Global, word: &'a str) -> Result<Refusal<'a>, NoMemory>
         [b'-', b'-', _, ..] => unknown(alloc, name),
         [
             b'-',
-            b'p' | b'm' | b'c' | b'l' | b't' | b'I' | b'U' | b'u' | b'P',
+            b'p' | b'm' | b'c' | b'l' | b't' | b's' | b'a' | b'I' | b'U' | b'u' | b'P',
             _,
             ..
         ] => Ok(Refusal::Attached(word)),

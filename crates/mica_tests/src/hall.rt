@@ -3,6 +3,7 @@
 use crate::port::{Flags, Share, shares_at};
 use connections::{Event, Input};
 use host_outside::StdClock;
+use std::fs::Files;
 use std::io::{Read, Write};
 use std::net::{Net as Sockets, OpenStream, TcpStream};
 use std::process::Abort;
@@ -72,7 +73,7 @@ fn heard_by<R: AllocGlobal + Sockets>(rt: &R, port: u16, count: u8) -> Result<He
 }
 
 /// What so many clients hear of a place with two shares, and how many each of these took in.
-fn served<R: Abort + AllocGlobal + Sockets + Threads + Wait + Sync + time::Clock>(
+fn served<R: Abort + AllocGlobal + Files + Sockets + Threads + Wait + Sync + time::Clock>(
     rt: &R,
     most: u32,
     count: u8,

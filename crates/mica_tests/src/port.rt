@@ -4,13 +4,15 @@ ghost use Rattle.mica_tests.specs.Ended.{has_ended};
 
 use connections::{Broken, Connections, Event, Input, Listeners, Place};
 use outside::{Clock, Failed};
+use std::fs::Files;
+use std::io::ErrorKind;
 use std::net::{Ipv4Addr, Net as Sockets, TcpListener, TcpStream};
 use std::process::Abort;
 use std::sync::Wait;
 use std::sync::atomic::AtomicBool;
 use std::test::Fail;
 use std::time::Duration;
-use tcp_connections::{TcpConnections, TcpListeners};
+use tcp_connections::{Door, TcpConnections, TcpListeners};
 
 /// What the shares of a test look at: whether one has failed, and whether they are to stop.
 #[derive(Drop)]
@@ -110,9 +112,14 @@ impl<'a, R: Wait, K: Clock + Drop> Share<'a, R, K> {
     ) -> Result<(TcpStream, u32), Fail> {
         let client = TcpStream::connect(rt, ("127.0.0.1", port))?;
         client.set_read_timeout(Some(Duration::from_secs(5)))?;
+        Ok((client, self.opened(rt)))
+    }
+
+    /// The number that the next connection is under which comes.
+    pub(crate) fn opened(&mut self, rt: &impl Abort) -> u32 {
         for _ in 0..100u32 {
             if let Ok(Event::Opened(number)) = self.report(rt) {
-                return Ok((client, number));
+                return number;
             }
         }
         panic!(rt; "no connection came");
@@ -159,22 +166,34 @@ fn second_share<L: Listeners>(listeners: &mut L, shares: Vec<L::Port>) -> Option
     shares.pop()
 }
 
-/// The share of one place, where it can be had: the second of two places, of which the first is nobody's.
-pub(crate) fn share_at<'a, R: AllocGlobal + Sockets + Wait + Sync, K: Clock + Copy + Drop + Send>(
+/// What a place has beside its address: doors, the most connections, and for how many seconds one may be silent.
+#[derive(Drop)]
+pub(crate) struct Ways {
+    pub(crate) doors: Vec<Door>,
+    pub(crate) most: u32,
+    pub(crate) idle: u32,
+}
+
+/// The share of one place, which has this beside its address, or why a door can't be had: the second of two places, of which the first is nobody's.
+pub(crate) fn share_behind<
+    'a,
+    R: AllocGlobal + Files + Sockets + Wait + Sync,
+    K: Clock + Copy + Drop + Send,
+>(
     rt: &'a R,
     clock: K,
     flags: &'a Flags,
     port: u16,
-    most: u32,
-) -> Option<Share<'a, R, K>> {
+    ways: Ways,
+) -> Result<Share<'a, R, K>, ErrorKind> {
     let address = Ipv4Addr::LOCALHOST;
-    let mut places = Vec::with_capacity(rt.alloc(), 2).ok()?;
+    let mut places = Vec::with_capacity(rt.alloc(), 2).map_err(|_| ErrorKind::OutOfMemory)?;
     places.push_reserved(Place {
         address: Ipv4Addr::new(192, 0, 2, 1),
         port: 1,
     });
     places.push_reserved(Place { address, port });
-    let shares = Vec::with_capacity(rt.alloc(), 1).ok()?;
+    let shares = Vec::with_capacity(rt.alloc(), 1).map_err(|_| ErrorKind::OutOfMemory)?;
     let mut listeners = TcpListeners::new(
         rt,
         rt.alloc(),
@@ -182,16 +201,36 @@ pub(crate) fn share_at<'a, R: AllocGlobal + Sockets + Wait + Sync, K: Clock + Co
         &flags.has_failed,
         &flags.stopping,
     );
-    listeners.set_places(places, most);
-    let connections = second_share(&mut listeners, shares)?;
+    listeners.set_doors(ways.doors, ways.idle);
+    listeners.set_places(places, ways.most);
+    let Some(connections) = second_share(&mut listeners, shares) else {
+        return Err(match listeners.refused() {
+            Some(refused) => refused.error.kind(),
+            None => ErrorKind::Other,
+        });
+    };
     let open = Some(Open { connections });
-    Some(Share { open })
+    Ok(Share { open })
+}
+
+/// The share of one place, where it can be had.
+pub(crate) fn share_at<
+    'a,
+    R: AllocGlobal + Files + Sockets + Wait + Sync,
+    K: Clock + Copy + Drop + Send,
+>(rt: &'a R, clock: K, flags: &'a Flags, port: u16, most: u32) -> Option<Share<'a, R, K>> {
+    let ways = Ways {
+        doors: Vec::new(rt.alloc()),
+        most,
+        idle: 0,
+    };
+    share_behind(rt, clock, flags, port, ways).ok()
 }
 
 /// The share of a place at the first of some ports that is free, for at most so many connections, and this port.
 pub(crate) fn new_share<
     'a,
-    R: Abort + AllocGlobal + Sockets + Wait + Sync,
+    R: Abort + AllocGlobal + Files + Sockets + Wait + Sync,
     K: Clock + Copy + Drop + Send,
 >(rt: &'a R, clock: K, flags: &'a Flags, most: u32) -> (Share<'a, R, K>, u16) {
     for port in 47_500..47_600u16 {
@@ -220,7 +259,11 @@ fn both_shares<L: Listeners>(listeners: &mut L, shares: Vec<L::Port>) -> Option<
 }
 
 /// Both shares of a place, where it can be had.
-pub(crate) fn shares_at<'a, R: AllocGlobal + Sockets + Wait + Sync, K: Clock + Copy + Drop + Send>(
+pub(crate) fn shares_at<
+    'a,
+    R: AllocGlobal + Files + Sockets + Wait + Sync,
+    K: Clock + Copy + Drop + Send,
+>(
     rt: &'a R,
     clock: K,
     flags: &'a Flags,

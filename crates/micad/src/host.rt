@@ -5,10 +5,11 @@ ghost use Rattle.std.specs.Process.{exit_status};
 ghost use Rattle.option_words.specs.ProgramWords.{words_of};
 ghost use Rattle.daemon.specs.Exit.{EndsBy};
 
-use crate::host_causes::doubt_text;
+use crate::host_causes::{doubt_text, refused_text};
+use crate::host_doors::Asked;
 use crate::host_files::HostFiles;
 use crate::host_start::begin;
-use daemon::{DaemonStatus, Ending, Process, Speaker, exit_code, run_daemon};
+use daemon::{DaemonStatus, Ending, Machine, Process, Speaker, exit_code, run_daemon};
 use host_outside::{StdClock, StdSink, UdpNet};
 use locked_server::Left;
 use outside::{FreeGate, NoMemory, rehearse};
@@ -18,12 +19,22 @@ use std::process::ExitCode;
 use std::rt::{Env, Files};
 use std::sync::Wait;
 use std::sync::atomic::{AtomicBool, Ordering};
-use std::thread::Threads;
+use std::thread::{Threads, available_parallelism};
 use std::{io, time};
-use tcp_connections::TcpListeners;
+use tcp_connections::{Refused, TcpListeners};
 
 /// Says on standard error why the program ends, where there is a reason. What can't be said is left out.
-fn say_why<R: AllocGlobal + Eprint + Sockets + Files, K>(rt: &R, speaker: &Speaker<K>) {
+fn say_why<R: AllocGlobal + Eprint + Sockets + Files, K>(
+    rt: &R,
+    speaker: &Speaker<K>,
+    refused: Option<&Refused>,
+) {
+    if let Some(refused) = refused {
+        if let Some(text) = refused_text(rt.alloc(), refused) {
+            let _ = eprintln!(rt; "micad: {text}");
+            return;
+        }
+    }
     if speaker.reason.is_empty() {
         return;
     }
@@ -56,15 +67,23 @@ impl Flags {
     }
 }
 
+/// How many processors there are for the process; so many as no machine has, where the system does not say it.
+pub fn processors_of<R: Threads>(rt: &R) -> u32 {
+    match available_parallelism(rt) {
+        Ok(count) => u32::try_from(count.get()).unwrap_or(u32::MAX),
+        Err(_) => u32::MAX,
+    }
+}
+
 /// What the program ends with before it serves: where it may not begin, or there is no thread for the look for signals.
 pub fn refused_on_host<R: Threads + Wait + Sync + AllocGlobal + Env + Eprint + Files + Sockets>(
     rt: &R,
-    pid: u32,
+    machine: Machine,
 ) -> Option<ExitCode>
     ensures ends { IfSome result (λ code. (words : Option (List (List ℕ))) → EndsBy words (exit_status code)) }
     ensures in_vain { IfSome result (λ code. 0 < exit_status code) }
 {
-    if !begin(rt, pid) {
+    if !begin(rt, machine) {
         return Some(exit_code(Ending::Ended(DaemonStatus::Usage)));
     }
     match rehearse(rt, rt.alloc(), 1) {
@@ -73,11 +92,11 @@ pub fn refused_on_host<R: Threads + Wait + Sync + AllocGlobal + Env + Eprint + F
     }
 }
 
-/// Answers the words that the program was started with, or serves by them, and then says why that ended. It ends with 0 where these ask a question, and where a
+/// Answers the words that the program was started with, or serves by them, at the doors that they ask for beside the place's own, and then says why that ended. It ends with 0 where these ask a question, and where a
 /// signal asked for its end. `main` runs it beside the look for signals: a handle that opens files goes to a thread only there.
 pub fn run_on_host<
     R: Threads + Wait + Sync + AllocGlobal + Eprint + Files + Print + Sockets + time::Clock,
->(rt: &R, args: io::Result<Args>, pid: u32, flags: &Flags) -> ExitCode
+>(rt: &R, args: io::Result<Args>, machine: Machine, flags: &Flags, asked: Asked) -> ExitCode
     ensures { EndsBy (words_of string_bytes args) (exit_status result) }
 {
     let alloc = rt.alloc();
@@ -89,9 +108,12 @@ pub fn run_on_host<
         gate: &FreeGate,
         ended: &flags.ended,
         stopping: &flags.stopping,
-        pid,
+        pid: machine.process,
+        processors: machine.processors,
     };
     let mut speaker = Speaker::new(alloc, StdSink::new(io::writer(rt)));
+    let mut listeners = TcpListeners::new(rt, alloc, clock, &flags.ended, &flags.stopping);
+    listeners.set_doors(asked.doors, asked.idle);
     let code = run_daemon(
         &process,
         args,
@@ -99,10 +121,10 @@ pub fn run_on_host<
         &mut HostFiles::new(rt),
         &mut speaker,
         &mut UdpNet::failing_whole(rt, &flags.ended, &flags.stopping),
-        &mut TcpListeners::new(rt, alloc, clock, &flags.ended, &flags.stopping),
+        &mut listeners,
         &mut Left::nothing(),
     );
-    say_why(rt, &speaker);
+    say_why(rt, &speaker, listeners.refused());
     flags.over.store(true, Ordering::Relaxed);
     code
 }

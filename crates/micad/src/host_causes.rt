@@ -1,10 +1,12 @@
 //! Why this machine gives no port, or no file.
 
 use daemon::{Doubt, Unbound};
+use std::alloc::Global;
 use std::fs;
 use std::io::{self, ErrorKind};
 use std::net::{Ipv4Addr, Net as Sockets, TcpListener, UdpSocket};
 use std::rt::Files;
+use tcp_connections::{Door, Refused};
 
 // What the system answers to one more try of a port, beside as many descriptors as its server had before it.
 fn tried_port<R: AllocGlobal + Sockets>(rt: &R, unbound: &Unbound) -> io::Result<()> {
@@ -40,9 +42,23 @@ fn cause_of(error: &io::Error) -> &'static str {
         ErrorKind::AddrNotAvailable => "no such address here",
         ErrorKind::PermissionDenied => "not permitted",
         ErrorKind::OutOfMemory => "no memory",
+        ErrorKind::AlreadyExists => "a file is there, and no socket",
+        ErrorKind::InvalidInput => "no path for a socket: it is empty, or longer than 107 bytes",
         ErrorKind::NotFound => "no such file",
         ErrorKind::NotADirectory => "no such file",
         _ => "the system refuses it",
+    }
+}
+
+/// The door that could not be had, and why.
+pub fn refused_text(alloc: Global, refused: &Refused) -> Option<String> {
+    let cause = cause_of(&refused.error);
+    match &refused.door {
+        Door::Address(address) => format!(in alloc; "{address} not bound: {cause}").ok(),
+        Door::Path(path, _) => {
+            let path = path.as_str();
+            format!(in alloc; "{path} not bound: {cause}").ok()
+        }
     }
 }
 

@@ -1,8 +1,9 @@
 //! What is done and told before the words are read as a server's.
 
+use crate::host_doors::has_doors;
 use crate::host_files::HostFiles;
 use crate::host_stop::say_unseen;
-use daemon::{is_run_by, start_text};
+use daemon::{Machine, is_run_by, start_text};
 use daemon_words::value_given;
 use option_words::{all_words, behind_name};
 use outside::NoMemory;
@@ -43,21 +44,24 @@ fn write_process<R: Eprint + Files>(rt: &R, alloc: Global, words: &[String], pro
 }
 
 /// Says what a server begins with, where words give one, and writes its number where they want it. Whether it may begin.
-pub fn begin<R: AllocGlobal + Env + Eprint + Files>(rt: &R, process: u32) -> bool {
+pub fn begin<R: AllocGlobal + Env + Eprint + Files>(rt: &R, machine: Machine) -> bool {
     let alloc = rt.alloc();
     let words = match all_words(alloc, env::args(rt)) {
         Ok(words) => words,
         Err(NoMemory) => return true,
     };
     let words = behind_name(words.as_slice());
+    if !has_doors(rt, alloc, words, machine.processors) {
+        return false;
+    }
     let system = HostFiles::new(rt);
-    let Some(text) = start_text(alloc, &system, words, process) else {
+    let Some(text) = start_text(alloc, &system, words, machine) else {
         return true;
     };
     if !has_user(rt, alloc, &system, words) {
         return false;
     }
-    write_process(rt, alloc, words, process);
+    write_process(rt, alloc, words, machine.process);
     let _ = eprint!(rt; "{text}");
     say_unseen(rt, alloc);
     true

@@ -4,28 +4,37 @@
 
 mod host;
 mod host_causes;
+mod host_doors;
 mod host_files;
 mod host_start;
 mod host_stop;
 
-use host::{Flags, refused_on_host, run_on_host};
+use daemon::{DaemonStatus, Ending, Machine, exit_code};
+use host::{Flags, processors_of, refused_on_host, run_on_host};
+use host_doors::asked_on_host;
 use host_stop::watch;
 use std::env;
 use std::process::{self, ExitCode};
 use std::thread::join;
 
 fn main(rt: HostRuntime) -> ExitCode {
-    let pid = process::id(rt.process());
-    if let Some(code) = refused_on_host(&rt, pid) {
+    let machine = Machine {
+        process: process::id(rt.process()),
+        processors: processors_of(&rt),
+    };
+    if let Some(code) = refused_on_host(&rt, machine) {
         return code;
     }
     let alloc = rt.alloc();
     let args = env::args(&rt);
+    let Ok(asked) = asked_on_host(&rt, machine.processors) else {
+        return exit_code(Ending::Ended(DaemonStatus::NoMemory));
+    };
     let flags = Flags::new();
     let ((), code) = join(
         &rt,
         || watch(&rt, alloc, &flags.stopping, &flags.over),
-        || run_on_host(&rt, args, pid, &flags),
+        || run_on_host(&rt, args, machine, &flags, asked),
     );
     code
 }

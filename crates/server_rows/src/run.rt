@@ -148,6 +148,7 @@ fn run(
         ended: &AtomicBool::new(false),
         stopping: &AtomicBool::new(row.find("stops").is_some()),
         pid: 1,
+        processors: 4,
     };
     let start = Start { second: 0, base: 1 };
     let mut left = Left::nothing();

@@ -1,11 +1,12 @@
-//! What the shares of a place have together. The first share has the listener, and deals what comes there: each connection to the share with the fewest. No thread
+//! What the shares of a place have together. The first share has the doors, and deals what comes there: each connection to the share with the fewest. No thread
 //! waits for another one: an inbox has one who fills it and one who empties it.
 
-use mio::net::{TcpListener, TcpStream};
-use mio::{Poll, Token, Waker};
+use crate::door::Listener;
+use crate::stream::{Stream, Way};
+use mio::{Poll, Registry, Token, Waker};
 use rtrb::{Consumer, Producer};
 use std::alloc::Global;
-use std::io;
+use std::io::{self, ErrorKind};
 use std::sync::atomic::{AtomicUsize, Ordering};
 
 /// The token of a call, which no connection has.
@@ -17,8 +18,10 @@ pub(crate) const MOST_DEALT: usize = 64;
 /// What is seen of a share by the others.
 #[derive(Drop)]
 pub(crate) struct Seat {
-    /// How many connections it has, with those in its inbox.
-    open: AtomicUsize,
+    /// How many connections it has over TCP, with those in its inbox.
+    tcp: AtomicUsize,
+    /// And how many over Unix sockets.
+    unix: AtomicUsize,
     waker: Waker,
 }
 
@@ -26,9 +29,17 @@ impl Seat {
     /// The seat of a share that looks by this poll.
     pub(crate) fn new(poll: &Poll) -> io::Result<Seat> {
         Ok(Seat {
-            open: AtomicUsize::new(0),
+            tcp: AtomicUsize::new(0),
+            unix: AtomicUsize::new(0),
             waker: Waker::new(poll.registry(), CALL)?,
         })
+    }
+
+    fn count(&self, way: Way) -> &AtomicUsize {
+        match way {
+            Way::Tcp => &self.tcp,
+            Way::Unix => &self.unix,
+        }
     }
 }
 
@@ -44,32 +55,35 @@ impl Hall {
         Hall { seats }
     }
 
-    /// How many connections all have together. Who deals alone makes it more, so it is no more by then than who deals was told.
-    fn open(&self) -> usize {
+    /// How many connections all have together that came this way. Who deals alone makes it more, so it is no more by then than who deals was told.
+    fn open(&self, way: Way) -> usize {
         let mut all = 0usize;
         for seat in &self.seats {
-            all = all.saturating_add(seat.open.load(Ordering::SeqCst));
+            all = all.saturating_add(seat.count(way).load(Ordering::SeqCst));
         }
         all
     }
 
     fn open_at(&self, at: usize) -> usize {
         match self.seats.get(at) {
-            Some(seat) => seat.open.load(Ordering::SeqCst),
+            Some(seat) => {
+                let unix = seat.unix.load(Ordering::SeqCst);
+                seat.tcp.load(Ordering::SeqCst).saturating_add(unix)
+            }
             None => usize::MAX,
         }
     }
 
-    fn comes(&self, at: usize) {
+    fn comes(&self, at: usize, way: Way) {
         if let Some(seat) = self.seats.get(at) {
-            seat.open.fetch_add(1, Ordering::SeqCst);
+            seat.count(way).fetch_add(1, Ordering::SeqCst);
         }
     }
 
     /// A share has one connection less.
-    pub(crate) fn goes(&self, at: usize) {
+    pub(crate) fn goes(&self, at: usize, way: Way) {
         if let Some(seat) = self.seats.get(at) {
-            seat.open.fetch_sub(1, Ordering::SeqCst);
+            seat.count(way).fetch_sub(1, Ordering::SeqCst);
         }
     }
 
@@ -88,12 +102,14 @@ impl Hall {
     }
 }
 
-/// The listener, and the inboxes of all other shares.
+/// The doors, and the inboxes of all other shares.
 #[derive(Drop)]
 pub(crate) struct Dealer {
-    pub(crate) listener: TcpListener,
+    doors: Vec<Listener>,
+    /// At which door it is looked next.
+    door: usize,
     /// Those of the second share and of the others, in order.
-    inboxes: Vec<Producer<TcpStream, Global>>,
+    inboxes: Vec<Producer<Stream, Global>>,
     /// From which share on one is looked for.
     next: usize,
 }
@@ -101,21 +117,46 @@ pub(crate) struct Dealer {
 /// What becomes of a connection that came.
 pub(crate) enum Dealt {
     /// It is of the share that deals, and counted there.
-    Own(TcpStream),
+    Own(Stream),
     /// It was put into the inbox of another share.
     Away,
     /// There are too many.
-    TooMany(TcpStream),
+    TooMany(Stream),
 }
 
 impl Dealer {
     /// One that has dealt nothing.
-    pub(crate) fn new(listener: TcpListener, inboxes: Vec<Producer<TcpStream, Global>>) -> Dealer {
+    pub(crate) fn new(doors: Vec<Listener>, inboxes: Vec<Producer<Stream, Global>>) -> Dealer {
         Dealer {
-            listener,
+            doors,
+            door: 0,
             inboxes,
             next: 0,
         }
+    }
+
+    /// Has each door tell when somebody comes there.
+    pub(crate) fn register(&mut self, registry: &Registry, token: Token) -> io::Result<()> {
+        for door in self.doors.iter_mut() {
+            door.register(registry, token)?;
+        }
+        Ok(())
+    }
+
+    /// The next connection that waits, at the doors in turn.
+    pub(crate) fn accept(&mut self) -> io::Result<Stream> {
+        let many = self.doors.len();
+        for _ in 0..many {
+            let at = self.door;
+            self.door = at.wrapping_add(1) % many.max(1);
+            if let Some(door) = self.doors.get(at) {
+                match door.accept() {
+                    Err(error) if error.kind() == ErrorKind::WouldBlock => {}
+                    came => return came,
+                }
+            }
+        }
+        Err(ErrorKind::WouldBlock.into())
     }
 
     /// Whether a share can be dealt one more.
@@ -146,14 +187,14 @@ impl Dealer {
         best
     }
 
-    /// Deals a connection, where all shares have fewer than so many. It is counted before it is in the inbox, where its share may take it and close it at once; and the share is
+    /// Deals a connection, where all shares have fewer than so many that came its way. It is counted before it is in the inbox, where its share may take it and close it at once; and the share is
     /// called behind that: if it looked before, it looks again.
-    pub(crate) fn deal(&mut self, hall: &Hall, most: usize, stream: TcpStream) -> Dealt {
-        if hall.open() >= most {
+    pub(crate) fn deal(&mut self, hall: &Hall, most: usize, stream: Stream) -> Dealt {
+        if hall.open(stream.way()) >= most {
             return Dealt::TooMany(stream);
         }
         let to = self.choose(hall);
-        hall.comes(to);
+        hall.comes(to, stream.way());
         let Some(inbox) = to.checked_sub(1) else {
             return Dealt::Own(stream);
         };
@@ -168,8 +209,8 @@ impl Dealer {
 /// Where the connections of a share come from.
 #[derive(Drop)]
 pub(crate) enum Entrance {
-    Listener(Dealer),
-    Inbox(Consumer<TcpStream, Global>),
+    Doors(Dealer),
+    Inbox(Consumer<Stream, Global>),
 }
 
 impl Entrance {

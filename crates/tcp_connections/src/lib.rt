@@ -1,12 +1,15 @@
-//! TCP connections of this machine: listeners and connections over epoll. What they give no contract can say.
+//! Connections of this machine, over TCP and over Unix sockets: listeners and connections over epoll. What they give no contract can say.
 #![tactic(auto)]
 
+mod door;
 mod hall;
 mod patience;
 mod slot;
+mod stream;
 mod tcp_connections;
 mod tcp_listeners;
 mod tcp_port;
 
+pub use door::{Door, Refused};
 pub use tcp_connections::TcpConnections;
 pub use tcp_listeners::TcpListeners;

@@ -2,12 +2,10 @@
 ghost use Rattle.std.specs.Prelude.{◌<◌, ◌≤◌, length, IfOk};
 ghost use Rattle.connections.specs.Calls.{FitsRoom};
 
+use crate::stream::Stream;
 use connections::{Broken, Input};
-use libc::net as c;
-use mio::net::TcpStream;
-use std::io::{ErrorKind, Read, Write};
+use std::io::ErrorKind;
 use std::net::Shutdown;
-use std::os::fd::AsRawFd;
 
 /// How many bytes that nobody reads any more are dropped before a close, so that the replies before it are not lost to a reset.
 const MOST_DROPPED: usize = 64 * 1_024;
@@ -24,13 +22,17 @@ const MOST_TRIES: u32 = 64;
 /// A connection at this machine's socket.
 #[derive(Drop)]
 pub(crate) struct Slot {
-    pub(crate) stream: TcpStream,
+    pub(crate) stream: Stream,
     /// Whether a read may give more, as far as is known. Readiness is told once.
     pub(crate) may_read: bool,
     /// Whether the peer's end was told: it isn't told again, so a short read doesn't say that nothing is left.
     pub(crate) half_closed: bool,
     /// Whether it is among those to be reported.
     pub(crate) queued: bool,
+    /// The second at which bytes came or went last.
+    pub(crate) heard: u64,
+    /// Whether it was silent for too long: nothing is read or written any more.
+    pub(crate) is_over: bool,
 }
 
 /// Reads once, and notes whether there may be more.
@@ -39,7 +41,7 @@ pub(crate) fn read_from(slot: &mut Slot, out: &mut [u8]) -> Result<Input, Broken
     ensures fits { IfOk result (FitsRoom (length out.old)) }
 {
     for _ in 0..MOST_TRIES {
-        match (&slot.stream).read(out) {
+        match slot.stream.read(out) {
             Ok(0) => return Ok(Input::Ended),
             Ok(count) if slot.half_closed || count == out.len() => return Ok(Input::Bytes(count)),
             Ok(count) => {
@@ -60,11 +62,11 @@ pub(crate) fn read_from(slot: &mut Slot, out: &mut [u8]) -> Result<Input, Broken
 }
 
 /// Writes once. Where nothing is taken now, that is 0.
-pub(crate) fn write_to(stream: &TcpStream, piece: &[u8]) -> Result<usize, Broken>
+pub(crate) fn write_to(stream: &Stream, piece: &[u8]) -> Result<usize, Broken>
     ensures { IfOk result (λ n. n ≤ length piece.now) }
 {
     for _ in 0..MOST_TRIES {
-        match (&*stream).write(piece) {
+        match stream.write(piece) {
             Err(error) => match error.kind() {
                 ErrorKind::WouldBlock => return Ok(0),
                 ErrorKind::Interrupted => {}
@@ -76,21 +78,15 @@ pub(crate) fn write_to(stream: &TcpStream, piece: &[u8]) -> Result<usize, Broken
     Err(Broken)
 }
 
-/// Has the system ask a peer that is silent for long whether it is still there: one that vanished is closed in the end, and keeps no place.
-pub(crate) fn keep_alive(stream: &TcpStream) {
-    let mut value = [0; 16];
-    value[..4].copy_from_slice(&1i32.to_ne_bytes());
-    let fd = stream.as_raw_fd();
-    let _unheeded = unsafe { c::setsockopt(fd, c::SOL_SOCKET, c::SO_KEEPALIVE, &value, 4) };
-}
-
-/// A connection at which nothing was read yet.
-pub(crate) fn new_slot(stream: TcpStream) -> Slot {
+/// A connection that was made at a second, and at which nothing was read yet.
+pub(crate) fn new_slot(stream: Stream, second: u64) -> Slot {
     Slot {
         stream,
         may_read: false,
         half_closed: false,
         queued: false,
+        heard: second,
+        is_over: false,
     }
 }
 
@@ -107,8 +103,8 @@ pub(crate) fn drop_unread(slot: &mut Slot) {
 }
 
 /// Tells a connection that there are too many, and lets it go. What it is told may get lost.
-pub(crate) fn turn_away(stream: TcpStream) {
+pub(crate) fn turn_away(stream: Stream) {
     let _unheeded = write_to(&stream, TOO_MANY);
-    let mut slot = new_slot(stream);
+    let mut slot = new_slot(stream, 0);
     drop_unread(&mut slot);
 }

@@ -62,6 +62,19 @@ impl<'a, R: Wait, K: Clock> TcpConnections<'a, R, K> {
         self.stopping.load(Ordering::Relaxed)
     }
 
+    /// Ends those that were silent for too long by now, where that is asked for.
+    fn end_idle(&mut self)
+        ensures share { self.new.share ≡ self.old.share }
+        ensures faults { self.new.faults ≡ self.old.faults }
+        ensures second { self.new.second ≡ self.old.second }
+        ensures ended { self.new.ended ≡ self.old.ended }
+        ensures left { self.new.left ≡ self.old.left }
+    {
+        if self.sockets.ends_idle() {
+            self.sockets.tell_second(self.clock.second());
+        }
+    }
+
     /// Waits for the next report, or until it is to stop.
     fn report(&mut self) -> io::Result<Option<Event>>
         ensures share { self.new.share ≡ self.old.share }
@@ -79,7 +92,7 @@ impl<'a, R: Wait, K: Clock> TcpConnections<'a, R, K> {
                 return Ok(self.sockets.at_hand());
             }
             match self.sockets.step() {
-                Ok(None) => {}
+                Ok(None) => self.end_idle(),
                 // A share that stopped counts as one that has failed.
                 Err(_) if self.is_stopping() => {}
                 told => return told,

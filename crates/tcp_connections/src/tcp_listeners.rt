@@ -1,30 +1,37 @@
-//! The TCP places of this machine.
+//! The places of this machine, each with its doors.
 ghost use Rattle.std.specs.Prelude.{◌≡◌, ◌+◌, ◌<◌, ◌≤◌, [], true, None, IfOk, length, map, vec_len, vec_capacity};
 ghost use Rattle.connections.specs.Shares.{GivesShares};
 ghost use Rattle.tcp_connections.specs.Facts.{facts_of};
 ghost use Rattle.outside.specs.Faults.{Rose, faults_after};
 
 use crate::TcpConnections;
+use crate::door::{Door, Listener, Refused, listen_at};
 use crate::hall::{Dealer, Entrance, Hall, MOST_DEALT, Seat};
 use crate::tcp_port::{Limits, TcpPort};
 use connections::{Listeners, Place};
 use mio::Poll;
-use mio::net::TcpListener;
-use outside::{Clock, Failed};
+use outside::{Clock, Failed, NoMemory};
 use rtrb::RingBuffer;
 use std::alloc::Global;
-use std::io;
+use std::fs::Files;
 use std::net::{Net as Sockets, SocketAddr};
 use std::sync::atomic::AtomicBool;
 use std::sync::{Arc, Wait};
+use std::{io, mem};
 
-/// The TCP places of this machine. They tell nothing of content. All shares fail together: once one has failed, which `has_failed` tells, each other one fails when it
+/// The places of this machine: a place has its address, where its port is not 0, and the doors that it was told beside that. They tell nothing of content. All shares fail together: once one has failed, which `has_failed` tells, each other one fails when it
 /// is next waited for, and at the latest a second later. All have this clock, and stop once `stopping` is set.
 #[derive(Drop)]
 pub struct TcpListeners<'a, R, K> {
     rt: &'a R,
     alloc: Global,
     places: Vec<Place>,
+    /// Those beside the address of the place that is listened at next.
+    doors: Vec<Door>,
+    /// The door that could not be had.
+    refused: Option<Refused>,
+    /// For how many seconds a connection may be silent, where that is not 0.
+    idle: u32,
     most: u32,
     heard: Vec<u32>,
     given: u32,
@@ -34,7 +41,7 @@ pub struct TcpListeners<'a, R, K> {
     faults: u64,
 }
 
-impl<'a, R: Sockets + Wait + Sync, K: Clock + Copy + Drop + Send> TcpListeners<'a, R, K> {
+impl<'a, R: Files + Sockets + Wait + Sync, K: Clock + Copy + Drop + Send> TcpListeners<'a, R, K> {
     /// No places yet.
     pub fn new(
         rt: &'a R,
@@ -52,6 +59,9 @@ impl<'a, R: Sockets + Wait + Sync, K: Clock + Copy + Drop + Send> TcpListeners<'
             rt,
             alloc,
             places: Vec::new(alloc),
+            doors: Vec::new(alloc),
+            refused: None,
+            idle: 0,
             most: 0,
             heard: Vec::new(alloc),
             given: 0,
@@ -61,13 +71,50 @@ impl<'a, R: Sockets + Wait + Sync, K: Clock + Copy + Drop + Send> TcpListeners<'
             faults: 0,
         }
     }
+
+    /// The place that is listened at next has these doors beside its address, and its connections end once nothing came or went there for so many seconds, where that is not 0.
+    pub fn set_doors(&mut self, doors: Vec<Door>, idle: u32)
+        ensures places { ⟦<TcpListeners<'a, R, K> as Listeners>⟧.places self.new ≡ ⟦<TcpListeners<'a, R, K> as Listeners>⟧.places self.old }
+        ensures heard { ⟦<TcpListeners<'a, R, K> as Listeners>⟧.heard self.new ≡ ⟦<TcpListeners<'a, R, K> as Listeners>⟧.heard self.old }
+        ensures given { ⟦<TcpListeners<'a, R, K> as Listeners>⟧.given self.new ≡ ⟦<TcpListeners<'a, R, K> as Listeners>⟧.given self.old }
+        ensures faults { ⟦<TcpListeners<'a, R, K> as Listeners>⟧.faults self.new ≡ ⟦<TcpListeners<'a, R, K> as Listeners>⟧.faults self.old }
+    {
+        self.doors = doors;
+        self.idle = idle;
+    }
+
+    /// The door that could not be had, where there is one.
+    pub fn refused(&self) -> Option<&Refused> {
+        self.refused.as_ref()
+    }
+}
+
+/// Listens at all of these doors, or at none. Those of paths come last, so that none is left behind where an address can't be had.
+fn listen_at_all<R: Files + Sockets>(
+    rt: &R,
+    alloc: Global,
+    doors: Vec<Door>,
+    refused: &mut Option<Refused>,
+) -> io::Result<Vec<Listener>> {
+    let mut listeners = Vec::with_capacity(alloc, doors.len())?;
+    for door in doors {
+        match listen_at(rt, &door) {
+            Ok(listener) => listeners.push(listener)?,
+            Err(error) => {
+                *refused = Some(Refused { door, error });
+                return Err(io::ErrorKind::Other.into());
+            }
+        }
+    }
+    Ok(listeners)
 }
 
 /// The shares of a place: all that it takes is had before it is listened at, and the first share does.
-fn open_shares<'a>(
-    rt: &impl Sockets,
+fn open_shares<'a, R: Files + Sockets>(
+    rt: &R,
     alloc: Global,
-    place: Place,
+    doors: Vec<Door>,
+    refused: &mut Option<Refused>,
     shares: usize,
     limits: Limits<'a>,
 ) -> io::Result<Vec<TcpPort<'a>>>
@@ -89,8 +136,8 @@ fn open_shares<'a>(
     }
     let hall = Arc::new(alloc, Hall::new(seats))?;
     let mut ports = Vec::with_capacity(alloc, shares)?;
-    let listener = TcpListener::bind(rt, SocketAddr::from((place.address, place.port)))?;
-    let mut first = Some(Entrance::Listener(Dealer::new(listener, inboxes)));
+    let listeners = listen_at_all(rt, alloc, doors, refused)?;
+    let mut first = Some(Entrance::Doors(Dealer::new(listeners, inboxes)));
     let mut others = entrances.into_iter();
     let mut rest = polls.into_iter();
     for seat in 0..shares {
@@ -147,6 +194,18 @@ fn give_all<'a, R: Wait, K: Clock + Copy + Drop>(
     }
 }
 
+/// The doors of a place: its address first, where its port is not 0, and those beside it.
+fn doors_of(alloc: Global, place: Place, beside: Vec<Door>) -> Result<Vec<Door>, NoMemory> {
+    let mut doors = Vec::with_capacity(alloc, beside.len().saturating_add(1))?;
+    if place.port > 0 {
+        doors.push(Door::Address(SocketAddr::from((place.address, place.port))))?;
+    }
+    for door in beside {
+        doors.push(door)?;
+    }
+    Ok(doors)
+}
+
 /// Counts a fault.
 fn fails(faults: &mut u64) -> Failed
     ensures counted { faults.new ≡ faults_after true faults.old }
@@ -157,7 +216,7 @@ fn fails(faults: &mut u64) -> Failed
     Failed
 }
 
-impl<'a, R: Sockets + Wait + Sync, K: Clock + Copy + Drop + Send> Listeners
+impl<'a, R: Files + Sockets + Wait + Sync, K: Clock + Copy + Drop + Send> Listeners
     for TcpListeners<'a, R, K> {
     type Port = TcpConnections<'a, R, K>;
 
@@ -191,11 +250,24 @@ impl<'a, R: Sockets + Wait + Sync, K: Clock + Copy + Drop + Send> Listeners
             return Err(fails(&mut self.faults));
         };
         let at = self.places[place as usize];
+        let beside = mem::replace(&mut self.doors, Vec::new(self.alloc));
+        let Ok(doors) = doors_of(self.alloc, at, beside) else {
+            return Err(fails(&mut self.faults));
+        };
         let limits = Limits {
             most: self.most as usize,
+            idle: u64::from(self.idle),
             has_failed: self.has_failed,
         };
-        let Ok(ports) = open_shares(self.rt, self.alloc, at, shares as usize, limits) else {
+        let opened = open_shares(
+            self.rt,
+            self.alloc,
+            doors,
+            &mut self.refused,
+            shares as usize,
+            limits,
+        );
+        let Ok(ports) = opened else {
             return Err(fails(&mut self.faults));
         };
         if self.heard.push(place).is_err() {

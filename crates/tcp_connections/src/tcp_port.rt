@@ -1,14 +1,14 @@
-//! A TCP port of this machine and its connections, over epoll. Nothing here waits but for one look at what is ready, with a time that may be set.
+//! The doors of this machine and their connections, over epoll. Nothing here waits but for one look at what is ready, with a time that may be set.
 ghost use Rattle.std.specs.Prelude.{◌<◌, ◌≤◌, length, IfOk};
 ghost use Rattle.connections.specs.Calls.{FitsRoom};
 
 use crate::hall::{Dealt, Entrance, Hall, MOST_DEALT};
 use crate::patience::Patience;
-use crate::slot::{Slot, drop_unread, keep_alive, new_slot, read_from, turn_away, write_to};
+use crate::slot::{Slot, drop_unread, new_slot, read_from, turn_away, write_to};
+use crate::stream::Stream;
 use connections::{Broken, Event, Input};
 use mio::event::Events;
-use mio::net::TcpStream;
-use mio::{Interest, Poll, Token};
+use mio::{Poll, Token};
 use slab::Slab;
 use std::alloc::Global;
 use std::io::{self, ErrorKind};
@@ -17,8 +17,8 @@ use std::sync::Arc;
 use std::sync::atomic::{AtomicBool, Ordering};
 use std::time::Duration;
 
-/// The token of the listener, which no connection has.
-const LISTENER: Token = Token(usize::MAX);
+/// The token of all doors, which no connection has.
+const DOORS: Token = Token(usize::MAX);
 
 /// The most events that one wait gives.
 const MOST_EVENTS: usize = 1_024;
@@ -42,6 +42,10 @@ enum Accepting {
 #[derive(Drop)]
 pub(crate) struct TcpPort<'a> {
     most: usize,
+    /// For how many seconds a connection may be silent, where that is not 0.
+    idle: u64,
+    /// The second that was told last, where connections may be silent for so long only.
+    second: u64,
     /// Whether a port has failed: all fail together.
     has_failed: &'a AtomicBool,
     poll: Poll,
@@ -72,12 +76,28 @@ fn put(slots: &mut Slab<Slot>, queue: &mut Vec<u32>, number: usize) {
     }
 }
 
-/// Puts each connection of the events among those to be reported, and says whether the listener was among them.
+/// Ends each connection at which nothing came or went for so many seconds: it is reported, and is broken.
+fn end_idle(slots: &mut Slab<Slot>, queue: &mut Vec<u32>, second: u64, idle: u64) {
+    for number in 0..slots.capacity() {
+        let is_over = match slots.get_mut(number) {
+            Some(slot) => {
+                slot.is_over = slot.is_over || second.saturating_sub(slot.heard) >= idle;
+                slot.is_over
+            }
+            None => false,
+        };
+        if is_over {
+            put(slots, queue, number);
+        }
+    }
+}
+
+/// Puts each connection of the events among those to be reported, and says whether a door was among them.
 fn put_events(events: &Events, slots: &mut Slab<Slot>, queue: &mut Vec<u32>) -> bool {
     let mut listens = false;
     for event in events {
         let token = event.token();
-        if token == LISTENER {
+        if token == DOORS {
             listens = true;
         } else {
             let ended = event.is_read_closed() || event.is_error();
@@ -95,6 +115,7 @@ fn put_events(events: &Events, slots: &mut Slab<Slot>, queue: &mut Vec<u32>) -> 
 #[derive(Clone, Copy)]
 pub(crate) struct Limits<'a> {
     pub(crate) most: usize,
+    pub(crate) idle: u64,
     pub(crate) has_failed: &'a AtomicBool,
 }
 
@@ -110,12 +131,13 @@ impl<'a> TcpPort<'a> {
     ) -> io::Result<TcpPort<'a>> {
         let events = Events::with_capacity(alloc, MOST_EVENTS)?;
         let mut entrance = entrance;
-        if let Entrance::Listener(dealer) = &mut entrance {
-            poll.registry()
-                .register(&mut dealer.listener, LISTENER, Interest::READABLE)?;
+        if let Entrance::Doors(dealer) = &mut entrance {
+            dealer.register(poll.registry(), DOORS)?;
         }
         Ok(TcpPort {
             most: limits.most,
+            idle: limits.idle,
+            second: 0,
             has_failed: limits.has_failed,
             poll,
             events,
@@ -132,9 +154,8 @@ impl<'a> TcpPort<'a> {
     }
 
     /// Takes a connection in, and says its number. Where there is no memory for it, it is let go.
-    fn take_in(&mut self, stream: TcpStream) -> Option<u32> {
-        let _unheeded = stream.set_nodelay(true);
-        keep_alive(&stream);
+    fn take_in(&mut self, stream: Stream) -> Option<u32> {
+        stream.begin();
         // Each that is open once, and each that was closed since the last round.
         let room = self.slots.len().saturating_add(1).saturating_mul(2);
         self.queue
@@ -143,14 +164,10 @@ impl<'a> TcpPort<'a> {
         self.round
             .reserve(room.saturating_sub(self.round.len()))
             .ok()?;
-        let number = self.slots.insert(new_slot(stream)).ok()?;
+        let number = self.slots.insert(new_slot(stream, self.second)).ok()?;
         let slot = self.slots.get_mut(number)?;
-        let both = Interest::READABLE | Interest::WRITABLE;
         let registry = self.poll.registry();
-        if registry
-            .register(&mut slot.stream, Token(number), both)
-            .is_err()
-        {
+        if slot.stream.register(registry, Token(number)).is_err() {
             let _gone = self.slots.try_remove(number);
             return None;
         }
@@ -158,14 +175,14 @@ impl<'a> TcpPort<'a> {
     }
 
     /// The next connection that waits, where there is one.
-    fn next_stream(&mut self) -> Option<TcpStream> {
+    fn next_stream(&mut self) -> Option<Stream> {
         match &mut self.entrance {
             Entrance::Inbox(inbox) => match inbox.pop() {
                 Ok(stream) => return Some(stream),
                 Err(_) => self.accepting = Accepting::Idle,
             },
-            Entrance::Listener(dealer) => match dealer.listener.accept() {
-                Ok((stream, _)) => return Some(stream),
+            Entrance::Doors(dealer) => match dealer.accept() {
+                Ok(stream) => return Some(stream),
                 Err(error) => match error.kind() {
                     ErrorKind::WouldBlock => self.accepting = Accepting::Idle,
                     ErrorKind::Interrupted | ErrorKind::ConnectionAborted => {}
@@ -177,10 +194,11 @@ impl<'a> TcpPort<'a> {
     }
 
     /// Takes in a connection that is counted here.
-    fn take_own(&mut self, stream: TcpStream) -> Option<Event> {
+    fn take_own(&mut self, stream: Stream) -> Option<Event> {
+        let way = stream.way();
         let number = self.take_in(stream);
         if number.is_none() {
-            self.hall.goes(self.seat);
+            self.hall.goes(self.seat, way);
         }
         Some(Event::Opened(number?))
     }
@@ -190,7 +208,7 @@ impl<'a> TcpPort<'a> {
         let stream = self.next_stream()?;
         let dealt = match &mut self.entrance {
             Entrance::Inbox(_) => Dealt::Own(stream),
-            Entrance::Listener(dealer) => dealer.deal(&self.hall, self.most, stream),
+            Entrance::Doors(dealer) => dealer.deal(&self.hall, self.most, stream),
         };
         match dealt {
             Dealt::Own(stream) => self.take_own(stream),
@@ -290,6 +308,19 @@ impl<'a> TcpPort<'a> {
         Ok(None)
     }
 
+    /// Whether connections end that are silent for too long.
+    pub(crate) fn ends_idle(&self) -> bool {
+        self.idle > 0
+    }
+
+    /// It is this second: once a second those end that were silent for too long.
+    pub(crate) fn tell_second(&mut self, second: u64) {
+        if second != self.second {
+            self.second = second;
+            end_idle(&mut self.slots, &mut self.queue, second, self.idle);
+        }
+    }
+
     /// The connections there have failed: so those of the other shares fail, and need not wait for it.
     pub(crate) fn tell_failure(&self) {
         self.has_failed.store(true, Ordering::Relaxed);
@@ -302,7 +333,11 @@ impl<'a> TcpPort<'a> {
         ensures fits { IfOk result (FitsRoom (length out.old)) }
     {
         match self.slots.get_mut(number as usize) {
-            Some(slot) if slot.may_read => read_from(slot, out),
+            Some(slot) if slot.is_over => Err(Broken),
+            Some(slot) if slot.may_read => {
+                slot.heard = self.second;
+                read_from(slot, out)
+            }
             Some(_) => Ok(Input::Later),
             None => Err(Broken),
         }
@@ -312,8 +347,15 @@ impl<'a> TcpPort<'a> {
     pub(crate) fn write(&mut self, number: u32, piece: &[u8]) -> Result<usize, Broken>
         ensures { IfOk result (λ n. n ≤ length piece.now) }
     {
-        match self.slots.get(number as usize) {
-            Some(slot) => write_to(&slot.stream, piece),
+        match self.slots.get_mut(number as usize) {
+            Some(slot) if slot.is_over => Err(Broken),
+            Some(slot) => {
+                let taken = write_to(&slot.stream, piece)?;
+                if taken > 0 {
+                    slot.heard = self.second;
+                }
+                Ok(taken)
+            }
             None => Err(Broken),
         }
     }
@@ -330,8 +372,8 @@ impl<'a> TcpPort<'a> {
                 drop_unread(slot);
             }
         }
-        if self.slots.try_remove(number as usize).is_some() {
-            self.hall.goes(self.seat);
+        if let Some(slot) = self.slots.try_remove(number as usize) {
+            self.hall.goes(self.seat, slot.stream.way());
         }
         if self.accepting == Accepting::Refused {
             self.accepting = Accepting::Ready;

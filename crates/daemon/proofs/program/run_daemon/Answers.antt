@@ -12,7 +12,7 @@ returns-in-Ok g c = record {
   second = c.second-second.result;
   read = c.second-second.ensures.told;
   once = c.second-second.ensures.once;
-  comes = comes_behind string_bytes (all_words_of string_bytes c.args.args) c.in-Ok.words.items c.behind_name.result.now c.first_number.result c.second-second.result _ _ _ _ c.answer_or_serve.result
+  comes = comes_behind _ string_bytes (all_words_of string_bytes c.args.args) c.in-Ok.words.items c.behind_name.result.now c.first_number.result c.second-second.result _ _ _ _ c.answer_or_serve.result
       c.in-Ok.ensures (c.behind_name.ensures ∙ ap (drop 1) c.as_slice.ensures.value) c.first_number.ensures.number c.answer_or_serve.ensures;
 }
 
@@ -23,5 +23,5 @@ returns-in-Err g c = record {
   second = c.second-second.result;
   read = c.second-second.ensures.told;
   once = c.second-second.ensures.once;
-  comes = no_memory_comes (words_of string_bytes c.args.args) _ _ _;
+  comes = no_memory_comes _ (words_of string_bytes c.args.args) _ _ _;
 }

@@ -5,7 +5,7 @@ use Rattle.connections.specs.declared.listeners.Place.{Place}
 use Rattle.served.specs.NetRun.{net_facts}
 use Rattle.server_words.specs.Output.{sink_facts}
 use Rattle.locked_server.specs.Causes.{ports_at}
-use Rattle.daemon.specs.Daemon.{daemon_outside}
+use Rattle.daemon.specs.Daemon.{daemon_outside, place_at}
 use Rattle.daemon.proofs.Announced.{serves_placed}
 use Rattle.daemon.proofs.top.stay_up.Goals as goal
 
@@ -18,7 +18,7 @@ pub serve_aloud-requires-clause-places : goal.serve_aloud-requires-clause-places
 serve_aloud-requires-clause-places g c lifetimes outlive some =
     let streams = c.args.streams.now in
     subst (λ (all : List Place). 0 < length all) (sym (c.set_places.ensures.places ∙ c.in-Ok-places_of.ensures))
-    (is_placed streams.ports.fronts (record { address = streams.address; port = streams.ports.port }) (streams.ports.fronts == 0) refl some)
+    (is_placed streams.ports.fronts (place_at streams.address streams.ports.port) (streams.ports.fronts == 0) refl some)
 
 pub returns : goal.returns
 returns g c =

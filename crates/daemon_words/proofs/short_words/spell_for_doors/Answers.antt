@@ -1,0 +1,7 @@
+use Rattle.daemon_words.proofs.short_words.spell_for_doors.Goals as goal
+
+pub returns-in-text : goal.returns-in-text
+returns-in-text c = rw c.in-text.is c.add_before.ensures
+
+pub returns-in-text-2 : goal.returns-in-text-2
+returns-in-text-2 c = rw c.in-text-2.is c.add_before-in-text-2.ensures
