@@ -1,10 +1,10 @@
 -- Whether nothing but zeros is left.
-use Rattle.std.proofs.Common.{◌≡◌, ℕ, suc, ◌+◌, ◌/◌, ◌<◌, ◌≤◌, Bool, true, false, ltb, eqb, List, [], ◌∷◌, ◌++◌, length, take, drop, refl, sym, ap, subst, ◌∙◌, arith}
+use Rattle.std.proofs.Common.{◌≡◌, ℕ, suc, ◌+◌, ◌-◌, ◌/◌, ◌<◌, ◌≤◌, Bool, true, false, ltb, eqb, List, [], ◌∷◌, ◌++◌, length, take, drop, refl, sym, ap, subst, ◌∙◌, arith}
 use Rattle.std.specs.Prelude.{Option, Some, None, Result, Ok, Err, ◌&&◌}
 use Rattle.std.specs.List.{list_all}
 use Rattle.std.specs.Io.KnownBytes.{Consumes, IsAtEnd}
-use Rattle.std.proofs.lemmas.Bool.{lt-ltb, le-ltb, ltb-false}
-use Rattle.std.proofs.lemmas.List.{append-nil, length-append, length-take}
+use Rattle.std.proofs.lemmas.Bool.{lt-ltb, le-ltb, ltb-false, ne_eqb}
+use Rattle.std.proofs.lemmas.List.{append-nil, drop-take, length-append, length-take}
 use Rattle.saved_items.specs.declared.blocks.TheConstants.{CONTENT_LEN}
 use Rattle.saved_items.specs.declared.fault.SavedFault.{SavedFault}
 use Rattle.saved_items.specs.declared.fault.SavedFault.TheVariants as faults
@@ -36,11 +36,12 @@ first_not false false = refl
 
 front_not : (rest more : List ℕ) → list_all (λ byte. eqb byte 0) rest ≡ false → list_all (λ byte. eqb byte 0) (rest ++ more) ≡ false
 front_not [] more e = absurd cc
-front_not (byte ∷ rest) more e = by (eqb byte 0) e
+front_not (byte ∷ rest) more e = by (eqb byte 0) (front_not rest more) e
   where
-    by : (b : Bool) → (b && list_all (λ byte. eqb byte 0) rest) ≡ false → (b && list_all (λ byte. eqb byte 0) (rest ++ more)) ≡ false
-    by true f = front_not rest more f
-    by false f = refl
+    by : (b : Bool) → (list_all (λ byte. eqb byte 0) rest ≡ false → list_all (λ byte. eqb byte 0) (rest ++ more) ≡ false)
+        → (b && list_all (λ byte. eqb byte 0) rest) ≡ false → (b && list_all (λ byte. eqb byte 0) (rest ++ more)) ≡ false
+    by true next f = next f
+    by false next f = refl
 
 pub ends_other : (left : Option (List ℕ)) (sum : ℕ) (rest : List ℕ) → list_all (λ byte. eqb byte 0) rest ≡ false → Ends (let r : Result (Unit {0}) SavedFault = Err faults.Trailing in r) (stream_in left sum rest)
 ends_other None sum rest e = tt
@@ -55,6 +56,11 @@ long_not s long =
 pub ends_full : (left : Option (List ℕ)) (sum : ℕ) (rest : List ℕ) → CONTENT_LEN ≤ length rest → Ends (let r : Result (Unit {0}) SavedFault = Err faults.Trailing in r) (stream_in left sum rest)
 ends_full None sum rest long = tt
 ends_full (Some file) sum rest long = λ told. (long_not (with_front rest (stream_at sum file)) (omega (arith, long, length-append rest (stream_at sum file).content)), refl)
+
+-- what is left of a block, as a part of it
+pub rest_is : (at : ℕ) (block : List ℕ) → at ≤ 65528 → drop at (take 65528 block) ≡ take (65528 - at) (drop at block)
+rest_is at block within =
+    subst (λ (n : ℕ). drop at (take n block) ≡ take (65528 - at) (drop at block)) (let e : at + (65528 - at) ≡ 65528 = omega arith in e) (drop-take at (65528 - at) block)
 
 -- ---- something is behind the block
 
@@ -76,6 +82,8 @@ some_not sum byte file rest =
     let count : n + 1 ≡ suc n = omega arith in
     ap (λ (k : ℕ). only_zeros (with_front rest (blocks_at k sum (byte ∷ file)))) count
     ∙ ap (λ (s : Stream). only_zeros (with_front rest s)) (blocks_are n sum (byte ∷ file))
+    ∙ ap (λ (b : Bool). only_zeros (with_front rest (blocks_step n sum (byte ∷ file) b (ltb (length (byte ∷ file)) 65536) (eqb (told_sum (byte ∷ file)) (content_sum sum (take 65528 (byte ∷ file)))))))
+    (ne_eqb (length (byte ∷ file)) 0 (λ e. omega (arith, e)))
     ∙ some_step n sum (byte ∷ file) rest (ltb (length (byte ∷ file)) 65536) (eqb (told_sum (byte ∷ file)) (content_sum sum (take 65528 (byte ∷ file)))) refl
 
 pub ends_behind : (left left' : Option (List ℕ)) (sum : ℕ) (rest bytes : List ℕ) → Consumes left left' bytes → 0 < length bytes → Ends (let r : Result (Unit {0}) SavedFault = Err faults.Trailing in r) (stream_in left sum rest)

@@ -4,6 +4,7 @@ pub mod Spilled
 pub mod Again
 pub mod AgainItems
 pub mod Whole
+pub mod Texts
 pub mod Readers
 pub mod Takes
 pub mod Grows

@@ -1,5 +1,5 @@
 -- One reader behind another.
-use Rattle.std.proofs.Common.{◌≡◌, ℕ, ◌%◌, true, false, eqb, List, refl, sym, ap, ◌∙◌}
+use Rattle.std.proofs.Common.{◌≡◌, ℕ, ◌%◌, true, false, eqb, List, refl, sym, ap, subst, ◌∙◌}
 use Rattle.std.specs.Prelude.{Option, Some, None, Result, Ok, Err}
 use Rattle.std.specs.Int.{w64, from_le_bytes}
 use Rattle.std.proofs.lemmas.Bool.{eq-eqb, ne_eqb}
@@ -64,44 +64,6 @@ unfolding closing_at
 closing_lost bytes fault None mid new lost = tt
 closing_lost bytes fault (Some s) mid new lost = λ told. ap (λ (r : Result (List ℕ × Stream) SavedFault). r >>= λ b. with_rest b.1 (closing_in (packed b.0))) (lost told)
 
--- ---- the key and the value of a pair
-
-abbrev with_key : Lengths → List ℕ × Stream → Result (Pair × Stream) SavedFault
-with_key lengths key = bytes_at lengths.value_len key.1 >>= λ value. Ok (record { key = key.0; value = value.0; reads = lengths.reads; is_long = lengths.is_long }, value.1)
-
-module _ (pair : Pair) (old new : Option Stream) where
-  pub no_lengths : Stopped (Unit {0}) (λ _. pair) faults.Length old new (texts_at None)
-  unfolding texts_at
-  no_lengths = by old
-    where
-      by : (o : Option Stream) → Stopped (Unit {0}) (λ _. pair) faults.Length o new (texts_at None)
-      by None = tt
-      by (Some s) = λ told. refl
-
-pub key_lost : (pair : Pair) (lengths : Lengths) (bytes : List ℕ) (fault : SavedFault) (old mid new : Option Stream) → Lost bytes lengths.key_len fault old mid → Stopped (Unit {0}) (λ _. pair) fault old new (texts_at (Some lengths))
-unfolding texts_at
-key_lost pair lengths bytes fault None mid new lost = tt
-key_lost pair lengths bytes fault (Some s) mid new lost = λ told. ap (λ (r : Result (List ℕ × Stream) SavedFault). r >>= with_key lengths) (lost told)
-
-pub value_lost : (pair : Pair) (lengths : Lengths) (key bytes : List ℕ) (fault : SavedFault) (old mid last new : Option Stream) → Got key lengths.key_len old mid → Lost bytes lengths.value_len fault mid last
-    → Stopped (Unit {0}) (λ _. pair) fault old new (texts_at (Some lengths))
-unfolding texts_at
-value_lost pair lengths key bytes fault None mid last new got lost = tt
-value_lost pair lengths key bytes fault (Some s) None last new got lost = absurd got
-value_lost pair lengths key bytes fault (Some s) (Some m) last new got lost = λ told.
-    ap (λ (r : Result (List ℕ × Stream) SavedFault). r >>= with_key lengths) got
-    ∙ ap (λ (r : Result (List ℕ × Stream) SavedFault). r >>= λ value. Ok (record { key = key; value = value.0; reads = lengths.reads; is_long = lengths.is_long }, value.1)) (lost told)
-
-pub texts_read : (lengths : Lengths) (key value : List ℕ) (old mid new : Option Stream) → Got key lengths.key_len old mid → Got value lengths.value_len mid new
-    → Gives (λ (_ : Unit {0}). record { key = key; value = value; reads = lengths.reads; is_long = lengths.is_long }) tt old new (texts_at (Some lengths))
-unfolding texts_at
-texts_read lengths key value None mid new first second = tt
-texts_read lengths key value (Some s) None new first second = absurd first
-texts_read lengths key value (Some s) (Some m) None first second = absurd second
-texts_read lengths key value (Some s) (Some m) (Some t) first second =
-    ap (λ (r : Result (List ℕ × Stream) SavedFault). r >>= with_key lengths) first
-    ∙ ap (λ (r : Result (List ℕ × Stream) SavedFault). r >>= λ v. Ok (record { key = key; value = v.0; reads = lengths.reads; is_long = lengths.is_long }, v.1)) second
-
 -- ---- an entry
 
 module _ (close : ℕ) (pair : Pair) where
@@ -117,9 +79,9 @@ module _ (close : ℕ) (pair : Pair) where
   entry_lost fault (Some s) mid new lost = λ told. ap (λ (r : Result (ℕ × Stream) SavedFault). r >>= on_word) (lost told)
 
   module _ (word : ℕ) (old mid : Option Stream) (got : Gives (λ w. w) word old mid word_at) where
-    pub pair_read : (new : Option Stream) → (word % 256 ≡ 0 → ⊥) → Gives (λ (_ : Unit {0}). pair) tt mid new (texts_at (lengths_in word)) → Gives view None old new (entry_at close)
+    pub pair_read : (o : Option Lengths) (new : Option Stream) → (word % 256 ≡ 0 → ⊥) → o ≡ lengths_in word → Gives (λ (_ : Unit {0}). pair) tt mid new (texts_at o) → Gives view None old new (entry_at close)
     unfolding entry_at
-    pair_read new some texts = by old mid new got texts
+    pair_read o new some lengths texts = by old mid new got (subst (λ (l : Option Lengths). Gives (λ (_ : Unit {0}). pair) tt mid new (texts_at l)) lengths texts)
       where
         low : eqb (word % 256) 0 ≡ false
         low = ne_eqb (word % 256) 0 some
@@ -130,9 +92,9 @@ module _ (close : ℕ) (pair : Pair) where
         by (Some s) (Some m) None g t = absurd t
         by (Some s) (Some m) (Some n) g t = ap (λ (r : Result (ℕ × Stream) SavedFault). r >>= on_word) g ∙ rw low (rw t refl)
 
-    pub pair_lost : (fault : SavedFault) (last new : Option Stream) → (word % 256 ≡ 0 → ⊥) → Stopped (Unit {0}) (λ _. pair) fault mid last (texts_at (lengths_in word)) → Stopped (Option Closing) view fault old new (entry_at close)
+    pub pair_lost : (o : Option Lengths) (fault : SavedFault) (last new : Option Stream) → (word % 256 ≡ 0 → ⊥) → o ≡ lengths_in word → Stopped (Unit {0}) (λ _. pair) fault mid last (texts_at o) → Stopped (Option Closing) view fault old new (entry_at close)
     unfolding entry_at
-    pair_lost fault last new some texts = by old mid got texts
+    pair_lost o fault last new some lengths texts = by old mid got (subst (λ (l : Option Lengths). Stopped (Unit {0}) (λ _. pair) fault mid last (texts_at l)) lengths texts)
       where
         low : eqb (word % 256) 0 ≡ false
         low = ne_eqb (word % 256) 0 some

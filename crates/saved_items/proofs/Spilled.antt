@@ -1,20 +1,21 @@
 -- What was saved, entry by entry.
-use Rattle.std.proofs.Common.{◌≡◌, ℕ, ◌+◌, ◌-◌, ◌<◌, List, [], ◌∷◌, ◌++◌, length, replicate, refl, sym, ap, subst, ◌∙◌, append_assoc, arith}
+use Rattle.std.proofs.Common.{◌≡◌, ℕ, ◌+◌, ◌-◌, ◌<◌, List, [], ◌∷◌, ◌++◌, length, take, get_or, replicate, refl, sym, ap, subst, ◌∙◌, append_assoc, arith}
 use Rattle.std.specs.Prelude.{Option}
 use Rattle.std.specs.List.{AllByRecursion}
 use Rattle.std.specs.Io.KnownBytes.{Appends}
 use Rattle.std.proofs.KnownBytes.{Appends-nil}
-use Rattle.std.proofs.lemmas.List.{append-nil}
+use Rattle.std.proofs.lemmas.Grind.{flat_map-append}
+use Rattle.std.proofs.lemmas.List.{append-nil, take_more}
 use Rattle.saved_items.specs.declared.blocks.TheConstants.{FIRST_SUM, CONTENT_LEN}
 use Rattle.saved_items.specs.declared.spiller.Spiller.{Spiller}
 use Rattle.saved_items.specs.declared.items.Head.{Head}
 use Rattle.saved_items.specs.declared.items.Closing.{Closing}
 use Rattle.saved_items.specs.Blocks.{content_sum, block_text, blocks_text, joined, FillsBlock}
 use Rattle.saved_items.specs.Items.{Entry, Keeps, Closes, Pair, SavedItems, SavedFits, close_after}
-use Rattle.saved_items.specs.Spelling.{words_text, head_words, entry_text, entries_text, pair_text, items_text, SpellsSaved}
+use Rattle.saved_items.specs.Spelling.{word_text, words_text, head_words, pair_word, entry_text, entries_text, pair_text, items_text, SpellsSaved}
 use Rattle.saved_items.specs.Moves.{HasPut, Puts}
 use Rattle.saved_items.specs.Spiller.{IsFresh, HasSaved, Saves, Finishes, PutsBytes, close_behind}
-use Rattle.saved_items.proofs.Puts.{Puts_block}
+use Rattle.saved_items.proofs.Puts.{Puts_block, Puts_then}
 
 close_behind-snoc : (close : ℕ) (entries : List Entry) (entry : Entry) → close_behind close (entries ++ entry ∷ []) ≡ close_after (close_behind close entries) entry
 close_behind-snoc close [] entry = refl
@@ -47,6 +48,20 @@ saved_entry old new spiller spiller' entry close puts = λ before head entries h
       put = subst (HasPut before new spiller'.sum spiller'.held.items) text (puts before (words_text (head_words head) ++ entries_text 0 entries) has.put);
       close = close ∙ ap (λ (n : ℕ). close_after n entry) has.close ∙ sym (close_behind-snoc 0 entries entry);
     }
+
+-- one word more
+pub words_more : (words : List ℕ) (i : ℕ) (bytes : List ℕ) → i < length words → bytes ≡ word_text (get_or words i 0) → words_text (take (i + 1) words) ≡ words_text (take i words) ++ bytes
+words_more words i bytes less is =
+    ap words_text (take_more words i 0 less) ∙ flat_map-append word_text (take i words) (get_or words i 0 ∷ [])
+    ∙ ap (λ (b : List ℕ). words_text (take i words) ++ b) (append-nil (word_text (get_or words i 0)) ∙ sym is)
+
+-- the word of a pair, its key and its value
+pub pair_puts : (a b c d : Option (List ℕ)) (s t u v : Spiller) (pair : Pair) (word : List ℕ) → word ≡ word_text (pair_word pair)
+    → PutsBytes a b s t word → PutsBytes b c t u pair.key → PutsBytes c d u v pair.value → PutsBytes a d s v (pair_text pair)
+pair_puts a b c d s t u v pair word is first second third =
+    let two : PutsBytes a c s u (word ++ pair.key) = Puts_then a b c s.sum t.sum u.sum s.held.items t.held.items u.held.items word pair.key first second in
+    let all : PutsBytes a d s v ((word ++ pair.key) ++ pair.value) = Puts_then a c d s.sum u.sum v.sum s.held.items u.held.items v.held.items (word ++ pair.key) pair.value two third in
+    subst (PutsBytes a d s v) (append_assoc word pair.key pair.value ∙ ap (λ (w : List ℕ). w ++ (pair.key ++ pair.value)) is) all
 
 pub pair_saved : (old new : Option (List ℕ)) (spiller spiller' : Spiller) (pair : Pair) → spiller'.close ≡ close_after spiller.close (Keeps pair)
     → PutsBytes old new spiller spiller' (pair_text pair) → Saves old new spiller spiller' (Keeps pair)

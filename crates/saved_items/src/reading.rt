@@ -67,7 +67,6 @@ fn head_in(words: &[u64]) -> Result<Head, SavedFault>
 }
 
 /// The head of the file, which the source is at the beginning of.
-#[tactic(auto, using(crate::proofs::Readers::reads_head, crate::proofs::Readers::head_lost))]
 pub fn read_head<S: Source>(
     alloc: Global,
     source: &mut S,
@@ -139,7 +138,6 @@ fn read_word<S: Source>(
 }
 
 // The key and the value behind the word of a pair.
-#[tactic(auto, using(crate::proofs::Readers::no_lengths, crate::proofs::Readers::key_lost, crate::proofs::Readers::value_lost, crate::proofs::Readers::texts_read))]
 fn read_texts<S: Source>(
     source: &mut S,
     reader: &mut SavedReader,
@@ -163,7 +161,6 @@ fn read_texts<S: Source>(
 }
 
 // What closes a partition, behind its word, by way of this room.
-#[tactic(auto, using(crate::proofs::Readers::reads_closing, crate::proofs::Readers::closing_lost))]
 fn read_closing<S: Source>(
     source: &mut S,
     reader: &mut SavedReader,
@@ -180,7 +177,6 @@ fn read_closing<S: Source>(
 }
 
 /// The next pair, in place of the one that `pair` held, or what closes the partition. `close` is 256 times how many pairs of it were read.
-#[tactic(auto, using(crate::proofs::Readers::entry_lost, crate::proofs::Readers::pair_read, crate::proofs::Readers::pair_lost, crate::proofs::Readers::other_count, crate::proofs::Readers::entry_closes, crate::proofs::Readers::entry_open))]
 pub fn read_entry<S: Source>(
     source: &mut S,
     reader: &mut SavedReader,
@@ -211,12 +207,14 @@ fn has_zeros_alone(rest: &[u8]) -> bool
 }
 
 /// The end behind the last partition: zeros to the end of the block, and nothing behind it.
-#[tactic(auto, using(crate::proofs::Ends::ends_whole, crate::proofs::Ends::ends_behind, crate::proofs::Ends::ends_other, crate::proofs::Ends::ends_full))]
 pub fn read_end<S: Source>(source: &mut S, reader: &mut SavedReader) -> Result<(), SavedFault>
     requires open { S.has_ended source.old ≡ false }
     ensures { Ends result (stream_of (S.left source.old) reader.old) }
 {
-    if reader.at == 0 || !has_zeros_alone(&reader.block.as_slice()[reader.at..CONTENT_LEN]) {
+    if reader.at == 0 {
+        return Err(SavedFault::Trailing);
+    }
+    if !has_zeros_alone(&reader.block.as_slice()[reader.at..CONTENT_LEN]) {
         return Err(SavedFault::Trailing);
     }
     let mut behind = [0u8];

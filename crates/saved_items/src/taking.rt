@@ -1,5 +1,5 @@
 //! Who takes the entries of a file, one after another, and what is handed on.
-ghost use Rattle.std.specs.Prelude.{◌≡◌, false, Some, None, OnOk, IfOk, IfErr};
+ghost use Rattle.std.specs.Prelude.{◌≡◌, ◌<◌, ◌+◌, ◌-◌, ◌%◌, ◌^◌, false, if◌then◌else◌, Some, None, OnOk, IfOk, IfErr};
 ghost use Rattle.saved_items.specs.Items.{Entry, Keeps, Closes, PairFits, pair_of};
 ghost use Rattle.saved_items.specs.Reader.{stream_of};
 ghost use Rattle.saved_items.specs.Moves.{HandsOn, TakesOne, TakesNone, is_of_outside};
@@ -38,7 +38,7 @@ pub trait TakesEntries {
 }
 
 // One entry is read and handed on. Says whether it closed the partition.
-#[tactic(auto, using(crate::proofs::Takes::took_pair, crate::proofs::Takes::took_closing, crate::proofs::Takes::took_none))]
+#[tactic(auto, using(crate::proofs::Takes::took_none, crate::proofs::Takes::refused))]
 fn take_entry<S: Source, T: TakesEntries>(
     source: &mut S,
     reader: &mut SavedReader,
@@ -63,8 +63,23 @@ fn take_entry<S: Source, T: TakesEntries>(
     }
 }
 
+// How many partitions are still to be closed, behind an entry that closed one or did not.
+fn left_behind(left: u64, closed: bool) -> u64
+    requires { 0 < left }
+    ensures { result ≡ (if closed then left - 1 else left) }
+{
+    if closed { left - 1 } else { left }
+}
+
+// What closes the pairs of the partition at hand, behind such an entry.
+fn close_behind(close: u64, closed: bool) -> u64
+    ensures { result ≡ (if closed then 0 else (close + 256) % 2 ^ 64) }
+{
+    if closed { 0 } else { close.wrapping_add(256) }
+}
+
 /// Hands on what stands behind the head, entry by entry, to its end. `pair` is room that is used again.
-#[tactic(auto, using(crate::proofs::Takes::goes_on_first, crate::proofs::Takes::goes_on_pair, crate::proofs::Takes::goes_on_closing, crate::proofs::Takes::ends_well, crate::proofs::Takes::ends_ill, crate::proofs::Takes::stops_ill))]
+#[tactic(auto, using(crate::proofs::Takes::goes_on_first))]
 pub fn read_entries<S: Source, T: TakesEntries>(
     source: &mut S,
     reader: &mut SavedReader,
@@ -82,12 +97,9 @@ pub fn read_entries<S: Source, T: TakesEntries>(
         if left == 0 {
             return read_end(source, reader);
         }
-        if take_entry(source, reader, close, pair, taker)? {
-            left -= 1;
-            close = 0;
-        } else {
-            close = close.wrapping_add(256);
-        }
+        let closed = take_entry(source, reader, close, pair, taker)?;
+        left = left_behind(left, closed);
+        close = close_behind(close, closed);
     }
     Err(SavedFault::Failed)
 }

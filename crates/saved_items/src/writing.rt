@@ -4,7 +4,7 @@ ghost use Rattle.std.specs.Int.{w64, to_le_bytes};
 ghost use Rattle.std.specs.Io.KnownBytes.{Appends};
 ghost use Rattle.saved_items.specs.Blocks.{content_sum, block_text};
 ghost use Rattle.saved_items.specs.Items.{Keeps, Closes, PairFits, pair_of};
-ghost use Rattle.saved_items.specs.Spelling.{words_text, hashing_words, mode_word, pair_word};
+ghost use Rattle.saved_items.specs.Spelling.{words_text, head_words, mode_word, pair_word};
 ghost use Rattle.saved_items.specs.Spiller.{IsFresh, HasSaved, PutsBytes, Saves, Finishes};
 
 use crate::blocks::{CONTENT_LEN, CONTENT_WORDS, content_sum};
@@ -87,7 +87,7 @@ pub(crate) fn put_bytes<K: Sink>(
 }
 
 // Puts these words.
-#[tactic(auto, using(crate::proofs::Puts::Puts_none, crate::proofs::Puts::Puts_then))]
+#[tactic(auto, using(crate::proofs::Puts::Puts_none))]
 fn put_words<K: Sink>(sink: &mut K, spiller: &mut Spiller, words: &[u64]) -> Result<(), SpillFault>
     ensures puts { OnOk result (PutsBytes (K.taken sink.old) (K.taken sink.new) spiller.old spiller.new (words_text words.now)) }
     ensures close { spiller.new.close ≡ spiller.old.close }
@@ -96,15 +96,6 @@ fn put_words<K: Sink>(sink: &mut K, spiller: &mut Spiller, words: &[u64]) -> Res
         put_bytes(sink, spiller, &word.to_le_bytes())?;
     }
     Ok(())
-}
-
-fn hashing_words(hashing: Hashing) -> [u64; 3]
-    ensures { result ≡ hashing_words hashing }
-{
-    match hashing {
-        Hashing::Papers => [0, 0, 0],
-        Hashing::Secret(k0, k1) => [1, k0, k1],
-    }
 }
 
 fn mode_word(mode: SavedMode) -> u64
@@ -116,15 +107,23 @@ fn mode_word(mode: SavedMode) -> u64
     }
 }
 
+// The seven words of the head.
+fn head_words(head: &Head) -> [u64; 7]
+    ensures { result ≡ head_words head.now }
+{
+    let mode = mode_word(head.mode);
+    match head.hashing {
+        Hashing::Papers => [MAGIC, head.second, 0, 0, 0, mode, head.partitions],
+        Hashing::Secret(k0, k1) => [MAGIC, head.second, 1, k0, k1, mode, head.partitions],
+    }
+}
+
 /// Puts the head, which comes first.
-#[tactic(auto, using(crate::proofs::Spilled::head_saved))]
 pub fn put_head<K: Sink>(sink: &mut K, spiller: &mut Spiller, head: &Head) -> Result<(), SpillFault>
     requires { IsFresh spiller.old }
     ensures { OnOk result (HasSaved (K.taken sink.old) (K.taken sink.new) spiller.new head.now []) }
 {
-    let [kind, k0, k1] = hashing_words(head.hashing);
-    let mode = mode_word(head.mode);
-    let words = [MAGIC, head.second, kind, k0, k1, mode, head.partitions];
+    let words = head_words(head);
     put_words(sink, spiller, &words)
 }
 
@@ -141,7 +140,6 @@ fn pair_word(pair: &SavedPair) -> u64
 }
 
 /// Puts a pair of the partition at hand.
-#[tactic(auto, using(crate::proofs::Spilled::pair_saved, crate::proofs::Puts::Puts_then))]
 pub fn put_pair<K: Sink>(
     sink: &mut K,
     spiller: &mut Spiller,
@@ -159,7 +157,6 @@ pub fn put_pair<K: Sink>(
 }
 
 /// Closes the partition at hand, and begins the next one.
-#[tactic(auto, using(crate::proofs::Spilled::closing_saved))]
 pub fn close_partition<K: Sink>(
     sink: &mut K,
     spiller: &mut Spiller,
