@@ -23,6 +23,6 @@ pub loop-turn-preserved : goal.loop-turn-preserved
 loop-turn-preserved g c = record {
   unended = c.in_ok-closed.ensures.open;
   so_far = goes_on_then g.T.TakesEntries.takes c.args.taker.now c.args.partitions 0 (stream_of (g.S.Source.left c.args.source.now) c.args.reader.now) c.loop-turn.taker c.take_entry.new.taker c.loop-turn.left
-  c.loop-turn.close c.left_behind-left.result c.close_behind-close.result c.in_ok-closed.closed (stream_of (g.S.Source.left c.loop-turn.source) c.loop-turn.reader)
-  (stream_of (g.S.Source.left c.take_entry.new.source) c.take_entry.new.reader) c.loop-turn.invariant.so_far (omega arith) c.in_ok-closed.ensures.takes c.left_behind-left.ensures c.close_behind-close.ensures;
+      c.loop-turn.close c.left_behind-left.result c.close_behind-close.result c.in_ok-closed.closed (stream_of (g.S.Source.left c.loop-turn.source) c.loop-turn.reader)
+      (stream_of (g.S.Source.left c.take_entry.new.source) c.take_entry.new.reader) c.loop-turn.invariant.so_far (omega arith) c.in_ok-closed.ensures.takes c.left_behind-left.ensures c.close_behind-close.ensures;
 }

@@ -15,8 +15,8 @@ loop-rest-preserved g c =
       put = (
         so_far.0 ++ take n rest,
         so_far.1 ∙ ap (λ (r : List ℕ). so_far.0 ++ r) (sym (take-append-drop n rest)) ∙ sym (append_assoc so_far.0 (take n rest) (drop n rest))
-        ∙ ap (λ (r : List ℕ). (so_far.0 ++ take n rest) ++ r) (sym (take_all (length rest - n) (drop n rest) (omega (arith, length-drop n rest)))),
+            ∙ ap (λ (r : List ℕ). (so_far.0 ++ take n rest) ++ r) (sym (take_all (length rest - n) (drop n rest) (omega (arith, length-drop n rest)))),
         Puts_then (g.K.Sink.taken c.args.sink.now) (g.K.Sink.taken c.loop-rest.sink) (g.K.Sink.taken c.put_front.new.sink) c.args.spiller.now.sum before.sum after.sum
-        c.args.spiller.now.held.items before.held.items after.held.items so_far.0 (take n rest) so_far.2 c.in_ok-count.ensures.puts,
+            c.args.spiller.now.held.items before.held.items after.held.items so_far.0 (take n rest) so_far.2 c.in_ok-count.ensures.puts,
       );
     }

@@ -20,5 +20,5 @@ returns g c =
     let key : PutsBytes t₁ t₂ s₁ s₂ pair.key = subst (PutsBytes t₁ t₂ s₁ s₂) c.as_slice.ensures.value c.in_ok-put_bytes-2.ensures.puts in
     let value : PutsBytes t₂ t₃ s₂ s₃ pair.value = subst (PutsBytes t₂ t₃ s₂ s₃) c.as_slice-2.ensures.value c.in_ok-put_bytes-3.ensures.puts in
     pair_saved t₀ t₃ s₀ _ pair
-    (c.wrapping_add.ensures ∙ ap (λ (n : ℕ). (n + 256) % 2 ^ 64) (c.put_bytes-3.ensures.close ∙ c.put_bytes-2.ensures.close ∙ c.put_bytes.ensures.close))
+    (ap (λ (n : ℕ). (n + 256) % 2 ^ 64) (c.put_bytes-3.ensures.close ∙ c.put_bytes-2.ensures.close ∙ c.put_bytes.ensures.close))
     (pair_puts t₀ t₁ t₂ t₃ s₀ s₁ s₂ s₃ pair c.to_le_bytes.result (c.to_le_bytes.ensures ∙ ap word_text c.pair_word-word.ensures) word key value)

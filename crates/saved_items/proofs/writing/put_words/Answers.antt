@@ -19,5 +19,5 @@ loop-word-preserved g c =
     record {
       close = c.put_bytes.ensures.close ∙ so_far.close;
       put = subst (PutsBytes t₀ t₂ s₀ s₂) (sym (words_more words i c.to_le_bytes.result (omega arith) c.to_le_bytes.ensures))
-      (Puts_then t₀ t₁ t₂ s₀.sum s₁.sum s₂.sum s₀.held.items s₁.held.items s₂.held.items (words_text (take i words)) c.to_le_bytes.result so_far.put c.in_ok-put_bytes.ensures.puts);
+          (Puts_then t₀ t₁ t₂ s₀.sum s₁.sum s₂.sum s₀.held.items s₁.held.items s₂.held.items (words_text (take i words)) c.to_le_bytes.result so_far.put c.in_ok-put_bytes.ensures.puts);
     }
