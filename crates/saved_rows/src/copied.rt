@@ -1,5 +1,5 @@
 //! What is read in a file: shown in lines, and written again.
-ghost use Rattle.std.specs.Prelude.{◌≤◌, length, ⊤};
+ghost use Rattle.std.specs.Prelude.{⊤};
 
 use named_files::{Beside, MemPlace, Place};
 use outside::NoMemory;
@@ -18,33 +18,34 @@ pub struct Copied {
     beside: Beside<MemPlace>,
 }
 
-// How many bytes at the front are this one.
-fn run_of(byte: u8, bytes: &[u8]) -> usize
-    ensures { result ≤ length bytes.now }
-{
-    bytes
-        .iter()
-        .position(|other| *other != byte)
-        .unwrap_or(bytes.len())
+// A run of one byte in hexadecimal: of four and more as HHxCOUNT.
+fn add_run(alloc: Global, run: &[u8], lines: &mut String) -> Result<(), NoMemory> {
+    let Some(byte) = run.first() else {
+        return Ok(());
+    };
+    let digits = format!(in alloc; "{byte:02x}")?;
+    if run.len() > 3 {
+        let many = run.len();
+        lines.push_str(format!(in alloc; "{digits}x{many}")?.as_str())?;
+        return Ok(());
+    }
+    for _ in 0..run.len() {
+        lines.push_str(digits.as_str())?;
+    }
+    Ok(())
 }
 
-// The bytes in hexadecimal, those of a run of four and more as HHxCOUNT; `-` for none.
+// The bytes in hexadecimal, run by run; `-` for none.
 fn add_bytes(alloc: Global, bytes: &[u8], lines: &mut String) -> Result<(), NoMemory> {
-    lines.push_str(if bytes.is_empty() { " -" } else { " " })?;
-    let mut rest = bytes;
-    while let [byte, others @ ..] = rest {
-        let more = run_of(*byte, others);
-        let digits = format!(in alloc; "{byte:02x}")?;
-        lines.push_str(digits.as_str())?;
-        if more >= 3 {
-            lines.push_str(format!(in alloc; "x{}", more as u64 + 1)?.as_str())?;
-        } else {
-            for _ in 0..more {
-                lines.push_str(digits.as_str())?;
-            }
-        }
-        rest = &others[more..];
-        lines.push_str(if rest.is_empty() { "" } else { "." })?;
+    if bytes.is_empty() {
+        lines.push_str(" -")?;
+        return Ok(());
+    }
+    let mut is_first = true;
+    for run in bytes.chunk_by(|one, other| one == other) {
+        lines.push_str(if is_first { " " } else { "." })?;
+        add_run(alloc, run, lines)?;
+        is_first = false;
     }
     Ok(())
 }

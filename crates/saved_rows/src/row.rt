@@ -25,20 +25,18 @@ fn byte_of(digits: &[u8]) -> Option<u8> {
     let [high, low] = digits else {
         return None;
     };
-    Some(16 * digit_of(*high)? + digit_of(*low)?)
+    Some(digit_of(*high)? << 4 | digit_of(*low)?)
 }
 
 // Whether these are bytes in hexadecimal, which are added then.
 fn add_bytes(digits: &[u8], into: &mut Vec<u8>) -> Result<bool, NoMemory> {
-    let mut rest = digits;
-    while let [high, low, others @ ..] = rest {
-        let Some(byte) = byte_of(&[*high, *low]) else {
+    for pair in digits.chunks(2) {
+        let Some(byte) = byte_of(pair) else {
             return Ok(false);
         };
         into.push(byte)?;
-        rest = others;
     }
-    Ok(rest.is_empty())
+    Ok(true)
 }
 
 // Whether this is a count and a byte, which is added so often then.
