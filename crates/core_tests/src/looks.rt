@@ -212,13 +212,12 @@ fn look_by_two<
     let first = lend_hand::<J, P>(alloc, &mut parts, 0)?;
     let second = lend_hand::<J, P>(alloc, &mut parts, 1)?;
     let locks = lock_parts::<J, P>(alloc, parts)?;
-    let locks = &locks;
+    let lock = locks.of(0);
     let ended = AtomicBool::new(false);
-    let mut first = front_of(rt, options, locks, 0, first, &ended);
-    let mut second = front_of(rt, options, locks, 1, second, &ended);
+    let mut first = front_of(rt, options, &locks, 0, first, &ended);
+    let mut second = front_of(rt, options, &locks, 1, second, &ended);
     let (one, mut two) = (Room::new(alloc)?, Room::new(alloc)?);
     look_in_turn(rt, &mut first, &mut second, &mut two)?;
-    let lock = locks.of(0);
     look_beside(rt, lock, &mut first, &mut second, &mut two)?;
     let (_, rose) = join(
         rt,
