@@ -1,4 +1,5 @@
 //! A row, as the lines of a file give it.
+ghost use Rattle.std.specs.Prelude.{◌<◌, IfSome};
 
 use outside::NoMemory;
 use std::alloc::Global;
@@ -12,7 +13,9 @@ pub struct Row {
 }
 
 // A digit that is hexadecimal.
-fn digit_of(letter: u8) -> Option<u8> {
+fn digit_of(letter: u8) -> Option<u8>
+    ensures { IfSome result (λ digit. digit < 16) }
+{
     match letter {
         b'0'..=b'9' => Some(letter - b'0'),
         b'a'..=b'f' => Some(letter - b'a' + 10),
