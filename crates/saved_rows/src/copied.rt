@@ -37,7 +37,7 @@ fn add_bytes(alloc: Global, bytes: &[u8], lines: &mut String) -> Result<(), NoMe
         let digits = format!(in alloc; "{byte:02x}")?;
         lines.push_str(digits.as_str())?;
         if more >= 3 {
-            lines.push_str(format!(in alloc; "x{}", more as u64 + 1)?.as_str())?;
+            lines.push_str(format!(in alloc; "x{}", (more as u64).saturating_add(1))?.as_str())?;
         } else {
             for _ in 0..more {
                 lines.push_str(digits.as_str())?;
