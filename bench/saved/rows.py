@@ -31,10 +31,10 @@ def long():
     return text
 
 
-def longest():
-    """The longest value that a partition keeps, which lies in many blocks, and a pair behind it."""
+def across(length):
+    """A value that lies in several blocks, and a pair behind it."""
     text = head(1_700_000_000, None, "store", 1)
-    text += pair(b"big", item(7, 0, 9, b"B" * 1_048_576)) + pair(b"k", item(0, 0, 10, b"v")) + closing(2, 11, 12)
+    text += pair(b"big", item(7, 0, 9, b"B" * length)) + pair(b"k", item(0, 0, 10, b"v")) + closing(2, 11, 12)
     return text
 
 
@@ -59,9 +59,9 @@ def files():
     yield "small_cache", blocks(filled(small("cache", None)))
     yield "long", two
     yield "exact", blocks(filled(exact()))
-    yield "longest", blocks(filled(longest()))
-    yield "longest_cut", blocks(filled(longest()))[: 9 * BLOCK]
-    yield "longest_with_one_bit_changed", changed(blocks(filled(longest())), 15 * BLOCK + 77, b"\x40")
+    yield "longest", blocks(filled(across(1_048_576)))
+    yield "across_and_cut", blocks(filled(across(150_000)))[: 2 * BLOCK]
+    yield "across_and_one_bit_changed", changed(blocks(filled(across(150_000))), BLOCK + 77, b"\x40")
     yield "empty", b""
     yield "one_byte_less", whole[:-1]
     yield "one_block_less", two[:BLOCK]
