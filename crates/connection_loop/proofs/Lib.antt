@@ -4,6 +4,7 @@ pub mod Going
 pub mod Sweeping
 pub mod Few
 pub mod Holding
+pub mod Budgets
 pub mod Reaching
 pub mod Answering
 pub mod Advancing

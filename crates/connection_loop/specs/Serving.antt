@@ -9,7 +9,7 @@ use Rattle.connection_loop.specs.declared.answer.TheConstants.{LIMITS}
 use Rattle.connection_loop.specs.Given.{Given}
 use Rattle.connection_loop.specs.Going.{NeverFall, seconds_of}
 use Rattle.connection_loop.specs.Moments.{TalksThrough, IsCaughtUp}
-use Rattle.connection_loop.specs.Turns.{TakesTurns}
+use Rattle.connection_loop.specs.Turns.{KeepsInAll, TakesTurns}
 
 -- What contracts see of a front and its port at one moment: among them how many writes it may still be given; and a count of connections that there
 -- was no memory for.
@@ -30,8 +30,8 @@ IsFinished options has_ended left = (has_ended ≡ true) ⊎ IsSpent options lef
 -- All answers of the front are one list: its sessions went on by them in this order; it was given no writes but those among them; their seconds never fall. They
 -- were given in short turns, one for each report: in each those to clients, then few sweeps, and nothing else. At each moment of the log those to clients are what
 -- it talked with them, at the second that the log had told last. For some connections there was no memory, as many as were counted. Behind all turns the front has
--- caught up, as before each. Where the end came, nothing is to come any more: so each connection is settled.
-pub record AnswersClients (options : Options) (is_alone : Bool) (base most : ℕ) (old new : FrontAt) (log : Log) (all : List Given) : Type 0 where
+-- caught up and keeps no more than it may, as before each. Where the end came, nothing is to come any more: so each connection is settled.
+pub record AnswersClients (options : Options) (is_alone : Bool) (base most in_all : ℕ) (old new : FrontAt) (log : Log) (all : List Given) : Type 0 where
   pub answers : List Answered
   pub in_order : AnswersInOrder options is_alone old.sessions answers new.sessions
   pub seconds : NeverFall (seconds_of options answers)
@@ -39,16 +39,17 @@ pub record AnswersClients (options : Options) (is_alone : Bool) (base most : ℕ
   pub lacking : List ℕ
   pub counted : min new.lacked LAST_COUNT ≡ min (old.lacked + length lacking) LAST_COUNT
   pub through : TalksThrough options base most log.schedule lacking log.entries all
-  pub turns : TakesTurns options base most log.schedule log.script.piece lacking log.entries all answers
+  pub turns : TakesTurns options base most in_all log.schedule log.script.piece lacking log.entries all answers
+  pub keeps : KeepsInAll options base in_all log.schedule log.entries all
   pub caught_up : IsCaughtUp options base log.schedule log.script.piece log.entries all
   pub over : new.has_ended ≡ true → (state_of log).later ≡ []
 
 -- The log goes on, and the front served what it tells.
-pub record ServesLog (options : Options) (is_alone : Bool) (base most : ℕ) (old new : FrontAt) (before after : Log) : Type 0 where
+pub record ServesLog (options : Options) (is_alone : Bool) (base most in_all : ℕ) (old new : FrontAt) (before after : Log) : Type 0 where
   pub same : after.schedule ≡ before.schedule
   pub all : List Given
-  pub serves : AnswersClients options is_alone base most old new after all
+  pub serves : AnswersClients options is_alone base most in_all old new after all
 
 -- so, from where nothing had been done
-abbrev pub ServesFromNone : Options → Bool → ℕ → ℕ → FrontAt → FrontAt → Log → Log → Type 0
-ServesFromNone options is_alone base most old new before after = before.entries ≡ [] → ServesLog options is_alone base most old new before after
+abbrev pub ServesFromNone : Options → Bool → ℕ → ℕ → ℕ → FrontAt → FrontAt → Log → Log → Type 0
+ServesFromNone options is_alone base most in_all old new before after = before.entries ≡ [] → ServesLog options is_alone base most in_all old new before after

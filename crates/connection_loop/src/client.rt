@@ -6,6 +6,7 @@ ghost use Rattle.memcached_text.specs.declared.next.Next.TheVariants.{More};
 ghost use Rattle.memcached_text.specs.Next.{next_of};
 ghost use Rattle.connections.specs.Calls.{Leaves};
 ghost use Rattle.connection_loop.specs.Clients.{IsClient};
+ghost use Rattle.connection_loop.specs.Counted.{over};
 ghost use Rattle.connection_loop.specs.Open.{IsOpen, Keeps, OnLogs};
 ghost use Rattle.connection_loop.specs.Paid.{PaysThese};
 ghost use Rattle.connection_loop.specs.Reached.{Reaches, position_of};
@@ -87,5 +88,12 @@ impl Client {
             return Ok(Ok(input));
         }
         Ok(Ok(input))
+    }
+
+    /// How many bytes its buffers have above what is free of each.
+    pub fn over(&self) -> usize
+        ensures { over (length self.now.kept) (length self.now.unsent) ≤ result }
+    {
+        self.kept.over() + self.unsent.over()
     }
 }

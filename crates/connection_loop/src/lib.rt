@@ -36,6 +36,7 @@
 #![tactic(auto)]
 
 mod answer;
+mod budget;
 mod calls;
 mod client;
 mod clients;
@@ -51,6 +52,7 @@ mod visits;
 mod waiting;
 
 pub use answer::{Halt, HowFar, LIMITS, MOST_COMMANDS, answer_bytes, most_writes};
+pub use budget::{Budget, FREE_LEN};
 pub use calls::{ask_again, close, receive, send};
 pub use client::Client;
 pub use clients::Clients;
