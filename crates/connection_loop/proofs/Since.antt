@@ -145,15 +145,15 @@ module _ (options : Options) (is_alone : Bool) (base in_all : ℕ) (old : Sessio
 
   module _ (opened ended : Bool) (new : Sessions) (left_after : ℕ) (tells : ℕ) (lacked : ℕ) (clients : List (Option Client)) where
     abbrev pub first : FrontAt
-    first = record { sessions = old; left = left; lacked = had; has_ended = opened }
+    first = record { sessions = old; left = left; lacked = had; has_ended = opened; in_all = in_all }
 
     abbrev pub last : FrontAt
-    last = record { sessions = new; left = left_after; lacked = lacked; has_ended = ended }
+    last = record { sessions = new; left = left_after; lacked = lacked; has_ended = ended; in_all = in_all }
 
     -- What the front served, by what stands. It may have been asked once more what is next.
     serves_by : {before now : Log} (after : Log) → after.schedule ≡ now.schedule → after.script.piece ≡ now.script.piece → after.entries ≡ now.entries
         → (f : GoesBySwept options is_alone old left told new left_after tells (StandsBy options base in_all had lacked clients before now))
-        → (ended ≡ true → (state_of after).later ≡ []) → ServesLog options is_alone base MOST_UNSENT in_all first last before after
+        → (ended ≡ true → (state_of after).later ≡ []) → ServesLog options is_alone base MOST_UNSENT first last before after
     serves_by {before} {now} after schedule piece entries f over =
         let by = f.3 in record {
           same = schedule ∙ by.schedule;
@@ -179,27 +179,27 @@ module _ (options : Options) (is_alone : Bool) (base in_all : ℕ) (old : Sessio
 
     -- where the end did not come
     pub since_serves : ended ≡ false → (before after : Option Log) → OnLogs (StandsSince options is_alone base in_all old left told had new left_after tells lacked clients) before after
-        → OnLogs (ServesFromNone options is_alone base MOST_UNSENT in_all first last) before after
+        → OnLogs (ServesFromNone options is_alone base MOST_UNSENT first last) before after
     since_serves goes_on None after since = tt
     since_serves goes_on (Some x) None since = since
     since_serves goes_on (Some x) (Some y) since = λ none. serves_by y refl refl refl (since none) (λ is. absurd (true≢false (sym is ∙ goes_on)))
 
     -- also where it was asked once more what is next
     pub since_called : ended ≡ false → (before now after : Option Log) → OnLogs (StandsSince options is_alone base in_all old left told had new left_after tells lacked clients) before now
-        → after ≡ option_map called now → OnLogs (ServesFromNone options is_alone base MOST_UNSENT in_all first last) before after
+        → after ≡ option_map called now → OnLogs (ServesFromNone options is_alone base MOST_UNSENT first last) before after
     since_called goes_on None now after since is = tt
     since_called goes_on (Some x) None after since is = absurd since
     since_called goes_on (Some x) (Some y) after since is =
-        subst (λ o. OnLogs (ServesFromNone options is_alone base MOST_UNSENT in_all first last) (Some x) o) (sym is)
+        subst (λ o. OnLogs (ServesFromNone options is_alone base MOST_UNSENT first last) (Some x) o) (sym is)
         (λ none. serves_by (called y) refl refl refl (since none) (λ over. absurd (true≢false (sym over ∙ goes_on))))
 
     -- and where nothing is left to be reported
     pub since_over : (before now after : Option Log) → OnLogs (StandsSince options is_alone base in_all old left told had new left_after tells lacked clients) before now
-        → IfSome now (λ l. IsOver l after) → OnLogs (ServesFromNone options is_alone base MOST_UNSENT in_all first last) before after
+        → IfSome now (λ l. IsOver l after) → OnLogs (ServesFromNone options is_alone base MOST_UNSENT first last) before after
     since_over None now after since over = tt
     since_over (Some x) None after since over = absurd since
     since_over (Some x) (Some y) after since over =
-        subst (λ o. OnLogs (ServesFromNone options is_alone base MOST_UNSENT in_all first last) (Some x) o) (sym over.result)
+        subst (λ o. OnLogs (ServesFromNone options is_alone base MOST_UNSENT first last) (Some x) o) (sym over.result)
         (λ none. serves_by (called y) refl refl refl (since none) (λ ends. over.over))
 
 -- a call that failed is the last one

@@ -12,12 +12,13 @@ use Rattle.connection_loop.specs.Moments.{TalksThrough, IsCaughtUp}
 use Rattle.connection_loop.specs.Turns.{KeepsInAll, TakesTurns}
 
 -- What contracts see of a front and its port at one moment: among them how many writes it may still be given; and a count of connections that there
--- was no memory for.
+-- was no memory for; and how much it may keep of all, above what is free of each.
 pub record FrontAt : Type 0 where
   pub sessions : Sessions
   pub left : ℕ
   pub lacked : ℕ
   pub has_ended : Bool
+  pub in_all : ℕ
 
 -- a front may be given fewer writes than one command may need
 abbrev pub IsSpent : Options → ℕ → Type 0
@@ -31,7 +32,7 @@ IsFinished options has_ended left = (has_ended ≡ true) ⊎ IsSpent options lef
 -- were given in short turns, one for each report: in each those to clients, then few sweeps, and nothing else. At each moment of the log those to clients are what
 -- it talked with them, at the second that the log had told last. For some connections there was no memory, as many as were counted. Behind all turns the front has
 -- caught up and keeps no more than it may, as before each. Where the end came, nothing is to come any more: so each connection is settled.
-pub record AnswersClients (options : Options) (is_alone : Bool) (base most in_all : ℕ) (old new : FrontAt) (log : Log) (all : List Given) : Type 0 where
+pub record AnswersClients (options : Options) (is_alone : Bool) (base most : ℕ) (old new : FrontAt) (log : Log) (all : List Given) : Type 0 where
   pub answers : List Answered
   pub in_order : AnswersInOrder options is_alone old.sessions answers new.sessions
   pub seconds : NeverFall (seconds_of options answers)
@@ -39,17 +40,17 @@ pub record AnswersClients (options : Options) (is_alone : Bool) (base most in_al
   pub lacking : List ℕ
   pub counted : min new.lacked LAST_COUNT ≡ min (old.lacked + length lacking) LAST_COUNT
   pub through : TalksThrough options base most log.schedule lacking log.entries all
-  pub turns : TakesTurns options base most in_all log.schedule log.script.piece lacking log.entries all answers
-  pub keeps : KeepsInAll options base in_all log.schedule log.entries all
+  pub turns : TakesTurns options base most old.in_all log.schedule log.script.piece lacking log.entries all answers
+  pub keeps : KeepsInAll options base old.in_all log.schedule log.entries all
   pub caught_up : IsCaughtUp options base log.schedule log.script.piece log.entries all
   pub over : new.has_ended ≡ true → (state_of log).later ≡ []
 
 -- The log goes on, and the front served what it tells.
-pub record ServesLog (options : Options) (is_alone : Bool) (base most in_all : ℕ) (old new : FrontAt) (before after : Log) : Type 0 where
+pub record ServesLog (options : Options) (is_alone : Bool) (base most : ℕ) (old new : FrontAt) (before after : Log) : Type 0 where
   pub same : after.schedule ≡ before.schedule
   pub all : List Given
-  pub serves : AnswersClients options is_alone base most in_all old new after all
+  pub serves : AnswersClients options is_alone base most old new after all
 
 -- so, from where nothing had been done
-abbrev pub ServesFromNone : Options → Bool → ℕ → ℕ → ℕ → FrontAt → FrontAt → Log → Log → Type 0
-ServesFromNone options is_alone base most in_all old new before after = before.entries ≡ [] → ServesLog options is_alone base most in_all old new before after
+abbrev pub ServesFromNone : Options → Bool → ℕ → ℕ → FrontAt → FrontAt → Log → Log → Type 0
+ServesFromNone options is_alone base most old new before after = before.entries ≡ [] → ServesLog options is_alone base most old new before after

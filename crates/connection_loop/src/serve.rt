@@ -169,9 +169,9 @@ pub fn serve_connections<F: Glances, C: Connections>(
     requires open { C.has_ended connections.old ≡ false }
     requires partitions { hand.old.numbering.partitions ≡ (F.options hand.old.front).partitions }
     ensures goes { GoesBy (F.options hand.old.front) F.is_alone (F.sessions hand.old.front) (F.left hand.old.front) (F.sessions hand.new.front) (F.left hand.new.front) }
-    ensures serves { OnLogs (ServesFromNone (F.options hand.old.front) F.is_alone hand.old.numbering.base MOST_UNSENT most
-        (record { sessions = F.sessions hand.old.front; left = F.left hand.old.front; lacked = lacked.old; has_ended = C.has_ended connections.old })
-        (record { sessions = F.sessions hand.new.front; left = F.left hand.new.front; lacked = lacked.new; has_ended = C.has_ended connections.new }))
+    ensures serves { OnLogs (ServesFromNone (F.options hand.old.front) F.is_alone hand.old.numbering.base MOST_UNSENT
+        (record { sessions = F.sessions hand.old.front; left = F.left hand.old.front; lacked = lacked.old; has_ended = C.has_ended connections.old; in_all = most })
+        (record { sessions = F.sessions hand.new.front; left = F.left hand.new.front; lacked = lacked.new; has_ended = C.has_ended connections.new; in_all = most }))
         (C.log connections.old) (C.log connections.new) }
     ensures ends { OnOk result (IsFinished (F.options hand.new.front) (C.has_ended connections.new) (F.left hand.new.front)) }
     ensures cause { IsErrOf result ServeFault.Net → Rose (C.faults connections.old) (C.faults connections.new) }
