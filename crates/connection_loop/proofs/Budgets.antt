@@ -3,6 +3,7 @@ use Rattle.std.proofs.Common.{◌≡◌, ◌≢◌, ℕ, zero, suc, ◌+◌, ◌
 use Rattle.std.specs.Prelude.{get_or, slice_get, slice_set, sum, Some}
 use Rattle.std.proofs.lemmas.Option.{none-some}
 use Rattle.std.proofs.lemmas.List.Sums.{sum_by-set, sum_by-append}
+use Rattle.connection_loop.specs.Counted.{IsCounted}
 
 pub set_here : (counts : List ℕ) (n k : ℕ) → n < length counts → slice_get (slice_set counts n k) n ≡ Some k
 set_here [] n k there = absurd (omega arith)
@@ -18,6 +19,12 @@ set_others (x ∷ counts) (suc m) k (suc n) other = set_others counts m k n (λ 
 
 pub set_sum : (counts : List ℕ) (n k : ℕ) → n < length counts → sum (slice_set counts n k) + get_or counts n 0 ≡ sum counts + k
 set_sum counts n k there = sum_by-set (λ x. x) counts n k 0 there
+
+-- something is counted in each place
+pub counted_at : (counts : List ℕ) (n bytes : ℕ) → n < length counts → bytes ≡ 0 → IsCounted counts n bytes
+counted_at [] n bytes there none = absurd (omega (arith, there))
+counted_at (x ∷ counts) zero bytes there none = (x, refl, omega (arith, none))
+counted_at (x ∷ counts) (suc n) bytes there none = counted_at counts n bytes (omega (arith, there)) none
 
 -- one is no more than all
 pub one_counted : (counts : List ℕ) (n : ℕ) → n < length counts → get_or counts n 0 ≤ sum counts

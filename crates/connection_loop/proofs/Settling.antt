@@ -23,7 +23,7 @@ use Rattle.connection_loop.specs.Traffic.{IsShut, IsToCome}
 use Rattle.connection_loop.specs.Resting.{IsAtRest, shut, idle, is_there, Tends}
 use Rattle.connection_loop.specs.Held.{Holds, goes_on, left, ended}
 use Rattle.connection_loop.specs.Standing.{Stands}
-use Rattle.connection_loop.proofs.Talking.{Told, talk_at, talk_ends, all_answered}
+use Rattle.connection_loop.proofs.Talking.{Told, talk_at, talk_ends, ends_left, all_answered}
 use Rattle.connection_loop.proofs.Standing.{holds_at}
 use Rattle.connection_loop.proofs.Visited.{held_reaches}
 
@@ -102,11 +102,11 @@ module _ (options : Options) (base : ℕ) where
     fewer false rest = omega arith
 
     kept_at : IsClient client → Holds options base MOST_UNSENT c log given client → IsCounted counted n (over (length client.kept) (length client.unsent)) → Kept
-    unfolding talk_ends
     kept_at is holds enough = elim holds as (λ _. Kept) [
       | goes_on stays few at ↦ let t = talk_at options base at is.begun (sent_of c log.entries) (client.unsent, refl) in
           kept_by t (let less = fewer (has_left t.talk.said) t.talk.rest in let most = t.few in omega (arith, less, most)) enough
-      | left leaves few ends ↦ kept_by (talk_ends options base ends (sent_of c log.entries) (client.unsent, refl)) (let none : length (cond (has_left ends.said) [] ends.rest) ≡ 0 = ap (λ b. length (cond b [] ends.rest)) ends.left in omega (arith, none)) enough
+      | left leaves few ends ↦ let t = talk_ends options base ends (sent_of c log.entries) (client.unsent, refl) in
+          kept_by t (let none = ap (λ b. length (cond b [] t.talk.rest)) (ends_left options base ends (sent_of c log.entries) (client.unsent, refl)) in omega (arith, none)) enough
       | ended leaves few at none over ↦ let t = talk_at options base at is.begun (sent_of c log.entries) (client.unsent, refl) in
           kept_by t (let less = fewer (has_left t.talk.said) t.talk.rest in let most = t.few in omega (arith, less, most)) enough
     ]

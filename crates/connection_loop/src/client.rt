@@ -40,6 +40,7 @@ impl Client {
         ensures asks { result.asks ≡ 0 }
         ensures reading { result.leaving ≡ false }
         ensures unsent { result.unsent ≡ [] }
+        ensures kept { result.kept ≡ [] }
         ensures waits { next_of result.kept ≡ More }
         ensures talk { (options : Options) (base : ℕ) → Reaches options base (position_of result) [] [] [] }
     {

@@ -1,6 +1,7 @@
 use Rattle.std.proofs.Common.{◌≡◌, ◌≢◌, ℕ, List, [], refl, sym, ap, ◌∙◌, subst, arith}
-use Rattle.std.specs.Prelude.{Option, None, Vec}
+use Rattle.std.specs.Prelude.{Option, None}
 use Rattle.connection_loop.specs.declared.client.Client.{Client}
+use Rattle.connection_loop.specs.declared.clients.Clients.{Clients}
 use Rattle.connection_loop.specs.declared.visit.After.TheVariants.{Waits, Again, Over}
 use Rattle.connection_loop.specs.Clients.{at}
 use Rattle.connection_loop.proofs.Going.{these_none, these_within, these_given}
@@ -9,11 +10,11 @@ use Rattle.connection_loop.proofs.Holding.{found_held, put_back, let_go, moves_k
 use Rattle.connection_loop.proofs.Served.{VisitsTo, given_by, answers_by, serves_none, serves_waits, serves_again, serves_over, serves_lacks}
 use Rattle.connection_loop.proofs.serve.visit_held.Goals as goal
 
-others_then : (one : ℕ) (old taken new : List (Option Client)) → ((n : ℕ) → n ≢ one → at taken n ≡ at old n) → new ≡ taken → (n : ℕ) → n ≢ one → at new n ≡ at old n
-others_then one old taken new others same n other = ap (λ l. at l n) same ∙ others n other
+others_then : (one : ℕ) (old : List (Option Client)) (taken new : Clients) → ((n : ℕ) → n ≢ one → at taken.held.items n ≡ at old n) → new.held ≡ taken.held → (n : ℕ) → n ≢ one → at new.held.items n ≡ at old n
+others_then one old taken new others same n other = rw same (others n other)
 
-gone_then : (one : ℕ) (taken new : List (Option Client)) → at taken one ≡ None → new ≡ taken → at new one ≡ None
-gone_then one taken new gone same = ap (λ l. at l one) same ∙ gone
+gone_then : (one : ℕ) (taken new : Clients) → at taken.held.items one ≡ None → new.held ≡ taken.held → at new.held.items one ≡ None
+gone_then one taken new gone same = rw same gone
 
 waits_on : Waits ≢ Over
 waits_on is = cc
@@ -43,8 +44,8 @@ pub returns-in-Waits-clause-clients : goal.returns-in-Waits-clause-clients
 returns-in-Waits-clause-clients g c =
     let log = g.C.Connections.log in
     let visit = c.visit_within-visited in
-    let others = others_then c.args.number c.args.clients.now.held.items c.take.new.self.held.items visit.new.clients.held.items c.take.ensures.others (ap (λ (h : Vec (Option Client)). h.items) visit.ensures.held) in
-    let gone = gone_then c.args.number c.take.new.self.held.items visit.new.clients.held.items c.take.ensures.gone (ap (λ (h : Vec (Option Client)). h.items) visit.ensures.held) in
+    let others = others_then c.args.number c.args.clients.now.held.items c.take.new.self visit.new.clients c.take.ensures.others visit.ensures.held in
+    let gone = gone_then c.args.number c.take.new.self visit.new.clients c.take.ensures.gone visit.ensures.held in
     let before = log c.args.connections.now in
     let fit = c.in-Ok.ensures.client in
     put_back c.args.number c.args.clients.now.held.items visit.new.clients.held.items c.put.new.self.held.items before (log visit.new.connections) visit.new.client c.requires.clients
@@ -55,8 +56,8 @@ pub returns-in-Again-clause-clients : goal.returns-in-Again-clause-clients
 returns-in-Again-clause-clients g c =
     let log = g.C.Connections.log in
     let visit = c.visit_within-visited in
-    let others = others_then c.args.number c.args.clients.now.held.items c.take.new.self.held.items visit.new.clients.held.items c.take.ensures.others (ap (λ (h : Vec (Option Client)). h.items) visit.ensures.held) in
-    let gone = gone_then c.args.number c.take.new.self.held.items visit.new.clients.held.items c.take.ensures.gone (ap (λ (h : Vec (Option Client)). h.items) visit.ensures.held) in
+    let others = others_then c.args.number c.args.clients.now.held.items c.take.new.self visit.new.clients c.take.ensures.others visit.ensures.held in
+    let gone = gone_then c.args.number c.take.new.self visit.new.clients c.take.ensures.gone visit.ensures.held in
     let before = log c.args.connections.now in
     let between = log visit.new.connections in
     let after = log c.ask_again.new.connections in
@@ -73,8 +74,8 @@ pub returns-in-Over-clause-clients : goal.returns-in-Over-clause-clients
 returns-in-Over-clause-clients g c =
     let log = g.C.Connections.log in
     let visit = c.visit_within-visited in
-    let others = others_then c.args.number c.args.clients.now.held.items c.take.new.self.held.items visit.new.clients.held.items c.take.ensures.others (ap (λ (h : Vec (Option Client)). h.items) visit.ensures.held) in
-    let gone = gone_then c.args.number c.take.new.self.held.items visit.new.clients.held.items c.take.ensures.gone (ap (λ (h : Vec (Option Client)). h.items) visit.ensures.held) in
+    let others = others_then c.args.number c.args.clients.now.held.items c.take.new.self visit.new.clients c.take.ensures.others visit.ensures.held in
+    let gone = gone_then c.args.number c.take.new.self visit.new.clients c.take.ensures.gone visit.ensures.held in
     let before = log c.args.connections.now in
     let between = log visit.new.connections in
     let after = log c.close-in-Over.new.connections in
@@ -100,8 +101,8 @@ returns-in-Waits-clause-serves g c =
     let clients = c.args.clients.now.held.items in
     let before = log c.args.connections.now in
     let visit = c.visit_within-visited in
-    let others = others_then c.args.number c.args.clients.now.held.items c.take.new.self.held.items visit.new.clients.held.items c.take.ensures.others (ap (λ (h : Vec (Option Client)). h.items) visit.ensures.held) in
-    let gone = gone_then c.args.number c.take.new.self.held.items visit.new.clients.held.items c.take.ensures.gone (ap (λ (h : Vec (Option Client)). h.items) visit.ensures.held) in
+    let others = others_then c.args.number c.args.clients.now.held.items c.take.new.self visit.new.clients c.take.ensures.others visit.ensures.held in
+    let gone = gone_then c.args.number c.take.new.self visit.new.clients c.take.ensures.gone visit.ensures.held in
     let is_held = sym c.take.ensures.taken ∙ c.in-Some.is in
     let held = found_held number clients c.take.result c.in-Some.client before c.requires.clients c.take.ensures.taken c.in-Some.is in
     let r = c.in-Ok.ensures.talks in
@@ -121,8 +122,8 @@ returns-in-Again-clause-serves g c =
     let clients = c.args.clients.now.held.items in
     let before = log c.args.connections.now in
     let visit = c.visit_within-visited in
-    let others = others_then c.args.number c.args.clients.now.held.items c.take.new.self.held.items visit.new.clients.held.items c.take.ensures.others (ap (λ (h : Vec (Option Client)). h.items) visit.ensures.held) in
-    let gone = gone_then c.args.number c.take.new.self.held.items visit.new.clients.held.items c.take.ensures.gone (ap (λ (h : Vec (Option Client)). h.items) visit.ensures.held) in
+    let others = others_then c.args.number c.args.clients.now.held.items c.take.new.self visit.new.clients c.take.ensures.others visit.ensures.held in
+    let gone = gone_then c.args.number c.take.new.self visit.new.clients c.take.ensures.gone visit.ensures.held in
     let is_held = sym c.take.ensures.taken ∙ c.in-Some.is in
     let held = found_held number clients c.take.result c.in-Some.client before c.requires.clients c.take.ensures.taken c.in-Some.is in
     let r = c.in-Ok.ensures.talks in
@@ -144,8 +145,8 @@ returns-in-Over-clause-serves g c =
     let clients = c.args.clients.now.held.items in
     let before = log c.args.connections.now in
     let visit = c.visit_within-visited in
-    let others = others_then c.args.number c.args.clients.now.held.items c.take.new.self.held.items visit.new.clients.held.items c.take.ensures.others (ap (λ (h : Vec (Option Client)). h.items) visit.ensures.held) in
-    let gone = gone_then c.args.number c.take.new.self.held.items visit.new.clients.held.items c.take.ensures.gone (ap (λ (h : Vec (Option Client)). h.items) visit.ensures.held) in
+    let others = others_then c.args.number c.args.clients.now.held.items c.take.new.self visit.new.clients c.take.ensures.others visit.ensures.held in
+    let gone = gone_then c.args.number c.take.new.self visit.new.clients c.take.ensures.gone visit.ensures.held in
     let is_held = sym c.take.ensures.taken ∙ c.in-Some.is in
     let held = found_held number clients c.take.result c.in-Some.client before c.requires.clients c.take.ensures.taken c.in-Some.is in
     let r = c.in-Ok.ensures.talks in
@@ -169,8 +170,8 @@ pub returns-in-Err-clause-clients : goal.returns-in-Err-clause-clients
 returns-in-Err-clause-clients g c =
     let log = g.C.Connections.log in
     let visit = c.visit_within-visited in
-    let others = others_then c.args.number c.args.clients.now.held.items c.take.new.self.held.items visit.new.clients.held.items c.take.ensures.others (ap (λ (h : Vec (Option Client)). h.items) visit.ensures.held) in
-    let gone = gone_then c.args.number c.take.new.self.held.items visit.new.clients.held.items c.take.ensures.gone (ap (λ (h : Vec (Option Client)). h.items) visit.ensures.held) in
+    let others = others_then c.args.number c.args.clients.now.held.items c.take.new.self visit.new.clients c.take.ensures.others visit.ensures.held in
+    let gone = gone_then c.args.number c.take.new.self visit.new.clients c.take.ensures.gone visit.ensures.held in
     let before = log c.args.connections.now in
     let between = log visit.new.connections in
     let after = log c.close.new.connections in
@@ -186,8 +187,8 @@ returns-in-Err-clause-serves g c =
     let clients = c.args.clients.now.held.items in
     let before = log c.args.connections.now in
     let visit = c.visit_within-visited in
-    let others = others_then c.args.number c.args.clients.now.held.items c.take.new.self.held.items visit.new.clients.held.items c.take.ensures.others (ap (λ (h : Vec (Option Client)). h.items) visit.ensures.held) in
-    let gone = gone_then c.args.number c.take.new.self.held.items visit.new.clients.held.items c.take.ensures.gone (ap (λ (h : Vec (Option Client)). h.items) visit.ensures.held) in
+    let others = others_then c.args.number c.args.clients.now.held.items c.take.new.self visit.new.clients c.take.ensures.others visit.ensures.held in
+    let gone = gone_then c.args.number c.take.new.self visit.new.clients c.take.ensures.gone visit.ensures.held in
     let is_held = sym c.take.ensures.taken ∙ c.in-Some.is in
     let held = found_held number clients c.take.result c.in-Some.client before c.requires.clients c.take.ensures.taken c.in-Some.is in
     let r = c.in-Err.ensures.talks in (

@@ -23,5 +23,5 @@ returns-in_err-count-clause-talks g c =
       r.1,
       match_err _ _ c.from_residual-in_err-count.result is.0 is.1
           (on_one c.args.number (Visits options base 2 c.args.client.now r.0 c.visit_on.new.client c.in_ok-after.after) (VisitLacks options base 2 c.args.client.now r.0) (log c.args.connections.now) (log c.visit_on.new.connections)
-          (λ d a b v. lacks_of options base v) r.2),
+          (λ d a b v. lacks_of options base d v) r.2),
     )
