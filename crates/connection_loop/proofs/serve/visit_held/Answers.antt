@@ -1,4 +1,4 @@
-use Rattle.std.proofs.Common.{◌≡◌, ◌≢◌, ℕ, List, [], refl, sym, ap, ◌∙◌, subst, arith}
+use Rattle.std.proofs.Common.{◌≡◌, ◌≢◌, ℕ, List, [], refl, sym, ◌∙◌, subst, arith}
 use Rattle.std.specs.Prelude.{Option, None}
 use Rattle.connection_loop.specs.declared.client.Client.{Client}
 use Rattle.connection_loop.specs.declared.clients.Clients.{Clients}

@@ -1,4 +1,3 @@
-use Rattle.std.proofs.Common.{◌≡◌, subst}
 use Rattle.std.proofs.lemmas.Result.{err_from_is_err_and}
 use Rattle.connection_loop.specs.Held.{Visits, VisitLacks}
 use Rattle.connection_loop.proofs.Answering.{match_err}
