@@ -1,11 +1,12 @@
 -- The words of fronts behind connections: their port, the address that it is of, how many threads serve it, and how many connections all have at most.
-use Rattle.std.specs.Prelude.{ℕ, ◌==◌, ◌||◌, Bool, true, false, List, [], ◌∷◌, Option, Some, None, is_none, is_some, codes, if◌then◌else◌}
+use Rattle.std.specs.Prelude.{ℕ, ◌*◌, ◌/◌, max, ◌==◌, ◌||◌, Bool, true, false, List, [], ◌∷◌, Option, Some, None, is_none, is_some, option_and_then, unwrap_or, codes, if◌then◌else◌}
 use Rattle.std.specs.List.{before_first, after_first}
 use Rattle.std.specs.declared.net.ipv4_addr.Ipv4Addr.{Ipv4Addr}
 use Rattle.server_words.specs.declared.limits.TheConstants.{MOST_FRONTS}
 use Rattle.daemon_words.specs.declared.streams.StreamOptions.{StreamOptions}
-use Rattle.daemon_words.specs.declared.memory.TheConstants.{MOST_ITEM_SIZE}
-use Rattle.daemon_words.specs.Memory.{amount_of}
+use Rattle.partition_sizes.specs.declared.sizes.TheConstants.{LEAST_MEMORY, MOST_MEMORY}
+use Rattle.daemon_words.specs.declared.memory.TheConstants.{MOST_ITEM_SIZE, LEAST_BUFFERS, THREAD_BUFFERS}
+use Rattle.daemon_words.specs.Memory.{amount_of, memory_of, memory_name}
 use Rattle.option_words.specs.Words.{Text}
 use Rattle.option_words.specs.Settings.{Setting, number, port, number_of, value_of, ◌>>=◌}
 
@@ -54,17 +55,30 @@ connections = number (codes "connections") 1 65536 1024
 abbrev pub item_size : Setting ℕ
 item_size = record { name = codes "item-size"; meaning = amount_of MOST_ITEM_SIZE MOST_ITEM_SIZE; default = Some MOST_ITEM_SIZE }
 
+-- so much memory is given, or the least
+abbrev pub memory_among : (Text → Option Text) → ℕ
+memory_among given = unwrap_or (option_and_then memory_of (given memory_name)) LEAST_MEMORY
+
+-- what all threads and connections may keep of what waits, in bytes: a part for each thread, of 8 MiB at least. Where nothing is said of it, an
+-- eighth of the memory, or 16 MiB for each thread where that is more
+abbrev pub buffers : ℕ → ℕ → Setting ℕ
+buffers memory threads = record {
+  name = codes "buffers";
+  meaning = amount_of (threads * LEAST_BUFFERS) MOST_MEMORY;
+  default = Some (max (memory / 8) (threads * THREAD_BUFFERS));
+}
+
 -- the names of these options
 abbrev pub stream_names : List Text
-stream_names = memcached.name ∷ threads.name ∷ listen.name ∷ connections.name ∷ item_size.name ∷ []
+stream_names = memcached.name ∷ threads.name ∷ listen.name ∷ connections.name ∷ item_size.name ∷ codes "buffers" ∷ []
 
 -- there are no such fronts
 abbrev pub no_streams : StreamOptions
-no_streams = record { ports = record { port = 0; fronts = 0 }; address = address 127 0 0 1; connections = 0 }
+no_streams = record { ports = record { port = 0; fronts = 0 }; address = address 127 0 0 1; connections = 0; buffers = 0 }
 
 -- one of the options is given that are of such fronts
 abbrev pub gives_streams : (Text → Option Text) → Bool
-gives_streams given = is_some (given memcached.name) || is_some (given threads.name) || is_some (given listen.name) || is_some (given connections.name) || is_some (given item_size.name)
+gives_streams given = is_some (given memcached.name) || is_some (given threads.name) || is_some (given listen.name) || is_some (given connections.name) || is_some (given item_size.name) || is_some (given (codes "buffers"))
 
 -- fronts behind one port
 abbrev pub some_streams : (Text → Option Text) → Option StreamOptions
@@ -74,7 +88,8 @@ some_streams given =
     value_of listen given >>= λ address.
     value_of connections given >>= λ connections.
     value_of item_size given >>= λ longest.
-    Some (record { ports = record { port = port; fronts = threads }; address = address; connections = connections })
+    value_of (buffers (memory_among given) threads) given >>= λ buffers.
+    Some (record { ports = record { port = port; fronts = threads }; address = address; connections = connections; buffers = buffers })
 
 -- a server is of one protocol: there are such fronts where no port of datagrams is given
 abbrev pub has_streams : (Text → Option Text) → Bool

@@ -1,9 +1,10 @@
 //! The options of `micad`, for whoever is told which words it knows.
 
-use crate::memory::memory_of;
+use crate::memory::{LEAST_BUFFERS, amount_of, memory_of};
 use crate::streams::{address_of, item_size_of};
 use option_words::number_of;
 use partition_model::{MOST_PARTITIONS, MOST_SPARES, MOST_WEAR, MOST_WORDS};
+use partition_sizes::MOST_MEMORY;
 use server_words::MOST_FRONTS;
 use std::fmt;
 
@@ -16,6 +17,7 @@ pub(crate) enum Values {
     PowerOfTwo(u64),
     Memory,
     ItemSize,
+    Buffers,
     Address,
     File,
     /// The number that says that there is no port of memcached's datagrams.
@@ -35,6 +37,7 @@ impl Values {
             },
             Values::Memory => memory_of(text).is_some(),
             Values::ItemSize => item_size_of(text).is_some(),
+            Values::Buffers => amount_of(text, LEAST_BUFFERS, MOST_MEMORY).is_some(),
             Values::Address => address_of(text).is_some(),
             Values::File => true,
             Values::NoPort => text == "0",
@@ -54,6 +57,7 @@ impl Values {
             Values::PowerOfTwo(_) => "1024",
             Values::Memory => "1G",
             Values::ItemSize => "1M",
+            Values::Buffers => "64M",
             Values::Address => "127.0.0.1",
             Values::File => "items.image",
             Values::NoPort => "0",
@@ -71,6 +75,9 @@ impl fmt::Display for Values {
             Values::Memory => f.write_str(
                 "it is 64M to 512G: a number of bytes, or with K, M or G behind it of KiB, MiB or GiB",
             ),
+            Values::Buffers => f.write_str(
+                "it is 8M for each thread to 512G: a number of bytes, or with K, M or G behind it of KiB, MiB or GiB",
+            ),
             Values::ItemSize => f.write_str(
                 "every value of up to 1M is taken, and no shorter bound is served: give 1M, or leave it out",
             ),
@@ -87,7 +94,7 @@ impl fmt::Display for Values {
 }
 
 /// The long names of all options, and of questions.
-pub(crate) static NAMES: [&str; 18] = [
+pub(crate) static NAMES: [&str; 19] = [
     "--mode",
     "--memcached",
     "--memory",
@@ -95,6 +102,7 @@ pub(crate) static NAMES: [&str; 18] = [
     "--listen",
     "--connections",
     "--item-size",
+    "--buffers",
     "--port",
     "--fronts",
     "--image",
@@ -118,6 +126,7 @@ pub(crate) fn values_of(name: &str) -> Option<Values> {
         "--listen" => Some(Values::Address),
         "--connections" => Some(Values::Number("it", 1, 65_536)),
         "--item-size" => Some(Values::ItemSize),
+        "--buffers" => Some(Values::Buffers),
         "--port" => Some(Values::Number("a port of datagrams", 1_024, 65_000)),
         "--fronts" => Some(Values::Number("it", 1, u64::from(MOST_FRONTS))),
         "--image" => Some(Values::File),

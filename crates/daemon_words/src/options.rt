@@ -24,7 +24,7 @@ pub struct DaemonOptions<'a> {
     pub image: Option<&'a str>,
 }
 
-static DAEMON_OPTIONS: [&str; 16] = [
+static DAEMON_OPTIONS: [&str; 17] = [
     "mode",
     "partitions",
     "buckets",
@@ -41,6 +41,7 @@ static DAEMON_OPTIONS: [&str; 16] = [
     "listen",
     "connections",
     "item-size",
+    "buffers",
 ];
 
 // The sizes that are given one by one.

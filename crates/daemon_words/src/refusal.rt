@@ -30,6 +30,8 @@ pub(crate) enum Refusal<'a> {
     /// An option of memcached's clients beside a port of datagrams.
     Apart(&'static str),
     FrontsAlone,
+    /// Less than the least for each thread.
+    FewBuffers(&'a str),
     NoMode,
     ImageInCache,
 }
@@ -71,6 +73,10 @@ impl fmt::Display for Refusal<'_> {
             ),
             Refusal::FrontsAlone => f.write_str(
                 "--fronts wants --port PORT beside it; memcached's clients want --threads",
+            ),
+            Refusal::FewBuffers(value) => write!(
+                f,
+                "--buffers {value} is below 8M for each thread: give more, or fewer --threads"
             ),
             Refusal::NoMode => f.write_str(
                 "--port is of batches over UDP and wants --mode cache or --mode store beside it; memcached's clients want -p",
