@@ -2,9 +2,11 @@
 
 use crate::doors::of_another_port;
 use crate::known::{NAMES, long_of};
+use crate::memory::{LEAST_BUFFERS, bytes_of};
 use crate::refusal::Refusal;
 use crate::wrong_word::parts_of;
 use option_words::number_of;
+use server_words::MOST_FRONTS;
 
 // How often an option is named.
 fn count_of(words: &[String], name: &str) -> u32 {
@@ -70,6 +72,7 @@ fn of_another_protocol(words: &[String]) -> Option<Refusal<'static>> {
         "--socket-mode",
         "--idle-timeout",
         "--item-size",
+        "--buffers",
     ] {
         if gives(words, name) {
             return Some(Refusal::Apart(*name));
@@ -109,6 +112,20 @@ fn doubled(words: &[String]) -> Option<Refusal<'static>> {
     None
 }
 
+// The amount of buffers, where it is too little for so many threads.
+fn few_buffers(words: &[String]) -> Option<Refusal<'_>> {
+    let given = value_given(words, "--buffers")?;
+    let threads = match value_given(words, "--threads") {
+        Some(text) => number_of(text, 1, u64::from(MOST_FRONTS))?,
+        None => 4,
+    };
+    if bytes_of(given)? < threads * LEAST_BUFFERS {
+        Some(Refusal::FewBuffers(given))
+    } else {
+        None
+    }
+}
+
 /// Why words are refused each of which is right alone.
 pub(crate) fn wrong_together<'a>(words: &'a [String]) -> Refusal<'a> {
     if let Some(refusal) = doubled(words) {
@@ -118,6 +135,9 @@ pub(crate) fn wrong_together<'a>(words: &'a [String]) -> Refusal<'a> {
         return refusal;
     }
     if let Some(refusal) = wrong_doors(words) {
+        return refusal;
+    }
+    if let Some(refusal) = few_buffers(words) {
         return refusal;
     }
     if gives(words, "--port") && !gives(words, "--mode") {
