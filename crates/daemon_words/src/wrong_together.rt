@@ -2,11 +2,9 @@
 
 use crate::doors::of_another_port;
 use crate::known::{NAMES, long_of};
-use crate::memory::{LEAST_BUFFERS, bytes_of};
 use crate::refusal::Refusal;
 use crate::wrong_word::parts_of;
 use option_words::number_of;
-use server_words::MOST_FRONTS;
 
 // How often an option is named.
 fn count_of(words: &[String], name: &str) -> u32 {
@@ -112,18 +110,12 @@ fn doubled(words: &[String]) -> Option<Refusal<'static>> {
     None
 }
 
-// The amount of buffers, where it is too little for so many threads.
+// The amount of buffers, where nothing else can be wrong with it than that it is too little for so many threads.
 fn few_buffers(words: &[String]) -> Option<Refusal<'_>> {
-    let given = value_given(words, "--buffers")?;
-    let threads = match value_given(words, "--threads") {
-        Some(text) => number_of(text, 1, u64::from(MOST_FRONTS))?,
-        None => 4,
-    };
-    if bytes_of(given)? < threads * LEAST_BUFFERS {
-        Some(Refusal::FewBuffers(given))
-    } else {
-        None
+    if gives(words, "--image") && is_cache(words) {
+        return None;
     }
+    Some(Refusal::FewBuffers(value_given(words, "--buffers")?))
 }
 
 /// Why words are refused each of which is right alone.
@@ -137,11 +129,11 @@ pub(crate) fn wrong_together<'a>(words: &'a [String]) -> Refusal<'a> {
     if let Some(refusal) = wrong_doors(words) {
         return refusal;
     }
-    if let Some(refusal) = few_buffers(words) {
-        return refusal;
-    }
     if gives(words, "--port") && !gives(words, "--mode") {
         return Refusal::NoMode;
+    }
+    if let Some(refusal) = few_buffers(words) {
+        return refusal;
     }
     Refusal::ImageInCache
 }
