@@ -76,12 +76,12 @@ fn put(slots: &mut Slab<Slot>, queue: &mut Vec<u32>, number: usize) {
     }
 }
 
-/// Ends each connection at which nothing came or went for so many seconds: it is reported, and is broken.
+/// Ends each connection at which nothing came or went for more than so many seconds: it is reported, and is broken.
 fn end_idle(slots: &mut Slab<Slot>, queue: &mut Vec<u32>, second: u64, idle: u64) {
     for number in 0..slots.capacity() {
         let is_over = match slots.get_mut(number) {
             Some(slot) => {
-                slot.is_over = slot.is_over || second.saturating_sub(slot.heard) >= idle;
+                slot.is_over = slot.is_over || second.saturating_sub(slot.heard) > idle;
                 slot.is_over
             }
             None => false,
