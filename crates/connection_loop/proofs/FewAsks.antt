@@ -10,7 +10,6 @@ use Rattle.memcached_text.specs.declared.reply.Reply.TheVariants.{End, NotFound}
 use Rattle.memcached_text.specs.declared.next.Next as lines
 use Rattle.memcached_text.specs.declared.next.Next.TheVariants as of_lines
 use Rattle.memcached_text.specs.Next as text
-use Rattle.memcached_text.specs.Stream as texts
 use Rattle.memcached_commands.specs.declared.ask.Says.TheVariants.{Line}
 use Rattle.memcached_commands.specs.Asks as asked
 use Rattle.memcached_frames.specs.declared.header.TheConstants.{FRAME_LEN}

@@ -5,6 +5,7 @@ pub mod Sweeping
 pub mod Few
 pub mod FewAsks
 pub mod Holding
+pub mod Budgets
 pub mod Reaching
 pub mod Answering
 pub mod Advancing

@@ -89,3 +89,7 @@ module _ (options : Options) (base c : ℕ) where
       talks = λ lacking all timed among holds through.
           through_both two new lacking all (second.talks lacking (all ++ all_to c one) (first.passes.timed timed) among (held_between lacking all timed holds through) (through_between lacking all timed holds through));
     }
+
+  -- where what is kept of it is more than may be kept, memory lacks
+  pub lacks_of : {looks : ℕ} {client now : Client} {answers : List Answered} {becomes : After} {a b : Log} → Visits options base looks client answers now becomes c a b → VisitLacks options base looks client answers c a b
+  lacks_of visit = record { passes = visit.passes; few_answers = visit.few_answers; talks = λ lacking all timed among holds through. (visit.talks lacking all timed holds through).0 }

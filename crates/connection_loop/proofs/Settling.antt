@@ -1,6 +1,6 @@
 -- Where each waits, or a report of it is to come, the front has caught up.
-use Rattle.std.proofs.Common.{◌≡◌, ◌≢◌, ◌⊎◌, inl, inr, ℕ, ◌<◌, Bool, true, false, List, [], ◌∷◌, ◌++◌, length, refl, ap, ◌∙◌, subst, arith, length-append}
-use Rattle.std.specs.Prelude.{◌&&◌, not, slice_get, Option, None, Some, IfSome}
+use Rattle.std.proofs.Common.{◌≡◌, ◌≢◌, ◌⊎◌, inl, inr, ℕ, ◌-◌, ◌<◌, ◌≤◌, Bool, true, false, cond, List, [], ◌∷◌, ◌++◌, length, refl, ap, ◌∙◌, subst, arith, length-append}
+use Rattle.std.specs.Prelude.{◌&&◌, not, sum, slice_get, Option, None, Some, IfSome}
 use Rattle.std.proofs.lemmas.List.{append-nil}
 use Rattle.std.proofs.lemmas.Bool.{eq-eqb}
 use Rattle.partition_model.specs.declared.options.Options.{Options}
@@ -13,6 +13,9 @@ use Rattle.connection_loop.specs.declared.desk.TheConstants.{MOST_UNSENT}
 use Rattle.connection_loop.specs.Given.{Given, given_to}
 use Rattle.connection_loop.specs.Clients.{IsClient, AreOpen}
 use Rattle.connection_loop.specs.Reached.{Reaches, position_of}
+use Rattle.connection_loop.specs.Counted.{AreCountedIn, IsCounted, over}
+use Rattle.connection_loop.specs.Talk.{Talk, due_in, has_left, kept_of}
+use Rattle.connection_loop.specs.Turns.{KeepsInAll}
 use Rattle.connection_loop.specs.Closing.{IsSettled}
 use Rattle.connection_loop.specs.Closing.{shut as waits_shut, idle as waits_idle}
 use Rattle.connection_loop.specs.Moments.{IsCaughtUp}
@@ -20,7 +23,7 @@ use Rattle.connection_loop.specs.Traffic.{IsShut, IsToCome}
 use Rattle.connection_loop.specs.Resting.{IsAtRest, shut, idle, is_there, Tends}
 use Rattle.connection_loop.specs.Held.{Holds, goes_on, left, ended}
 use Rattle.connection_loop.specs.Standing.{Stands}
-use Rattle.connection_loop.proofs.Talking.{Told, talk_at, talk_ends, all_answered}
+use Rattle.connection_loop.proofs.Talking.{Told, talk_at, talk_ends, ends_left, all_answered}
 use Rattle.connection_loop.proofs.Standing.{holds_at}
 use Rattle.connection_loop.proofs.Visited.{held_reaches}
 
@@ -80,3 +83,41 @@ module _ (options : Options) (base : ℕ) where
       by : (o : Option Connection) → slice_get (connections_of log) c ≡ o → IfSome o (IsLeft c log all)
       by None is = tt
       by (Some x) is = one x is x.is_closed refl
+
+  -- What is kept of a client, where so much is counted for it
+
+  module _ (c : ℕ) (log : Log) (given : List Answered) (client : Client) (counted : List ℕ) (n : ℕ) where
+    abbrev Kept : Type 0
+    Kept = (talk : Talk options base (received_of c log.entries) (sent_of c log.entries) given)
+        × IsCounted counted n (over (length (kept_of talk)) (length (due_in talk) - length (sent_of c log.entries)))
+
+    kept_by : {most : ℕ} (told : Told options base (received_of c log.entries) (sent_of c log.entries) given (sent_of c log.entries ++ client.unsent) most) → length (kept_of told.talk) ≤ length client.kept
+        → IsCounted counted n (over (length client.kept) (length client.unsent)) → Kept
+    kept_by told few enough =
+        let due = ap length told.due_is ∙ length-append (sent_of c log.entries) client.unsent in
+        (told.talk, (enough.0, enough.1, let most = enough.2 in omega (arith, due, few, most)))
+
+    fewer : (b : Bool) (rest : List ℕ) → length (cond b [] rest) ≤ length rest
+    fewer true rest = omega arith
+    fewer false rest = omega arith
+
+    kept_at : IsClient client → Holds options base MOST_UNSENT c log given client → IsCounted counted n (over (length client.kept) (length client.unsent)) → Kept
+    kept_at is holds enough = elim holds as (λ _. Kept) [
+      | goes_on stays few at ↦ let t = talk_at options base at is.begun (sent_of c log.entries) (client.unsent, refl) in
+          kept_by t (let less = fewer (has_left t.talk.said) t.talk.rest in let most = t.few in omega (arith, less, most)) enough
+      | left leaves few ends ↦ let t = talk_ends options base ends (sent_of c log.entries) (client.unsent, refl) in
+          kept_by t (let none = ap (λ b. length (cond b [] t.talk.rest)) (ends_left options base ends (sent_of c log.entries) (client.unsent, refl)) in omega (arith, none)) enough
+      | ended leaves few at none over ↦ let t = talk_at options base at is.begun (sent_of c log.entries) (client.unsent, refl) in
+          kept_by t (let less = fewer (has_left t.talk.said) t.talk.rest in let most = t.few in omega (arith, less, most)) enough
+    ]
+
+  -- so in all no more is kept than may be
+  pub all_within : (in_all : ℕ) (counted : List ℕ) (lacking : List ℕ) (log : Log) (all : List Given) (clients : List (Option Client)) → AreOpen clients (Some log) → Stands options base lacking log all clients
+      → Tends log.script.piece (state_of log) clients → sum counted ≤ in_all → AreCountedIn counted clients → KeepsInAll options base in_all log.schedule log.entries all
+  all_within in_all counted lacking log all clients are stands tends within each = record {
+    counted = counted;
+    within = within;
+    each = λ n c here.
+        let t = tends.each n c here in
+        kept_at c log (given_to c all) t.client counted n (are n t.client t.is_held).0 (holds_at options base c here (stands.holds n t.client t.is_held)) (each n t.client t.is_held);
+  }

@@ -15,7 +15,7 @@ use Rattle.command_answers.specs.Spells.{due_to_all, answers_to_all}
 use Rattle.command_answers.proofs.ExchangeLaws.{no_asks}
 use Rattle.command_answers.proofs.SpellsLaws.{spells_next, due_then, answers_then, nothing_before, due_still}
 use Rattle.connections.specs.Connection.{Connection}
-use Rattle.connection_loop.specs.Talk.{IsBeginning, Talk, IsAllAnswered, due_in}
+use Rattle.connection_loop.specs.Talk.{IsBeginning, Talk, IsAllAnswered, due_in, has_left}
 use Rattle.connection_loop.specs.Closing.{MayClose, broke, left, ended}
 use Rattle.connection_loop.specs.Traffic.{HasEnded}
 use Rattle.connection_loop.specs.declared.answer.Halt.{Halt}
@@ -108,6 +108,11 @@ module _ (options : Options) (base : ℕ) where
       due_is = r.due_is;
       few = r.few;
     }
+
+    -- nothing behind is kept
+    pub ends_left : (sent : List ℕ) (begins : IsBeginning sent due) → has_left (talk_ends sent begins).talk.said ≡ true
+    unfolding talk_ends
+    ends_left sent begins = r.left
 
   -- Memory lacked behind an answer
   pub spoke_halts : (halt : Halt) (position at : Position) (answers : List Answered) (before after : List ℕ) (most : ℕ) → IsOpenAt (next_of at.bytes) at.done → length at.bytes ≤ most

@@ -17,7 +17,7 @@ use Rattle.command_answers.specs.Sweeps.{IsSweep}
 use Rattle.connection_loop.specs.Given.{Given, answers_in, given_to}
 use Rattle.connection_loop.specs.Moments.{TalksWithAll, IsCaughtUp}
 use Rattle.connection_loop.specs.Traffic.{IsSend, after_receiving}
-use Rattle.connection_loop.specs.Turns.{is_report, is_read, asks_of, moved, most_answers, AreFew, GrowsBy, Turn, AreShort, TakesTurns, calls_in, given_in}
+use Rattle.connection_loop.specs.Turns.{is_report, is_read, asks_of, moved, most_answers, AreFew, GrowsBy, Turn, KeepsInAll, AreShort, TakesTurns, calls_in, given_in}
 use Rattle.connection_loop.proofs.Earning.{asks_append, moved_append}
 use Rattle.connection_loop.proofs.Moments.{all_lacking}
 
@@ -99,24 +99,24 @@ begins (Opened number) = refl
 begins TurnedAway = refl
 begins (Ready number) = refl
 
-module _ (options : Options) (base most : ℕ) (schedule : List Step) (piece : ℕ) where
-  pub turns_none : (lacking : List ℕ) (entries : List Entry) → entries ≡ [] → TakesTurns options base most schedule piece lacking entries [] []
+module _ (options : Options) (base most in_all : ℕ) (schedule : List Step) (piece : ℕ) where
+  pub turns_none : (lacking : List ℕ) (entries : List Entry) → entries ≡ [] → TakesTurns options base most in_all schedule piece lacking entries [] []
   turns_none lacking entries none = record { turns = []; calls = sym none; given = refl; answered = refl; short = tt }
 
-  short_lacking : (more lacking : List ℕ) (turns : List Turn) → AreShort options base most schedule piece lacking turns → AreShort options base most schedule piece (more ++ lacking) turns
+  short_lacking : (more lacking : List ℕ) (turns : List Turn) → AreShort options base most in_all schedule piece lacking turns → AreShort options base most in_all schedule piece (more ++ lacking) turns
   short_lacking more lacking [] short = tt
   short_lacking more lacking (turn ∷ earlier) short =
-      (short.0, all_lacking options base most more lacking (calls_in earlier) (given_in earlier) short.1, short.2, short_lacking more lacking earlier short.3)
+      (short.0, all_lacking options base most more lacking (calls_in earlier) (given_in earlier) short.1, short.2, short.3, short_lacking more lacking earlier short.4)
 
   -- one turn more, in which it was told which second it is behind the report
   pub turns_more : (more lacking : List ℕ) (event : Event) (t : ℕ) (old between new : List Entry) (all given : List Given) (answers swept : List Answered)
       → between ≡ second t ∷ entry_of event ∷ old → GrowsBy 2 between new → length given ≤ 2 * most_answers options
       → ((c : ℕ) → asks_of c new + moved c between ≤ asks_of c between + moved c new + length (given_to c given)) → AllByRecursion (IsSweep options base) swept → length swept ≤ MOST_SWEPT → AreAt options (second_of new) swept
-      → TalksWithAll options base most lacking old all → IsCaughtUp options base schedule piece old all
-      → TakesTurns options base most schedule piece lacking old all answers
-      → TakesTurns options base most schedule piece (more ++ lacking) new (all ++ given) (answers ++ answers_in given ++ swept)
+      → TalksWithAll options base most lacking old all → KeepsInAll options base in_all schedule old all → IsCaughtUp options base schedule piece old all
+      → TakesTurns options base most in_all schedule piece lacking old all answers
+      → TakesTurns options base most in_all schedule piece (more ++ lacking) new (all ++ given) (answers ++ answers_in given ++ swept)
   unfolding grows_none grows_call grows_then
-  turns_more more lacking event t old between new all given answers swept reports grows few earns sweeps few_sweeps at talks caught_up before = record {
+  turns_more more lacking event t old between new all given answers swept reports grows few earns sweeps few_sweeps at talks keeps caught_up before = record {
     turns = record { report = entry_of event; calls = whole.0; given = given; swept = swept } ∷ before.turns;
     calls = ap (λ e. whole.0 ++ entry_of event ∷ e) before.calls ∙ sym whole.1;
     given = ap (λ g. g ++ given) before.given;
@@ -138,6 +138,7 @@ module _ (options : Options) (base most : ℕ) (schedule : List Step) (piece : �
         few_sweeps = few_sweeps;
       },
       all_lacking options base most more lacking (calls_in before.turns) (given_in before.turns) (as_turned (TalksWithAll options base most lacking) talks),
+      as_turned (KeepsInAll options base in_all schedule) keeps,
       as_turned (IsCaughtUp options base schedule piece) caught_up,
       short_lacking more lacking before.turns before.short,
     );

@@ -17,3 +17,4 @@ pub mod Held
 pub mod Lying
 pub mod Standing
 pub mod Counting
+pub mod Counted

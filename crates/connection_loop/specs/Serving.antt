@@ -9,15 +9,16 @@ use Rattle.connection_loop.specs.declared.answer.TheConstants.{LIMITS}
 use Rattle.connection_loop.specs.Given.{Given}
 use Rattle.connection_loop.specs.Going.{NeverFall, seconds_of}
 use Rattle.connection_loop.specs.Moments.{TalksThrough, IsCaughtUp}
-use Rattle.connection_loop.specs.Turns.{TakesTurns}
+use Rattle.connection_loop.specs.Turns.{KeepsInAll, TakesTurns}
 
 -- What contracts see of a front and its port at one moment: among them how many writes it may still be given; and a count of connections that there
--- was no memory for.
+-- was no memory for; and how much it may keep of all, above what is free of each.
 pub record FrontAt : Type 0 where
   pub sessions : Sessions
   pub left : ℕ
   pub lacked : ℕ
   pub has_ended : Bool
+  pub in_all : ℕ
 
 -- a front may be given fewer writes than one command may need
 abbrev pub IsSpent : Options → ℕ → Type 0
@@ -30,7 +31,7 @@ IsFinished options has_ended left = (has_ended ≡ true) ⊎ IsSpent options lef
 -- All answers of the front are one list: its sessions went on by them in this order; it was given no writes but those among them; their seconds never fall. They
 -- were given in short turns, one for each report: in each those to clients, then few sweeps, and nothing else. At each moment of the log those to clients are what
 -- it talked with them, at the second that the log had told last. For some connections there was no memory, as many as were counted. Behind all turns the front has
--- caught up, as before each. Where the end came, nothing is to come any more: so each connection is settled.
+-- caught up and keeps no more than it may, as before each. Where the end came, nothing is to come any more: so each connection is settled.
 pub record AnswersClients (options : Options) (is_alone : Bool) (base most : ℕ) (old new : FrontAt) (log : Log) (all : List Given) : Type 0 where
   pub answers : List Answered
   pub in_order : AnswersInOrder options is_alone old.sessions answers new.sessions
@@ -39,7 +40,8 @@ pub record AnswersClients (options : Options) (is_alone : Bool) (base most : ℕ
   pub lacking : List ℕ
   pub counted : min new.lacked LAST_COUNT ≡ min (old.lacked + length lacking) LAST_COUNT
   pub through : TalksThrough options base most log.schedule lacking log.entries all
-  pub turns : TakesTurns options base most log.schedule log.script.piece lacking log.entries all answers
+  pub turns : TakesTurns options base most old.in_all log.schedule log.script.piece lacking log.entries all answers
+  pub keeps : KeepsInAll options base old.in_all log.schedule log.entries all
   pub caught_up : IsCaughtUp options base log.schedule log.script.piece log.entries all
   pub over : new.has_ended ≡ true → (state_of log).later ≡ []
 

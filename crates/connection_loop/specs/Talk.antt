@@ -2,7 +2,7 @@
 --
 -- So nothing is answered before it is whole, nothing twice, nothing of another key; a quiet command gets no reply; and behind what ends the connection
 -- nothing is read.
-use Rattle.std.specs.Prelude.{◌≡◌, ℕ, ◌≤◌, ◌+◌, Bool, false, List, [], ◌∷◌, ◌++◌, length}
+use Rattle.std.specs.Prelude.{◌≡◌, ℕ, ◌≤◌, ◌+◌, Bool, false, List, [], ◌∷◌, ◌++◌, length, if◌then◌else◌}
 use Rattle.partition_model.specs.declared.options.Options.{Options}
 use Rattle.memcached_requests.specs.declared.request.Next.TheVariants.{More}
 use Rattle.memcached_text.specs.declared.limits.TheConstants.{MAX_WAITING_LEN}
@@ -38,6 +38,10 @@ abbrev pub has_left : List Exchange → Bool
 has_left [] = false
 has_left (e ∷ []) = is_last e.next
 has_left (e ∷ next ∷ later) = has_left (next ∷ later)
+
+-- what is kept of what was received: behind what ends the connection, nothing
+abbrev pub kept_of : {options : Options} → {base : ℕ} → {received sent : List ℕ} → {answers : List Answered} → Talk options base received sent answers → List ℕ
+kept_of talk = if has_left talk.said then [] else talk.rest
 
 -- Little is kept: bytes that are no whole command yet or wait for those before them, and replies that the client has not taken, so many at most.
 pub record KeepsLittle (most : ℕ) (sent due rest : List ℕ) : Type 0 where

@@ -1,15 +1,17 @@
 -- How much a front does for one report of its port.
-use Rattle.std.specs.Prelude.{◌≡◌, ⊤, ℕ, suc, ◌==◌, ◌+◌, ◌*◌, ◌≤◌, Bool, true, false, List, [], ◌∷◌, ◌++◌, length, filter, if◌then◌else◌}
+use Rattle.std.specs.Prelude.{◌≡◌, ⊤, ℕ, suc, ◌==◌, ◌+◌, ◌-◌, ◌*◌, ◌≤◌, Bool, true, false, List, [], ◌∷◌, ◌++◌, length, filter, sum, Some, if◌then◌else◌}
 use Rattle.std.specs.List.{AllByRecursion}
 use Rattle.partition_model.specs.declared.options.Options.{Options}
 use Rattle.connections.specs.declared.schedule.Step.{Step}
-use Rattle.connections.specs.State.{Entry, opened, reported, turned_away, received, asked}
+use Rattle.connections.specs.State.{Entry, opened, reported, turned_away, received, asked, held, state_after}
 use Rattle.connections.specs.Log.{received_of, second_of, sent_of}
 use Rattle.fronts.specs.Answered.{Answered}
 use Rattle.command_answers.specs.declared.sweeper.TheConstants.{MOST_SWEPT}
 use Rattle.command_answers.specs.Seconds.{AreAt}
 use Rattle.command_answers.specs.Sweeps.{IsSweep}
 use Rattle.connection_loop.specs.declared.answer.TheConstants.{LIMITS, MOST_COMMANDS}
+use Rattle.connection_loop.specs.Counted.{IsCounted, over}
+use Rattle.connection_loop.specs.Talk.{Talk, due_in, kept_of}
 use Rattle.connection_loop.specs.Given.{Given, answers_in, given_to}
 use Rattle.connection_loop.specs.Moments.{TalksWithAll, IsCaughtUp}
 
@@ -89,21 +91,30 @@ abbrev pub answered_in : List Turn → List Answered
 answered_in [] = []
 answered_in (turn ∷ earlier) = answered_in earlier ++ answers_in turn.given ++ turn.swept
 
--- Each is short; and as it began, by the calls and the answers of the turns before it, the front had talked with each client and had caught up.
-abbrev pub AreShort : Options → ℕ → ℕ → List Step → ℕ → List ℕ → List Turn → Type 0
-AreShort options base most schedule piece lacking [] = ⊤
-AreShort options base most schedule piece lacking (turn ∷ earlier) =
+-- Of each client that is held under a number, no more than so many bytes is kept above what is free: of what it said that is not answered, and of what is due to it and was not sent. These are no more than so many in all.
+pub record KeepsInAll (options : Options) (base in_all : ℕ) (schedule : List Step) (entries : List Entry) (all : List Given) : Type 0 where
+  pub counted : List ℕ
+  pub within : sum counted ≤ in_all
+  pub each : (n c : ℕ) → held n (state_after schedule entries).connections ≡ Some c
+      → (talk : Talk options base (received_of c entries) (sent_of c entries) (given_to c all))
+      × IsCounted counted n (over (length (kept_of talk)) (length (due_in talk) - length (sent_of c entries)))
+
+-- Each is short; and as it began, by the calls and the answers of the turns before it, the front had talked with each client, kept no more than it may in all, and had caught up.
+abbrev pub AreShort : Options → ℕ → ℕ → ℕ → List Step → ℕ → List ℕ → List Turn → Type 0
+AreShort options base most in_all schedule piece lacking [] = ⊤
+AreShort options base most in_all schedule piece lacking (turn ∷ earlier) =
     IsShort options base turn
     × TalksWithAll options base most lacking (calls_in earlier) (given_in earlier)
+    × KeepsInAll options base in_all schedule (calls_in earlier) (given_in earlier)
     × IsCaughtUp options base schedule piece (calls_in earlier) (given_in earlier)
-    × AreShort options base most schedule piece lacking earlier
+    × AreShort options base most in_all schedule piece lacking earlier
 
 -- All that calls did and all answers came in short turns, one for each report: those to clients, and sweeps. So a client that sent much is answered in many
 -- turns, and each other that is reported meanwhile has one between them.
-pub record TakesTurns (options : Options) (base most : ℕ) (schedule : List Step) (piece : ℕ) (lacking : List ℕ) (entries : List Entry) (all : List Given)
+pub record TakesTurns (options : Options) (base most in_all : ℕ) (schedule : List Step) (piece : ℕ) (lacking : List ℕ) (entries : List Entry) (all : List Given)
     (answers : List Answered) : Type 0 where
   pub turns : List Turn
   pub calls : calls_in turns ≡ entries
   pub given : given_in turns ≡ all
   pub answered : answered_in turns ≡ answers
-  pub short : AreShort options base most schedule piece lacking turns
+  pub short : AreShort options base most in_all schedule piece lacking turns

@@ -6,6 +6,7 @@ ghost use Rattle.memcached_requests.specs.declared.request.Next.TheVariants.{Mor
 ghost use Rattle.memcached_requests.specs.Next.{next_of};
 ghost use Rattle.connections.specs.Calls.{Leaves};
 ghost use Rattle.connection_loop.specs.Clients.{IsClient};
+ghost use Rattle.connection_loop.specs.Counted.{over};
 ghost use Rattle.connection_loop.specs.Open.{IsOpen, Keeps, OnLogs};
 ghost use Rattle.connection_loop.specs.Paid.{PaysThese};
 ghost use Rattle.connection_loop.specs.Reached.{Reaches, position_of};
@@ -39,6 +40,7 @@ impl Client {
         ensures asks { result.asks ≡ 0 }
         ensures reading { result.leaving ≡ false }
         ensures unsent { result.unsent ≡ [] }
+        ensures kept { result.kept ≡ [] }
         ensures waits { next_of result.kept ≡ More }
         ensures talk { (options : Options) (base : ℕ) → Reaches options base (position_of result) [] [] [] }
     {
@@ -86,5 +88,12 @@ impl Client {
         let count = count_of(input) as u64;
         self.asks = self.asks.saturating_add(count.saturating_mul(2));
         Ok(Ok(input))
+    }
+
+    /// How many bytes its buffers have above what is free of each.
+    pub fn over(&self) -> usize
+        ensures { over (length self.now.kept) (length self.now.unsent) ≤ result }
+    {
+        self.kept.over() + self.unsent.over()
     }
 }

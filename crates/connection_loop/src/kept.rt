@@ -1,12 +1,14 @@
 //! Bytes that are kept from one visit of a connection to the next.
-ghost use Rattle.std.specs.Prelude.{◌≡◌, ◌<◌, ◌≤◌, ◌+◌, ◌++◌, false, true, [], length, drop, IfErr, IfOk, IfSome, MatchResult, vec_len};
+ghost use Rattle.std.specs.Prelude.{◌≡◌, ◌<◌, ◌≤◌, ◌+◌, ◌^◌, ◌++◌, false, true, [], length, drop, IfErr, IfOk, IfSome, MatchResult, vec_len};
 ghost use Rattle.memcached_text.specs.declared.limits.TheConstants.{MAX_WAITING_LEN};
 ghost use Rattle.memcached_text.specs.Lines.{Lacks};
 ghost use Rattle.connections.specs.Calls.{Leaves};
+ghost use Rattle.connection_loop.specs.declared.budget.TheConstants.{FREE_LEN};
 ghost use Rattle.connection_loop.specs.Buffers.{IsFilled, bytes_of, count_in, grown, filled_on};
 ghost use Rattle.connection_loop.specs.Open.{IsOpen, Keeps, OnLogs};
 ghost use Rattle.connection_loop.specs.Traffic.{OnHeld, ReadsTo};
 
+use crate::budget::FREE_LEN;
 use crate::calls::receive;
 use crate::desk::ROOM_LEN;
 use crate::waiting::wider;
@@ -186,6 +188,17 @@ impl KeptBytes {
         match &self.buffer {
             Some(buffer) => buffer.len < buffer.room.len() || buffer.len >= ROOM_LEN,
             None => false,
+        }
+    }
+
+    /// How many bytes of room it has above what is free.
+    pub fn over(&self) -> usize
+        ensures over { length self.now ≤ result + FREE_LEN }
+        ensures few { result < 2 ^ 63 }
+    {
+        match &self.buffer {
+            Some(buffer) => buffer.room.len().saturating_sub(FREE_LEN),
+            None => 0,
         }
     }
 

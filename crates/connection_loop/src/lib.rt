@@ -30,12 +30,16 @@
 //! No client keeps the others waiting: for one report bytes are read twice at most, and few answers are given. Nor is a connection asked for
 //! again for nothing: bytes of it were received or sent for that report, or its client was answered (`specs/Turns`).
 //!
+//! Nor does a client keep much: a buffer of its own doubles as bytes come, and what all buffers have above what is free of each is counted (`Budget`), so many bytes
+//! at most. As each report comes, and when it returns, no more is kept in all (`KeepsInAll`). Who would keep more is closed, as where there is no memory.
+//!
 //! As each report comes, and when it returns, the front has caught up (`IsCaughtUp`): each connection is closed, or waits for its peer to take replies or to send
 //! more, or a report of it is to come. Of a connection and its client that is `specs/Resting`, which goes on as others are served. Connections that there was no
 //! memory for are counted.
 #![tactic(auto)]
 
 mod answer;
+mod budget;
 mod calls;
 mod client;
 mod clients;
@@ -51,6 +55,7 @@ mod visits;
 mod waiting;
 
 pub use answer::{Halt, HowFar, LIMITS, MOST_COMMANDS, answer_bytes, most_writes};
+pub use budget::{Budget, FREE_LEN};
 pub use calls::{ask_again, close, receive, send};
 pub use client::Client;
 pub use clients::Clients;

@@ -7,6 +7,7 @@ ghost use Rattle.connection_loop.specs.declared.desk.TheConstants.{MOST_UNSENT, 
 ghost use Rattle.connections.specs.Calls.{Leaves};
 ghost use Rattle.connection_loop.specs.Calls.{KeepsHand};
 ghost use Rattle.connection_loop.specs.Clients.{AreOpen};
+ghost use Rattle.connection_loop.specs.Counted.{AreCounted};
 ghost use Rattle.connection_loop.specs.Counting.{tally_after_report};
 ghost use Rattle.connection_loop.specs.Going.{GoesBy};
 ghost use Rattle.connection_loop.specs.Open.{IsOpen, IsOpened, OnLogs};
@@ -21,7 +22,7 @@ use crate::clients::Clients;
 use crate::desk::Desk;
 use crate::hand::Hand;
 use crate::visit::After;
-use crate::visits::visit_on;
+use crate::visits::visit_within;
 use command_answers::{Sweeper, sweep};
 use connections::{Connections, Event};
 use fronts::{CountsWrites, Glances, ServeFault};
@@ -39,10 +40,13 @@ fn visit_held<F: CountsWrites, C: Connections>(
 ) -> u64
     requires room { vec_len desk.old.room ≡ ROOM_LEN }
     requires clients { AreOpen clients.old.held.items (C.log connections.old) }
+    requires counted { AreCounted clients.old }
     requires partitions { hand.old.numbering.partitions ≡ (F.options hand.old.front).partitions }
     requires left { MayAnswer hand.old.numbering.partitions (F.left hand.old.front) }
     ensures room { vec_len desk.new.room ≡ ROOM_LEN }
     ensures clients { AreOpen clients.new.held.items (C.log connections.new) }
+    ensures counted { AreCounted clients.new }
+    ensures most { clients.new.budget.most ≡ clients.old.budget.most }
     ensures port { Leaves C.log C.has_ended C.faults C.share C.reports connections.old connections.new }
     ensures same { KeepsHand F.options F.number F.stands hand.old hand.new }
     ensures serves { GoesByGiven (F.options hand.old.front) F.is_alone (F.sessions hand.old.front) (F.left hand.old.front) (C.last connections.old) (F.sessions hand.new.front) (F.left hand.new.front) (C.last connections.new)
@@ -52,7 +56,7 @@ fn visit_held<F: CountsWrites, C: Connections>(
         return 0;
     };
     let asks = client.asks;
-    let visited = visit_on(hand, connections, number, &mut client, desk);
+    let visited = visit_within(hand, connections, number, &mut client, clients, desk);
     let after = match visited {
         Ok(after) => after,
         Err(NoMemory) => {
@@ -97,8 +101,11 @@ fn count_event(event: Event, lacked: u64, tally: &mut Tally)
 /// Holds a new connection. Where there is no memory for it, it is closed. Says for how many there was none.
 fn take_in<C: Connections>(connections: &mut C, number: u32, clients: &mut Clients) -> u64
     requires clients { AreOpen clients.old.held.items (C.log connections.old) }
+    requires counted { AreCounted clients.old }
     requires open { IfSome (C.log connections.old) (IsOpen number 0) }
     ensures clients { AreOpen clients.new.held.items (C.log connections.new) }
+    ensures counted { AreCounted clients.new }
+    ensures most { clients.new.budget.most ≡ clients.old.budget.most }
     ensures port { Leaves C.log C.has_ended C.faults C.share C.reports connections.old connections.new }
     ensures rises { C.last connections.old ≤ C.last connections.new }
     ensures serves { (options : Options) (base : ℕ)
@@ -128,11 +135,14 @@ fn serve_event<F: CountsWrites, C: Connections>(
 ) -> u64
     requires room { vec_len desk.old.room ≡ ROOM_LEN }
     requires clients { AreOpen clients.old.held.items (C.log connections.old) }
+    requires counted { AreCounted clients.old }
     requires event { IfSome (C.log connections.old) (IsOpened event) }
     requires partitions { hand.old.numbering.partitions ≡ (F.options hand.old.front).partitions }
     requires left { MayAnswer hand.old.numbering.partitions (F.left hand.old.front) }
     ensures room { vec_len desk.new.room ≡ ROOM_LEN }
     ensures clients { AreOpen clients.new.held.items (C.log connections.new) }
+    ensures counted { AreCounted clients.new }
+    ensures most { clients.new.budget.most ≡ clients.old.budget.most }
     ensures port { Leaves C.log C.has_ended C.faults C.share C.reports connections.old connections.new }
     ensures same { KeepsHand F.options F.number F.stands hand.old hand.new }
     ensures serves { GoesByGiven (F.options hand.old.front) F.is_alone (F.sessions hand.old.front) (F.left hand.old.front) (C.last connections.old) (F.sessions hand.new.front) (F.left hand.new.front) (C.last connections.new)
@@ -146,7 +156,7 @@ fn serve_event<F: CountsWrites, C: Connections>(
 }
 
 /// Serves the connections of a port, to its end, or until the front may be given fewer writes than one command may need. A connection that there is no memory for is closed,
-/// and `lacked` counts it. For one report a connection is read twice at most, and few of its commands are answered. What the front counts is shown in this place of the board. After each report it sweeps a few places of the partitions, and touches old items that were used.
+/// and `lacked` counts it. For one report a connection is read twice at most, and few of its commands are answered. Of all of them so many bytes of buffers are kept at most, above what is free of each; who would keep more is closed and counted, too. What the front counts is shown in this place of the board. After each report it sweeps a few places of the partitions, and touches old items that were used.
 #[tactic(auto, using(crate::proofs::Going::by_none))]
 pub fn serve_connections<F: Glances, C: Connections>(
     hand: &mut Hand<F>,
@@ -154,13 +164,14 @@ pub fn serve_connections<F: Glances, C: Connections>(
     place: u32,
     connections: &mut C,
     lacked: &mut u64,
+    most: usize,
 ) -> Result<(), ServeFault>
     requires open { C.has_ended connections.old ≡ false }
     requires partitions { hand.old.numbering.partitions ≡ (F.options hand.old.front).partitions }
     ensures goes { GoesBy (F.options hand.old.front) F.is_alone (F.sessions hand.old.front) (F.left hand.old.front) (F.sessions hand.new.front) (F.left hand.new.front) }
     ensures serves { OnLogs (ServesFromNone (F.options hand.old.front) F.is_alone hand.old.numbering.base MOST_UNSENT
-        (record { sessions = F.sessions hand.old.front; left = F.left hand.old.front; lacked = lacked.old; has_ended = C.has_ended connections.old })
-        (record { sessions = F.sessions hand.new.front; left = F.left hand.new.front; lacked = lacked.new; has_ended = C.has_ended connections.new }))
+        (record { sessions = F.sessions hand.old.front; left = F.left hand.old.front; lacked = lacked.old; has_ended = C.has_ended connections.old; in_all = most })
+        (record { sessions = F.sessions hand.new.front; left = F.left hand.new.front; lacked = lacked.new; has_ended = C.has_ended connections.new; in_all = most }))
         (C.log connections.old) (C.log connections.new) }
     ensures ends { OnOk result (IsFinished (F.options hand.new.front) (C.has_ended connections.new) (F.left hand.new.front)) }
     ensures cause { IsErrOf result ServeFault.Net → Rose (C.faults connections.old) (C.faults connections.new) }
@@ -173,7 +184,7 @@ pub fn serve_connections<F: Glances, C: Connections>(
 {
     let mut desk = Desk::new(hand.alloc, board, place)?;
     let mut sweeper = Sweeper::new(hand.alloc, hand.numbering.partitions)?;
-    let mut clients = Clients::new(hand.alloc);
+    let mut clients = Clients::new(hand.alloc, most);
     let least = most_writes(hand.numbering);
     loop {
         if hand.front.writes_left() < least {
@@ -186,14 +197,14 @@ pub fn serve_connections<F: Glances, C: Connections>(
         *lacked = lacked.saturating_add(count);
         count_event(event, count, &mut desk.buffers.tally);
         desk.buffers.show();
-        let most = hand.front.writes_left();
+        let writes = hand.front.writes_left();
         let noted = &mut desk.buffers.noted;
         hand.second = connections.second();
         sweep(
             &mut hand.front,
             hand.second,
             hand.numbering,
-            most,
+            writes,
             noted,
             &mut sweeper,
         );

@@ -1,5 +1,6 @@
 //! Replies that a peer has not taken yet.
-ghost use Rattle.std.specs.Prelude.{◌≡◌, ◌≤◌, [], length, drop, OnOk, OnErr};
+ghost use Rattle.std.specs.Prelude.{◌≡◌, ◌<◌, ◌≤◌, ◌+◌, ◌^◌, [], length, drop, OnOk, OnErr};
+ghost use Rattle.connection_loop.specs.declared.budget.TheConstants.{FREE_LEN};
 
 use crate::kept::KeptBytes;
 use outside::NoMemory;
@@ -40,6 +41,14 @@ impl Unsent {
         ensures { result.now ≡ self.now }
     {
         &self.text.bytes()[self.sent..]
+    }
+
+    /// How many bytes of room it has above what is free.
+    pub fn over(&self) -> usize
+        ensures over { length self.now ≤ result + FREE_LEN }
+        ensures few { result < 2 ^ 63 }
+    {
+        self.text.over()
     }
 
     /// So many bytes more were taken.

@@ -20,7 +20,7 @@ use Rattle.server_words.specs.Output.{SinkFacts}
 use Rattle.daemon.specs.Written.{IsUnwritten, IsTold}
 use Rattle.daemon.specs.Files.{FilesFacts}
 use Rattle.daemon.specs.Filling.{KeepsFiles}
-use Rattle.daemon.specs.Daemon.{DaemonOutside, Says, FailsToSay, ready_text, WritesLast, ServesAloud, ServesPlaced, BindsNothing, KeepsUp, places_of, placed}
+use Rattle.daemon.specs.Daemon.{DaemonOutside, Says, FailsToSay, ready_text, WritesLast, ServesAloud, ServesPlaced, BindsNothing, KeepsUp, places_of, buffers_of, placed}
 
 -- what was announced by a sink with a line at hand was announced by the sink
 module _ {A : Type 0} (line_of : A → List ℕ) (sink_of : A → SinkFacts) (line : List ℕ) (old new : A) (same : line_of old ≡ line) where
@@ -66,12 +66,13 @@ pub written_last : (first : ℕ) (stop cause : Stop) (old new : SinkFacts) (stat
 written_last first stop cause old new status is last = subst (λ (s : Stop). WritesLast first (Err s) old new status) (sym is) last
 
 -- a server whose listeners had been told its places
-pub serves_placed : {options : Options} {ports : PortOptions} (streams : StreamOptions) {base : ℕ} {writes : List Write} (old : DaemonOutside) {told new : DaemonOutside} {status : DaemonStatus}
-    → told ≡ placed (places_of streams) streams.connections old
-    → ServesAloud (record { options = options; ports = ports; places = streams.ports.fronts; base = base }) streams.ports writes told new status
+pub serves_placed : {options : Options} {ports : PortOptions} (streams : StreamOptions) {base buffers : ℕ} {writes : List Write} (old : DaemonOutside) {told new : DaemonOutside} {status : DaemonStatus}
+    → told ≡ placed (places_of streams) streams.connections old → buffers ≡ buffers_of streams
+    → ServesAloud (record { options = options; ports = ports; places = streams.ports.fronts; base = base; buffers = buffers }) streams.ports writes told new status
     → ServesPlaced options ports streams base writes old new status
-serves_placed {options} {ports} streams {base} {writes} old {new = new} {status = status} is served =
-    subst (λ (o : DaemonOutside). ServesAloud (record { options = options; ports = ports; places = streams.ports.fronts; base = base }) streams.ports writes o new status) is served
+serves_placed {options} {ports} streams {base} {writes = writes} old {new = new} {status = status} is kept served =
+    subst (λ (y : DaemonOutside × ℕ). ServesAloud (record { options = options; ports = ports; places = streams.ports.fronts; base = base; buffers = y.1 }) streams.ports writes y.0 new status)
+    (λ i. (is i, kept i)) served
 
 kept_files : (image : Option Text) (files : FilesFacts) → KeepsFiles image files files
 kept_files None files = refl

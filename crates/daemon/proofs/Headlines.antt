@@ -18,7 +18,7 @@ use Rattle.fronts.specs.declared.totals.ServeFault.TheVariants as faults
 use Rattle.connection_loop.specs.declared.desk.TheConstants.{MOST_UNSENT}
 use Rattle.connection_loop.specs.Open.{OnLogs}
 use Rattle.connection_loop.specs.Given.{given_to}
-use Rattle.connection_loop.specs.Turns.{TakesTurns}
+use Rattle.connection_loop.specs.Turns.{KeepsInAll, TakesTurns}
 use Rattle.served.specs.NetRun.{OnPorts, IsCauseOnceBound}
 use Rattle.locked_server.specs.declared.service.Service.{Service as LockedService}
 use Rattle.locked_server.specs.declared.stop.Stop.{Stop}
@@ -35,7 +35,7 @@ use Rattle.daemon.specs.Written.{IsDue, IsWritten, IsTold}
 use Rattle.served.specs.TotalsText.{totals_text}
 use Rattle.daemon.specs.Files.{FilesFacts}
 use Rattle.daemon.specs.Filling.{Fills, IsDueOfFile}
-use Rattle.daemon.specs.Daemon.{DaemonOutside, Says, FailsToSay, ready_text, unbound_text, WritesLast, placed, places_of, FillsAndServes}
+use Rattle.daemon.specs.Daemon.{DaemonOutside, Says, FailsToSay, ready_text, unbound_text, WritesLast, placed, places_of, buffers_of, FillsAndServes}
 use Rattle.daemon.specs.Headline.{GoesForward, OnShareLogs, TalksLawfully, HasTalkedOut, TalksToItsEnd, TalksToAStop, TalkInShares, ServesLawfully, StopsLawfully, NamesPort}
 use Rattle.daemon.proofs.LeftLogs.{left_of}
 use Rattle.daemon.proofs.Forward.{goes_forward}
@@ -67,8 +67,8 @@ in_both (y ∷ xs) ys (suc k) x is = in_both xs ys k x is
 
 -- Connections
 
-module _ (options : Options) (base places lacked : ℕ) (before after : ListenFacts) (counts : List ℕ) (answers : List (List Answered)) (olds news : List ShareFacts)
-    (are : AreStreams options base places before counts answers olds news) (lacked_is : lacked ≡ counted_by_all counts) (left : after.released ≡ option_map (with_shares news) before.released)
+module _ (options : Options) (base in_all places lacked : ℕ) (before after : ListenFacts) (counts : List ℕ) (answers : List (List Answered)) (olds news : List ShareFacts)
+    (are : AreStreams options base in_all places before counts answers olds news) (lacked_is : lacked ≡ counted_by_all counts) (left : after.released ≡ option_map (with_shares news) before.released)
     (order : (k : ℕ) (own : List Answered) → slice_get answers k ≡ Some own → GoesForward options own) where
   -- a front that had a share
   record Heard (k : ℕ) (own : List Answered) : Type 0 where
@@ -78,7 +78,7 @@ module _ (options : Options) (base places lacked : ℕ) (before after : ListenFa
     pub new : ShareFacts
     pub was : slice_get olds k ≡ Some old
     pub is : slice_get news k ≡ Some new
-    pub serves : ServesFrom options base count own old new
+    pub serves : ServesFrom options base in_all count own old new
 
   heard : (k : ℕ) (own : List Answered) → slice_get answers k ≡ Some own → k < length olds → Heard k own
   heard k own own_at low =
@@ -102,13 +102,15 @@ module _ (options : Options) (base places lacked : ℕ) (before after : ListenFa
       let h = heard k own.0 own.1 low in
       ap (λ (s : ShareFacts). s.share) (same_Some new h.new (sym is ∙ h.is)) ∙ h.serves.serves.share ∙ (are.are_new k h.old h.was).share_is
 
-  talks : (k : ℕ) (own : List Answered) → slice_get answers k ≡ Some own → (h : Heard k own) (x y : Log) → ServesClients options base h.serves.old h.serves.new own x y → TalksLawfully options base lacked own x y
+  talks : (k : ℕ) (own : List Answered) → slice_get answers k ≡ Some own → (h : Heard k own) (x y : Log) → ServesClients options base h.serves.old h.serves.new own x y → TalksLawfully options base in_all lacked own x y
   talks k own own_at h x y it = record {
     same = it.0.same;
     given = it.0.all;
     lacking = it.0.serves.lacking;
     few = omega (arith, it.0.serves.counted, h.serves.uncounted, h.serves.lacked_is, h.few, lacked_is);
-    turns = subst (TakesTurns options base MOST_UNSENT y.schedule y.script.piece it.0.serves.lacking y.entries it.0.all) it.1 it.0.serves.turns;
+    turns = subst (λ (w : ℕ × List Answered). TakesTurns options base MOST_UNSENT w.0 y.schedule y.script.piece it.0.serves.lacking y.entries it.0.all w.1)
+        (λ i. (h.serves.kept_is i, it.1 i)) it.0.serves.turns;
+    keeps = subst (λ (n : ℕ). KeepsInAll options base n y.schedule y.entries it.0.all) h.serves.kept_is it.0.serves.keeps;
     through = it.0.serves.through;
     caught_up = it.0.serves.caught_up;
     forward = λ c. subst (λ given. GoesForward options (given_to c given)) it.0.serves.turns.given
@@ -138,24 +140,24 @@ module _ (options : Options) (base places lacked : ℕ) (before after : ListenFa
 
   -- each talked to its end, where all have finished
   pub talk_to_their_ends : length olds ≡ places → HaveFinished options answers news
-      → TalkInShares (TalksToItsEnd options base lacked) places answers before after
+      → TalkInShares (TalksToItsEnd options base in_all lacked) places answers before after
   talk_to_their_ends all finished = (
     are.fronts,
     λ f own own_at.
         let h = each all f own own_at in
-        on_share (TalksToItsEnd options base lacked own) (λ _. ⊤) f own h (if_any h.new.log (λ _. tt)) (λ x y it _. (talks f own own_at h x y it, talked_out f own h (finished f own h.new own_at h.is) x y it)),
+        on_share (TalksToItsEnd options base in_all lacked own) (λ _. ⊤) f own h (if_any h.new.log (λ _. tt)) (λ x y it _. (talks f own own_at h x y it, talked_out f own h (finished f own h.new own_at h.is) x y it)),
   )
 
   -- each talked to a stop, where all have stopped
   pub talk_to_a_stop : length olds ≡ places → HaveStopped options answers olds news
-      → TalkInShares (TalksToAStop options base lacked) places answers before after
+      → TalkInShares (TalksToAStop options base in_all lacked) places answers before after
   talk_to_a_stop all stopped = (
     are.fronts,
     λ f own own_at.
         let h = each all f own own_at in
         elim (stopped f own h.old h.new own_at h.was h.is) [
-          | inl finished ↦ on_share (TalksToAStop options base lacked own) (λ _. ⊤) f own h (if_any h.new.log (λ _. tt)) (λ x y it _. (talks f own own_at h x y it, inl (talked_out f own h finished x y it)))
-          | inr failed ↦ on_share (TalksToAStop options base lacked own) LastFailed f own h failed.last (λ x y it last. (talks f own own_at h x y it, inr last))
+          | inl finished ↦ on_share (TalksToAStop options base in_all lacked own) (λ _. ⊤) f own h (if_any h.new.log (λ _. tt)) (λ x y it _. (talks f own own_at h x y it, inl (talked_out f own h finished x y it)))
+          | inr failed ↦ on_share (TalksToAStop options base in_all lacked own) LastFailed f own h failed.last (λ x y it last. (talks f own own_at h x y it, inr last))
         ],
   )
 
@@ -190,7 +192,7 @@ no_image files after image _ text last is = last
 
 module _ (service : Service) (base : ℕ) (files after : FilesFacts) (old new : DaemonOutside) where
   abbrev locked : LockedService
-  locked = record { options = service.options; ports = service.ports; places = service.streams.ports.fronts; base = base }
+  locked = record { options = service.options; ports = service.ports; places = service.streams.ports.fronts; base = base; buffers = buffers_of service.streams }
 
   abbrev before : DaemonOutside
   before = placed (places_of service.streams) service.streams.connections old
@@ -217,7 +219,7 @@ module _ (service : Service) (base : ℕ) (files after : FilesFacts) (old new : 
         answers = c.answers;
         dealings = s.fronts;
         lawful = record { writes = writes; filled = filled; runs = s.runs; lawful = s.served.answered };
-        connections = talk_to_their_ends service.options base service.streams.ports.fronts new.lacked before.ports.listens new.ports.listens c.counts c.answers c.olds c.news c.are c.lacked_is c.left
+        connections = talk_to_their_ends service.options base (buffers_of service.streams) service.streams.ports.fronts new.lacked before.ports.listens new.ports.listens c.counts c.answers c.olds c.news c.are c.lacked_is c.left
             (λ k own at p low. s.served.answered.order p k own low (in_both c.answers _ k own at)) c.stopped.0 c.stopped.1;
         datagrams = (s.served.many, s.served.datagrams);
         printed = (totals, s.counted, printed);
@@ -232,7 +234,7 @@ module _ (service : Service) (base : ℕ) (files after : FilesFacts) (old new : 
         answers = c.answers;
         dealings = s.fronts;
         lawful = record { writes = writes; filled = filled; runs = s.runs; lawful = s.answered };
-        connections = talk_to_a_stop service.options base service.streams.ports.fronts new.lacked before.ports.listens new.ports.listens c.counts c.answers c.olds c.news c.are c.lacked_is c.left
+        connections = talk_to_a_stop service.options base (buffers_of service.streams) service.streams.ports.fronts new.lacked before.ports.listens new.ports.listens c.counts c.answers c.olds c.news c.are c.lacked_is c.left
             (λ k own at p low. s.answered.order p k own low (in_both c.answers _ k own at)) c.stopped.0 c.stopped.1;
         datagrams = (s.many, s.each);
         printed = printed;

@@ -1,6 +1,6 @@
 -- What a server that stays up writes, and what it leaves.
 use Rattle.std.specs.declared.net.ipv4_addr.Ipv4Addr.{Ipv4Addr}
-use Rattle.std.specs.Prelude.{◌≡◌, ◌+◌, ◌-◌, ◌<◌, ◌≤◌, ◌==◌, ◌⊎◌, ◌++◌, ◌∷◌, [], ℕ, List, length, take, codes, Option, Some, None, IfSome, Result, Ok, Err, if◌then◌else◌}
+use Rattle.std.specs.Prelude.{◌≡◌, ◌+◌, ◌-◌, ◌/◌, ◌<◌, ◌≤◌, ◌==◌, ◌⊎◌, ◌++◌, ◌∷◌, [], ℕ, List, length, max, take, codes, Option, Some, None, IfSome, Result, Ok, Err, if◌then◌else◌}
 use Rattle.std.specs.Fmt.{decimal}
 use Rattle.std.specs.Io.KnownBytes.{Appends}
 use Rattle.outside.specs.Faults.{Rose}
@@ -20,6 +20,7 @@ use Rattle.daemon_words.specs.declared.streams.StreamOptions.{StreamOptions}
 use Rattle.daemon_words.specs.declared.streams.StreamPorts.{StreamPorts}
 use Rattle.daemon_words.specs.DaemonWords.{Service}
 use Rattle.daemon_words.specs.StreamWords.{address}
+use Rattle.daemon.specs.declared.places.TheConstants.{THREAD_LEN}
 use Rattle.daemon.specs.declared.status.DaemonStatus.{DaemonStatus}
 use Rattle.daemon.specs.declared.status.DaemonStatus.TheVariants.{Usage, NoMemory, NetFault, WriteFault, ImageRefused, UsedUp, Stopped}
 use Rattle.server_words.specs.Output.{SinkFacts, with_line_feed}
@@ -102,6 +103,10 @@ place_at None port = record { address = address 0 0 0 0; port = 0 }
 abbrev pub places_of : StreamOptions → List Place
 places_of streams = if streams.ports.fronts == 0 then [] else place_at streams.address streams.ports.port ∷ []
 
+-- how much each thread may keep of what waits at its connections: an equal part of what words give, less its own room
+abbrev pub buffers_of : StreamOptions → ℕ
+buffers_of streams = streams.buffers / max streams.ports.fronts 1 - THREAD_LEN
+
 -- the listeners were told places, none of which was listened at, and how many connections all shares have together at most
 abbrev pub placed : List Place → ℕ → DaemonOutside → DaemonOutside
 placed places most old = record old { ports = record old.ports { listens = record old.ports.listens { places = places; most = most; heard = [] } } }
@@ -109,7 +114,7 @@ placed places most old = record old { ports = record old.ports { listens = recor
 -- It served, and listened at the place that the words name.
 abbrev pub ServesPlaced : Options → PortOptions → StreamOptions → ℕ → List Write → DaemonOutside → DaemonOutside → DaemonStatus → Type 0
 ServesPlaced options ports streams base writes old new status =
-    ServesAloud (record { options = options; ports = ports; places = streams.ports.fronts; base = base }) streams.ports writes
+    ServesAloud (record { options = options; ports = ports; places = streams.ports.fronts; base = base; buffers = buffers_of streams }) streams.ports writes
     (placed (places_of streams) streams.connections old) new status
 
 -- it served so, or had no memory before it began

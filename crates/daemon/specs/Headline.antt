@@ -19,7 +19,7 @@ use Rattle.connection_loop.specs.Given.{Given, given_to}
 use Rattle.connection_loop.specs.Moments.{TalksThrough, IsCaughtUp}
 use Rattle.connection_loop.specs.Open.{OnLogs}
 use Rattle.connection_loop.specs.Serving.{IsSpent}
-use Rattle.connection_loop.specs.Turns.{TakesTurns}
+use Rattle.connection_loop.specs.Turns.{KeepsInAll, TakesTurns}
 use Rattle.locked_front.specs.Parts.{most_turns}
 use Rattle.served.specs.Served.{NoFall, AnswersLawfully, ServesPort, LeavesPort}
 use Rattle.locked_server.specs.Filled.{origin_of}
@@ -30,7 +30,7 @@ use Rattle.served.specs.TotalsText.{totals_text}
 use Rattle.server_words.specs.Output.{with_line_feed}
 use Rattle.daemon.specs.Files.{FilesFacts}
 use Rattle.daemon.specs.Filling.{Fills}
-use Rattle.daemon.specs.Daemon.{DaemonOutside, ready_text, unbound_text}
+use Rattle.daemon.specs.Daemon.{DaemonOutside, buffers_of, ready_text, unbound_text}
 
 -- there are so many, and this holds of each of them, by its place
 abbrev pub OfEach : {A : Type 0} → ℕ → List A → (ℕ → A → Type 0) → Type 0
@@ -53,8 +53,8 @@ pub record AnswersFromFilling (files : FilesFacts) (service : Service) (answers 
 abbrev pub GoesForward : Options → List Answered → Type 0
 GoesForward options answers = (p : ℕ) → p < options.partitions → AllPairs NoFall (answers_of options p answers)
 
--- a front talked so with the clients of its share, whose log was this one before and that one after
-pub record TalksLawfully (options : Options) (base lacked : ℕ) (answers : List Answered) (before after : Log) : Type 0 where
+-- a front talked so with the clients of its share, whose log was this one before and that one after, where it may keep so much in all
+pub record TalksLawfully (options : Options) (base in_all lacked : ℕ) (answers : List Answered) (before after : Log) : Type 0 where
   -- what clients do is as it was foretold;
   pub same : after.schedule ≡ before.schedule
   -- of the front's answers these were given to clients;
@@ -63,10 +63,12 @@ pub record TalksLawfully (options : Options) (base lacked : ℕ) (answers : List
   pub lacking : List ℕ
   pub few : min (length lacking) LAST_COUNT ≤ lacked
   -- all came in short turns, one for each report: first answers to clients, and behind them a few sweeps;
-  pub turns : TakesTurns options base MOST_UNSENT after.schedule after.script.piece lacking after.entries given answers
+  pub turns : TakesTurns options base MOST_UNSENT in_all after.schedule after.script.piece lacking after.entries given answers
   -- at each moment what was sent to each client is due to what it had said, by the answers until then, and each close had a cause; and what was answered since the
   -- second was told last is answered at it, which is not before what it answers came;
   pub through : TalksThrough options base MOST_UNSENT after.schedule lacking after.entries given
+  -- of all clients together no more was kept than may be, as each turn began and in the end;
+  pub keeps : KeepsInAll options base in_all after.schedule after.entries given
   -- in the end each connection is settled, or a report of it is to come;
   pub caught_up : IsCaughtUp options base after.schedule after.script.piece after.entries given
   -- and no client was shown what is older than what it was shown, or wrote, before
@@ -77,12 +79,12 @@ abbrev pub HasTalkedOut : Options → List Answered → Log → Type 0
 HasTalkedOut options answers after = ((state_of after).later ≡ []) ⊎ IsSpent options (most_turns - count_of_writes answers)
 
 -- it talked so until then
-abbrev pub TalksToItsEnd : Options → ℕ → ℕ → List Answered → Log → Log → Type 0
-TalksToItsEnd options base lacked answers before after = TalksLawfully options base lacked answers before after × HasTalkedOut options answers after
+abbrev pub TalksToItsEnd : Options → ℕ → ℕ → ℕ → List Answered → Log → Log → Type 0
+TalksToItsEnd options base in_all lacked answers before after = TalksLawfully options base in_all lacked answers before after × HasTalkedOut options answers after
 
 -- or until a call for what comes next failed
-abbrev pub TalksToAStop : Options → ℕ → ℕ → List Answered → Log → Log → Type 0
-TalksToAStop options base lacked answers before after = TalksLawfully options base lacked answers before after × (HasTalkedOut options answers after ⊎ LastFailed after)
+abbrev pub TalksToAStop : Options → ℕ → ℕ → ℕ → List Answered → Log → Log → Type 0
+TalksToAStop options base in_all lacked answers before after = TalksLawfully options base in_all lacked answers before after × (HasTalkedOut options answers after ⊎ LastFailed after)
 
 -- this holds of the front behind each share of the place of connections, with what it answered
 abbrev pub TalkInShares : (List Answered → Log → Log → Type 0) → ℕ → List (List Answered) → ListenFacts → ListenFacts → Type 0
@@ -101,7 +103,7 @@ pub record ServesLawfully (service : Service) (base : ℕ) (files : FilesFacts) 
   -- All their answers are lawful: one run of each partition's machine has them all.
   pub lawful : AnswersFromFilling files service (answers ++ map answered_in dealings)
   -- In each share of the place of connections what was sent to each client is due to what it said, at each moment, until nothing more was to come.
-  pub connections : TalkInShares (TalksToItsEnd service.options base new.lacked) service.streams.ports.fronts answers old.ports.listens new.ports.listens
+  pub connections : TalkInShares (TalksToItsEnd service.options base (buffers_of service.streams) new.lacked) service.streams.ports.fronts answers old.ports.listens new.ports.listens
   -- At each port of datagrams all that waited was received, in order, and what was sent is what is due to each.
   pub datagrams : ServePorts service.ports dealings ports ports'
   -- The sink took the line that names the ports, then that of the totals, and nothing else.
@@ -122,7 +124,7 @@ pub record StopsLawfully (service : Service) (base : ℕ) (files : FilesFacts) (
   -- All their answers are lawful: one run of each partition's machine has them all.
   pub lawful : AnswersFromFilling files service (answers ++ map answered_in dealings)
   -- In each share of the place of connections what was sent to each client is due to what it said, at each moment, until there was a cause to stop.
-  pub connections : TalkInShares (TalksToAStop service.options base new.lacked) service.streams.ports.fronts answers old.ports.listens new.ports.listens
+  pub connections : TalkInShares (TalksToAStop service.options base (buffers_of service.streams) new.lacked) service.streams.ports.fronts answers old.ports.listens new.ports.listens
   -- At each port of datagrams a beginning of what waited was received, and what was sent is a beginning of what is due to that.
   pub datagrams : LeavePorts service.ports dealings ports ports'
   -- The sink took the line that names the ports, then `net fault`, and nothing else.

@@ -16,7 +16,7 @@ ghost use Rattle.daemon.specs.Daemon.{HasMemory, WritesLast, ServesAloud, Serves
 use crate::board::board_of;
 use crate::filling::filling_of;
 use crate::output::{print_totals, write_due};
-use crate::places::places_of;
+use crate::places::{buffers_of, places_of};
 use crate::process::{Process, Start};
 use crate::reasons::{note_image, shortage_reason, unbound_reason};
 use crate::speaker::{Speaker, Unbound, ready_line, unbound_line};
@@ -161,6 +161,7 @@ fn stay_up<W: Threads + Wait + Sync, K: Sink + Drop, N: Net, L: Listeners, G: Ga
         ports: *ports,
         places: streams.ports.fronts,
         base: start.base,
+        buffers: buffers_of(streams),
     };
     let shared = Shared {
         rt: process.rt,

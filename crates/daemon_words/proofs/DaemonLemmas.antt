@@ -16,9 +16,9 @@ use Rattle.option_words.specs.declared.words_fault.WordsFault.{WordsFault}
 use Rattle.option_words.specs.declared.words_fault.WordsFault.TheVariants.{Usage, NoMemory}
 use Rattle.option_words.specs.Words.{Text, given_by, text_of}
 use Rattle.option_words.specs.Settings.{mode, tries, port, value_of, ◌>>=◌}
-use Rattle.daemon_words.specs.Memory.{memory_of}
-use Rattle.daemon_words.specs.StreamWords.{threads_name, threads_for, threads, listen, connections, idle, item_size, port_given, socket_given, no_streams, gives_streams, some_streams, streams_by, streams_given}
-use Rattle.daemon_words.specs.DaemonWords.{Service, partitions, buckets, spares, words, wear, memory_name, sizes_by_words, sizes_by, sizes_given, mode_given, service_options, image_name, fronts, lasting_ports, no_ports, ports_by, ports_given, may_fill, daemon_names, daemon_given, daemon_of, gives_size, ArePossibleFronts, IsDaemonReading}
+use Rattle.daemon_words.specs.Memory.{memory_of, memory_name}
+use Rattle.daemon_words.specs.StreamWords.{threads_name, threads_for, threads, listen, connections, idle, item_size, memory_among, buffers, port_given, socket_given, no_streams, gives_streams, some_streams, streams_by, streams_given}
+use Rattle.daemon_words.specs.DaemonWords.{Service, partitions, buckets, spares, words, wear, sizes_by_words, sizes_by, sizes_given, mode_given, service_options, image_name, fronts, lasting_ports, no_ports, ports_by, ports_given, may_fill, daemon_names, daemon_given, daemon_of, gives_size, ArePossibleFronts, IsDaemonReading}
 use Rattle.option_words.proofs.ValueLemmas.{both_told, value_bounds, power_value, one_kilo, required_bounds}
 use Rattle.daemon_words.proofs.MemoryLemmas.{amounts_within}
 
@@ -115,8 +115,9 @@ some_streams_valid processors given streams is =
     let c = both_told (value_of connections given) _ streams l.2 in
     let e = both_told (value_of idle given) _ streams c.2 in
     let i = both_told (value_of item_size given) _ streams e.2 in
-    let made : StreamOptions = record { ports = record { port = p.0; has_socket = k.0; fronts = f.0 }; address = l.0; connections = c.0; idle = e.0 } in
-    subst (λ (s : StreamOptions). InRange 1 MOST_FRONTS s.ports.fronts) (ap (λ o. unwrap_or o made) i.2)
+    let b = both_told (value_of (buffers (memory_among given) f.0) given) _ streams i.2 in
+    let made : StreamOptions = record { ports = record { port = p.0; has_socket = k.0; fronts = f.0 }; address = l.0; connections = c.0; idle = e.0; buffers = b.0 } in
+    subst (λ (s : StreamOptions). InRange 1 MOST_FRONTS s.ports.fronts) (ap (λ o. unwrap_or o made) b.2)
     (value_bounds threads_name 1 MOST_FRONTS (threads_for processors) (given threads_name) f.0 (omega arith, omega arith) f.1)
 
 streams_alone : (streams : StreamOptions) → InRange 1 MOST_FRONTS streams.ports.fronts → ArePossibleFronts no_ports streams.ports

@@ -16,7 +16,7 @@ use Rattle.daemon_words.specs.declared.options.DaemonOptions.{DaemonOptions}
 use Rattle.daemon_words.specs.declared.streams.StreamOptions.{StreamOptions}
 use Rattle.daemon_words.specs.declared.streams.StreamPorts.{StreamPorts}
 use Rattle.option_words.specs.Words.{Text}
-use Rattle.daemon_words.specs.Memory.{memory_of}
+use Rattle.daemon_words.specs.Memory.{memory_of, memory_name}
 use Rattle.option_words.specs.Settings.{Setting, number, power_of_two, mode, tries, port, value_of, read_as, ◌>>=◌}
 use Rattle.daemon_words.specs.StreamWords.{stream_names, has_streams, streams_given}
 
@@ -35,10 +35,6 @@ words = number (codes "words") 256 MOST_WORDS 65536
 
 abbrev pub wear : Setting ℕ
 wear = number (codes "wear") 1 MOST_WEAR MOST_WEAR
-
--- the option that says how much memory all partitions may take
-abbrev pub memory_name : Text
-memory_name = codes "memory"
 
 -- the sizes that are given one by one
 abbrev pub sizes_by_words : (Text → Option Text) → Option Sizes

@@ -1,5 +1,5 @@
 -- The text of an amount of bytes: a number of them, or of as many times 1024 of them as the unit behind it says.
-use Rattle.std.specs.Prelude.{ℕ, ◌*◌, ◌/◌, ◌==◌, nat_le, [], ◌∷◌, Option, Some, None, option_map, unwrap_or, if◌then◌else◌}
+use Rattle.std.specs.Prelude.{ℕ, ◌*◌, ◌/◌, ◌==◌, nat_le, [], ◌∷◌, Option, Some, None, codes, option_map, unwrap_or, if◌then◌else◌}
 use Rattle.partition_sizes.specs.declared.sizes.TheConstants.{LEAST_MEMORY, MOST_MEMORY}
 use Rattle.option_words.specs.Words.{Text}
 use Rattle.option_words.specs.Settings.{number_of, ◌>>=◌}
@@ -50,3 +50,7 @@ amount_of least most text =
 -- of memory, for which sizes are made
 abbrev pub memory_of : Text → Option ℕ
 memory_of text = amount_of LEAST_MEMORY MOST_MEMORY text
+
+-- the option that says how much memory all partitions may take
+abbrev pub memory_name : Text
+memory_name = codes "memory"

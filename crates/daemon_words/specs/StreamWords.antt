@@ -1,13 +1,14 @@
--- The words of fronts behind connections: their port, the first address that it is of, a Unix socket beside it or in its place, how many threads serve them, how many connections all have at most, and how long
--- one may be silent.
-use Rattle.std.specs.Prelude.{ℕ, ◌==◌, ◌||◌, ◌&&◌, Bool, true, false, List, [], ◌∷◌, min, max, Option, Some, None, is_none, is_some, option_map, codes, if◌then◌else◌}
+-- The words of fronts behind connections: their port, the first address that it is of, a Unix socket beside it or in its place, how many threads serve them, how many connections all have at most, how long
+-- one may be silent, and how much all may keep of what waits.
+use Rattle.std.specs.Prelude.{ℕ, ◌*◌, ◌/◌, ◌==◌, ◌||◌, ◌&&◌, Bool, true, false, List, [], ◌∷◌, min, max, Option, Some, None, is_none, is_some, option_and_then, option_map, unwrap_or, codes, if◌then◌else◌}
 use Rattle.std.specs.List.{before_first, after_first, list_any}
 use Rattle.std.specs.declared.net.ipv4_addr.Ipv4Addr.{Ipv4Addr}
 use Rattle.server_words.specs.declared.limits.TheConstants.{MOST_FRONTS}
 use Rattle.daemon_words.specs.declared.streams.TheConstants.{MOST_IDLE}
 use Rattle.daemon_words.specs.declared.streams.StreamOptions.{StreamOptions}
-use Rattle.daemon_words.specs.declared.memory.TheConstants.{MOST_ITEM_SIZE}
-use Rattle.daemon_words.specs.Memory.{amount_of}
+use Rattle.partition_sizes.specs.declared.sizes.TheConstants.{LEAST_MEMORY, MOST_MEMORY}
+use Rattle.daemon_words.specs.declared.memory.TheConstants.{MOST_ITEM_SIZE, LEAST_BUFFERS, THREAD_BUFFERS}
+use Rattle.daemon_words.specs.Memory.{amount_of, memory_of, memory_name}
 use Rattle.option_words.specs.Words.{Text}
 use Rattle.option_words.specs.Settings.{Setting, number, port, number_of, value_of, ◌>>=◌}
 
@@ -90,13 +91,26 @@ idle = number (codes "idle-timeout") 0 MOST_IDLE 0
 abbrev pub item_size : Setting ℕ
 item_size = record { name = codes "item-size"; meaning = amount_of MOST_ITEM_SIZE MOST_ITEM_SIZE; default = Some MOST_ITEM_SIZE }
 
+-- so much memory is given, or the least
+abbrev pub memory_among : (Text → Option Text) → ℕ
+memory_among given = unwrap_or (option_and_then memory_of (given memory_name)) LEAST_MEMORY
+
+-- what all threads and connections may keep of what waits, in bytes: a part for each thread, of 8 MiB at least. Where nothing is said of it, an
+-- eighth of the memory, or 16 MiB for each thread where that is more
+abbrev pub buffers : ℕ → ℕ → Setting ℕ
+buffers memory threads = record {
+  name = codes "buffers";
+  meaning = amount_of (threads * LEAST_BUFFERS) MOST_MEMORY;
+  default = Some (max (memory / 8) (threads * THREAD_BUFFERS));
+}
+
 -- the names of these options
 abbrev pub stream_names : List Text
-stream_names = memcached.name ∷ threads_name ∷ listen.name ∷ connections.name ∷ socket_name ∷ socket_mode_name ∷ idle.name ∷ item_size.name ∷ []
+stream_names = memcached.name ∷ threads_name ∷ listen.name ∷ connections.name ∷ socket_name ∷ socket_mode_name ∷ idle.name ∷ item_size.name ∷ codes "buffers" ∷ []
 
 -- there are no such fronts
 abbrev pub no_streams : StreamOptions
-no_streams = record { ports = record { port = 0; has_socket = false; fronts = 0 }; address = None; connections = 0; idle = 0 }
+no_streams = record { ports = record { port = 0; has_socket = false; fronts = 0 }; address = None; connections = 0; idle = 0; buffers = 0 }
 
 -- one of the options is given that are of a port or a socket
 abbrev pub gives_door : (Text → Option Text) → Bool
@@ -105,7 +119,7 @@ gives_door given = is_some (given memcached.name) || is_some (given listen.name)
 -- or another one that is of such fronts
 abbrev pub gives_streams : (Text → Option Text) → Bool
 gives_streams given =
-    gives_door given || is_some (given threads_name) || is_some (given connections.name) || is_some (given idle.name) || is_some (given item_size.name)
+    gives_door given || is_some (given threads_name) || is_some (given connections.name) || is_some (given idle.name) || is_some (given item_size.name) || is_some (given (codes "buffers"))
 
 -- the port, and none where a socket is named, and neither a port nor an address
 abbrev pub port_given : (Text → Option Text) → Option ℕ
@@ -125,11 +139,13 @@ some_streams processors given =
     value_of connections given >>= λ connections.
     value_of idle given >>= λ idle.
     value_of item_size given >>= λ longest.
+    value_of (buffers (memory_among given) threads) given >>= λ buffers.
     Some (record {
       ports = record { port = port; has_socket = socket; fronts = threads };
       address = address;
       connections = connections;
       idle = idle;
+      buffers = buffers;
     })
 
 -- a server is of one protocol: there are such fronts where no port of datagrams is given

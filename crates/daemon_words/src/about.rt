@@ -35,6 +35,8 @@ Ports for batches of requests
 Memory
   -m, --memory SIZE         what items, index and program may take, 64M to 512G [64M]. -m takes a number of MiB; SIZE is
                             one of bytes, or with K, M or G behind it of KiB, MiB or GiB, as 1G, 1GB, 1GiB and 1g
+      --buffers SIZE            what may be kept of what waits at connections, 8M a thread to 512G
+                                [an eighth of --memory, or 16M a thread if that is more]
       --partitions N, --buckets N, --spares N, --words N
                             four sizes in place of it [4, 1024, 1024, 65536]
 

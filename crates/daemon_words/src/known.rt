@@ -1,10 +1,11 @@
 //! The options of `micad`, for whoever is told which words it knows.
 
 use crate::doors::{are_listed, mode_of};
-use crate::memory::memory_of;
+use crate::memory::{LEAST_BUFFERS, amount_of, memory_of};
 use crate::streams::{MOST_IDLE, item_size_of};
 use option_words::number_of;
 use partition_model::{MOST_PARTITIONS, MOST_SPARES, MOST_WEAR, MOST_WORDS};
+use partition_sizes::MOST_MEMORY;
 use server_words::MOST_FRONTS;
 use std::fmt;
 
@@ -17,6 +18,7 @@ pub(crate) enum Values {
     PowerOfTwo(u64),
     Memory,
     ItemSize,
+    Buffers,
     /// Addresses with a comma between each and the next.
     Addresses,
     File,
@@ -40,6 +42,7 @@ impl Values {
             },
             Values::Memory => memory_of(text).is_some(),
             Values::ItemSize => item_size_of(text).is_some(),
+            Values::Buffers => amount_of(text, LEAST_BUFFERS, MOST_MEMORY).is_some(),
             Values::Addresses => are_listed(text),
             Values::Octal => mode_of(text).is_some(),
             Values::File => true,
@@ -62,6 +65,7 @@ impl Values {
             Values::PowerOfTwo(_) => "1024",
             Values::Memory => "1G",
             Values::ItemSize => "1M",
+            Values::Buffers => "64M",
             Values::Addresses => "127.0.0.1",
             Values::Octal => "700",
             Values::File => "items.image",
@@ -81,6 +85,9 @@ impl fmt::Display for Values {
             Values::Memory => f.write_str(
                 "it is 64M to 512G: a number of bytes, or with K, M or G behind it of KiB, MiB or GiB",
             ),
+            Values::Buffers => f.write_str(
+                "it is 8M for each thread to 512G: a number of bytes, or with K, M or G behind it of KiB, MiB or GiB",
+            ),
             Values::ItemSize => f.write_str(
                 "every value of up to 1M is taken, and no shorter bound is served: give 1M, or leave it out",
             ),
@@ -99,7 +106,7 @@ impl fmt::Display for Values {
 }
 
 /// The long names of all options, and of questions.
-pub(crate) static NAMES: [&str; 21] = [
+pub(crate) static NAMES: [&str; 22] = [
     "--mode",
     "--memcached",
     "--memory",
@@ -110,6 +117,7 @@ pub(crate) static NAMES: [&str; 21] = [
     "--socket-mode",
     "--idle-timeout",
     "--item-size",
+    "--buffers",
     "--port",
     "--fronts",
     "--image",
@@ -136,6 +144,7 @@ pub(crate) fn values_of(name: &str) -> Option<Values> {
         "--idle-timeout" => Some(Values::Number("a number of seconds", 0, u64::from(MOST_IDLE))),
         "--connections" => Some(Values::Number("it", 1, 65_536)),
         "--item-size" => Some(Values::ItemSize),
+        "--buffers" => Some(Values::Buffers),
         "--port" => Some(Values::Number("a port of datagrams", 1_024, 65_000)),
         "--fronts" => Some(Values::Number("it", 1, u64::from(MOST_FRONTS))),
         "--image" => Some(Values::File),

@@ -13,6 +13,12 @@ pub const MOST_ITEM_SIZE: u64 = 1_048_576;
 /// The least that memcached's own option for it takes.
 pub(crate) const LEAST_ITEM_SIZE: u64 = 1_024;
 
+/// The least that each thread may keep of what waits at its connections, in bytes.
+pub const LEAST_BUFFERS: u64 = 8_388_608;
+
+/// What it may where nothing is said of it, and an eighth of the memory is less.
+pub const THREAD_BUFFERS: u64 = 16_777_216;
+
 // The text before a last letter, where it ends so.
 fn before_letter(text: &str, letter: char) -> Option<&str>
     requires { letter < 128 }

@@ -24,7 +24,7 @@ pub struct DaemonOptions<'a> {
     pub image: Option<&'a str>,
 }
 
-static DAEMON_OPTIONS: [&str; 19] = [
+static DAEMON_OPTIONS: [&str; 20] = [
     "mode",
     "partitions",
     "buckets",
@@ -44,6 +44,7 @@ static DAEMON_OPTIONS: [&str; 19] = [
     "socket-mode",
     "idle-timeout",
     "item-size",
+    "buffers",
 ];
 
 // The sizes that are given one by one.

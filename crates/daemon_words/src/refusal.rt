@@ -34,6 +34,8 @@ pub(crate) enum Refusal<'a> {
     ModeAlone,
     /// An address of another port than the server's.
     OtherPort(&'a str),
+    /// Less than the least for each thread.
+    FewBuffers(&'a str),
     NoMode,
     ImageInCache,
 }
@@ -80,6 +82,10 @@ impl fmt::Display for Refusal<'_> {
             Refusal::OtherPort(address) => write!(
                 f,
                 "--listen {address}: a server has one port, --memcached's: leave the port out, or start one server for each"
+            ),
+            Refusal::FewBuffers(value) => write!(
+                f,
+                "--buffers {value} is below 8M for each thread: give more, or fewer --threads"
             ),
             Refusal::NoMode => f.write_str(
                 "--port is of batches over UDP and wants --mode cache or --mode store beside it; memcached's clients want -p",

@@ -3,11 +3,12 @@ ghost use Rattle.std.specs.Prelude.{◌≡◌};
 ghost use Rattle.std.specs.List.{list_any};
 ghost use Rattle.clap.specs.Matches.{first_value, found_of};
 ghost use Rattle.option_words.specs.Settings.{value_of};
-ghost use Rattle.daemon_words.specs.StreamWords.{before_dot, behind_dot, first_listed, is_colon, octet_of, address_of, place_of, listen, item_size, threads_for, port_given, socket_given, gives_door, gives_streams, some_streams, has_streams, streams_given};
+ghost use Rattle.daemon_words.specs.StreamWords.{before_dot, behind_dot, first_listed, is_colon, octet_of, address_of, place_of, listen, item_size, memory_among, buffers, threads_for, port_given, socket_given, gives_door, gives_streams, some_streams, has_streams, streams_given};
 
-use crate::memory::{MOST_ITEM_SIZE, amount_of};
+use crate::memory::{LEAST_BUFFERS, MOST_ITEM_SIZE, THREAD_BUFFERS, amount_of, memory_of};
 use clap::ArgMatches;
 use option_words::{count, number_of};
+use partition_sizes::{LEAST_MEMORY, MOST_MEMORY};
 use server_words::MOST_FRONTS;
 use std::net::Ipv4Addr;
 
@@ -30,6 +31,8 @@ pub struct StreamOptions {
     pub address: Option<Ipv4Addr>,
     pub connections: u32,
     pub idle: u32,
+    /// What all of them may keep of what waits, in bytes.
+    pub buffers: u64,
 }
 
 // The text before the first dot and the text behind it: all and nothing where there is none.
@@ -141,6 +144,27 @@ fn item_size(found: &ArgMatches<'_>) -> Option<u64>
     }
 }
 
+// How much memory is given, or the least.
+fn memory_among(found: &ArgMatches<'_>) -> u64
+    ensures { result ≡ memory_among (first_value (found_of found.now)) }
+{
+    match found.get_str("memory") {
+        Some(text) => memory_of(text).unwrap_or(LEAST_MEMORY),
+        None => LEAST_MEMORY,
+    }
+}
+
+// What may be kept of what waits, of so many threads.
+fn buffers(found: &ArgMatches<'_>, threads: u32) -> Option<u64>
+    ensures { result ≡ value_of (buffers (memory_among (first_value (found_of found.now))) threads) (first_value (found_of found.now)) }
+{
+    let threads = u64::from(threads);
+    match found.get_str("buffers") {
+        Some(text) => amount_of(text, threads * LEAST_BUFFERS, MOST_MEMORY),
+        None => Some((memory_among(found) / 8).max(threads * THREAD_BUFFERS)),
+    }
+}
+
 // How many threads there are where no number is given: as memcached's, or as many as there are processors, where these are fewer.
 fn threads_for(processors: u32) -> u32
     ensures { result ≡ threads_for processors }
@@ -167,6 +191,7 @@ fn gives_streams(found: &ArgMatches<'_>) -> bool
         || found.get_str("connections").is_some()
         || found.get_str("idle-timeout").is_some()
         || found.get_str("item-size").is_some()
+        || found.get_str("buffers").is_some()
 }
 
 // Fronts behind one port, each in a thread.
@@ -180,6 +205,7 @@ fn some_streams(found: &ArgMatches<'_>, processors: u32) -> Option<StreamOptions
     let connections = count(found, "connections", 1, 65_536, 1_024)?;
     let idle = count(found, "idle-timeout", 0, MOST_IDLE, 0)?;
     item_size(found)?;
+    let buffers = buffers(found, fronts)?;
     Some(StreamOptions {
         ports: StreamPorts {
             port,
@@ -189,6 +215,7 @@ fn some_streams(found: &ArgMatches<'_>, processors: u32) -> Option<StreamOptions
         address,
         connections,
         idle,
+        buffers,
     })
 }
 
@@ -218,5 +245,6 @@ pub fn streams_given(found: &ArgMatches<'_>, processors: u32) -> Option<StreamOp
         address: None,
         connections: 0,
         idle: 0,
+        buffers: 0,
     })
 }

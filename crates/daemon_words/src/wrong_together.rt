@@ -70,6 +70,7 @@ fn of_another_protocol(words: &[String]) -> Option<Refusal<'static>> {
         "--socket-mode",
         "--idle-timeout",
         "--item-size",
+        "--buffers",
     ] {
         if gives(words, name) {
             return Some(Refusal::Apart(*name));
@@ -109,6 +110,14 @@ fn doubled(words: &[String]) -> Option<Refusal<'static>> {
     None
 }
 
+// The amount of buffers, where nothing else can be wrong with it than that it is too little for so many threads.
+fn few_buffers(words: &[String]) -> Option<Refusal<'_>> {
+    if gives(words, "--image") && is_cache(words) {
+        return None;
+    }
+    Some(Refusal::FewBuffers(value_given(words, "--buffers")?))
+}
+
 /// Why words are refused each of which is right alone.
 pub(crate) fn wrong_together<'a>(words: &'a [String]) -> Refusal<'a> {
     if let Some(refusal) = doubled(words) {
@@ -122,6 +131,9 @@ pub(crate) fn wrong_together<'a>(words: &'a [String]) -> Refusal<'a> {
     }
     if gives(words, "--port") && !gives(words, "--mode") {
         return Refusal::NoMode;
+    }
+    if let Some(refusal) = few_buffers(words) {
+        return refusal;
     }
     Refusal::ImageInCache
 }

@@ -2,7 +2,7 @@
 
 use crate::foreign::instead_of;
 use crate::known::{NAMES, Values, values_behind, values_of};
-use crate::memory::{LEAST_ITEM_SIZE, MOST_ITEM_SIZE, bytes_of};
+use crate::memory::{LEAST_BUFFERS, LEAST_ITEM_SIZE, MOST_ITEM_SIZE, bytes_of};
 use crate::refusal::Refusal;
 use outside::NoMemory;
 use partition_sizes::{LEAST_MEMORY, MOST_MEMORY};
@@ -44,6 +44,8 @@ fn wrong_value<'a>(name: &'a str, value: &'a str, values: Values) -> Refusal<'a>
         Values::Memory if bytes > MOST_MEMORY => Refusal::Large(name, value, "512G"),
         Values::ItemSize if bytes < LEAST_ITEM_SIZE => Refusal::Small(name, value, "1K"),
         Values::ItemSize if bytes > MOST_ITEM_SIZE => Refusal::Large(name, value, "1M"),
+        Values::Buffers if bytes < LEAST_BUFFERS => Refusal::Small(name, value, "8M"),
+        Values::Buffers if bytes > MOST_MEMORY => Refusal::Large(name, value, "512G"),
         _ => Refusal::BadValue(name, value, values),
     }
 }

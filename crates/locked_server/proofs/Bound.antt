@@ -23,8 +23,8 @@ silent places olds news k own at = none_answered places k own at
 
 module _ (service : Service) (before : ListenFacts) (heard : List ShareFacts) (new : AreNewShares before.waits before.given heard)
     (within : length heard ≤ service.places) {origin : ℕ → History} {batches : ℕ} {kept : List KeptSeat} {lacked : ℕ} {ends_before ends_after : List EndFacts} {news : List ShareFacts} where
-  are : length heard ≡ service.places → {answer : Result Totals ServeFault} (b : ServesBeside service.options origin batches service.base answer kept lacked ends_before ends_after heard news)
-      → AreStreams service.options service.base service.places before b.counts b.answers heard news
+  are : length heard ≡ service.places → {answer : Result Totals ServeFault} (b : ServesBeside service.options origin batches service.base service.buffers answer kept lacked ends_before ends_after heard news)
+      → AreStreams service.options service.base service.buffers service.places before b.counts b.answers heard news
   are full b = record {
     are_new = new;
     within = within;
@@ -43,7 +43,7 @@ module _ {says : Others → Option (Result Totals ServeFault) → Type 0} {leave
     counts = [];
     olds = [];
     news = [];
-    are = none_heard service.options service.base service.places before;
+    are = none_heard service.options service.base service.buffers service.places before;
     lacked_is = uncounted;
     left = left;
     stopped = stopped;
@@ -62,7 +62,7 @@ module _ {says : Others → Option (Result Totals ServeFault) → Type 0} {leave
       counts = no_counts (length heard);
       olds = heard;
       news = heard;
-      are = as_heard service.options service.base service.places before heard new within;
+      are = as_heard service.options service.base service.buffers service.places before heard new within;
       lacked_is = uncounted ∙ none_counted (length heard);
       left = left;
       stopped = stopped;
@@ -75,7 +75,7 @@ module _ {says : Others → Option (Result Totals ServeFault) → Type 0} {leave
     -- all fronts were served
     module _ {origin : ℕ → History} {batches : ℕ} {kept : List KeptSeat} {ends_before ends_after : List EndFacts} {news : List ShareFacts} (full : length heard ≡ service.places) where
       came_beside : {whole : Result Totals Stop} {came : Result Totals ServeFault} → answer ≡ whole
-          → (b : ServesBeside service.options origin batches service.base came kept lacked ends_before ends_after heard news) → StopsStreams whole service b.answers heard news
+          → (b : ServesBeside service.options origin batches service.base service.buffers came kept lacked ends_before ends_after heard news) → StopsStreams whole service b.answers heard news
           → CameTo whole service.places heard before.faults after.faults (Some came) → leaves news → says (others_of b.answers heard news) (Some came)
           → ComesBeside says leaves answer service lacked before after
       came_beside {came = came} is b stopped came_is left said = subst (λ (a : Result Totals Stop). ComesBeside says leaves a service lacked before after) (sym is) (record {
@@ -93,11 +93,11 @@ module _ {says : Others → Option (Result Totals ServeFault) → Type 0} {leave
         said = said;
       })
 
-      pub came_ok : (totals : Totals) → answer ≡ Ok totals → (b : ServesBeside service.options origin batches service.base (Ok totals) kept lacked ends_before ends_after heard news)
+      pub came_ok : (totals : Totals) → answer ≡ Ok totals → (b : ServesBeside service.options origin batches service.base service.buffers (Ok totals) kept lacked ends_before ends_after heard news)
           → leaves news → says (others_of b.answers heard news) (Some (Ok totals)) → ComesBeside says leaves answer service lacked before after
       came_ok totals is b = came_beside is b (full, b.finished) refl
 
-      pub came_err : (fault : ServeFault) → answer ≡ Err (Fault fault) → (b : ServesBeside service.options origin batches service.base (Err fault) kept lacked ends_before ends_after heard news)
+      pub came_err : (fault : ServeFault) → answer ≡ Err (Fault fault) → (b : ServesBeside service.options origin batches service.base service.buffers (Err fault) kept lacked ends_before ends_after heard news)
           → leaves news → says (others_of b.answers heard news) (Some (Err fault)) → ComesBeside says leaves answer service lacked before after
       came_err Net is b = came_beside is b (full, b.stopped refl) refl
       came_err NoMemory is b = came_beside is b tt refl

@@ -14,9 +14,9 @@ use Rattle.connections.specs.Shares.{ShareFacts}
 use Rattle.locked_server.specs.Streams.{HaveFinished, HaveStopped, StopsStream, ServesBeside, others_of}
 use Rattle.locked_server.specs.Running.{RanBeside, SumsUpBeside}
 
-module _ (options : Options) (some : 1 ≤ options.partitions) (origin : ℕ → History) (batches base : ℕ) (left : List KeptSeat) (lacked : ℕ) (streams : List (Result ⊤ ServeFault))
+module _ (options : Options) (some : 1 ≤ options.partitions) (origin : ℕ → History) (batches base in_all : ℕ) (left : List KeptSeat) (lacked : ℕ) (streams : List (Result ⊤ ServeFault))
     (fronts : List (Result Totals ServeFault)) (before after : List EndFacts) (olds news : List ShareFacts)
-    (ran : RanBeside options origin batches base left lacked streams fronts before after olds news) where
+    (ran : RanBeside options origin batches base in_all left lacked streams fronts before after olds news) where
   comes : (answer : Result Totals ServeFault) → SumsUpBeside streams fronts answer → ComesTo (others_of ran.answers olds news) fronts answer
   comes (Ok totals) sums = sums.1
   comes (Err Net) sums = (
@@ -33,7 +33,7 @@ module _ (options : Options) (some : 1 ≤ options.partitions) (origin : ℕ →
   stopped answer sums is = λ k own b a. ran.stopped k own b a ((subst (SumsUpBeside streams fronts) is sums).0 k)
 
   pub serves_beside : (kept : List KeptSeat) (answer : Result Totals ServeFault) → SumsUpBeside streams fronts answer
-      → KeepsOf (others_of ran.answers olds news) options origin batches answer left kept → ServesBeside options origin batches base answer kept lacked before after olds news
+      → KeepsOf (others_of ran.answers olds news) options origin batches answer left kept → ServesBeside options origin batches base in_all answer kept lacked before after olds news
   serves_beside kept answer sums keeps = record {
     answers = ran.answers;
     counts = ran.counts;

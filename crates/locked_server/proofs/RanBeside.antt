@@ -50,7 +50,7 @@ closed_told p parts = by (slice_get parts p)
 
 -- Fronts of connections
 
-module _ {C : Type 0} (plan : Plan) (facts : C → ShareFacts) (base : ℕ) (olds news : List (StreamTask C)) (ran : StreamsRan plan facts base olds news) where
+module _ {C : Type 0} (plan : Plan) (facts : C → ShareFacts) (base in_all : ℕ) (olds news : List (StreamTask C)) (ran : StreamsRan plan facts base in_all olds news) where
   abbrev pub share_of : StreamTask C → ShareFacts
   share_of task = facts task.share
 
@@ -61,13 +61,13 @@ module _ {C : Type 0} (plan : Plan) (facts : C → ShareFacts) (base : ℕ) (old
     pub was : slice_get olds k ≡ Some old
     pub is : slice_get news k ≡ Some new
     pub front : IsLockedFront plan (locked_view plan.options k new.parts.items)
-    pub run : RunsStream plan.options base (front_facts facts 0 old) (front_facts facts new.lacked new) own new.answer (facts old.share) (facts new.share)
+    pub run : RunsStream plan.options base (front_facts facts in_all 0 old) (front_facts facts in_all new.lacked new) own new.answer (facts old.share) (facts new.share)
 
   pub stream_at : (k : ℕ) → k < length olds → (own : List Answered) × StreamAt k own
   stream_at k low =
       let old = element_at olds k low in
       let new = element_at news k (omega (arith, low, ran.0)) in
-      let it = subst (λ (y : StreamTask C × StreamTask C). StreamRan plan facts base k y.0 y.1)
+      let it = subst (λ (y : StreamTask C × StreamTask C). StreamRan plan facts base in_all k y.0 y.1)
       (λ i. (get_or_from_slice_get olds k old.0 new.0 old.1 i, get_or_from_slice_get news k new.0 new.0 new.1 i)) (ran.1 k new.0 low) in
       (it.answered, record { old = old.0; new = new.0; was = old.1; is = new.1; front = it.is; run = it.run })
 
@@ -90,7 +90,7 @@ module _ {C : Type 0} (plan : Plan) (facts : C → ShareFacts) (base : ℕ) (old
   abbrev pub count_of : StreamTask C → ℕ
   count_of task = task.lacked
 
-  pub served : AreServed plan.options base (map count_of news) answers (map share_of olds) (map share_of news)
+  pub served : AreServed plan.options base in_all (map count_of news) answers (map share_of olds) (map share_of news)
   served = record {
     many = length-map news share_of ∙ ran.0 ∙ sym (length-map olds share_of);
     counted = length-map news count_of ∙ ran.0 ∙ sym (length-map olds share_of);
@@ -98,11 +98,12 @@ module _ {C : Type 0} (plan : Plan) (facts : C → ShareFacts) (base : ℕ) (old
         let s = all_at.2 k own own_at in
         let one : facts s.old.share ≡ b = same_Some _ _ (sym (at_map share_of olds k s.old s.was) ∙ b_at) in
         let two : facts s.new.share ≡ a = same_Some _ _ (sym (at_map share_of news k s.new s.is) ∙ a_at) in record {
-          old = front_facts facts 0 s.old;
-          new = front_facts facts s.new.lacked s.new;
+          old = front_facts facts in_all 0 s.old;
+          new = front_facts facts in_all s.new.lacked s.new;
+          kept_is = refl;
           uncounted = refl;
           lacked_is = same_Some _ _ (sym (at_map count_of news k s.new s.is) ∙ count_at);
-          serves = subst (λ (y : ShareFacts × ShareFacts). ServesStream plan.options base (front_facts facts 0 s.old) (front_facts facts s.new.lacked s.new) own y.0 y.1)
+          serves = subst (λ (y : ShareFacts × ShareFacts). ServesStream plan.options base (front_facts facts in_all 0 s.old) (front_facts facts in_all s.new.lacked s.new) own y.0 y.1)
               (λ i. (one i, two i)) s.run.serves;
         };
   }
@@ -260,43 +261,43 @@ module _ {D : Type 0} (plan : Plan) (batches : ℕ) (facts : D → EndFacts) (fi
 -- Both
 
 -- what fronts of both kinds have in hand
-pub both_are : {C D : Type 0} (plan : Plan) (stream_facts : C → ShareFacts) (base : ℕ) (stream_olds stream_news : List (StreamTask C))
-    (batches : ℕ) (facts : D → EndFacts) (olds news : List (FrontTask D)) → StreamsRan plan stream_facts base stream_olds stream_news
+pub both_are : {C D : Type 0} (plan : Plan) (stream_facts : C → ShareFacts) (base in_all : ℕ) (stream_olds stream_news : List (StreamTask C))
+    (batches : ℕ) (facts : D → EndFacts) (olds news : List (FrontTask D)) → StreamsRan plan stream_facts base in_all stream_olds stream_news
     → TasksRan plan batches facts (length stream_olds) olds news → AreHands plan (map stream_hand stream_news ++ map hand_of news)
-both_are plan stream_facts base stream_olds stream_news batches facts olds news streams ran f parts at =
+both_are plan stream_facts base in_all stream_olds stream_news batches facts olds news streams ran f parts at =
     elim (at_either (map stream_hand stream_news) (map hand_of news) f parts at) as (λ _. IsLockedFront plan (locked_view plan.options f parts)) [
-      | inl here ↦ streams_are plan stream_facts base stream_olds stream_news streams f parts here
+      | inl here ↦ streams_are plan stream_facts base in_all stream_olds stream_news streams f parts here
       | inr there ↦
           subst (λ n. IsLockedFront plan (locked_view plan.options n parts)) (omega (arith, there.1, length-map stream_news stream_hand, streams.0))
           (fronts_are plan batches facts (length stream_olds) olds news ran there.0 parts there.2)
     ]
 
-module _ {C D : Type 0} (plan : Plan) (some : 1 ≤ plan.options.partitions) (stream_facts : C → ShareFacts) (base : ℕ) (stream_olds stream_news : List (StreamTask C))
+module _ {C D : Type 0} (plan : Plan) (some : 1 ≤ plan.options.partitions) (stream_facts : C → ShareFacts) (base in_all : ℕ) (stream_olds stream_news : List (StreamTask C))
     (batches : ℕ) (facts : D → EndFacts) (olds news : List (FrontTask D)) {lefts afters : List Owned}
-    (streams : StreamsRan plan stream_facts base stream_olds stream_news) (ran : TasksRan plan batches facts (length stream_olds) olds news)
+    (streams : StreamsRan plan stream_facts base in_all stream_olds stream_news) (ran : TasksRan plan batches facts (length stream_olds) olds news)
     (all : HaveRan plan (map stream_hand stream_olds ++ map hand_of olds) (map stream_hand stream_news ++ map hand_of news) lefts afters) where
   abbrev own : List (List Answered)
-  own = answers plan stream_facts base stream_olds stream_news streams
+  own = answers plan stream_facts base in_all stream_olds stream_news streams
 
   own_many : length own ≡ length stream_olds
-  own_many = answers_many plan stream_facts base stream_olds stream_news streams
+  own_many = answers_many plan stream_facts base in_all stream_olds stream_news streams
 
   fronts_long : length stream_olds + length olds ≡ plan.fronts
   fronts_long =
       omega (arith, all.opened.many, length-append (map stream_hand stream_olds) (map hand_of olds), length-map stream_olds stream_hand, length-map olds hand_of)
 
-  pub ran_beside : RanBeside plan.options plan.origin batches base (kept all) (counted_by_all (map (λ (t : StreamTask C). t.lacked) stream_news)) (map (λ (t : StreamTask C). t.answer) stream_news)
+  pub ran_beside : RanBeside plan.options plan.origin batches base in_all (kept all) (counted_by_all (map (λ (t : StreamTask C). t.lacked) stream_news)) (map (λ (t : StreamTask C). t.answer) stream_news)
       (map (λ (t : FrontTask D). t.answer) news) (map (λ (t : FrontTask D). facts t.end) olds) (map (λ (t : FrontTask D). facts t.end) news)
       (map (λ (t : StreamTask C). stream_facts t.share) stream_olds) (map (λ (t : StreamTask C). stream_facts t.share) stream_news)
   ran_beside = record {
     answers = own;
     counts = map (λ (t : StreamTask C). t.lacked) stream_news;
     many = own_many ∙ sym (length-map stream_olds (λ (t : StreamTask C). stream_facts t.share));
-    served = served plan stream_facts base stream_olds stream_news streams;
+    served = served plan stream_facts base in_all stream_olds stream_news streams;
     lacked_is = refl;
-    finished = finished plan stream_facts base stream_olds stream_news streams;
-    stopped = stopped plan stream_facts base stream_olds stream_news streams;
-    failed = failed plan stream_facts base stream_olds stream_news streams;
+    finished = finished plan stream_facts base in_all stream_olds stream_news streams;
+    stopped = stopped plan stream_facts base in_all stream_olds stream_news streams;
+    failed = failed plan stream_facts base in_all stream_olds stream_news streams;
     ran = record {
       fronts = runs plan batches facts (length stream_olds) olds news ran;
       answers_are = runs_answers plan batches facts (length stream_olds) olds news ran;
@@ -305,7 +306,7 @@ module _ {C D : Type 0} (plan : Plan) (some : 1 ≤ plan.options.partitions) (st
         runs = placed all;
         ran = subst (λ n. RunsPartitions plan.options plan.origin n (placed all))
             (omega (arith, fronts_long, own_many, runs_long plan batches facts (length stream_olds) olds news ran, ran.0)) (runs_all all);
-        before = streams_beside plan stream_facts base stream_olds stream_news streams some (map hand_of olds) (map hand_of news) all;
+        before = streams_beside plan stream_facts base in_all stream_olds stream_news streams some (map hand_of olds) (map hand_of news) all;
         each = λ f run at. subst (λ n. IsTakenIn plan.options plan.origin (placed all) (n + f) run) (sym own_many)
             (fronts_taken plan batches facts (length stream_olds) olds news ran (map stream_hand stream_olds) (map stream_hand stream_news) all (length-map stream_olds stream_hand)
             (length-map stream_news stream_hand ∙ streams.0) f run at);
@@ -317,7 +318,7 @@ module _ {C D : Type 0} (plan : Plan) (some : 1 ≤ plan.options.partitions) (st
               arith,
               closes all p entry at,
               sum_by-append (closed_at p) (map stream_hand stream_news) (map hand_of news),
-              streams_closed plan stream_facts base stream_olds stream_news streams some (map hand_of olds) (map hand_of news) all p low,
+              streams_closed plan stream_facts base in_all stream_olds stream_news streams some (map hand_of olds) (map hand_of news) all p low,
               fronts_closed plan batches facts (length stream_olds) olds news ran p,
             );
       };

@@ -2,7 +2,7 @@
 use Rattle.std.proofs.Common.{◌≡◌, ℕ, zero, suc, ◌≤◌, inl, inr, List, [], length, false, true≢false, Option, None, Some, slice_get, replicate, refl, sym, ◌∙◌, subst, arith}
 use Rattle.std.proofs.lemmas.List.{length-replicate}
 use Rattle.std.specs.Prelude.{IfSome}
-use Rattle.std.proofs.lemmas.Option.{slice_get_within, same_Some}
+use Rattle.std.proofs.lemmas.Option.{slice_get_within, same_Some, none-some}
 use Rattle.connections.specs.State.{Entry}
 use Rattle.connections.specs.Log.{Log}
 use Rattle.partition_model.specs.declared.options.Options.{Options}
@@ -11,6 +11,7 @@ use Rattle.connection_loop.specs.Open.{OnLogs}
 use Rattle.connection_loop.specs.Serving.{FrontAt}
 use Rattle.connection_loop.specs.declared.desk.TheConstants.{MOST_UNSENT}
 use Rattle.connection_loop.specs.Moments.{TalksThrough, IsCaughtUp}
+use Rattle.connection_loop.specs.Turns.{KeepsInAll}
 use Rattle.connections.specs.Shares.{ShareFacts}
 use Rattle.locked_server.specs.Streams.{ListenFacts, IsUnserved, AreNewShares, ServesClients, ServesFrom, AreStreams, counted_by_all}
 
@@ -34,12 +35,12 @@ each_same a (suc n) (suc k) own at = each_same a n k own at
 pub none_answered : (n k : ℕ) (own : List Answered) → slice_get (no_answers n) k ≡ Some own → own ≡ []
 none_answered = each_same []
 
--- a front that did nothing
-abbrev unmoved : FrontAt
-unmoved = record { sessions = λ q. record { seen = []; done = []; last = 0; told = None }; left = 0; lacked = 0; has_ended = false }
+-- a front that did nothing, and may keep so much in all
+abbrev unmoved : ℕ → FrontAt
+unmoved in_all = record { sessions = λ q. record { seen = []; done = []; last = 0; told = None }; left = 0; lacked = 0; has_ended = false; in_all = in_all }
 
-module _ (options : Options) (base : ℕ) where
-  none_told : (log : Option Log) → IfSome log (λ l. l.entries ≡ []) → OnLogs (ServesClients options base unmoved unmoved []) log log
+module _ (options : Options) (base in_all : ℕ) where
+  none_told : (log : Option Log) → IfSome log (λ l. l.entries ≡ []) → OnLogs (ServesClients options base (unmoved in_all) (unmoved in_all) []) log log
   none_told None fresh = tt
   none_told (Some log) fresh = (
     record {
@@ -55,6 +56,8 @@ module _ (options : Options) (base : ℕ) where
         through = subst (λ (entries : List Entry). TalksThrough options base MOST_UNSENT log.schedule [] entries []) (sym fresh)
             (λ c. inl (record { said = []; rest = []; spells = refl; answered = refl; begins = ([], refl) }, record { kept = omega arith; unsent = omega arith }));
         turns = record { turns = []; calls = sym fresh; given = refl; answered = refl; short = tt };
+        keeps = subst (λ (entries : List Entry). KeepsInAll options base in_all log.schedule entries []) (sym fresh)
+            (record { counted = []; within = omega arith; each = λ n c is. absurd (none-some c is) });
         caught_up = subst (λ (entries : List Entry). IsCaughtUp options base log.schedule log.script.piece entries []) (sym fresh) (λ moving c. tt);
         over = λ ended. absurd (true≢false (sym ended));
       };
@@ -62,11 +65,12 @@ module _ (options : Options) (base : ℕ) where
     refl,
   )
 
-  serves_none : (lacked : ℕ) (own : List Answered) (b a : ShareFacts) → IsUnserved b → lacked ≡ 0 → own ≡ [] → a ≡ b → ServesFrom options base lacked own b a
-  serves_none lacked own b a unserved uncounted none same = subst (λ (y : ℕ × List Answered × ShareFacts). ServesFrom options base y.0 y.1 b y.2)
+  serves_none : (lacked : ℕ) (own : List Answered) (b a : ShareFacts) → IsUnserved b → lacked ≡ 0 → own ≡ [] → a ≡ b → ServesFrom options base in_all lacked own b a
+  serves_none lacked own b a unserved uncounted none same = subst (λ (y : ℕ × List Answered × ShareFacts). ServesFrom options base in_all y.0 y.1 b y.2)
       (λ i. (sym uncounted i, sym none i, sym same i)) (record {
-        old = unmoved;
-        new = unmoved;
+        old = unmoved in_all;
+        new = unmoved in_all;
+        kept_is = refl;
         uncounted = refl;
         lacked_is = refl;
         serves = record { share = refl; never_fall = omega arith; seconds = (0, omega arith); ended = sym unserved.unended; stopped = inr refl; clients = none_told b.log unserved.fresh };
@@ -74,7 +78,7 @@ module _ (options : Options) (base : ℕ) where
 
   -- the shares that were given out are as they were
   pub as_heard : (places : ℕ) (before : ListenFacts) (shares : List ShareFacts) → AreNewShares before.waits before.given shares → length shares ≤ places
-      → AreStreams options base places before (no_counts (length shares)) (no_answers places) shares shares
+      → AreStreams options base in_all places before (no_counts (length shares)) (no_answers places) shares shares
   as_heard places before shares new within = record {
     are_new = new;
     within = within;
@@ -91,5 +95,5 @@ module _ (options : Options) (base : ℕ) where
   }
 
   -- there are none
-  pub none_heard : (places : ℕ) (before : ListenFacts) → AreStreams options base places before [] (no_answers places) [] []
+  pub none_heard : (places : ℕ) (before : ListenFacts) → AreStreams options base in_all places before [] (no_answers places) [] []
   none_heard places before = as_heard places before [] (λ k s at. absurd (let low = slice_get_within [] k s at in omega arith)) (omega arith)

@@ -56,7 +56,7 @@ pub record ComesBeside (says : Others → Option (Result Totals ServeFault) → 
   pub counts : List ℕ
   pub olds : List ShareFacts
   pub news : List ShareFacts
-  pub are : AreStreams service.options service.base service.places before counts answers olds news
+  pub are : AreStreams service.options service.base service.buffers service.places before counts answers olds news
   pub lacked_is : lacked ≡ counted_by_all counts
   pub left : leaves news
   pub stopped : StopsStreams answer service answers olds news

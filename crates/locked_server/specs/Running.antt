@@ -60,13 +60,14 @@ pub record RunsStream (options : Options) (base : ℕ) (old new : FrontAt) (answ
   pub finished : OnOk answer (HasFinished options answered after)
   pub cause : IsErrOf answer Net → HasFailed before after
 
--- as what it has in hand, what it counted and its share tell it
-abbrev pub front_facts : {C : Type 0} → (C → ShareFacts) → ℕ → StreamTask C → FrontAt
-front_facts facts lacked task = record {
+-- as what it has in hand, what it counted and its share tell it, where it may keep so much in all
+abbrev pub front_facts : {C : Type 0} → (C → ShareFacts) → ℕ → ℕ → StreamTask C → FrontAt
+front_facts facts in_all lacked task = record {
   sessions = sessions_of task.parts.items;
   left = turns_left task.parts.items;
   lacked = lacked;
   has_ended = (facts task.share).has_ended;
+  in_all = in_all;
 }
 
 module _ {C : Type 0} (plan : Plan) (facts : C → ShareFacts) where
@@ -78,12 +79,12 @@ module _ {C : Type 0} (plan : Plan) (facts : C → ShareFacts) where
   abbrev pub AreReadyStreams : List (StreamTask C) → Type 0
   AreReadyStreams tasks = (k : ℕ) (d : StreamTask C) → k < length tasks → IsReadyStream k (slice_index_or tasks k d)
 
-  module _ (base : ℕ) where
+  module _ (base in_all : ℕ) where
     -- the front was served behind its share, where it had counted nothing, and has its parts still
     pub record StreamRan (k : ℕ) (old new : StreamTask C) : Type 0 where
       pub is : IsLockedFront plan (locked_view plan.options k new.parts.items)
       pub answered : List Answered
-      pub run : RunsStream plan.options base (front_facts facts 0 old) (front_facts facts new.lacked new) answered new.answer (facts old.share) (facts new.share)
+      pub run : RunsStream plan.options base (front_facts facts in_all 0 old) (front_facts facts in_all new.lacked new) answered new.answer (facts old.share) (facts new.share)
 
     abbrev pub StreamsRan : List (StreamTask C) → List (StreamTask C) → Type 0
     StreamsRan olds news =
@@ -92,12 +93,12 @@ module _ {C : Type 0} (plan : Plan) (facts : C → ShareFacts) where
 -- All fronts
 
 -- All ran beside each other and came to these answers, and these are the seats that the partitions may leave. For so many connections there was no memory.
-pub record RanBeside (options : Options) (origin : ℕ → History) (batches base : ℕ) (kept : List KeptSeat) (lacked : ℕ) (streams : List (Result ⊤ ServeFault))
+pub record RanBeside (options : Options) (origin : ℕ → History) (batches base in_all : ℕ) (kept : List KeptSeat) (lacked : ℕ) (streams : List (Result ⊤ ServeFault))
     (fronts : List (Result Totals ServeFault)) (before after : List EndFacts) (olds news : List ShareFacts) : Type 0 where
   pub answers : List (List Answered)
   pub counts : List ℕ
   pub many : length answers ≡ length olds
-  pub served : AreServed options base counts answers olds news
+  pub served : AreServed options base in_all counts answers olds news
   pub lacked_is : lacked ≡ counted_by_all counts
   pub finished : (k : ℕ) (own : List Answered) (after : ShareFacts) → ((fault : ServeFault) → slice_get streams k ≢ Some (Err fault))
       → slice_get answers k ≡ Some own → slice_get news k ≡ Some after → HasFinished options own after

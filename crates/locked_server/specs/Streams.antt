@@ -124,31 +124,32 @@ pub record ServesStream (options : Options) (base : ℕ) (old new : FrontAt) (an
   pub stopped : HasStopped options answers before after ⊎ (after ≡ before)
   pub clients : OnLogs (ServesClients options base old new answers) before.log after.log
 
--- A front answered this, behind its share, and counted so many connections that there was no memory for.
-pub record ServesFrom (options : Options) (base lacked : ℕ) (answers : List Answered) (before after : ShareFacts) : Type 0 where
+-- A front answered this, behind its share. It might keep so much in all, and counted so many connections that there was no memory for.
+pub record ServesFrom (options : Options) (base in_all lacked : ℕ) (answers : List Answered) (before after : ShareFacts) : Type 0 where
   pub old : FrontAt
   pub new : FrontAt
+  pub kept_is : old.in_all ≡ in_all
   pub uncounted : old.lacked ≡ 0
   pub lacked_is : new.lacked ≡ lacked
   pub serves : ServesStream options base old new answers before after
 
--- Each front was served behind its share, and counted for itself. The first unique number of a value is that of the base.
-pub record AreServed (options : Options) (base : ℕ) (counts : List ℕ) (answers : List (List Answered)) (olds news : List ShareFacts) : Type 0 where
+-- Each front was served behind its share, and counted for itself. The first unique number of a value is that of the base, and each might keep so much in all.
+pub record AreServed (options : Options) (base in_all : ℕ) (counts : List ℕ) (answers : List (List Answered)) (olds news : List ShareFacts) : Type 0 where
   pub many : length news ≡ length olds
   pub counted : length counts ≡ length olds
   pub each : (k lacked : ℕ) (own : List Answered) (b a : ShareFacts) → slice_get counts k ≡ Some lacked → slice_get answers k ≡ Some own
-      → slice_get olds k ≡ Some b → slice_get news k ≡ Some a → ServesFrom options base lacked own b a
+      → slice_get olds k ≡ Some b → slice_get news k ≡ Some a → ServesFrom options base in_all lacked own b a
 
 -- what all fronts counted together, and no more than the last count
 abbrev pub counted_by_all : List ℕ → ℕ
 counted_by_all counts = min (sum counts) LAST_COUNT
 
 -- The shares that were given out, before and after, and what each front answered and counted. One that has no share answered nothing.
-pub record AreStreams (options : Options) (base places : ℕ) (before : ListenFacts) (counts : List ℕ) (answers : List (List Answered)) (olds news : List ShareFacts) : Type 0 where
+pub record AreStreams (options : Options) (base in_all places : ℕ) (before : ListenFacts) (counts : List ℕ) (answers : List (List Answered)) (olds news : List ShareFacts) : Type 0 where
   pub are_new : AreNewShares before.waits before.given olds
   pub within : length olds ≤ places
   pub fronts : length answers ≡ places
-  pub served : AreServed options base counts answers olds news
+  pub served : AreServed options base in_all counts answers olds news
   pub unheard : (k : ℕ) (own : List Answered) → slice_get answers k ≡ Some own → length olds ≤ k → own ≡ []
 
 -- each has finished
@@ -181,12 +182,12 @@ LeavesStreams (Some came) answers lacked olds news = ⊤
 
 -- Each front was served, those of connections beside those of datagrams, which came to this all together: with totals each of connections has finished, and where a
 -- port failed, each has stopped. For so many connections there was no memory.
-pub record ServesBeside (options : Options) (origin : ℕ → History) (batches base : ℕ) (answer : Result Totals ServeFault) (kept : List KeptSeat) (lacked : ℕ)
+pub record ServesBeside (options : Options) (origin : ℕ → History) (batches base in_all : ℕ) (answer : Result Totals ServeFault) (kept : List KeptSeat) (lacked : ℕ)
     (before after : List EndFacts) (olds news : List ShareFacts) : Type 0 where
   pub answers : List (List Answered)
   pub counts : List ℕ
   pub many : length answers ≡ length olds
-  pub streams : AreServed options base counts answers olds news
+  pub streams : AreServed options base in_all counts answers olds news
   pub lacked_is : lacked ≡ counted_by_all counts
   pub finished : OnOk answer (HaveFinished options answers news)
   pub stopped : IsErrOf answer Net → HaveStopped options answers olds news

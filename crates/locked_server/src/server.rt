@@ -169,7 +169,7 @@ fn run_all<
         server.stream_hands.items server.hands.items server.room }
     requires unserved { AreOpen (map (end_facts D.Datagrams) ends.old.items) }
     requires fresh { AreUnserved (map (stream_facts C.Connections) connections.old.items) }
-    ensures ran { RanBeside shared.now.service.options J.plan.origin shared.now.service.ports.batches shared.now.service.base
+    ensures ran { RanBeside shared.now.service.options J.plan.origin shared.now.service.ports.batches shared.now.service.base shared.now.service.buffers
         (map (λ left. kept_seat_in left.owner) (map (λ part. left_view P.owner P.home part) result.parts.items)) result.lacked result.streams.items result.fronts.items
         (map (end_facts D.Datagrams) ends.old.items) (map (end_facts D.Datagrams) ends.new.items)
         (map (stream_facts C.Connections) connections.old.items) (map (stream_facts C.Connections) connections.new.items) }
@@ -237,7 +237,7 @@ pub(crate) fn serve_all<
     requires tables { left.old.tables ≡ [] }
     requires unserved { AreOpen (map (end_facts D.Datagrams) ends.old.items) }
     requires fresh { AreUnserved (map (stream_facts C.Connections) connections.old.items) }
-    ensures { ServesBeside shared.now.service.options J.plan.origin shared.now.service.ports.batches shared.now.service.base result left.new.tables left.new.lacked
+    ensures { ServesBeside shared.now.service.options J.plan.origin shared.now.service.ports.batches shared.now.service.base shared.now.service.buffers result left.new.tables left.new.lacked
         (map (end_facts D.Datagrams) ends.old.items) (map (end_facts D.Datagrams) ends.new.items)
         (map (stream_facts C.Connections) connections.old.items) (map (stream_facts C.Connections) connections.new.items) }
 {

@@ -16,6 +16,8 @@ pub struct Service {
     pub places: u32,
     /// The unique number of the first value that a partition takes from a connection.
     pub base: u64,
+    /// How much each front of connections may keep of what waits at them, above what is free of each.
+    pub buffers: usize,
 }
 
 /// What is at hand of each front.

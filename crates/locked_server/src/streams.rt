@@ -39,7 +39,7 @@ impl<C: Connections> StreamTask<C> {
         requires plan { IsLockedPlan shared.now.service J.plan locks.now }
         requires low { number < J.plan.fronts }
         requires ready { IsReadyStream J.plan (stream_facts C.Connections) number self.old }
-        ensures { StreamRan J.plan (stream_facts C.Connections) shared.now.service.base number self.old self.new }
+        ensures { StreamRan J.plan (stream_facts C.Connections) shared.now.service.base shared.now.service.buffers number self.old self.new }
     {
         let options = &shared.service.options;
         let parts = mem::replace(&mut self.parts, Vec::new(shared.alloc));
@@ -59,6 +59,7 @@ impl<C: Connections> StreamTask<C> {
             number,
             &mut self.share,
             &mut self.lacked,
+            shared.service.buffers,
         );
         shared.ended.store(true, Ordering::Relaxed);
         let Hand { front, .. } = hand;
@@ -77,7 +78,7 @@ pub(crate) fn run_streams<
     requires plan { IsLockedPlan shared.now.service J.plan locks.now }
     requires many { length streams.old.items ≤ J.plan.fronts }
     requires ready { AreReadyStreams J.plan (stream_facts C.Connections) streams.old.items }
-    ensures { StreamsRan J.plan (stream_facts C.Connections) shared.now.service.base streams.old.items streams.new.items }
+    ensures { StreamsRan J.plan (stream_facts C.Connections) shared.now.service.base shared.now.service.buffers streams.old.items streams.new.items }
 {
     let threads = streams.len().max(1);
     for_each_mut(
@@ -87,7 +88,7 @@ pub(crate) fn run_streams<
         &|number, stream|
             requires { (number < J.plan.fronts) × IsLockedPlan shared.now.service J.plan locks.now
                 × IsReadyStream J.plan (stream_facts C.Connections) number stream.now }
-            ensures { StreamRan J.plan (stream_facts C.Connections) shared.entry.now.service.base number stream.entry.now stream.exit.now }
+            ensures { StreamRan J.plan (stream_facts C.Connections) shared.entry.now.service.base shared.entry.now.service.buffers number stream.entry.now stream.exit.now }
         { stream.run(shared, locks, number as u32) },
     );
 }

@@ -103,7 +103,7 @@ pub(crate) fn run_workers<
     requires many { first + length fronts.old.items ≡ J.plan.fronts }
     requires ready_streams { AreReadyStreams J.plan (stream_facts C.Connections) streams.old.items }
     requires ready { AreReadyTasks J.plan shared.now.service.ports.batches (end_facts D.Datagrams) first fronts.old.items }
-    ensures streams { StreamsRan J.plan (stream_facts C.Connections) shared.now.service.base streams.old.items streams.new.items }
+    ensures streams { StreamsRan J.plan (stream_facts C.Connections) shared.now.service.base shared.now.service.buffers streams.old.items streams.new.items }
     ensures fronts { TasksRan J.plan shared.now.service.ports.batches (end_facts D.Datagrams) first fronts.old.items fronts.new.items }
 {
     join_mut(

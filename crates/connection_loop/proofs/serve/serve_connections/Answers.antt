@@ -35,7 +35,7 @@ loop-clients-init g c =
     let log = g.C.Connections.log c.args.connections.now in
     let options = g.F.Front.options c.args.hand.now.front in (
       c.in_ok-desk.ensures,
-      subst (λ held. AreOpen held log) (sym c.new-clients.ensures) (none_held log),
+      subst (λ held. AreOpen held log) (sym c.new-clients.ensures.none) (none_held log),
       c.requires.«open»,
       (
         [],
@@ -47,8 +47,10 @@ loop-clients-init g c =
       refl,
       hand_same g.F.Front.options g.F.Front.number g.F.Front.stands c.args.hand.now,
       refl,
-      since_none options g.F.Front.is_alone c.args.hand.now.numbering.base (g.F.Front.sessions c.args.hand.now.front) (g.F.Front.left c.args.hand.now.front) (g.C.Connections.last c.args.connections.now) c.args.lacked.now
-          c.new-clients.result.held.items c.new-clients.ensures log,
+      since_none options g.F.Front.is_alone c.args.hand.now.numbering.base c.args.most (g.F.Front.sessions c.args.hand.now.front) (g.F.Front.left c.args.hand.now.front) (g.C.Connections.last c.args.connections.now) c.args.lacked.now
+          c.new-clients.result.held.items c.new-clients.ensures.none log,
+      c.new-clients.ensures.counted,
+      c.new-clients.ensures.most,
     )
 
 pub loop-clients-preserved : goal.loop-clients-preserved
@@ -93,12 +95,15 @@ loop-clients-preserved g c =
         same_numbering = hand.same_numbering;
       },
       served.port.told ∙ next.told ∙ inv.7,
-      since_then options F.is_alone base (F.sessions c.args.hand.now.front) (F.left c.args.hand.now.front) (last c.args.connections.now) c.args.lacked.now c.loop-clients.clients.held.items then.clients.held.items
-          c.in-Some.event c.loop-clients.lacked c.serve_event-count.result _ (search rules) (log c.args.connections.now) before after (log then.connections) inv.8 next.told reports next.rises
+      since_then options F.is_alone base c.args.most (F.sessions c.args.hand.now.front) (F.left c.args.hand.now.front) (last c.args.connections.now) c.args.lacked.now c.loop-clients.clients.held.items then.clients.held.items
+          then.clients.budget.counted.items c.in-Some.event c.loop-clients.lacked c.serve_event-count.result _ (search rules) (log c.args.connections.now) before after (log then.connections) inv.8 next.told reports next.rises
           (subst (λ b. GoesByGiven options F.is_alone (F.sessions c.loop-clients.hand.front) (F.left c.loop-clients.hand.front) (last c.next.new.self) (F.sessions then.hand.front) (F.left then.hand.front) (last then.connections)
           (λ given. OnLogs (StandsOn options b c.in-Some.event c.loop-clients.clients.held.items c.serve_event-count.result given then.clients.held.items) after (log then.connections))) (ap (λ (n : Numbering). n.base) inv.6.same_numbering) serves)
           (subst (λ b. SweepsBy options F.is_alone b s MOST_SWEPT (F.sessions then.hand.front) (F.left then.hand.front) (F.sessions now.front) (F.left now.front)) (ap (λ (n : Numbering). n.base) hand.same_numbering) swept)
-          c.second-hand.ensures.last c.second-hand.ensures.second served.clients,
+          c.second-hand.ensures.last c.second-hand.ensures.second served.clients
+          (let b = served.counted.budget in omega (arith, b.all, b.within, served.most, inv.10)) served.counted.each,
+      served.counted,
+      served.most ∙ inv.10,
     )
 
 pub loop-clients-smaller : goal.loop-clients-smaller
@@ -116,8 +121,8 @@ returns-in_err-desk-clause-serves g c =
     let left = g.F.Front.left c.args.hand.now.front in
     let told = g.C.Connections.last c.args.connections.now in
     let had = c.args.lacked.now in
-    since_serves options g.F.Front.is_alone c.args.hand.now.numbering.base sessions left told had opened opened sessions left told had [] c.requires.«open» log log
-    (since_none options g.F.Front.is_alone c.args.hand.now.numbering.base sessions left told had [] refl log)
+    since_serves options g.F.Front.is_alone c.args.hand.now.numbering.base c.args.most sessions left told had opened opened sessions left told had [] c.requires.«open» log log
+    (since_none options g.F.Front.is_alone c.args.hand.now.numbering.base c.args.most sessions left told had [] refl log)
 
 pub returns-in_err-sweeper-clause-serves : goal.returns-in_err-sweeper-clause-serves
 returns-in_err-sweeper-clause-serves g c =
@@ -128,14 +133,14 @@ returns-in_err-sweeper-clause-serves g c =
     let left = g.F.Front.left c.args.hand.now.front in
     let told = g.C.Connections.last c.args.connections.now in
     let had = c.args.lacked.now in
-    since_serves options g.F.Front.is_alone c.args.hand.now.numbering.base sessions left told had opened opened sessions left told had [] c.requires.«open» log log
-    (since_none options g.F.Front.is_alone c.args.hand.now.numbering.base sessions left told had [] refl log)
+    since_serves options g.F.Front.is_alone c.args.hand.now.numbering.base c.args.most sessions left told had opened opened sessions left told had [] c.requires.«open» log log
+    (since_none options g.F.Front.is_alone c.args.hand.now.numbering.base c.args.most sessions left told had [] refl log)
 
 pub returns-in_err-event-clause-serves : goal.returns-in_err-event-clause-serves
 returns-in_err-event-clause-serves g c =
     let log = g.C.Connections.log in
     let ended = g.C.Connections.has_ended in
-    since_called (g.F.Front.options c.args.hand.now.front) g.F.Front.is_alone c.args.hand.now.numbering.base (g.F.Front.sessions c.args.hand.now.front) (g.F.Front.left c.args.hand.now.front) (g.C.Connections.last c.args.connections.now)
+    since_called (g.F.Front.options c.args.hand.now.front) g.F.Front.is_alone c.args.hand.now.numbering.base c.args.most (g.F.Front.sessions c.args.hand.now.front) (g.F.Front.left c.args.hand.now.front) (g.C.Connections.last c.args.connections.now)
     c.args.lacked.now (ended c.args.connections.now) (ended c.next.new.self) (g.F.Front.sessions c.loop-clients.hand.front) (g.F.Front.left c.loop-clients.hand.front) (g.C.Connections.last c.loop-clients.connections) c.loop-clients.lacked
     c.loop-clients.clients.held.items c.in_err-event.ensures.still_open (log c.args.connections.now) (log c.loop-clients.connections) (log c.next.new.self) c.loop-clients.invariant.8 c.in_err-event.ensures.unmoved
 
@@ -156,7 +161,7 @@ pub returns-then-writes_left-least-clause-serves : goal.returns-then-writes_left
 returns-then-writes_left-least-clause-serves g c =
     let log = g.C.Connections.log in
     let ended = g.C.Connections.has_ended in
-    since_serves (g.F.Front.options c.args.hand.now.front) g.F.Front.is_alone c.args.hand.now.numbering.base (g.F.Front.sessions c.args.hand.now.front) (g.F.Front.left c.args.hand.now.front) (g.C.Connections.last c.args.connections.now)
+    since_serves (g.F.Front.options c.args.hand.now.front) g.F.Front.is_alone c.args.hand.now.numbering.base c.args.most (g.F.Front.sessions c.args.hand.now.front) (g.F.Front.left c.args.hand.now.front) (g.C.Connections.last c.args.connections.now)
     c.args.lacked.now (ended c.args.connections.now) (ended c.loop-clients.connections) (g.F.Front.sessions c.loop-clients.hand.front) (g.F.Front.left c.loop-clients.hand.front) (g.C.Connections.last c.loop-clients.connections) c.loop-clients.lacked
     c.loop-clients.clients.held.items c.loop-clients.invariant.2 (log c.args.connections.now) (log c.loop-clients.connections) c.loop-clients.invariant.8
 
@@ -164,7 +169,7 @@ pub returns-in_default-clause-serves : goal.returns-in_default-clause-serves
 returns-in_default-clause-serves g c =
     let log = g.C.Connections.log in
     let ended = g.C.Connections.has_ended in
-    since_over (g.F.Front.options c.args.hand.now.front) g.F.Front.is_alone c.args.hand.now.numbering.base (g.F.Front.sessions c.args.hand.now.front) (g.F.Front.left c.args.hand.now.front) (g.C.Connections.last c.args.connections.now)
+    since_over (g.F.Front.options c.args.hand.now.front) g.F.Front.is_alone c.args.hand.now.numbering.base c.args.most (g.F.Front.sessions c.args.hand.now.front) (g.F.Front.left c.args.hand.now.front) (g.C.Connections.last c.args.connections.now)
     c.args.lacked.now (ended c.args.connections.now) (ended c.next.new.self) (g.F.Front.sessions c.loop-clients.hand.front) (g.F.Front.left c.loop-clients.hand.front) (g.C.Connections.last c.loop-clients.connections) c.loop-clients.lacked
     c.loop-clients.clients.held.items (log c.args.connections.now) (log c.loop-clients.connections) (log c.next.new.self) c.loop-clients.invariant.8
     (subst (λ got. IfNone got (IfSome (log c.loop-clients.connections) (λ l. IsOver l (log c.next.new.self)))) c.in_default.is c.in_ok-event.ensures.end)

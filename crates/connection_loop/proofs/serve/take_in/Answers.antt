@@ -1,6 +1,7 @@
-use Rattle.std.proofs.Common.{sym, ◌∙◌, subst}
+use Rattle.std.proofs.Common.{length, sym, ap, ◌∙◌, subst, arith}
 use Rattle.std.specs.Prelude.{IfSome}
 use Rattle.connection_loop.specs.Open.{IsOpen}
+use Rattle.connection_loop.proofs.Budgets.{counted_at}
 use Rattle.connection_loop.proofs.Holding.{put_back, let_go, moves_then}
 use Rattle.connection_loop.proofs.TakenIn.{takes_in, turns_away}
 use Rattle.connection_loop.proofs.serve.take_in.Goals as goal
@@ -29,3 +30,12 @@ pub returns-in-Err-clause-serves : goal.returns-in-Err-clause-serves
 returns-in-Err-clause-serves g c = λ options base.
     turns_away options base c.args.number c.args.clients.now.held.items c.take-gone.new.self.held.items (λ n other. c.take-gone.ensures.others n other ∙ c.make_room.ensures.same n)
     c.take-gone.ensures.gone (g.C.Connections.log c.args.connections.now) (g.C.Connections.log c.close.new.connections) c.requires.«open» c.close.ensures.closed
+
+-- nothing is kept of a new client
+pub put-requires-clause-here : goal.put-requires-clause-here
+put-requires-clause-here g c =
+    let counted = c.make_room.new.self.budget.counted in
+    let kept = ap length c.new.ensures.kept in
+    let unsent = ap length c.new.ensures.unsent in
+    let places = c.make_room.ensures.counted.places in
+    counted_at counted.items c.args.number _ (omega (arith, places, c.in-Ok.ensures.room, counted.ok.0)) (omega (arith, kept, unsent))

@@ -1,4 +1,4 @@
-use Rattle.std.proofs.Common.{◌≡◌, ◌≤◌, ◌++◌, length, length-append, drop, [], refl, sym, ap, ◌∙◌, subst, arith, inl, inr}
+use Rattle.std.proofs.Common.{◌≡◌, ◌≤◌, length, length-append, drop, [], refl, sym, ap, ◌∙◌, subst, arith, inl, inr}
 use Rattle.std.specs.Prelude.{Option, Ok, Err, IfOk}
 use Rattle.std.proofs.lemmas.Result.{err_from_is_err_and}
 use Rattle.memcached_text.specs.declared.limits.TheConstants.{MAX_WAITING_LEN}
@@ -6,7 +6,7 @@ use Rattle.memcached_requests.specs.declared.request.Next.TheVariants.{More}
 use Rattle.memcached_requests.specs.Next.{next_of}
 use Rattle.connections.specs.Log.{second_of}
 use Rattle.connections.specs.declared.connections.Input.{Input}
-use Rattle.connection_loop.specs.declared.answer.Halt.TheVariants.{Enough, Needs}
+use Rattle.connection_loop.specs.declared.answer.Halt.TheVariants.{Needs}
 use Rattle.connection_loop.specs.declared.client.Client.{Client}
 use Rattle.connection_loop.specs.Open.{IsOpen, OnLogs}
 use Rattle.connection_loop.specs.Paid.{Advances, MayAnswer, PaysThese}

@@ -37,4 +37,4 @@ returns g c =
         given = set.given i;
       };
     }) c.args.left.now.tables c.args.left.now.lacked)
-    c.serve_aloud.ensures)
+    c.buffers_of.ensures c.serve_aloud.ensures)

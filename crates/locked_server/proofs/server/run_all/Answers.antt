@@ -167,7 +167,7 @@ module _ (g : given.Over) (c : After-part_fronts g) where
       (omega (arith, c.len-first.ensures, c.pair_streams.new.tasks.ok)) c.run_workers.ensures.fronts
 
   are : AreHands (plan_of g) (map stream_hand c.run_workers.new.streams.items ++ map hand_of c.run_workers.new.fronts.items)
-  are = both_are (plan_of g) (of_stream g) c.args.shared.now.service.base c.pair_streams.new.tasks.items c.run_workers.new.streams.items c.args.shared.now.service.ports.batches (facts g)
+  are = both_are (plan_of g) (of_stream g) c.args.shared.now.service.base c.args.shared.now.service.buffers c.pair_streams.new.tasks.items c.run_workers.new.streams.items c.args.shared.now.service.ports.batches (facts g)
       c.pair_up.new.tasks.items c.run_workers.new.fronts.items c.run_workers.ensures.streams ran_fronts
 
   -- what is in hand then
@@ -217,7 +217,7 @@ returns-clause-ran g c =
     let streams = c.run_workers.new.streams.items in
     let stream_olds = c.pair_streams.new.tasks.items in
     let some = subst (λ (o : Options). 1 ≤ o.partitions) c.requires.plan.options c.requires.service.options.partitions.0 in
-    let it = ran_beside plan some (of_stream g) c.args.shared.now.service.base stream_olds streams c.args.shared.now.service.ports.batches (facts g) c.pair_up.new.tasks.items c.run_workers.new.fronts.items c.run_workers.ensures.streams
+    let it = ran_beside plan some (of_stream g) c.args.shared.now.service.base c.args.shared.now.service.buffers stream_olds streams c.args.shared.now.service.ports.batches (facts g) c.pair_up.new.tasks.items c.run_workers.new.fronts.items c.run_workers.ensures.streams
     (ran_fronts g at.After-part_fronts)
     (all g at.After-take_in_all (opened_streams g at.After-pair_up) (opened g at.After-pair_up) (are g at.After-part_fronts) (news g at.After-part_fronts)) in
     let kept = map (λ (left : Owned). kept_seat_in left.owner) (map (view g) c.take_in_all.new.parts.items) in
@@ -230,7 +230,7 @@ returns-clause-ran g c =
     let left : map (λ (t : StreamTask g.row.C.Denot). of_stream g t.share) streams ≡ map (of_stream g) c.part_streams-lacked.new.shares.items =
     sym (map-map (of_stream g) (λ (t : StreamTask g.row.C.Denot). t.share) streams) ∙ ap (map (of_stream g)) (sym c.part_streams-lacked.ensures.shares) in
     subst (λ (y : Options × List (Result ⊤ ServeFault) × List (Result Totals ServeFault) × List EndFacts × List EndFacts × List ShareFacts × List ShareFacts × ℕ).
-    RanBeside y.0 plan.origin c.args.shared.now.service.ports.batches c.args.shared.now.service.base kept y.7 y.1 y.2 y.3 y.4 y.5 y.6)
+    RanBeside y.0 plan.origin c.args.shared.now.service.ports.batches c.args.shared.now.service.base c.args.shared.now.service.buffers kept y.7 y.1 y.2 y.3 y.4 y.5 y.6)
     (λ i. (sym c.requires.plan.options i, sym c.part_streams-lacked.ensures.answers i, sym c.part_fronts.ensures.answers i, before i, after i, shares i, left i, sym c.part_streams-lacked.ensures.lacked i)) it
 
 pub returns-clause-idle : goal.returns-clause-idle

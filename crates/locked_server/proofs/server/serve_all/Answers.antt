@@ -63,15 +63,15 @@ keep_all-requires-clause-room g c =
 
 pub returns-in_err-totals : goal.returns-in_err-totals
 returns-in_err-totals g c =
-    subst (λ (r : Result Totals ServeFault). ServesBeside c.args.shared.now.service.options g.J.ServerPlan.plan.origin c.args.shared.now.service.ports.batches c.args.shared.now.service.base r c.args.left.now.tables c.run_all-parts.result.lacked
+    subst (λ (r : Result Totals ServeFault). ServesBeside c.args.shared.now.service.options g.J.ServerPlan.plan.origin c.args.shared.now.service.ports.batches c.args.shared.now.service.base c.args.shared.now.service.buffers r c.args.left.now.tables c.run_all-parts.result.lacked
     (map (facts g) c.args.ends.now.items) (map (facts g) c.run_all-parts.new.ends.items) (map (of_stream g) c.args.connections.now.items) (map (of_stream g) c.run_all-parts.new.connections.items)) (sym (ended_with c.from_residual.result c.from_residual.ensures.1))
-    (serves_beside _ c.requires.service.options.partitions.0 _ _ _ _ _ _ _ _ _ _ _ c.run_all-parts.ensures.ran c.args.left.now.tables (Err c.in_err-totals.field-0.0)
+    (serves_beside _ c.requires.service.options.partitions.0 _ _ _ _ _ _ _ _ _ _ _ _ c.run_all-parts.ensures.ran c.args.left.now.tables (Err c.in_err-totals.field-0.0)
     (subst (λ (y : List (Result ⊤ ServeFault) × List (Result Totals ServeFault)). SumsUpBeside y.0 y.1 (Err c.in_err-totals.field-0.0))
     (λ i. (c.as_slice.ensures.value i, c.as_slice-2.ensures.value i)) c.in_err-totals.ensures) c.requires.tables)
 
 pub returns : goal.returns
 returns g c =
-    serves_beside _ c.requires.service.options.partitions.0 _ _ _ _ _ _ _ _ _ _ _ c.run_all-parts.ensures.ran c.keep_all.new.tables (Ok c.in_ok-totals.totals)
+    serves_beside _ c.requires.service.options.partitions.0 _ _ _ _ _ _ _ _ _ _ _ _ c.run_all-parts.ensures.ran c.keep_all.new.tables (Ok c.in_ok-totals.totals)
     (subst (λ (y : List (Result ⊤ ServeFault) × List (Result Totals ServeFault)). SumsUpBeside y.0 y.1 (Ok c.in_ok-totals.totals))
     (λ i. (c.as_slice.ensures.value i, c.as_slice-2.ensures.value i)) c.in_ok-totals.ensures)
     (c.keep_all.ensures ∙ ap (λ (l : List KeptSeat). l ++ map entry (map (view g) c.run_all-parts.result.parts.items)) c.requires.tables)

@@ -33,9 +33,9 @@ returns g c =
       ap length whole ∙ many,
       λ k d low.
           let each = (c.for_each_mut.ensures k d (omega (arith, low, ap length value))).1 in
-          let call : StreamRan {C = g.row.C.Denot} g.J.ServerPlan.plan facts c.args.shared.now.service.base k each.argument.now each.after_call.now = each.call in
+          let call : StreamRan {C = g.row.C.Denot} g.J.ServerPlan.plan facts c.args.shared.now.service.base c.args.shared.now.service.buffers k each.argument.now each.after_call.now = each.call in
           let here : each.argument.now ≡ get_or items k d = each.argument_is ∙ ap (λ (l : List (StreamTask g.row.C.Denot)). get_or l k d) value in
           let ran = subst (λ (y : StreamTask g.row.C.Denot × StreamTask g.row.C.Denot). StreamRan {C = g.row.C.Denot} g.J.ServerPlan.plan facts
-          c.args.shared.now.service.base k y.0 y.1) (λ j. (here j, each.left j)) call in
-          subst (λ (l : List (StreamTask g.row.C.Denot)). StreamRan {C = g.row.C.Denot} g.J.ServerPlan.plan facts c.args.shared.now.service.base k (get_or items k d) (get_or l k d)) (sym whole) ran,
+          c.args.shared.now.service.base c.args.shared.now.service.buffers k y.0 y.1) (λ j. (here j, each.left j)) call in
+          subst (λ (l : List (StreamTask g.row.C.Denot)). StreamRan {C = g.row.C.Denot} g.J.ServerPlan.plan facts c.args.shared.now.service.base c.args.shared.now.service.buffers k (get_or items k d) (get_or l k d)) (sym whole) ran,
     )

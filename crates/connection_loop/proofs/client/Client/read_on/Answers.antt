@@ -1,4 +1,4 @@
-use Rattle.std.proofs.Common.{◌≡◌, ◌<◌, ◌≤◌, ◌+◌, length, drop, ap, subst, arith}
+use Rattle.std.proofs.Common.{◌≡◌, ◌+◌, length, drop, ap, subst, arith}
 use Rattle.std.specs.Prelude.{Option, MatchResult}
 use Rattle.connections.specs.declared.connections.Input.{Input}
 use Rattle.connection_loop.specs.Buffers.{filled_on, grown}

@@ -1,4 +1,4 @@
-use Rattle.std.proofs.Common.{◌≤◌, take, sym, subst, arith}
+use Rattle.std.proofs.Common.{take, sym, subst, arith}
 use Rattle.memcached_text.specs.Lines.{Lacks}
 use Rattle.connection_loop.proofs.Filling.{looked_through}
 use Rattle.connection_loop.proofs.kept.Filled.look_through.Goals as goal

@@ -17,9 +17,9 @@ new-requires-2-clause-none g c =
 pub new-requires-2-clause-each : goal.new-requires-2-clause-each
 new-requires-2-clause-each g c p part at = (c.requires.ready.parts.each p part (ap (λ v. slice_get v.items p) (sym c.replace-parts.ensures.value) ∙ at)).of
 
--- as a view of it, a count and its share tell it
-abbrev told_by : LockedView → ℕ → Bool → FrontAt
-told_by view lacked has_ended = record { sessions = sessions_of view.parts; left = turns_left view.parts; lacked = lacked; has_ended = has_ended }
+-- as a view of it, how much it may keep, a count and its share tell it
+abbrev told_by : LockedView → ℕ → ℕ → Bool → FrontAt
+told_by view in_all lacked has_ended = record { sessions = sessions_of view.parts; left = turns_left view.parts; lacked = lacked; has_ended = has_ended; in_all = in_all }
 
 pub returns : goal.returns
 returns g c =
@@ -30,8 +30,8 @@ returns g c =
     let served = c.serve_connections-self.ensures in
     let b = facts c.args.self.now.share in
     let a = facts c.serve_connections-self.new.connections in
-    let before : LockedView → FrontAt = λ v. told_by v 0 b.has_ended in
-    let after : LockedView → FrontAt = λ v. told_by v c.serve_connections-self.new.lacked a.has_ended in
+    let before : LockedView → FrontAt = λ v. told_by v c.args.shared.now.service.buffers 0 b.has_ended in
+    let after : LockedView → FrontAt = λ v. told_by v c.args.shared.now.service.buffers c.serve_connections-self.new.lacked a.has_ended in
     let old_is : old ≡ locked_view plan.options c.args.number c.args.self.now.parts.items = c.new-2.ensures ∙ (λ i. locked_view (c.requires.plan.options i) c.args.number (c.replace-parts.ensures.value i).items) in
     let new_is : new ≡ locked_view plan.options c.args.number c.into_parts.result.items =
     λ i. locked_view ((served.same.same_options ∙ ap (λ (v : LockedView). v.options) old_is) i) ((served.same.same_number ∙ ap (λ (v : LockedView). v.number) old_is) i) (sym c.into_parts.ensures.same i) in
