@@ -66,7 +66,7 @@ spoiled asked = record asked { ask = Spoil }
 
 -- What is asked behind an answer: where a set found no room, that the old item goes.
 abbrev pub asks_behind : Style → Asked → Answered → List Asked
-asks_behind style asked answered = if is_set style asked.ask && is_refused answered then spoiled asked ∷ [] else []
+asks_behind style asked answered = if is_refused answered && is_set style asked.ask then spoiled asked ∷ [] else []
 
 -- All that is asked, where these are the answers so far: what a command asks, and what is asked behind the answer to the last of it.
 abbrev pub asks_by : Style → List Asked → List Answered → List Asked

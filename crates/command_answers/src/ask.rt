@@ -1,5 +1,5 @@
 //! One ask of a command.
-ghost use Rattle.std.specs.Prelude.{◌≡◌, ◌<◌, ◌≤◌, ◌+◌, ◌^◌, ◌++◌, ◌∷◌, [], true, List, length, option_copied, IfOk, OnOk, OnErr};
+ghost use Rattle.std.specs.Prelude.{◌≡◌, ◌&&◌, ◌<◌, ◌≤◌, ◌+◌, ◌^◌, ◌++◌, ◌∷◌, [], true, List, length, option_copied, IfOk, OnOk, OnErr};
 ghost use Rattle.memcached_text.specs.declared.limits.TheConstants.{MAX_REPLY_LEN};
 ghost use Rattle.memcached_commands.specs.Fit.{IsFitAsked};
 ghost use Rattle.fronts.specs.Answered.{Answered, count_of_writes};
@@ -66,6 +66,13 @@ fn is_set(style: Style, ask: &Ask) -> bool
         },
         _ => false,
     }
+}
+
+// Whether this was asked by a set, and refused.
+fn is_to_go(is_refused: bool, style: Style, ask: &Ask) -> bool
+    ensures { result ≡ (is_refused && is_set style ask.now) }
+{
+    is_refused && is_set(style, ask)
 }
 
 // Notes what a write left of its partition, where one was made, and what it leaves for the next sweep.
@@ -205,13 +212,15 @@ pub fn answer_last<F: Changes>(
     let said = answer_ask(
         front, second, base, partitions, buffers, style, asked, true, out,
     );
-    let mut many = count + 1;
-    if buffers.is_refused && is_set(style, &asked.ask) {
-        spoil(front, second, base, partitions, buffers, asked);
-        many += 1;
+    if !is_to_go(buffers.is_refused, style, &asked.ask) {
+        let Ok(()) = said else {
+            return Err(NoMemory);
+        };
+        return Ok(count + 1);
     }
+    spoil(front, second, base, partitions, buffers, asked);
     let Ok(()) = said else {
         return Err(NoMemory);
     };
-    Ok(many)
+    Ok(count + 2)
 }
