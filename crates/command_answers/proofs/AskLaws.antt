@@ -46,10 +46,13 @@ module _ (style : Style) where
   few_behind asked true = omega arith
   few_behind asked false = omega arith
 
+  pub behind_few : (asked : Asked) (a : Answered) → length (asks_behind style asked a) ≤ 1
+  behind_few asked a = few_behind asked (is_refused a && is_set style asked.ask)
+
   pub few_by : (asks : List Asked) (answers : List Answered) → length (asks_by style asks answers) ≤ length asks + 1
   few_by asks [] = omega arith
   few_by [] (a ∷ answers) = omega arith
-  few_by (asked ∷ []) (a ∷ answers) = let few = few_behind asked (is_refused a && is_set style asked.ask) in omega (arith, few)
+  few_by (asked ∷ []) (a ∷ answers) = let few = behind_few asked a in omega (arith, few)
   few_by (asked ∷ next ∷ asks) (a ∷ answers) = let few = few_by (next ∷ asks) answers in omega (arith, few)
 
   -- nothing is, where the last is not answered
