@@ -64,7 +64,7 @@ module _ (style : Style) where
 
   pub many_by : (asks : List Asked) (one two : List Answered) → length one < length asks
       → length (asks_by style asks (one ++ two)) ≡ length one + length (asks_by style (drop (length one) asks) two)
-  many_by asks [] two less = refl
+  many_by asks [] two less = omega arith
   many_by [] (a ∷ one) two less = absurd (omega (arith, less))
   many_by (asked ∷ []) (a ∷ one) two less = absurd (omega (arith, less))
   many_by (asked ∷ next ∷ asks) (a ∷ one) two less = let rest = many_by (next ∷ asks) one two (omega (arith, less)) in omega (arith, rest)

@@ -17,7 +17,7 @@ pub none_yet : (options : Options) (is_alone : Bool) (base second : ℕ) (style 
     → AnswersFirst options is_alone base second style asks old old []
 none_yet options is_alone base second style asks old = record { in_order = λ q. refl; seconds = tt; to_asks = tt }
 
-module _ {options : Options} {is_alone : Bool} {base second : ℕ} {style : Style} {old between new : Sessions} where
+module _ {options : Options} {is_alone : Bool} {base second : ℕ} {style : Style} {old new : Sessions} where
   pub one_first : {asked : Asked} (left : List Asked) (a : Answered) → AnswersAt options is_alone base second old asked new a
       → AnswersFirst options is_alone base second style (asked ∷ left) old new (a ∷ [])
   one_first {asked} left a at = record {
@@ -26,6 +26,7 @@ module _ {options : Options} {is_alone : Bool} {base second : ℕ} {style : Styl
     to_asks = one_by base style asked left a at.to_ask;
   }
 
+module _ {options : Options} {is_alone : Bool} {base second : ℕ} {style : Style} {old between new : Sessions} where
   -- the last, and that what is stored of its key goes
   pub two_first : {asked : Asked} (a gone : Answered) → AnswersAt options is_alone base second old asked between a
       → AnswersAt options is_alone base second between (spoiled asked) new gone → asks_behind style asked a ≡ spoiled asked ∷ []

@@ -68,12 +68,16 @@ spoiled asked = record asked { ask = Spoil }
 abbrev pub asks_behind : Style → Asked → Answered → List Asked
 asks_behind style asked answered = if is_refused answered && is_set style asked.ask then spoiled asked ∷ [] else []
 
--- All that is asked, where these are the answers so far: what a command asks, and what is asked behind the answer to the last of it.
+-- All that is asked, where so much was done: what a command asks, and what is asked behind the last of it, where a set found no room.
+abbrev pub asks_with : {A : Type 0} → (A → Bool) → Style → List Asked → List A → List Asked
+asks_with refused style asks [] = asks
+asks_with refused style [] (done ∷ later) = []
+asks_with refused style (asked ∷ []) (done ∷ later) = asked ∷ (if refused done && is_set style asked.ask then spoiled asked ∷ [] else [])
+asks_with refused style (asked ∷ next ∷ asks) (done ∷ later) = asked ∷ asks_with refused style (next ∷ asks) later
+
+-- where these are the answers so far
 abbrev pub asks_by : Style → List Asked → List Answered → List Asked
-asks_by style asks [] = asks
-asks_by style [] (answered ∷ later) = []
-asks_by style (asked ∷ []) (answered ∷ later) = asked ∷ asks_behind style asked answered
-asks_by style (asked ∷ next ∷ asks) (answered ∷ later) = asked ∷ asks_by style (next ∷ asks) later
+asks_by style asks answers = asks_with is_refused style asks answers
 
 -- Texts
 

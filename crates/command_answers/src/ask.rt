@@ -175,8 +175,8 @@ fn spoil<F: Changes>(
     let ask = Ask::Spoil;
     let order = CommandOrder::new(&ask, base);
     let key = asked.key.bytes();
-    let changed = front.change(second, key, &order, found, next);
-    note_write(tally, noted, partitions, &ask, key, &changed);
+    let gone = front.change(second, key, &order, found, next);
+    note_write(tally, noted, partitions, &ask, key, &gone);
 }
 
 /// Answers the last ask of a command as `answer_ask` does, behind so many answers, and says how many there are then. Where a set found no room, what is stored of its key is taken
