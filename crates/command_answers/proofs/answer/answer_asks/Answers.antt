@@ -1,5 +1,9 @@
-use Rattle.std.proofs.Common.{◌≡◌, ◌<◌, ◌≤◌, ◌∷◌, ◌++◌, ◌+◌, ◌==◌, ℕ, List, [], length, drop, refl, sym, ap, ◌∙◌, subst, arith, length-append, inl, inr}
+use Rattle.std.proofs.Common.{◌≡◌, ◌<◌, ◌≤◌, ◌∷◌, ◌++◌, ◌+◌, ◌==◌, ℕ, List, [], length, drop, refl, sym, ap, ◌∙◌, subst, arith, append_assoc, length-append, inl, inr, true}
+use Rattle.std.specs.Prelude.{IfOk, OnErr}
 use Rattle.std.specs.List.{AllByRecursion}
+use Rattle.std.specs.declared.result.Result.{Result}
+use Rattle.std.specs.declared.result.Result.TheVariants.{Ok, Err}
+use Rattle.outside.specs.declared.bytes.NoMemory.{NoMemory}
 use Rattle.std.proofs.lemmas.Bool.{eq-eqb}
 use Rattle.std.proofs.lemmas.List.{append-nil, drop-drop, drop_all, length-drop}
 use Rattle.partition_model.specs.declared.options.Options.{Options}
@@ -7,7 +11,7 @@ use Rattle.memcached_commands.specs.declared.asks.Asked.{Asked}
 use Rattle.memcached_commands.specs.Fit.{IsFitAsked}
 use Rattle.memcached_requests.specs.Replies.{said_text}
 use Rattle.fronts.specs.Answered.{Answered}
-use Rattle.command_answers.specs.AskAnswers.{asks_by, said_of}
+use Rattle.command_answers.specs.AskAnswers.{asks_by, asks_text, said_of}
 use Rattle.command_answers.specs.Counting.{tally_after, tally_after_all}
 use Rattle.command_answers.specs.Going.{AnswersAt, AnswersFirst, RepliesFirst}
 use Rattle.command_answers.proofs.AskLaws.{behind_few, if_ok, is_less, left_of, many_by, no_text, none_left, some_left, whole_part}
@@ -16,6 +20,11 @@ use Rattle.command_answers.proofs.Counting.{counted_more}
 use Rattle.command_answers.proofs.answer.answer_asks.Given as given
 use Rattle.command_answers.proofs.answer.answer_asks.Goals as goal
 
+-- what a last answer appended
+part_of : (old new said : List ℕ) (r : Result ℕ NoMemory) (n : ℕ → Type 0) → IfOk r (λ many. n many × (new ≡ old ++ said)) → OnErr r (new ≡ old) → (text : List ℕ) × (new ≡ old ++ text)
+part_of old new said (Ok many) n ok err = (said, ok.1)
+part_of old new said (Err e) n ok err = ([], err ∙ sym (append-nil old))
+
 pub loop-count-init : goal.loop-count-init
 loop-count-init g c =
     let F = g.F.Front in record {
@@ -23,7 +32,7 @@ loop-count-init g c =
       first = none_yet (F.options c.args.front.now) F.is_alone c.args.base c.args.second c.args.style c.args.asks.now (F.sessions c.args.front.now);
       many = refl;
       left_is = refl;
-      part = inl refl;
+      whole = whole_part c.args.style c.args.asks.now c.args.asks.now [] refl (inl refl);
       fit = c.requires.fit;
       text = sym (append-nil c.args.out.now.items);
       short = omega arith;
@@ -57,12 +66,15 @@ loop-count-preserved g c =
     let fit = subst (AllByRecursion IsFitAsked) c.in-Some.ensures inv.fit in
     let said = said_of c.args.base asked one.0 in
     let text = one.2 ∙ ap (λ t. c.loop-count.out.items ++ said_text c.args.style t asked.key said) (sym is_last) in
+    let then : c.next_asked.new.self ≡ drop (c.loop-count.count + 1) asks =
+    left_of c.loop-count.asks c.next_asked.new.self c.next_asked.result c.next_asked.ensures ∙ ap (drop 1) inv.left_is ∙ drop-drop 1 c.loop-count.count asks in
     let grown = length-append inv.answers (one.0 ∷ []) in record {
       answers = inv.answers ++ one.0 ∷ [];
       first = more_first (asked ∷ c.next_asked.new.self) (one.0 ∷ []) inv.first all (omega arith) (one_first c.next_asked.new.self one.0 at);
       many = let many = inv.many in omega (arith, many, grown);
-      left_is = left_of c.loop-count.asks c.next_asked.new.self c.next_asked.result c.next_asked.ensures ∙ ap (drop 1) inv.left_is ∙ drop-drop 1 c.loop-count.count asks;
-      part = inr (some_left c.next_asked.new.self is_last);
+      left_is = then;
+      whole = whole_part c.args.style asks c.next_asked.new.self (inv.answers ++ one.0 ∷ []) (then ∙ ap (λ n. drop n asks) (let many = inv.many in omega (arith, many, grown)))
+          (inr (some_left c.next_asked.new.self is_last));
       fit = fit.1;
       text = text_more c.args.base c.args.style asks c.next_asked.new.self inv.answers asked one.0 [] c.args.out.now.items c.loop-count.out.items c.answer_ask.new.out.items all inv.text refl text;
       short = omega (arith, less, c.answer_ask.ensures.short);
@@ -97,6 +109,14 @@ returns-in_default-answer_ask-clause-answered g c =
           ∙ sym (counted_more c.args.base c.args.partitions asks c.next_asked.new.self inv.answers asked one.0 [] c.args.buffers.now.tally all),
       (let many = inv.many in omega (arith, less, many, grown)),
     )
+
+pub returns-then-is_empty-clause-part : goal.returns-then-is_empty-clause-part
+returns-then-is_empty-clause-part g c =
+    let r = c.answer_last.ensures.answered in
+    let so_far = asks_text c.args.base c.args.style c.args.asks.now c.loop-count.invariant.answers in
+    let one = part_of c.loop-count.out.items c.answer_last.new.out.items (said_text c.args.style true c.in-Some.asked.key (said_of c.args.base c.in-Some.asked r.0)) c.answer_last.result _ r.4
+    c.answer_last.ensures.err in
+    (so_far ++ one.0, one.1 ∙ ap (λ t. t ++ one.0) c.loop-count.invariant.text ∙ append_assoc c.args.out.now.items so_far one.0)
 
 pub returns-then-is_empty-clause-answered : goal.returns-then-is_empty-clause-answered
 returns-then-is_empty-clause-answered g c =
