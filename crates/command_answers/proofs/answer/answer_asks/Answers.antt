@@ -3,7 +3,6 @@ use Rattle.std.specs.Prelude.{IfOk, OnErr}
 use Rattle.std.specs.List.{AllByRecursion}
 use Rattle.std.specs.declared.result.Result.{Result}
 use Rattle.std.specs.declared.result.Result.TheVariants.{Ok, Err}
-use Rattle.outside.specs.declared.bytes.NoMemory.{NoMemory}
 use Rattle.std.proofs.lemmas.Bool.{eq-eqb}
 use Rattle.std.proofs.lemmas.List.{append-nil, drop-drop, drop_all, length-drop}
 use Rattle.partition_model.specs.declared.options.Options.{Options}
@@ -21,7 +20,7 @@ use Rattle.command_answers.proofs.answer.answer_asks.Given as given
 use Rattle.command_answers.proofs.answer.answer_asks.Goals as goal
 
 -- what a last answer appended
-part_of : (old new said : List ℕ) (r : Result ℕ NoMemory) (n : ℕ → Type 0) → IfOk r (λ many. n many × (new ≡ old ++ said)) → OnErr r (new ≡ old) → (text : List ℕ) × (new ≡ old ++ text)
+part_of : {E : Type 0} (old new said : List ℕ) (r : Result ℕ E) (n : ℕ → Type 0) → IfOk r (λ many. n many × (new ≡ old ++ said)) → OnErr r (new ≡ old) → (text : List ℕ) × (new ≡ old ++ text)
 part_of old new said (Ok many) n ok err = (said, ok.1)
 part_of old new said (Err e) n ok err = ([], err ∙ sym (append-nil old))
 
