@@ -21,6 +21,7 @@ use Rattle.command_answers.specs.Exchange.{Exchange, AnswersBy, IsOpenAt, asks_t
 use Rattle.command_answers.specs.declared.answer.Limits.{Limits}
 use Rattle.command_answers.specs.declared.answer.Progress.{Progress}
 use Rattle.command_answers.specs.Going.{Replies, StandsAt}
+use Rattle.command_answers.proofs.AskLaws.{part_by}
 use Rattle.command_answers.proofs.ExchangeLaws.{asks_are_due, at_first, is_below, no_asks}
 use Rattle.connections.specs.declared.connections.Input.{Input}
 use Rattle.connections.specs.declared.connections.Input.TheVariants.{Bytes, All, Later, Ended}
