@@ -72,7 +72,7 @@ module _ (options : Options) (base : ℕ) (next : Next) (done : ℕ) where
         let not_yet : is_answered options e ≡ false =
         ap (λ n. length e.answers == count_of_answers options n e.answers) at.next_is ∙ ap (λ t. length e.answers == cond t options.partitions (length (asks_to next e.answers))) keyed
         ∙ ne_eqb (length e.answers) (length (asks_to next e.answers)) (λ all.
-            let many = ap length (part_by style (asks_in next) e.answers (let count = at.count in omega (arith, count, less))) in absurd (omega (arith, less, at.count, all, many))) in
+        let many = ap length (part_by style (asks_in next) e.answers (let count = at.count in omega (arith, count, less))) in absurd (omega (arith, less, at.count, all, many))) in
         let before : due_before options base e ≡ asks_text base style (asks_in next) e.answers =
         ap (λ t. cond t [] (due_to options base e)) not_yet ∙ ap (λ n. text_by options base e.told n e.answers) at.next_is ∙ text_is e.told e.answers keyed some in
         let after : due_to options base (longer e answers told) ≡ asks_text base style (asks_in next) (e.answers ++ answers) =

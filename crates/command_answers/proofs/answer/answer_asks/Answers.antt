@@ -1,4 +1,4 @@
-use Rattle.std.proofs.Common.{◌≡◌, ◌<◌, ◌≤◌, ◌∷◌, ◌++◌, ◌+◌, ◌==◌, ℕ, List, [], length, drop, refl, sym, ap, ◌∙◌, subst, arith, append_assoc, length-append, inl, inr, true}
+use Rattle.std.proofs.Common.{◌≡◌, ◌∷◌, ◌++◌, ◌+◌, ◌==◌, ℕ, List, [], length, drop, refl, sym, ap, ◌∙◌, subst, arith, append_assoc, length-append, inl, inr, true}
 use Rattle.std.specs.Prelude.{IfOk, OnErr}
 use Rattle.std.specs.List.{AllByRecursion}
 use Rattle.std.specs.declared.result.Result.{Result}
@@ -9,7 +9,6 @@ use Rattle.partition_model.specs.declared.options.Options.{Options}
 use Rattle.memcached_commands.specs.declared.asks.Asked.{Asked}
 use Rattle.memcached_commands.specs.Fit.{IsFitAsked}
 use Rattle.memcached_requests.specs.Replies.{said_text}
-use Rattle.fronts.specs.Answered.{Answered}
 use Rattle.command_answers.specs.AskAnswers.{asks_by, asks_text, said_of}
 use Rattle.command_answers.specs.Counting.{tally_after, tally_after_all}
 use Rattle.command_answers.specs.Going.{AnswersAt, AnswersFirst, RepliesFirst}

@@ -1,4 +1,4 @@
-use Rattle.std.proofs.Common.{◌≡◌, ℕ, List, ◌∙◌, subst, arith}
+use Rattle.std.proofs.Common.{ℕ, List, ◌∙◌, subst, arith}
 use Rattle.mica_words.specs.Hash.{partition_of}
 use Rattle.memcached_commands.specs.declared.asks.Asked.{Asked}
 use Rattle.memcached_commands.specs.Changes.{looks}
