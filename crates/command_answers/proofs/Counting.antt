@@ -10,13 +10,18 @@ use Rattle.fronts.specs.Answered.{Answered}
 use Rattle.command_answers.specs.Counting.{tally_after, tally_after_all, tally_after_next}
 use Rattle.command_answers.specs.Exchange.{is_flush_all}
 
--- one more
-pub counted_more : (base partitions : ℕ) (asks left : List Asked) (answers : List Answered) (asked : Asked) (a : Answered) (tally : Numbers) → drop (length answers) asks ≡ asked ∷ left
-    → tally_after_all base partitions asks (answers ++ a ∷ []) tally ≡ tally_after base partitions asked a (tally_after_all base partitions asks answers tally)
-counted_more base partitions [] left [] asked a tally here = absurd (cc)
-counted_more base partitions (x ∷ asks) left [] asked a tally here = let first : x ≡ asked = cc in ap (λ (y : Asked). tally_after base partitions y a tally) first
-counted_more base partitions [] left (b ∷ answers) asked a tally here = absurd (cc)
-counted_more base partitions (x ∷ asks) left (b ∷ answers) asked a tally here = counted_more base partitions asks left answers asked a (tally_after base partitions x b tally) here
+-- one more, and what follows
+pub counted_more : (base partitions : ℕ) (asks left : List Asked) (answers : List Answered) (asked : Asked) (a : Answered) (later : List Answered) (tally : Numbers)
+    → drop (length answers) asks ≡ asked ∷ left
+    → tally_after_all base partitions asks (answers ++ a ∷ later) tally
+    ≡ tally_after_all base partitions left later (tally_after base partitions asked a (tally_after_all base partitions asks answers tally))
+counted_more base partitions [] left [] asked a later tally here = absurd (cc)
+counted_more base partitions (x ∷ asks) left [] asked a later tally here =
+    let first : x ≡ asked = cc in
+    let rest : asks ≡ left = cc in
+    λ i. tally_after_all base partitions (rest i) later (tally_after base partitions (first i) a tally)
+counted_more base partitions [] left (b ∷ answers) asked a later tally here = absurd (cc)
+counted_more base partitions (x ∷ asks) left (b ∷ answers) asked a later tally here = counted_more base partitions asks left answers asked a later (tally_after base partitions x b tally) here
 
 module _ (base partitions : ℕ) (next : Next) (done : ℕ) (answers : List Answered) (tally : Numbers) where
   abbrev both : Bool → Numbers

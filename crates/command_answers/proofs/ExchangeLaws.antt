@@ -1,7 +1,7 @@
 -- An exchange goes on.
-use Rattle.std.proofs.Common.{◌≡◌, ◌<◌, ◌≤◌, ◌+◌, ◌-◌, ◌==◌, ◌⊎◌, inl, inr, ℕ, Bool, true, false, true≢false, cond, ltb, List, [], ◌∷◌, ◌++◌, length, drop, refl, sym, ap, ◌∙◌, subst, arith}
+use Rattle.std.proofs.Common.{◌≡◌, ◌<◌, ◌≤◌, ◌+◌, ◌==◌, ◌⊎◌, inl, inr, ℕ, Bool, true, false, true≢false, cond, List, [], ◌∷◌, ◌++◌, length, drop, refl, sym, ap, ◌∙◌, subst, arith, length-append}
 use Rattle.std.proofs.lemmas.List.{append-nil, length-drop, nil_from_length}
-use Rattle.std.proofs.lemmas.Bool.{eqb-true, eq-eqb, ne_eqb, ltb-true, ltb-false}
+use Rattle.std.proofs.lemmas.Bool.{eq-eqb, ne_eqb}
 use Rattle.partition_model.specs.declared.options.Options.{Options}
 use Rattle.memcached_requests.specs.declared.request.Next.{Next}
 use Rattle.memcached_requests.specs.declared.request.Next.TheVariants.{Whole, More}
@@ -11,22 +11,15 @@ use Rattle.memcached_commands.specs.declared.asks.Asked.{Asked}
 use Rattle.fronts.specs.Answered.{Answered}
 use Rattle.memcached_stats.specs.Stats.{Told, stats_text}
 use Rattle.memcached_stats.proofs.Untold.{untold}
-use Rattle.command_answers.specs.AskAnswers.{AnswersAsks, asks_text}
+use Rattle.command_answers.specs.AskAnswers.{AnswersAsks, asks_by, asks_text}
 use Rattle.command_answers.specs.FlushAnswers.{FlushesFrom, flush_at}
-use Rattle.command_answers.specs.Exchange.{Exchange, AnswersBy, AnswersNext, asks_stats, is_flush_all, flush_due, count_of_answers, is_answered, style_of, plain_text, keyed_text, flush_text, text_by, due_to, due_before, IsOpenAt, longer}
+use Rattle.command_answers.specs.Exchange.{Exchange, AnswersBy, AnswersNext, asks_stats, asks_to, is_flush_all, flush_due, count_of_answers, is_answered, style_of, plain_text, keyed_text, flush_text, text_by, due_to, due_before, IsOpenAt, longer}
 use Rattle.fronts.specs.Session.{Sessions, AnswersInOrder}
 use Rattle.command_answers.specs.declared.answer.Limits.{Limits}
 use Rattle.command_answers.specs.declared.answer.Progress.{Progress}
 use Rattle.command_answers.specs.Going.{StandsAt, AnswersFirst, RepliesFirst, GoesOn, Replies}
 use Rattle.command_answers.proofs.Flushing.{flushed_at}
-use Rattle.command_answers.proofs.AskLaws.{none_flushed_yet, more_answers, few_answers, more_text}
-
-not_all : (n m : ℕ) → n ≤ m → (n == m) ≡ false → n < m
-not_all n m few is = go (ltb n m) refl
-  where
-    go : (t : Bool) → ltb n m ≡ t → n < m
-    go true less = ltb-true n m less
-    go false less = let high = ltb-false n m less in absurd (true≢false (sym (eq-eqb n m (omega (arith, few, high))) ∙ is))
+use Rattle.command_answers.proofs.AskLaws.{none_flushed_yet, all_by, part_by, more_by, more_text, some_left}
 
 -- some of what is asked is still to be answered
 pub is_below : (next : Next) (done : ℕ) → IsOpenAt next done → 0 < length (asks_in next) → done < length (asks_in next)
@@ -48,14 +41,27 @@ module _ (options : Options) (base : ℕ) (next : Next) (done : ℕ) where
       ∙ keyed_is told (asks_in next) answers some
 
   module _ (told : Told) (answers : List Answered) (keyed : is_flush_all next ≡ false) where
-    pub asks_go_on : AnswersAsks base (drop done (asks_in next)) answers → (e : Exchange) → StandsAt options base next done e
-        → AnswersNext options base e.next (e.answers ++ answers)
-    asks_go_on is e at =
+    pub asks_go_on : done < length (asks_in next) → AnswersAsks base (asks_by (style_of next) (drop done (asks_in next)) answers) answers
+        → (e : Exchange) → StandsAt options base next done e → AnswersNext options base e.next (e.answers ++ answers)
+    asks_go_on less is e at =
+        let style = style_of next in
         let here : AnswersNext options base next e.answers = subst (λ n. AnswersNext options base n e.answers) at.next_is at.answers in
-        let first : AnswersAsks base (asks_in next) e.answers = subst (λ t. AnswersBy t options base (flush_due next) (asks_in next) e.answers) keyed here in
-        let then : AnswersAsks base (drop (length e.answers) (asks_in next)) answers = subst (λ n. AnswersAsks base (drop n (asks_in next)) answers) (sym at.count) is in
+        let first : AnswersAsks base (asks_to next e.answers) e.answers = subst (λ t. AnswersBy t options base (flush_due next) (asks_to next e.answers) e.answers) keyed here in
+        let then : AnswersAsks base (asks_by style (drop (length e.answers) (asks_in next)) answers) answers =
+        subst (λ n. AnswersAsks base (asks_by style (drop n (asks_in next)) answers) answers) (sym at.count) is in
+        let all = more_by base style (asks_in next) e.answers answers (let count = at.count in omega (arith, count, less)) first then in
         subst (λ n. AnswersNext options base n (e.answers ++ answers)) (sym at.next_is)
-        (subst (λ t. AnswersBy t options base (flush_due next) (asks_in next) (e.answers ++ answers)) (sym keyed) (more_answers base (asks_in next) e.answers answers first then))
+        (subst (λ t. AnswersBy t options base (flush_due next) (asks_to next (e.answers ++ answers)) (e.answers ++ answers)) (sym keyed) all)
+
+    -- whether all is answered
+    pub asks_answered : done < length (asks_in next) → (e : Exchange) → StandsAt options base next done e
+        → is_answered options (longer e answers told) ≡ (length answers == length (asks_by (style_of next) (drop done (asks_in next)) answers))
+    asks_answered less e at =
+        let all = e.answers ++ answers in
+        ap (λ n. length all == count_of_answers options n all) at.next_is
+        ∙ ap (λ t. length all == cond t options.partitions (length (asks_to next all))) keyed
+        ∙ all_by (style_of next) (asks_in next) e.answers answers (let count = at.count in omega (arith, count, less))
+        ∙ ap (λ n. length answers == length (asks_by (style_of next) (drop n (asks_in next)) answers)) at.count
 
     pub asks_are_due : IsOpenAt next done → 0 < length (asks_in next) → (e : Exchange) → StandsAt options base next done e
         → due_to options base (longer e answers told)
@@ -64,8 +70,9 @@ module _ (options : Options) (base : ℕ) (next : Next) (done : ℕ) where
         let style = style_of next in
         let less = is_below next done stands some in
         let not_yet : is_answered options e ≡ false =
-        ap (λ n. length e.answers == count_of_answers options n) at.next_is ∙ ap (λ t. length e.answers == cond t options.partitions (length (asks_in next))) keyed
-        ∙ ne_eqb (length e.answers) (length (asks_in next)) (λ all. absurd (omega (arith, less, at.count, all))) in
+        ap (λ n. length e.answers == count_of_answers options n e.answers) at.next_is ∙ ap (λ t. length e.answers == cond t options.partitions (length (asks_to next e.answers))) keyed
+        ∙ ne_eqb (length e.answers) (length (asks_to next e.answers)) (λ all.
+        let many = ap length (part_by style (asks_in next) e.answers (let count = at.count in omega (arith, count, less))) in absurd (omega (arith, less, at.count, all, many))) in
         let before : due_before options base e ≡ asks_text base style (asks_in next) e.answers =
         ap (λ t. cond t [] (due_to options base e)) not_yet ∙ ap (λ n. text_by options base e.told n e.answers) at.next_is ∙ text_is e.told e.answers keyed some in
         let after : due_to options base (longer e answers told) ≡ asks_text base style (asks_in next) (e.answers ++ answers) =
@@ -82,13 +89,19 @@ module _ (options : Options) (base : ℕ) (next : Next) (done : ℕ) where
       → due_to options base (longer e [] told) ≡ due_before options base e ++ plain_text options.partitions told next
   plain_is_due told keyed none first e at =
       let whole : is_answered options e ≡ true =
-      ap (λ n. length e.answers == count_of_answers options n) at.next_is ∙ ap (λ t. length e.answers == cond t options.partitions (length (asks_in next))) keyed
-      ∙ ap (λ asks. length e.answers == length asks) none ∙ ap (λ n. n == 0) (at.count ∙ first) in
+      ap (λ given. length given == count_of_answers options e.next given) (nil_from_length e.answers (at.count ∙ first))
+      ∙ ap (λ n. 0 == count_of_answers options n []) at.next_is ∙ ap (λ t. 0 == cond t options.partitions (length (asks_in next))) keyed ∙ ap (λ asks. 0 == length asks) none in
       let text : text_by options base told next (e.answers ++ []) ≡ plain_text options.partitions told next =
       ap (λ t. cond t (flush_text (style_of next) (length (e.answers ++ []) == options.partitions) (e.answers ++ [])) (keyed_text options.partitions base told next (asks_in next) (e.answers ++ []))) keyed
       ∙ ap (λ asks. keyed_text options.partitions base told next asks (e.answers ++ [])) none in
       ap (λ n. text_by options base told n (e.answers ++ [])) at.next_is ∙ text
       ∙ ap (λ t. cond t [] (due_to options base e) ++ plain_text options.partitions told next) (sym whole)
+
+  pub plain_answered : (told : Told) → is_flush_all next ≡ false → asks_in next ≡ [] → done ≡ 0 → (e : Exchange) → StandsAt options base next done e
+      → is_answered options (longer e [] told) ≡ true
+  plain_answered told keyed none first e at =
+      ap (λ given. length (given ++ []) == count_of_answers options e.next (given ++ [])) (nil_from_length e.answers (at.count ∙ first))
+      ∙ ap (λ n. 0 == count_of_answers options n []) at.next_is ∙ ap (λ t. 0 == cond t options.partitions (length (asks_in next))) keyed ∙ ap (λ asks. 0 == length asks) none
 
 -- Flushes
 
@@ -108,7 +121,7 @@ module _ (options : Options) (base : ℕ) (next : Next) (flushes : is_flush_all 
   pub flush_goes_on : ((second : ℕ) × FlushesFrom options (flush_at second (flush_due next)) 0 answers) → AnswersNext options base e.next (e.answers ++ answers)
   flush_goes_on is =
       subst (λ given. AnswersNext options base e.next (given ++ answers)) (sym empty)
-      (subst (λ n. AnswersNext options base n answers) (sym at.next_is) (subst (λ t. AnswersBy t options base (flush_due next) (asks_in next) answers) (sym flushes) is))
+      (subst (λ n. AnswersNext options base n answers) (sym at.next_is) (subst (λ t. AnswersBy t options base (flush_due next) (asks_to next answers) answers) (sym flushes) is))
 
   pub flush_is_due : length answers ≡ options.partitions → due_to options base (longer e answers told) ≡ due_before options base e ++ flush_text (style_of next) true answers
   flush_is_due many =
@@ -118,11 +131,18 @@ module _ (options : Options) (base : ℕ) (next : Next) (flushes : is_flush_all 
       ap (λ n. text_by options base told n (e.answers ++ answers)) at.next_is ∙ ap (λ given. text_by options base told next (given ++ answers)) empty ∙ text told answers
       ∙ ap (λ t. flush_text (style_of next) t answers) (eq-eqb (length answers) options.partitions many) in
       let before : due_before options base e ≡ [] =
-      ap (λ n. cond (length e.answers == count_of_answers options n) [] (text_by options base e.told n e.answers)) at.next_is
-      ∙ ap (λ given. cond (length given == count_of_answers options next) [] (text_by options base e.told next given)) empty
+      ap (λ n. cond (length e.answers == count_of_answers options n e.answers) [] (text_by options base e.told n e.answers)) at.next_is
+      ∙ ap (λ given. cond (length given == count_of_answers options next given) [] (text_by options base e.told next given)) empty
       ∙ ap (λ t. cond (0 == cond t options.partitions (length (asks_in next))) [] (text_by options base e.told next [])) flushes
       ∙ ap (λ text. cond (0 == options.partitions) [] text) (text e.told []) ∙ none_flushed_yet next (0 == options.partitions) in
       after ∙ ap (λ text. text ++ flush_text (style_of next) true answers) (sym before)
+
+  pub flush_answered : length answers ≡ options.partitions → is_answered options (longer e answers told) ≡ true
+  flush_answered many =
+      let all = e.answers ++ answers in
+      let grown = length-append e.answers answers in
+      ap (λ n. length all == count_of_answers options n all) at.next_is ∙ ap (λ t. length all == cond t options.partitions (length (asks_to next all))) flushes
+      ∙ eq-eqb (length all) options.partitions (omega (arith, grown, at.count, many))
 
 -- What the server tells of itself
 
@@ -172,9 +192,7 @@ module _ (options : Options) (is_alone : Bool) (base second : ℕ) (next : Next)
       appended = text;
       due = λ e at. flush_is_due options base next flushes e (here e at) untold answers many;
       count = let done_is = ap (λ (p : Progress). p.done) is_all in omega (arith, done_is, many, first);
-      whole =
-          ap (λ (p : Progress). p.is_whole) is_all
-          ∙ sym (ap (λ t. progress.done == cond t options.partitions (length (asks_in next))) flushes ∙ eq-eqb progress.done options.partitions (ap (λ (p : Progress). p.done) is_all));
+      whole = λ e at. flush_answered options base next flushes e (here e at) untold answers many ∙ sym (ap (λ (p : Progress). p.is_whole) is_all);
       stops = λ part. absurd (true≢false (sym (ap (λ (p : Progress). p.is_whole) is_all) ∙ part));
     }
 
@@ -193,57 +211,41 @@ module _ (options : Options) (is_alone : Bool) (base second : ℕ) (next : Next)
           appended = text;
           due = plain_is_due options base next done said keyed none first;
           count = omega arith;
-          whole = sym (ap (λ t. done == cond t options.partitions (length (asks_in next))) keyed ∙ eq-eqb done (length (asks_in next)) (first ∙ sym (ap length none)));
+          whole = plain_answered options base next done said keyed none first;
           stops = λ part. absurd (true≢false part);
         }
 
   -- Asks of keys
 
-  module _ (keyed : is_flush_all next ≡ false) (answers : List Answered) where
-    pub asks_go : AnswersFirst options is_alone base second (drop done (asks_in next)) old new answers → GoesOn options is_alone base second next done old new answers
+  module _ (keyed : is_flush_all next ≡ false) (some : 0 < length (asks_in next)) (answers : List Answered) where
+    less : done < length (asks_in next)
+    less = is_below next done stands some
+
+    pub asks_go : AnswersFirst options is_alone base second (style_of next) (drop done (asks_in next)) old new answers → GoesOn options is_alone base second next done old new answers
     asks_go first = record {
       in_order = first.in_order;
       seconds = first.seconds;
-      next_ones = asks_go_on options base next done untold answers keyed first.to_asks;
+      next_ones = asks_go_on options base next done untold answers keyed less first.to_asks;
     }
 
-    -- whether nothing is left, and whether as many were answered as were asked
-    same_end : (count : ℕ) → done + count ≤ length (asks_in next)
-        → (length (drop count (drop done (asks_in next))) == 0) ≡ (done + count == length (asks_in next))
-    same_end count few = go (done + count == length (asks_in next)) refl
-      where
-        lens : length (drop count (drop done (asks_in next))) ≡ length (asks_in next) - done - count
-        lens = length-drop count (drop done (asks_in next)) ∙ ap (λ n. n - count) (length-drop done (asks_in next))
-
-        go : (t : Bool) → (done + count == length (asks_in next)) ≡ t → (length (drop count (drop done (asks_in next))) == 0) ≡ (done + count == length (asks_in next))
-        go true is =
-            let all = eqb-true (done + count) (length (asks_in next)) is in
-            eq-eqb (length (drop count (drop done (asks_in next)))) 0 (omega (arith, lens, all)) ∙ sym is
-        go false is =
-            ne_eqb (length (drop count (drop done (asks_in next)))) 0 (λ none. absurd (true≢false (sym (eq-eqb (done + count) (length (asks_in next)) (omega (arith, lens, none, few))) ∙ is)))
-            ∙ sym is
-
-    pub asks_reply : (limits : Limits) (before after : List ℕ) (count : ℕ) (left : List Asked) → 0 < length (asks_in next)
-        → AnswersAsks base (drop done (asks_in next)) answers
+    pub asks_reply : (limits : Limits) (before after : List ℕ) (count : ℕ) (left : List Asked)
         → RepliesFirst base (style_of next) (drop done (asks_in next)) limits answers before after count left
         → Replies options base next done limits answers before after (record { done = done + count; is_whole = length left == 0 })
-    asks_reply limits before after count left some to_asks r =
-        let less = is_below next done stands some in
-        let few = few_answers base (drop done (asks_in next)) answers to_asks in
-        let len = length-drop done (asks_in next) in
-        let fits : done + count ≤ length (asks_in next) = let many = r.many in omega (arith, few, len, less, many) in
-        let end : (length left == 0) ≡ (done + count == length (asks_in next)) = ap (λ l. length l == 0) r.left_is ∙ same_end count fits in record {
-          text = asks_text base (style_of next) (drop done (asks_in next)) answers;
-          told = untold;
-          appended = r.text;
-          due = asks_are_due options base next done untold answers keyed stands some;
-          count = ap (λ n. done + n) r.many;
-          whole = end ∙ sym (ap (λ t. done + count == cond t options.partitions (length (asks_in next))) keyed);
-          stops = λ part. (
-            inr (not_all (done + count) (length (asks_in next)) fits (sym end ∙ part)),
+    asks_reply limits before after count left r = record {
+      text = asks_text base (style_of next) (drop done (asks_in next)) answers;
+      told = untold;
+      appended = r.text;
+      due = asks_are_due options base next done untold answers keyed stands some;
+      count = ap (λ n. done + n) r.many;
+      whole = λ e at. asks_answered options base next done untold answers keyed less e at ∙ sym r.whole;
+      stops = λ part.
+          let more = some_left left part in
+          let len = length-drop done (asks_in next) in
+          let rest = ap length r.left_is ∙ length-drop count (drop done (asks_in next)) in (
+            inr (omega (arith, more, len, rest)),
             elim r.stops as (λ _. (length answers ≡ limits.asks) ⊎ (limits.bytes ≤ length after)) [
               | inl none ↦ absurd (true≢false (sym (ap (λ l. length l == 0) none) ∙ part))
               | inr why ↦ elim why as (λ _. (length answers ≡ limits.asks) ⊎ (limits.bytes ≤ length after)) [ inl all ↦ inl (sym r.many ∙ all) | inr full ↦ inr full ]
             ],
           );
-        }
+    }

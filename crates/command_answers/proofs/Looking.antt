@@ -27,7 +27,7 @@ use Rattle.fronts.specs.Looks.{Look}
 use Rattle.fronts.specs.Session.{Sessions, AnswersOne, ChangesOnly}
 use Rattle.fronts.proofs.WhenLaws.{told_all}
 use Rattle.memcached_decisions.proofs.Becomings.{says_alike}
-use Rattle.command_answers.specs.AskAnswers.{order_of, said_of}
+use Rattle.command_answers.specs.AskAnswers.{order_of, said_of, is_refused, was_refused}
 use Rattle.command_answers.specs.Going.{AnswersAt, value_found}
 use Rattle.command_answers.specs.Counting.{noted_if, noted_by}
 
@@ -74,6 +74,7 @@ module _ (options : Options) (is_alone : Bool) (base second : ℕ) (asked : Aske
     pub at : AnswersAt options is_alone base second old asked new answered
     pub said : says_by (order_of base asked) changed.when (value_found changed.found buffer) changed.outcome ≡ said_of base asked answered
     pub count : count_of_writes (answered ∷ []) ≡ count_of changed.outcome
+    pub refused : is_refused answered ≡ was_refused changed.outcome
     pub noted : (partitions : ℕ) (tally : Numbers) → noted_if partitions asked.key changed.when changed.outcome changed.stamp tally ≡ noted_by partitions answered tally
 
   pub answered_by : (c : Changed) (buffer : List ℕ)
@@ -105,6 +106,7 @@ module _ (options : Options) (is_alone : Bool) (base second : ℕ) (asked : Aske
         at = record { one = record { one = does; others = others }; to_ask = (refl, writes); at = ap Some comes.at };
         said = said None is;
         count = sym (ap count_of is);
+        refused = sym (ap was_refused is);
         noted = λ partitions tally. ap (λ o. noted_if partitions asked.key c.when o c.stamp tally) is;
       }
       go None (Some outcome) writes is does = absurd does
@@ -125,5 +127,6 @@ module _ (options : Options) (is_alone : Bool) (base second : ℕ) (asked : Aske
             };
             said = said (Some outcome) is;
             count = sym (ap count_of is);
+            refused = sym (ap was_refused is);
             noted = λ partitions tally i. noted_if partitions (sym key i) (when i) (is i) c.stamp tally;
           }

@@ -31,10 +31,10 @@ noted_by partitions _ tally = tally
 abbrev pub tally_after : ℕ → ℕ → Asked → Answered → Numbers → Numbers
 tally_after base partitions asked answered tally = noted_by partitions answered (counted (counter_of asked.ask (said_of base asked answered)) tally)
 
--- These were, in order.
+-- These were, in order. What was asked behind the last of them is noted alone.
 abbrev pub tally_after_all : ℕ → ℕ → List Asked → List Answered → Numbers → Numbers
 tally_after_all base partitions asks [] tally = tally
-tally_after_all base partitions [] (answered ∷ later) tally = tally
+tally_after_all base partitions [] (answered ∷ later) tally = tally_after_all base partitions [] later (noted_by partitions answered tally)
 tally_after_all base partitions (asked ∷ asks) (answered ∷ later) tally = tally_after_all base partitions asks later (tally_after base partitions asked answered tally)
 
 -- What a client said was answered by these, behind so many.

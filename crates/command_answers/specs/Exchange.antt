@@ -18,7 +18,7 @@ use Rattle.memcached_requests.specs.Requests.{asks_in}
 use Rattle.memcached_requests.specs.Replies.{said_text}
 use Rattle.memcached_stats.specs.Stats.{Told, stats_text}
 use Rattle.fronts.specs.Answered.{Answered, accepts}
-use Rattle.command_answers.specs.AskAnswers.{AnswersAsks, asks_text}
+use Rattle.command_answers.specs.AskAnswers.{AnswersAsks, asks_by, asks_text}
 use Rattle.command_answers.specs.FlushAnswers.{FlushesFrom, flush_at}
 
 -- what a client said, what partitions answered to it so far, in order, and what the server tells of itself where that is what the client wants to know
@@ -39,6 +39,15 @@ abbrev pub flush_due : Next → Due
 flush_due (Whole (Flush due) style len last) = due
 flush_due _ = Now
 
+-- how what was said is replied to; what has not all come is not
+abbrev pub style_of : Next → Style
+style_of (Whole request style len last) = style
+style_of More = Classic true false
+
+-- all that is asked of keys, where these are the answers so far
+abbrev pub asks_to : Next → List Answered → List Asked
+asks_to next answers = asks_by (style_of next) (asks_in next) answers
+
 -- a flush of each partition, asked for at one second; or the asks of keys
 abbrev pub AnswersBy : Bool → Options → ℕ → Due → List Asked → List Answered → Type 0
 AnswersBy true options base due asked answers = (second : ℕ) × FlushesFrom options (flush_at second due) 0 answers
@@ -46,15 +55,15 @@ AnswersBy false options base due asked answers = AnswersAsks base asked answers
 
 -- These are answers to what was said, in order.
 abbrev pub AnswersNext : Options → ℕ → Next → List Answered → Type 0
-AnswersNext options base next answers = AnswersBy (is_flush_all next) options base (flush_due next) (asks_in next) answers
+AnswersNext options base next answers = AnswersBy (is_flush_all next) options base (flush_due next) (asks_to next answers) answers
 
--- how many answers there are once all is answered
-abbrev pub count_of_answers : Options → Next → ℕ
-count_of_answers options next = if is_flush_all next then options.partitions else length (asks_in next)
+-- how many answers there are once all is answered, where these are the first of them
+abbrev pub count_of_answers : Options → Next → List Answered → ℕ
+count_of_answers options next answers = if is_flush_all next then options.partitions else length (asks_to next answers)
 
 -- whether all answers to what was said are there
 abbrev pub is_answered : Options → Exchange → Bool
-is_answered options e = length e.answers == count_of_answers options e.next
+is_answered options e = length e.answers == count_of_answers options e.next e.answers
 
 -- Texts
 
@@ -62,11 +71,6 @@ is_answered options e = length e.answers == count_of_answers options e.next
 abbrev pub asks_stats : Next → Bool
 asks_stats (Whole Stats style len last) = true
 asks_stats _ = false
-
--- how what was said is replied to; what has not all come is not
-abbrev pub style_of : Next → Style
-style_of (Whole request style len last) = style
-style_of More = Classic true false
 
 -- what is due to a request that asks no key: it is carried out by its reply alone
 abbrev pub plain_request : ℕ → Told → Style → Request → List ℕ
@@ -103,7 +107,7 @@ due_to options base e = text_by options base e.told e.next e.answers
 
 -- Going on
 
--- no answer was given to it yet; or so many were, and more are to come; a flush is not left halfway
+-- no answer was given to it yet; or so many were, and more are to come; a flush is not left halfway, nor a set that found no room
 abbrev pub IsOpenAt : Next → ℕ → Type 0
 IsOpenAt next done = (done ≡ 0) ⊎ (done < length (asks_in next))
 

@@ -11,9 +11,9 @@ use Rattle.fronts.specs.Session.{Sessions, Answers, AnswersInOrder}
 use Rattle.command_answers.specs.declared.answer.Limits.{Limits}
 use Rattle.command_answers.specs.declared.answer.Progress.{Progress}
 use Rattle.command_answers.specs.Seconds.{second_in, AreAt}
-use Rattle.command_answers.specs.AskAnswers.{AnswersAsk, AnswersAsks, asks_text}
+use Rattle.command_answers.specs.AskAnswers.{AnswersAsk, AnswersAsks, asks_by, asks_text}
 use Rattle.memcached_stats.specs.Stats.{Told}
-use Rattle.command_answers.specs.Exchange.{Exchange, AnswersNext, IsOpenAt, count_of_answers, due_before, due_to, longer}
+use Rattle.command_answers.specs.Exchange.{Exchange, AnswersNext, IsOpenAt, is_answered, due_before, due_to, longer}
 
 -- One ask
 
@@ -30,17 +30,18 @@ value_found (Some Hit) buffer = Some buffer
 value_found _ buffer = None
 
 -- These asks were answered, as far as the answers go, at this second.
-pub record AnswersFirst (options : Options) (is_alone : Bool) (base : ℕ) (second : ℕ) (asks : List Asked) (old new : Sessions)
+pub record AnswersFirst (options : Options) (is_alone : Bool) (base second : ℕ) (style : Style) (asks : List Asked) (old new : Sessions)
     (answers : List Answered) : Type 0 where
   pub in_order : AnswersInOrder options is_alone old answers new
   pub seconds : AreAt options second answers
-  pub to_asks : AnswersAsks base asks answers
+  pub to_asks : AnswersAsks base (asks_by style asks answers) answers
 
 -- The text that is due to them was appended. All are answered; or as many are as the limits allow.
 pub record RepliesFirst (base : ℕ) (style : Style) (asks : List Asked) (limits : Limits) (answers : List Answered) (old new : List ℕ) (count : ℕ) (left : List Asked)
     : Type 0 where
   pub many : count ≡ length answers
   pub left_is : left ≡ drop count asks
+  pub whole : (length left == 0) ≡ (length answers == length (asks_by style asks answers))
   pub text : new ≡ old ++ asks_text base style asks answers
   pub stops : (left ≡ []) ⊎ ((count ≡ limits.asks) ⊎ (limits.bytes ≤ length new))
 
@@ -67,5 +68,5 @@ pub record Replies (options : Options) (base : ℕ) (next : Next) (done : ℕ) (
   pub appended : new ≡ old ++ text
   pub due : (e : Exchange) → StandsAt options base next done e → due_to options base (longer e answers told) ≡ due_before options base e ++ text
   pub count : progress.done ≡ done + length answers
-  pub whole : progress.is_whole ≡ (progress.done == count_of_answers options next)
+  pub whole : (e : Exchange) → StandsAt options base next done e → is_answered options (longer e answers told) ≡ progress.is_whole
   pub stops : progress.is_whole ≡ false → IsOpenAt next progress.done × ((length answers ≡ limits.asks) ⊎ (limits.bytes ≤ length new))

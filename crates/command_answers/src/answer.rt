@@ -13,7 +13,7 @@ ghost use Rattle.command_answers.specs.Exchange.{IsOpenAt, asks_stats, flush_due
 ghost use Rattle.command_answers.specs.FlushAnswers.{FlushesFrom, flush_at};
 ghost use Rattle.command_answers.specs.Going.{AnswersFirst, RepliesFirst, GoesOn, Replies};
 
-use crate::ask::answer_ask;
+use crate::ask::{answer_ask, answer_last};
 use crate::buffers::Buffers;
 use crate::flush::{ask_flush, flush_all};
 use fronts::Changes;
@@ -32,7 +32,7 @@ pub struct Numbering {
     pub base: u64,
 }
 
-/// How much one call answers: at most so many asks, and none once the text has so many bytes.
+/// How much one call answers: at most so many asks of a command, and none once the text has so many bytes.
 #[derive(Clone, Copy)]
 pub struct Limits {
     pub asks: usize,
@@ -234,16 +234,17 @@ fn answer_asks<'a, F: Changes>(
     out: &mut Vec<u8>,
 ) -> Result<usize, NoMemory>
     requires fit { AllByRecursion IsFitAsked asks.old }
-    requires left { limits.asks ≤ F.left front.old }
+    requires few { length asks.old + 1 < 2 ^ 64 }
+    requires left { limits.asks + 1 ≤ F.left front.old }
     ensures answered { (answers : List Answered)
-        × AnswersFirst (F.options front.old) F.is_alone base second asks.old (F.sessions front.old) (F.sessions front.new) answers
+        × AnswersFirst (F.options front.old) F.is_alone base second style asks.old (F.sessions front.old) (F.sessions front.new) answers
         × IfOk result (λ count. RepliesFirst base style asks.old limits answers out.old.items out.new.items count asks.new)
         × (F.left front.old ≤ F.left front.new + count_of_writes answers)
         × (buffers.new.tally ≡ tally_after_all base partitions asks.old answers buffers.old.tally)
-        × (length answers ≤ limits.asks) }
+        × (length answers ≤ limits.asks + 1) }
     ensures part { (text : List ℕ) × (out.new.items ≡ out.old.items ++ text) }
     ensures short { length out.new.items ≤ max (length out.old.items) limits.bytes + MAX_REPLY_LEN }
-    ensures left { F.left front.old ≤ F.left front.new + limits.asks }
+    ensures left { F.left front.old ≤ F.left front.new + limits.asks + 1 }
     ensures options { F.options front.new ≡ F.options front.old }
     ensures number { F.number front.new ≡ F.number front.old }
     ensures stands { F.stands front.new ≡ F.stands front.old }
@@ -253,16 +254,17 @@ fn answer_asks<'a, F: Changes>(
         let Some(asked) = asks.next_asked() else {
             return Ok(count);
         };
-        let is_last = asks.is_empty();
+        if asks.is_empty() {
+            return answer_last(
+                front, second, base, partitions, buffers, style, &asked, count, out,
+            );
+        }
         let Ok(()) = answer_ask(
-            front, second, base, partitions, buffers, style, &asked, is_last, out,
+            front, second, base, partitions, buffers, style, &asked, false, out,
         ) else {
             return Err(NoMemory);
         };
         count += 1;
-        if is_last {
-            return Ok(count);
-        }
     }
     Ok(count)
 }
@@ -281,18 +283,18 @@ pub fn answer_next<'a, F: Changes>(
 ) -> Result<Progress, NoMemory>
     requires fit { IsFitNext next }
     requires open { IsOpenAt next done }
-    requires few { length (asks_in next) < 2 ^ 64 }
+    requires few { length (asks_in next) + 1 < 2 ^ 64 }
     requires partitions { numbering.partitions ≡ (F.options front.old).partitions }
-    requires left { limits.asks + numbering.partitions ≤ F.left front.old }
+    requires left { limits.asks + numbering.partitions + 1 ≤ F.left front.old }
     ensures answered { (answers : List Answered)
         × GoesOn (F.options front.old) F.is_alone numbering.base second next.entry done (F.sessions front.old) (F.sessions front.new) answers
         × IfOk result (Replies (F.options front.old) numbering.base next.entry done limits answers out.old.items out.new.items)
         × (F.left front.old ≤ F.left front.new + count_of_writes answers)
         × (buffers.new.tally ≡ tally_after_next numbering.base numbering.partitions next.entry done answers buffers.old.tally)
-        × (length answers ≤ limits.asks + numbering.partitions) }
+        × (length answers ≤ limits.asks + numbering.partitions + 1) }
     ensures err { OnErr result (out.new.items ≡ out.old.items) }
     ensures short { length out.new.items ≤ max (length out.old.items) limits.bytes + MAX_REPLY_LEN }
-    ensures left { F.left front.old ≤ F.left front.new + limits.asks + numbering.partitions }
+    ensures left { F.left front.old ≤ F.left front.new + limits.asks + numbering.partitions + 1 }
     ensures options { F.options front.new ≡ F.options front.old }
     ensures number { F.number front.new ≡ F.number front.old }
     ensures stands { F.stands front.new ≡ F.stands front.old }

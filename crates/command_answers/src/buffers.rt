@@ -14,6 +14,8 @@ pub struct Buffers<'a> {
     pub found: ItemBuf,
     /// Room for the value that is to be stored.
     pub next: ItemBuf,
+    /// Whether the last answer was a write that was refused.
+    pub is_refused: bool,
     /// What is noted for the next sweep.
     pub noted: Noted,
     /// What the front has counted.
@@ -29,6 +31,7 @@ impl<'a> Buffers<'a> {
         Ok(Buffers {
             found: ItemBuf::new(alloc)?,
             next: ItemBuf::new(alloc)?,
+            is_refused: false,
             noted: Noted::new(),
             tally: Tally::new(),
             board,

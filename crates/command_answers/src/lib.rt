@@ -4,7 +4,7 @@
 //! order, and `load_ahead` loads beforehand what they will look at.
 //!
 //! What a client said is answered key by key: each by one look, with the write that is decided of it as the next step. So a get
-//! of many keys may be answered in parts, with other answers between. The layer above may rely on this: the front's sessions go on by just the answers
+//! of many keys may be answered in parts, with other answers between. Behind a set that found no room stands a delete of its key. The layer above may rely on this: the front's sessions go on by just the answers
 //! that `answer_next` says, these are answers to what was asked, and the text that is appended is the one that is due to them. Beside that `sweep` looks at a
 //! few places of an index, and deletes what is over there, in store mode. In cache mode it touches old items that commands used.
 #![tactic(auto)]

@@ -2,7 +2,6 @@
 use Rattle.std.proofs.Common.{◌≡◌, ◌≢◌, ◌⊎◌, inl, inr, ℕ, zero, suc, ◌+◌, ◌-◌, ◌==◌, ◌<◌, ◌≤◌, Bool, true, false, true≢false, cond, List, [], ◌∷◌, ◌++◌, length, drop, refl, sym, ap, ◌∙◌, subst, arith, length-append, length-drop}
 use Rattle.std.specs.Prelude.{Option, Some, None}
 use Rattle.std.proofs.lemmas.List.{append-nil, drop_all, nil_from_length}
-use Rattle.std.proofs.lemmas.Bool.{eq-eqb}
 use Rattle.partition_model.specs.declared.options.Options.{Options}
 use Rattle.partition_model.specs.declared.write.Outcome.TheVariants.{Stored}
 use Rattle.memcached_text.specs.declared.limits.TheConstants.{MAX_WAITING_LEN}
@@ -17,10 +16,11 @@ use Rattle.fronts.specs.Answered.{Answered, changed, kept}
 use Rattle.fronts.specs.Looks.{Look}
 use Rattle.memcached_stats.specs.Stats.{Told}
 use Rattle.command_answers.specs.AskAnswers.{AnswersAsk, AnswersAsks}
-use Rattle.command_answers.specs.Exchange.{Exchange, AnswersBy, IsOpenAt, count_of_answers, due_before, due_to, flush_due, flush_text, is_flush_all, keyed_text, longer, style_of}
+use Rattle.command_answers.specs.Exchange.{Exchange, AnswersBy, IsOpenAt, asks_to, is_answered, due_before, due_to, flush_due, flush_text, is_flush_all, keyed_text, longer, style_of}
 use Rattle.command_answers.specs.declared.answer.Limits.{Limits}
 use Rattle.command_answers.specs.declared.answer.Progress.{Progress}
 use Rattle.command_answers.specs.Going.{Replies, StandsAt}
+use Rattle.command_answers.proofs.AskLaws.{part_by}
 use Rattle.command_answers.proofs.ExchangeLaws.{asks_are_due, at_first, is_below, no_asks}
 use Rattle.connections.specs.declared.connections.Input.{Input}
 use Rattle.connections.specs.declared.connections.Input.TheVariants.{Bytes, All, Later, Ended}
@@ -57,7 +57,7 @@ some_answers base (asked ∷ asks) (suc n) few =
 
 module _ (options : Options) (base : ℕ) (next : Next) (done : ℕ) (stands : IsOpenAt next done) where
   -- where no more answers were given, and more are due, no text is
-  no_text : (told : Told) (text : List ℕ) → (done == count_of_answers options next) ≡ false
+  no_text : (told : Told) (text : List ℕ) → ((e : Exchange) → StandsAt options base next done e → is_answered options (longer e [] told) ≡ false)
       → ((e : Exchange) → StandsAt options base next done e → due_to options base (longer e [] told) ≡ due_before options base e ++ text) → length text ≡ 0
   no_text told text part due = by (is_flush_all next) refl (asks_in next) refl
     where
@@ -65,23 +65,26 @@ module _ (options : Options) (base : ℕ) (next : Next) (done : ℕ) (stands : I
       by true flushes asks is =
           let first = at_first next done stands (no_asks next flushes) in
           let e : Exchange = record { next = next; answers = []; told = told } in
-          let none : (0 == options.partitions) ≡ false = ap (λ t. 0 == cond t options.partitions (length (asks_in next))) (sym flushes) ∙ ap (λ n. n == count_of_answers options next) (sym first) ∙ part in
+          let at : StandsAt options base next done e = record { next_is = refl; count = sym first; answers = no_answers options base next } in
+          let none : (0 == options.partitions) ≡ false = ap (λ t. 0 == cond t options.partitions (length (asks_in next))) (sym flushes) ∙ part e at in
           let empty : due_to options base (longer e [] told) ≡ [] =
           ap (λ t. cond t (flush_text (style_of next) (0 == options.partitions) []) (keyed_text options.partitions base told next (asks_in next) [])) flushes
           ∙ ap (λ t. flush_text (style_of next) t []) none in
-          let same = ap length (sym empty ∙ due e (record { next_is = refl; count = sym first; answers = no_answers options base next })) in
+          let same = ap length (sym empty ∙ due e at) in
           omega (arith, same, length-append (due_before options base e) text)
       by false keyed [] is =
-          let all : (done == count_of_answers options next) ≡ true =
-          eq-eqb done (count_of_answers options next) (at_first next done stands is ∙ sym (ap (λ t. cond t options.partitions (length (asks_in next))) keyed ∙ ap length is)) in
-          absurd (true≢false (sym all ∙ part))
+          let e : Exchange = record { next = next; answers = []; told = told } in
+          let at : StandsAt options base next done e = record { next_is = refl; count = sym (at_first next done stands is); answers = no_answers options base next } in
+          let all : is_answered options (longer e [] told) ≡ true = ap (λ t. 0 == cond t options.partitions (length (asks_in next))) keyed ∙ ap (λ l. 0 == length l) is in
+          absurd (true≢false (sym all ∙ part e at))
       by false keyed (asked ∷ asks) is =
           let some : 0 < length (asks_in next) = let many = ap length is in omega (arith, many) in
           let less = is_below next done stands some in
           let made = some_answers base (asks_in next) done (omega (arith, less)) in
           let e : Exchange = record { next = next; answers = made.0; told = told } in
           let at : StandsAt options base next done e =
-          record { next_is = refl; count = made.2; answers = subst (λ t. AnswersBy t options base (flush_due next) (asks_in next) made.0) (sym keyed) made.1 } in
+          let these = subst (λ l. AnswersAsks base l made.0) (sym (part_by (style_of next) (asks_in next) made.0 (let count = made.2 in omega (arith, count, less)))) made.1 in
+          record { next_is = refl; count = made.2; answers = subst (λ t. AnswersBy t options base (flush_due next) (asks_to next made.0) made.0) (sym keyed) these } in
           let same = ap length (sym (due e at) ∙ asks_are_due options base next done told [] keyed stands some e at) in
           omega (arith, same, length-append (due_before options base e) text, length-append (due_before options base e) [])
 
@@ -95,7 +98,7 @@ module _ (options : Options) (base : ℕ) (next : Next) (done : ℕ) (stands : I
           let many = ap length is in
           let count = r.count in
           let same : progress.done ≡ done = omega (arith, many, count) in
-          let none = no_text r.told r.text (ap (λ n. n == count_of_answers options next) (sym same) ∙ sym r.whole ∙ part)
+          let none = no_text r.told r.text (λ e at. subst (λ given. is_answered options (longer e given r.told) ≡ false) is (r.whole e at ∙ part))
           (subst (λ given. (e : Exchange) → StandsAt options base next done e → due_to options base (longer e given r.told) ≡ due_before options base e ++ r.text) is r.due) in
           let grown = ap length r.appended ∙ length-append old r.text in
           elim (r.stops part).1 as (λ _. done < progress.done) [ inl all ↦ absurd (omega (arith, all, many, some)) | inr full ↦ absurd (omega (arith, full, grown, none, room)) ]

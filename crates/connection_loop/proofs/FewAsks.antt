@@ -117,5 +117,5 @@ few_asks bytes = either (is_frame bytes) refl
     either false is = subst (FewAsks (length bytes)) (sym (as_line bytes is)) (of_line_few (length bytes) (text.next_of bytes) (few_asked bytes))
 
 -- the keys of what bytes begin with can be counted
-pub few_asks_of : (next : Next) (bytes : List ℕ) → next ≡ next_of bytes → length (asks_in next) < 2 ^ 64
-few_asks_of next bytes is = subst (λ n. length (asks_in n) < 2 ^ 64) (sym is) (let few = (few_asks bytes).counted in omega (arith, few))
+pub few_asks_of : (next : Next) (bytes : List ℕ) → next ≡ next_of bytes → length (asks_in next) + 1 < 2 ^ 64
+few_asks_of next bytes is = subst (λ n. length (asks_in n) + 1 < 2 ^ 64) (sym is) (let few = (few_asks bytes).counted in omega (arith, few))

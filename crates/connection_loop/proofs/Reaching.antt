@@ -1,5 +1,5 @@
 -- A talk goes on, answer by answer.
-use Rattle.std.proofs.Common.{◌≡◌, ◌≢◌, ℕ, ◌+◌, ◌-◌, ◌==◌, ◌≤◌, Bool, true, false, ltb, List, [], ◌∷◌, ◌++◌, length, drop, refl, sym, ap, ◌∙◌, subst, arith, append_assoc, length-append, length-drop}
+use Rattle.std.proofs.Common.{◌≡◌, ◌≢◌, ℕ, ◌+◌, ◌-◌, ◌≤◌, Bool, true, false, ltb, List, [], ◌∷◌, ◌++◌, length, drop, refl, sym, ap, ◌∙◌, subst, arith, append_assoc, length-append, length-drop}
 use Rattle.std.proofs.lemmas.List.{append-nil, drop-append-le, drop-drop, drop_all, drop_at, nil_from_length}
 use Rattle.std.proofs.lemmas.Bool.{ltb-true, ltb-false}
 use Rattle.partition_model.specs.declared.options.Options.{Options}
@@ -14,7 +14,7 @@ use Rattle.fronts.specs.Answered.{Answered}
 use Rattle.fronts.specs.Session.{Sessions}
 use Rattle.memcached_stats.specs.Stats.{Told}
 use Rattle.memcached_stats.proofs.Untold.{untold}
-use Rattle.command_answers.specs.Exchange.{Exchange, AnswersBy, AnswersNext, IsOpenAt, is_flush_all, flush_due, is_answered, count_of_answers, due_to, due_before}
+use Rattle.command_answers.specs.Exchange.{Exchange, AnswersBy, AnswersNext, IsOpenAt, is_flush_all, flush_due, is_answered, due_to, due_before}
 use Rattle.command_answers.specs.Spells.{Spells, taken_by, due_to_all, answers_to_all}
 use Rattle.command_answers.specs.declared.answer.Limits.{Limits}
 use Rattle.command_answers.specs.declared.answer.Progress.{Progress}
@@ -134,7 +134,7 @@ module _ (options : Options) (base : ℕ) where
     answered_is : {received : List ℕ} {given : List Answered} {due : List ℕ} (r : Reaches options base (position_at bytes done) received given due)
         → is_answered options (begun bytes (r.part ++ answers) all.told) ≡ progress.is_whole
     answered_is r =
-        ap (λ n. n == count_of_answers options (next_of bytes)) (length-append r.part answers ∙ ap (λ n. n + length answers) r.count ∙ sym all.count) ∙ sym all.whole
+        all.whole (begun bytes r.part r.told) (here r)
 
     pub part_of : progress.is_whole ≡ false → GoesOnTo options base (position_at bytes done) answers before after (ReachesAfter options base bytes done (Part progress.done))
     part_of going = record {

@@ -10,8 +10,9 @@ use Rattle.memcached_requests.specs.Requests.{len_of}
 use Rattle.memcached_requests.specs.Requests.{asks_in}
 use Rattle.fronts.specs.Answered.{Answered}
 use Rattle.memcached_stats.specs.Stats as stats
-use Rattle.command_answers.specs.Exchange.{IsOpenAt, is_flush_all, count_of_answers, is_answered, due_before}
+use Rattle.command_answers.specs.Exchange.{IsOpenAt, asks_to, is_flush_all, count_of_answers, is_answered, due_before, style_of}
 use Rattle.command_answers.specs.Spells.{due_to_all, answers_to_all}
+use Rattle.command_answers.proofs.AskLaws.{part_by}
 use Rattle.command_answers.proofs.ExchangeLaws.{no_asks}
 use Rattle.command_answers.proofs.SpellsLaws.{spells_next, due_then, answers_then, nothing_before, due_still}
 use Rattle.connections.specs.Connection.{Connection}
@@ -39,8 +40,9 @@ module _ (options : Options) (base : ℕ) where
       go true flushes t is = let none : length (asks_in next) ≡ 0 = ap length (no_asks next flushes) in absurd (omega (arith, less, none))
       go false keyed false is = is
       go false keyed true is =
-          let all : length part ≡ count_of_answers options next = eqb-true (length part) (count_of_answers options next) is in
-          let many : count_of_answers options next ≡ length (asks_in next) = ap (λ t. cond t options.partitions (length (asks_in next))) keyed in
+          let all : length part ≡ count_of_answers options next part = eqb-true (length part) (count_of_answers options next part) is in
+          let many : count_of_answers options next part ≡ length (asks_in next) =
+          ap (λ t. cond t options.partitions (length (asks_to next part))) keyed ∙ ap length (part_by (style_of next) (asks_in next) part less) in
           absurd (omega (arith, less, all, many))
 
   -- The talk that came to a position, what is due in it, and how many bytes are left

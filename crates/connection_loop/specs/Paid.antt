@@ -20,7 +20,7 @@ use Rattle.connection_loop.specs.Reached.{Position, position_of}
 
 -- the front may be given as many writes as one command may need
 abbrev pub MayAnswer : ℕ → ℕ → Type 0
-MayAnswer partitions left = LIMITS.asks + partitions ≤ left
+MayAnswer partitions left = LIMITS.asks + partitions + 1 ≤ left
 
 -- How far the command was answered that bytes begin with, and to which so many answers were given. Not all of it has come; or it was answered further, and
 -- takes more bytes than it had answers.

@@ -22,7 +22,7 @@ pub record FrontAt : Type 0 where
 
 -- a front may be given fewer writes than one command may need
 abbrev pub IsSpent : Options → ℕ → Type 0
-IsSpent options left = left < LIMITS.asks + options.partitions
+IsSpent options left = left < LIMITS.asks + options.partitions + 1
 
 -- why it serves no longer, where no fault came: the end of its port did, or it is spent
 abbrev pub IsFinished : Options → Bool → ℕ → Type 0

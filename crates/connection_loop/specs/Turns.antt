@@ -29,7 +29,7 @@ is_read _ = false
 
 -- how many answers are given to one command at one look, at most
 abbrev pub most_to_one : Options → ℕ
-most_to_one options = LIMITS.asks + options.partitions
+most_to_one options = LIMITS.asks + options.partitions + 1
 
 -- and to one connection
 abbrev pub most_answers : Options → ℕ

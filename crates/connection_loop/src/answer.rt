@@ -27,11 +27,11 @@ pub const LIMITS: Limits = Limits {
     bytes: 65_536,
 };
 
-/// How many writes one command may need, at most.
+/// How many writes one command may need, at most: a set that finds no room needs two.
 pub fn most_writes(numbering: Numbering) -> u64
-    ensures { result ≡ LIMITS.asks + numbering.partitions }
+    ensures { result ≡ LIMITS.asks + numbering.partitions + 1 }
 {
-    LIMITS.asks as u64 + u64::from(numbering.partitions)
+    LIMITS.asks as u64 + u64::from(numbering.partitions) + 1
 }
 
 /// Why no more was answered.
@@ -109,7 +109,7 @@ fn answer_one<F: CountsWrites>(
         (λ answers. (length answers ≤ most_to_one (F.options hand.old.front)) × MatchResult result (λ said. GoesOnTo (F.options hand.old.front) hand.old.numbering.base (position_at bytes.now done) answers out.old.items out.new.items
         (ReachesAfter (F.options hand.old.front) hand.old.numbering.base bytes.now done said) × SpeaksAs said answers out.old.items out.new.items)
         (λ _. SpokeFrom (F.options hand.old.front) hand.old.numbering.base (length bytes.now) (position_at bytes.now done) answers)) }
-    ensures left { F.left hand.old.front ≤ F.left hand.new.front + LIMITS.asks + hand.old.numbering.partitions }
+    ensures left { F.left hand.old.front ≤ F.left hand.new.front + LIMITS.asks + hand.old.numbering.partitions + 1 }
     ensures second { hand.new.second ≡ hand.old.second }
     ensures same { KeepsHand F.options F.number F.stands hand.old hand.new }
 {

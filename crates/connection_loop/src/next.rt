@@ -1,5 +1,5 @@
 //! What a client said.
-ghost use Rattle.std.specs.Prelude.{◌≡◌, ◌<◌, ◌^◌, length};
+ghost use Rattle.std.specs.Prelude.{◌≡◌, ◌<◌, ◌+◌, ◌^◌, length};
 ghost use Rattle.memcached_requests.specs.Next.{next_of};
 ghost use Rattle.memcached_requests.specs.Requests.{IsFitNext, asks_in};
 
@@ -10,7 +10,7 @@ use memcached_requests::{Next, next_command};
 pub fn said_next(bytes: &[u8]) -> Next
     ensures next { result ≡ next_of bytes.now }
     ensures fit { IsFitNext result }
-    ensures few { length (asks_in result) < 2 ^ 64 }
+    ensures few { length (asks_in result) + 1 < 2 ^ 64 }
 {
     next_command(bytes)
 }

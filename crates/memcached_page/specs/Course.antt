@@ -35,14 +35,10 @@ is_no_room (Line NoRoom) = true
 is_no_room (Line NoRoomToCount) = true
 is_no_room _ = false
 
--- What a command leaves for which there was no room: all as it was.
-abbrev pub refused : Asked → Shelf → Shelf
-refused asked shelf = shelf
-
--- what a deed leaves
+-- What a deed leaves. A command for which there was no room leaves all as it was: that a set's old item goes is a deed behind it.
 abbrev pub after : Deed → Shelf → Shelf
 after (carried second number asked says) shelf =
-    if is_no_room says then refused asked shelf else becomes_of (at second number shelf) asked.key (becoming second number asked shelf) shelf
+    if is_no_room says then shelf else becomes_of (at second number shelf) asked.key (becoming second number asked shelf) shelf
 after (flushed part number flush took) shelf = if took then record shelf { flushes = flushes_then number flush shelf.flushes; free = number } else shelf
 after (went second key) shelf = with_item key None shelf
 after (lost key) shelf = with_item key None shelf

@@ -5,11 +5,12 @@ use Rattle.partition_model.specs.declared.options.Options.{Options}
 use Rattle.memcached_text.specs.declared.command.Wants.TheVariants.{Whatever}
 use Rattle.memcached_text.specs.declared.command.Direction.TheVariants.{Up}
 use Rattle.memcached_text.specs.declared.lifetime.Lifetime.TheVariants.{Forever}
+use Rattle.memcached_text.specs.declared.fault.Fault.TheVariants.{TooLarge}
 use Rattle.memcached_text.specs.declared.item.Item.{Item}
 use Rattle.memcached_text.specs.declared.reply.Reply.TheVariants.{Deleted, NoRoom}
-use Rattle.memcached_commands.specs.declared.ask.Ask.TheVariants.{Get, Store, Count, Delete}
+use Rattle.memcached_commands.specs.declared.ask.Ask.TheVariants.{Get, Store, Count, Delete, Spoil}
 use Rattle.memcached_commands.specs.declared.ask.Left.{Left}
-use Rattle.memcached_commands.specs.declared.ask.Says.TheVariants.{Line, Stores, Number, Shows}
+use Rattle.memcached_commands.specs.declared.ask.Says.TheVariants.{Line, Refusal, Stores, Number, Shows}
 use Rattle.memcached_commands.specs.Asks.{asked}
 use Rattle.memcached_page.specs.Course.{Deed, carried, went, lost, Done}
 
@@ -49,6 +50,15 @@ abbrev pub shown_behind_delete : List Done
 shown_behind_delete =
     for 0 (sets 1 (codes "n") (codes "5"))
     ∷ for 1 (carried 100 2 (asked (Delete None) (codes "n")) (Line Deleted))
+    ∷ for 0 (shows 2 (codes "n") (item 1 (codes "5")))
+    ∷ []
+
+-- it is set, and a set of it finds no room; its item is shown behind the deed that follows
+abbrev pub shown_behind_refusal : List Done
+shown_behind_refusal =
+    for 0 (sets 1 (codes "n") (codes "5"))
+    ∷ for 1 (carried 100 2 (asked (Store Whatever 0 Forever (codes "6")) (codes "n")) (Line NoRoom))
+    ∷ for 1 (carried 100 2 (asked Spoil (codes "n")) (Refusal TooLarge))
     ∷ for 0 (shows 2 (codes "n") (item 1 (codes "5")))
     ∷ []
 

@@ -8,7 +8,7 @@ ghost use Rattle.memcached_page.specs.Shelf.{Shelf, empty};
 ghost use Rattle.memcached_page.specs.Course.{carried, IsCourse};
 ghost use Rattle.memcached_page.specs.Kept.{KeepsItems, RefusesWhereFull, shelf_in};
 ghost use Rattle.memcached_page.specs.Talk.{Talks, done_for};
-ghost use Rattle.memcached_page.specs.Examples.{counting, going, losing, losing_old, options, refusing, shown_behind_delete, shown_stale};
+ghost use Rattle.memcached_page.specs.Examples.{counting, going, losing, losing_old, options, refusing, shown_behind_delete, shown_behind_refusal, shown_stale};
 
 use partition_model::Mode;
 
@@ -22,6 +22,11 @@ pub fn counts_over_two()
 /// What was deleted is not shown.
 pub fn deleted_is_gone()
     ensures { (mode : OneMode) (left : Shelf) → IsCourse mode empty shown_behind_delete left → ⊥ }
+{}
+
+/// What a set that found no room was to replace is not shown behind it.
+pub fn refused_is_gone()
+    ensures { (mode : OneMode) (left : Shelf) → IsCourse mode empty shown_behind_refusal left → ⊥ }
 {}
 
 /// Of two values the one that was set last is shown, whoever set it.

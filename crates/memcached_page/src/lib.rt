@@ -4,6 +4,6 @@
 mod examples;
 
 pub use examples::{
-    cache_keeps, counts_over_two, deleted_is_gone, newest_is_shown, own_reply, refuses_where_full,
-    store_keeps,
+    cache_keeps, counts_over_two, deleted_is_gone, newest_is_shown, own_reply, refused_is_gone,
+    refuses_where_full, store_keeps,
 };

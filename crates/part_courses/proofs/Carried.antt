@@ -32,7 +32,7 @@ use Rattle.fronts.specs.Looks.{Look, IsLookAt}
 use Rattle.memcached_decisions.specs.Numbered.{numbered, moment_at, value_in, stored_becoming}
 use Rattle.command_answers.specs.AskAnswers.{AnswersAsk}
 use Rattle.memcached_page.specs.Shelf.{Shelf, at, there, with_item, becomes_of}
-use Rattle.memcached_page.specs.Course.{carried, went, decided, becoming, refused, after, IsDeed}
+use Rattle.memcached_page.specs.Course.{carried, went, decided, becoming, after, IsDeed}
 use Rattle.part_courses.specs.Courses.{is_dead}
 use Rattle.part_courses.proofs.Values.{put_is, del_is}
 use Rattle.part_courses.proofs.Refusals.{has_room}
@@ -125,7 +125,7 @@ module _ {options : Options} {base : ℕ} {h : History} {shelf : Shelf} (g : Beg
       -- what it leaves, where there was room
       leaves_is : after (carried second number asked decision.says) now ≡ becomes_of (at second number now) key becoming_is now
       leaves_is =
-          ap (λ b. cond b (refused asked now) (becomes_of (at second number now) key (becoming second number asked now) now)) (has_room moment asked.ask found)
+          ap (λ b. cond b now (becomes_of (at second number now) key (becoming second number asked now) now)) (has_room moment asked.ask found)
           ∙ ap (λ b. becomes_of (at second number now) key b now) becoming_same
 
       may_carry : IsDeed Store now (carried second number asked decision.says)
@@ -239,7 +239,7 @@ module _ {options : Options} {base : ℕ} {h : History} {shelf : Shelf} (g : Beg
     refusal = Line (no_room asked.ask)
 
     refused_leaves : after (carried second number asked refusal) shelf ≡ shelf
-    refused_leaves = ap (λ b. cond b (refused asked shelf) (becomes_of (at second number shelf) key (becoming second number asked shelf) shelf)) (refused_line asked.ask)
+    refused_leaves = ap (λ b. cond b shelf (becomes_of (at second number shelf) key (becoming second number asked shelf) shelf)) (refused_line asked.ask)
 
     refused_one : (write : Write) → write_for key look.value (stored_becoming (becoming_of moment asked.ask (value_in look.value))) ≡ Some write → One options base shelf h (carried second number asked refusal ∷ [])
     refused_one write is = record {

@@ -1,7 +1,4 @@
 use Rattle.std.proofs.Common.{◌≡◌, ◌<◌, ◌≤◌, ◌++◌, ◌==◌, ◌+◌, ℕ, Bool, true, false, List, [], length, drop, sym, ap, ◌∙◌, subst, arith}
-use Rattle.std.specs.Prelude.{IfOk}
-use Rattle.std.specs.declared.result.Result.{Result}
-use Rattle.std.specs.declared.result.Result.TheVariants.{Ok, Err}
 use Rattle.std.proofs.lemmas.List.{length-drop}
 use Rattle.fronts.specs.Answered.{Answered}
 use Rattle.memcached_commands.specs.declared.asks.Asked.{Asked}
@@ -9,11 +6,11 @@ use Rattle.memcached_requests.specs.declared.request.Next.{Next}
 use Rattle.memcached_requests.specs.declared.request.Style.{Style}
 use Rattle.memcached_requests.specs.Requests.{asks_in}
 use Rattle.command_answers.specs.declared.answer.Progress.{Progress}
-use Rattle.command_answers.specs.AskAnswers.{AnswersAsks}
+use Rattle.command_answers.specs.AskAnswers.{AnswersAsks, asks_by}
 use Rattle.command_answers.specs.FlushAnswers.{FlushesFrom, flush_at}
-use Rattle.command_answers.specs.Exchange.{IsOpenAt, flush_due, flush_text, is_flush_all}
+use Rattle.command_answers.specs.Exchange.{IsOpenAt, flush_due, flush_text, is_flush_all, style_of}
 use Rattle.command_answers.specs.Going.{AnswersFirst, RepliesFirst, Replies}
-use Rattle.command_answers.proofs.AskLaws.{none_left, some_left, few_answers}
+use Rattle.command_answers.proofs.AskLaws.{if_ok, few_by, none_left, some_left, few_answers}
 use Rattle.memcached_stats.specs.Stats.{stats_text}
 use Rattle.memcached_stats.specs.Tallies.{counted}
 use Rattle.command_answers.specs.Counting.{tally_after_all}
@@ -21,10 +18,6 @@ use Rattle.memcached_stats.proofs.Untold.{untold}
 use Rattle.command_answers.proofs.ExchangeLaws.{of_stats, flush_goes, flush_replies, plain_goes, plain_replies, asks_go, asks_reply, is_below}
 use Rattle.command_answers.proofs.Counting.{counted_flush, counted_keyed, counted_plain}
 use Rattle.command_answers.proofs.answer.answer_next.Goals as goal
-
-if_ok : {T E : Type 0} (P Q : T → Type 0) (r : Result T E) → ((t : T) → P t → Q t) → IfOk r P → IfOk r Q
-if_ok P Q (Ok t) then is = then t is
-if_ok P Q (Err e) then is = is
 
 abbrev progress_of : ℕ → Bool → Progress
 progress_of done whole = record { done = done; is_whole = whole }
@@ -116,11 +109,13 @@ module _ (next : Next) (done : ℕ) (stands : IsOpenAt next done) (some : (lengt
   less : done < length (asks_in next)
   less = is_below next done stands some_asked
 
-  fits : (base count : ℕ) (answers : List Answered) → AnswersAsks base (drop done (asks_in next)) answers → count ≡ length answers → done + count ≤ length (asks_in next)
-  fits base count answers to_asks many =
-      let few = few_answers base (drop done (asks_in next)) answers to_asks in
+  fits : (base count : ℕ) (style : Style) (answers : List Answered) → AnswersAsks base (asks_by style (drop done (asks_in next)) answers) answers → count ≡ length answers
+      → done + count ≤ length (asks_in next) + 1
+  fits base count style answers to_asks many =
+      let few = few_answers base (asks_by style (drop done (asks_in next)) answers) answers to_asks in
+      let most = few_by style (drop done (asks_in next)) answers in
       let len = length-drop done (asks_in next) in
-      omega (arith, few, len, many, less)
+      omega (arith, few, most, len, many, less)
 
 pub skip-requires : goal.skip-requires
 skip-requires g c =
@@ -128,13 +123,19 @@ skip-requires g c =
     let same = ap length c.asks_of-asks.ensures.is in
     omega (arith, below, same)
 
+pub answer_asks-requires-clause-few : goal.answer_asks-requires-clause-few
+answer_asks-requires-clause-few g c =
+    let asks_are = ap length (c.skip.ensures ∙ ap (drop c.args.done) c.asks_of-asks.ensures.is) ∙ length-drop c.args.done (asks_in c.args.next) in
+    let few = c.requires.few in
+    omega (arith, asks_are, few)
+
 pub overflow_add-result : goal.overflow_add-result
 overflow_add-result g c =
     let asks_are = c.skip.ensures ∙ ap (drop c.args.done) c.asks_of-asks.ensures.is in
     let r = c.in-Ok-answer_asks.ensures.answered in
-    let to_asks = subst (λ l. AnswersAsks c.args.numbering.base l r.0) asks_are r.1.to_asks in
+    let to_asks = subst (λ l. AnswersAsks c.args.numbering.base (asks_by c.style_of-style.result l r.0) r.0) asks_are r.1.to_asks in
     let most = fits c.args.next c.args.done c.requires.open (sym c.has_none.ensures ∙ c.if-has_none.false) c.args.numbering.base
-    c.in-Ok-answer_asks.count r.0 to_asks r.2.many in
+    c.in-Ok-answer_asks.count c.style_of-style.result r.0 to_asks r.2.many in
     let few = c.requires.few in
     omega (arith, most, few)
 
@@ -155,13 +156,14 @@ returns-in-Ok-answer_asks-clause-answered g c =
     let asks_are : c.skip.new.asks ≡ drop done (asks_in next) = c.skip.ensures ∙ ap (drop done) c.asks_of-asks.ensures.is in
     let some = some_asked next done c.requires.open (sym c.has_none.ensures ∙ c.if-has_none.false) in
     let r = c.in-Ok-answer_asks.ensures.answered in
-    let first = subst (λ (l : List Asked). AnswersFirst options F.is_alone base c.args.second l old new r.0) asks_are r.1 in
+    let first = subst (λ (l : List Asked). AnswersFirst options F.is_alone base c.args.second (style_of next) l old new r.0) asks_are
+    (subst (λ (s : Style). AnswersFirst options F.is_alone base c.args.second s c.skip.new.asks old new r.0) c.style_of-style.ensures r.1) in
     let said = subst (λ (l : List Asked). RepliesFirst base c.style_of-style.result l c.args.limits r.0 before after count left) asks_are r.2 in
     let replies = subst (λ (s : Style). RepliesFirst base s (drop done (asks_in next)) c.args.limits r.0 before after count left) c.style_of-style.ensures said in (
       r.0,
-      asks_go options F.is_alone base c.args.second next done c.requires.open old new keyed r.0 first,
+      asks_go options F.is_alone base c.args.second next done c.requires.open old new keyed some r.0 first,
       subst (λ (w : Bool). Replies options base next done c.args.limits r.0 before after (progress_of (done + count) w)) (sym c.is_empty.ensures)
-          (asks_reply options F.is_alone base c.args.second next done c.requires.open old new keyed r.0 c.args.limits before after count left some first.to_asks replies),
+          (asks_reply options F.is_alone base c.args.second next done c.requires.open old new keyed some r.0 c.args.limits before after count left replies),
       r.3,
       r.4 ∙ (λ i. tally_after_all c.args.numbering.base c.args.numbering.partitions (asks_are i) r.0
           ((c.count.ensures ∙ ap (λ k. counted k c.args.buffers.now.tally) c.counter_by.ensures) i))
@@ -178,9 +180,11 @@ returns-in-Err-clause-answered g c =
     let keyed : is_flush_all c.args.next ≡ false = sym c.is_flush_all.ensures ∙ c.if-is_flush_all.false in
     let asks_are : c.skip.new.asks ≡ drop c.args.done (asks_in c.args.next) = c.skip.ensures ∙ ap (drop c.args.done) c.asks_of-asks.ensures.is in
     let r = c.answer_asks.ensures.answered in
-    let first = subst (λ (l : List Asked). AnswersFirst options F.is_alone c.args.numbering.base c.args.second l old new r.0) asks_are r.1 in (
+    let first = subst (λ (l : List Asked). AnswersFirst options F.is_alone c.args.numbering.base c.args.second (style_of c.args.next) l old new r.0) asks_are
+    (subst (λ (s : Style). AnswersFirst options F.is_alone c.args.numbering.base c.args.second s c.skip.new.asks old new r.0) c.style_of-style.ensures r.1) in
+    let some = some_asked c.args.next c.args.done c.requires.open (sym c.has_none.ensures ∙ c.if-has_none.false) in (
       r.0,
-      asks_go options F.is_alone c.args.numbering.base c.args.second c.args.next c.args.done c.requires.open old new keyed r.0 first,
+      asks_go options F.is_alone c.args.numbering.base c.args.second c.args.next c.args.done c.requires.open old new keyed some r.0 first,
       tt,
       r.3,
       r.4 ∙ (λ i. tally_after_all c.args.numbering.base c.args.numbering.partitions (asks_are i) r.0

@@ -1,4 +1,4 @@
-use Rattle.std.proofs.Common.{◌≡◌, ◌++◌, ℕ, List, length, ap, ◌∙◌, subst, arith}
+use Rattle.std.proofs.Common.{◌≡◌, ◌++◌, ℕ, List, length, sym, ap, ◌∙◌, subst, arith}
 use Rattle.std.specs.Prelude.{option_copied}
 use Rattle.std.proofs.lemmas.Result.{on_ok_weaker}
 use Rattle.mica_words.specs.Hash.{partition_of}
@@ -46,6 +46,7 @@ returns-clause-answered g c =
       c.note_write.ensures ∙ (λ i. noted_if c.args.partitions (c.bytes-key.ensures i) changed.when changed.outcome changed.stamp
           ((c.count.ensures ∙ ap (λ k. counted k c.args.buffers.now.tally) (c.counter_of.ensures ∙ ap (counter_of asked.ask) says)) i))
           ∙ by.noted c.args.partitions (counted (counter_of asked.ask (said_of c.args.base asked by.answered)) c.args.buffers.now.tally),
+      c.was_refused.ensures ∙ sym by.refused,
     )
 
 pub returns-clause-short : goal.returns-clause-short
