@@ -1,0 +1,5 @@
+pub mod FlagLaws
+pub mod NextLaws
+pub mod MetaLaws
+pub mod FitLaws
+pub mod AskLaws
