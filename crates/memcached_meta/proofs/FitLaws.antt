@@ -22,29 +22,33 @@ use Rattle.memcached_meta.specs.declared.line.MetaLine.TheVariants as lines
 use Rattle.memcached_meta.specs.declared.next.MetaNext.{MetaNext}
 use Rattle.memcached_meta.specs.declared.next.MetaNext.TheVariants.{Dropped}
 use Rattle.memcached_meta.specs.Flags.{argument_of, flags_fault, or_else}
-use Rattle.memcached_meta.specs.Keys.{key_in}
-use Rattle.memcached_meta.specs.Lines.{verb_of, is_base64, mode_fault, told_by, key_fault, meta_fault, meta_of, keyed, storing, stored_line, block_len, storing_line, debug_flags, line_of}
+use Rattle.memcached_commands.specs.Keys.{spelled}
+use Rattle.memcached_meta.specs.Lines.{verb_of, is_base64, mode_fault, told_by, is_fit_key, key_fault, meta_fault, meta_of, keyed, storing, stored_line, block_len, storing_line, debug_flags, line_of}
 use Rattle.memcached_meta.specs.Next.{replaces_all, stale_of, blocked, stored_at, line_next, named_next, found_next, begins_meta, next_meta}
-use Rattle.memcached_meta.specs.Fit.{IsFitMeta, IsFitMetaNext}
+use Rattle.memcached_meta.specs.Fit.{IsFitMeta, IsFitManner, IsFitMetaNext}
 
 both : (a b : Bool) → (a && b) ≡ true → (a ≡ true) × (b ≡ true)
 both true b is = (refl, is)
 both false b is = let no : ⊥ = cc in absurd no
 
 -- where nothing speaks against the key, it is one
-key_some : (verb : Verb) (key : Option (List ℕ)) (mode : Option MetaFault) → or_else (key_fault verb key) mode ≡ None → key ≢ None
-key_some verb None mode is no = cc
-key_some verb (Some key) mode is no = cc
+key_some : (verb : Verb) (key : List ℕ) (mode : Option MetaFault) → or_else (key_fault verb key) mode ≡ None → IsFitKey key
+key_some verb key mode is = go (is_fit_key key) refl
+  where
+    go : (t : Bool) → is_fit_key key ≡ t → IsFitKey key
+    go true fit = let parts = both (nat_lt 0 (length key)) (is_short key) fit in (ltb-true _ _ parts.0, leb-true _ _ parts.1)
+    go false bad = let no : ⊥ = let here = rw bad at is in cc in absurd no
 
-told_none : (verb : Verb) (fault later : Option MetaFault) → or_else (told_by verb fault) later ≡ None → later ≡ None
-told_none verb None later is = is
+told_none : (verb : Verb) (fault later : Option MetaFault) → or_else (told_by verb fault) later ≡ None → (fault ≡ None) × (later ≡ None)
+told_none verb None later is = (refl, is)
 told_none verb (Some fault) later is = let no : ⊥ = cc in absurd no
 
-record Lawful (verb : Verb) (word : List ℕ) (flags : List (List ℕ)) : Type 0 where
+pub record Lawful (verb : Verb) (word : List ℕ) (flags : List (List ℕ)) : Type 0 where
   word_fits : IsFitKey word
-  key_is : key_in (is_base64 flags) word ≢ None
+  flags_are : flags_fault flags ≡ None
+  key_is : IsFitKey (spelled (is_base64 flags) word)
 
-lawful : (verb : Verb) (word : List ℕ) (flags : List (List ℕ)) → meta_fault verb word flags ≡ None → Lawful verb word flags
+pub lawful : (verb : Verb) (word : List ℕ) (flags : List (List ℕ)) → meta_fault verb word flags ≡ None → Lawful verb word flags
 unfolding meta_fault
 lawful verb word flags is = go (nat_lt 0 (length word) && is_key word) refl
   where
@@ -53,9 +57,11 @@ lawful verb word flags is = go (nat_lt 0 (length word) && is_key word) refl
     go true good =
         let parts = both (nat_lt 0 (length word)) (is_key word) good in
         let short = both (is_short word) (lacks 0 word) parts.1 in
+        let none = told_none verb (flags_fault flags) _ (rw good at is) in
         record {
           word_fits = (ltb-true _ _ parts.0, leb-true _ _ short.0);
-          key_is = key_some verb (key_in (is_base64 flags) word) (mode_fault verb (argument_of _ flags)) (told_none verb (flags_fault flags) _ (rw good at is));
+          flags_are = none.0;
+          key_is = key_some verb (spelled (is_base64 flags) word) (mode_fault verb (argument_of _ flags)) none.1;
         }
 
 fit_of : (verb : Verb) (word : List ℕ) (flags : List (List ℕ)) → meta_fault verb word flags ≡ None → IsFitMeta (meta_of verb word flags)
@@ -113,8 +119,8 @@ blocked_fits meta len (blocks.Whole value) fits short = record { word = fits.wor
 stale_fits : (meta : Meta) (fault : MetaFault) (len : ℕ) → IsFitMeta meta → IsFitMetaNext (Dropped fault (stale_of meta) len)
 stale_fits meta fault len fits = go (replaces_all meta.flags)
   where
-    go : (t : Bool) → IsFitMetaNext (Dropped fault (cond t (Some (record { word = meta.word; base64 = is_base64 meta.flags })) None) len)
-    go true = record { word = fits.word; key = fits.key }
+    go : (t : Bool) → IsFitMetaNext (Dropped fault (cond t (Some (spelled (is_base64 meta.flags) meta.word)) None) len)
+    go true = fits.key
     go false = tt
 
 at_fits : (meta : Meta) (value_len len : ℕ) (rest : List ℕ) → IsFitMeta meta → IsFitMetaNext (stored_at meta value_len len rest)
@@ -156,3 +162,6 @@ next_fits bytes = go (begins_meta bytes)
     go : (t : Bool) → IfSome (cond t (found_next (line_at bytes)) None) IsFitMetaNext
     go true = found_fits (line_at bytes)
     go false = tt
+
+pub manner_fits : (meta : Meta) → IsFitMeta meta → IsFitManner meta.word meta.flags
+manner_fits meta fits = record { word = fits.word.1; flags = (lawful meta.verb meta.word meta.flags fits.lawful).flags_are }

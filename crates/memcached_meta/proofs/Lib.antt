@@ -3,3 +3,5 @@ pub mod NextLaws
 pub mod MetaLaws
 pub mod FitLaws
 pub mod AskLaws
+pub mod ShortLaws
+pub mod ReplyLaws

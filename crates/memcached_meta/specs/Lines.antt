@@ -2,8 +2,9 @@
 use Rattle.std.specs.Prelude.{ℕ, ◌||◌, ◌&&◌, not, Bool, true, false, List, [], ◌∷◌, length, nat_lt, codes, bytes_eq, Option, Some, None, if◌then◌else◌}
 use Rattle.std.specs.List.{list_any}
 use Rattle.memcached_text.specs.declared.fault.Fault.TheVariants.{Unknown, Format}
-use Rattle.memcached_text.specs.Line.{is_key}
+use Rattle.memcached_text.specs.Line.{is_short, is_key}
 use Rattle.memcached_text.specs.Numbers.{number_of}
+use Rattle.memcached_commands.specs.Keys.{spelled}
 use Rattle.memcached_meta.specs.declared.fault.MetaFault.{MetaFault}
 use Rattle.memcached_meta.specs.declared.fault.MetaFault.TheVariants as faults
 use Rattle.memcached_meta.specs.declared.line.Verb.{Verb}
@@ -12,7 +13,6 @@ use Rattle.memcached_meta.specs.declared.line.Meta.{Meta}
 use Rattle.memcached_meta.specs.declared.line.MetaLine.{MetaLine}
 use Rattle.memcached_meta.specs.declared.line.MetaLine.TheVariants.{Whole, Storing, Refused}
 use Rattle.memcached_meta.specs.Flags.{argument_of, has_flag, flags_fault, or_else}
-use Rattle.memcached_meta.specs.Keys.{key_in}
 
 -- the verb of a name, where it is a meta command's
 abbrev pub verb_of : List ℕ → Option Verb
@@ -54,15 +54,18 @@ abbrev pub told_by : Verb → Option MetaFault → Option MetaFault
 told_by verb None = None
 told_by verb (Some fault) = Some (told_fault verb fault)
 
-abbrev pub key_fault : Verb → Option (List ℕ) → Option MetaFault
-key_fault verb None = Some (told_fault verb faults.KeyFormat)
-key_fault verb (Some key) = None
+-- a key has some bytes, and not too many
+abbrev pub is_fit_key : List ℕ → Bool
+is_fit_key key = nat_lt 0 (length key) && is_short key
+
+abbrev pub key_fault : Verb → List ℕ → Option MetaFault
+key_fault verb key = if is_fit_key key then None else Some (told_fault verb faults.KeyFormat)
 
 -- Why a meta command is refused: its key, its flags, its key as base64, its mode, in this order. Nothing is asked then.
 unfoldable pub meta_fault : Verb → List ℕ → List (List ℕ) → Option MetaFault
 meta_fault verb word flags =
     if not (nat_lt 0 (length word) && is_key word) then Some (faults.Line Format)
-    else or_else (told_by verb (flags_fault flags)) (or_else (key_fault verb (key_in (is_base64 flags) word)) (mode_fault verb (argument_of (codes "M") flags)))
+    else or_else (told_by verb (flags_fault flags)) (or_else (key_fault verb (spelled (is_base64 flags) word)) (mode_fault verb (argument_of (codes "M") flags)))
 
 -- Lines
 

@@ -6,13 +6,13 @@ use Rattle.memcached_text.specs.declared.block.Block.{Block}
 use Rattle.memcached_text.specs.declared.block.Block.TheVariants as blocks
 use Rattle.memcached_text.specs.Block.{block_at}
 use Rattle.memcached_text.specs.Lines.{line_at, words_of, without_return}
+use Rattle.memcached_commands.specs.Keys.{spelled}
 use Rattle.memcached_meta.specs.declared.fault.MetaFault.{MetaFault}
 use Rattle.memcached_meta.specs.declared.fault.MetaFault.TheVariants.{Line}
 use Rattle.memcached_meta.specs.declared.line.Verb.{Verb}
 use Rattle.memcached_meta.specs.declared.line.Meta.{Meta}
 use Rattle.memcached_meta.specs.declared.line.MetaLine.{MetaLine}
 use Rattle.memcached_meta.specs.declared.line.MetaLine.TheVariants as lines
-use Rattle.memcached_meta.specs.declared.next.Named.{Named}
 use Rattle.memcached_meta.specs.declared.next.MetaNext.{MetaNext}
 use Rattle.memcached_meta.specs.declared.next.MetaNext.TheVariants.{Whole, Dropped, More}
 use Rattle.memcached_meta.specs.Flags.{argument_of, has_flag}
@@ -27,8 +27,8 @@ abbrev pub replaces_all : List (List ℕ) → Bool
 replaces_all flags = is_set_mode (argument_of (codes "M") flags) && not (has_flag (codes "C") flags)
 
 -- the key whose item must not stay where the value is too large: that of a store which replaces all
-abbrev pub stale_of : Meta → Option Named
-stale_of meta = if replaces_all meta.flags then Some (record { word = meta.word; base64 = is_base64 meta.flags }) else None
+abbrev pub stale_of : Meta → Option (List ℕ)
+stale_of meta = if replaces_all meta.flags then Some (spelled (is_base64 meta.flags) meta.word) else None
 
 -- a store, by its block, where both have so many bytes
 abbrev pub blocked : Meta → ℕ → Block → MetaNext

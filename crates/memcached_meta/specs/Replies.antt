@@ -153,6 +153,12 @@ is_expected _ = false
 abbrev pub hides : List (List ℕ) → Says → Bool
 hides flags said = is_expected said && has_flag (codes "q") flags
 
+-- how a meta command is replied to: by its verb, its key as the client wrote it, and its flags
+pub record Manner : Type 0 where
+  pub verb : Verb
+  pub word : List ℕ
+  pub flags : List (List ℕ)
+
 -- What is replied.
-unfoldable pub meta_text : Verb → List ℕ → List (List ℕ) → Says → List ℕ
-meta_text verb word flags said = if hides flags said then [] else said_text verb word flags said
+unfoldable pub meta_text : Manner → Says → List ℕ
+meta_text m said = if hides m.flags said then [] else said_text m.verb m.word m.flags said

@@ -8,18 +8,18 @@
 mod ask;
 mod fault;
 mod flags;
-mod key;
 mod laws;
 mod lifetime;
 mod line;
+mod manner;
 mod next;
 mod reply;
 
 pub use ask::meta_ask;
 pub use fault::{MetaFault, meta_fault_line};
 pub use flags::{MAX_OPAQUE_LEN, argument_of, has_flag};
-pub use key::{KEY_ROOM, key_in};
 pub use laws::{as_classic, never_hidden, one_spelling, whole_lines};
-pub use line::{Meta, Verb};
-pub use next::{MetaNext, Named, next_meta};
-pub use reply::{MAX_META_LEN, put_meta};
+pub use line::{Meta, Verb, is_base64};
+pub use manner::Manner;
+pub use next::{MetaNext, next_meta};
+pub use reply::{MAX_SAID_LEN, put_meta};

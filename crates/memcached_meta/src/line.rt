@@ -1,12 +1,13 @@
 //! What the line of a meta command says by itself.
 ghost use Rattle.std.specs.Prelude.{◌≡◌, ◌<◌, ◌∷◌, length, option_copied, []};
 ghost use Rattle.memcached_text.specs.Line.{is_key};
-ghost use Rattle.memcached_meta.specs.Lines.{verb_of, told_fault, told_by, key_fault, is_store_mode, is_count_mode, mode_fault, meta_fault, is_base64, keyed_line, block_len, storing_line, debug_flags, line_of};
+ghost use Rattle.memcached_commands.specs.Keys.{spelled};
+ghost use Rattle.memcached_meta.specs.Lines.{verb_of, told_fault, told_by, key_fault, is_fit_key, is_store_mode, is_count_mode, mode_fault, meta_fault, is_base64, keyed_line, block_len, storing_line, debug_flags, line_of};
 
 use crate::MetaFault;
 use crate::flags::{argument_of, flags_fault, has_flag};
-use crate::key::{KEY_ROOM, key_in};
-use memcached_text::{Fault, Text, Words, number_of};
+use memcached_commands::{KEY_ROOM, Key};
+use memcached_text::{Fault, MAX_KEY_LEN, Text, Words, number_of};
 
 /// What a meta command does, by the second letter of its name.
 #[derive(Clone, Copy)]
@@ -121,6 +122,16 @@ fn is_key(word: &[u8]) -> bool
     Words::one(word).are_keys()
 }
 
+// Whether a word spells a key.
+fn spells_key(word: &[u8], is_base64: bool) -> bool
+    ensures { result ≡ is_fit_key (spelled is_base64 word.now) }
+{
+    let key = Key::spelled(word.into(), is_base64);
+    let mut room = [0; KEY_ROOM];
+    let key = key.bytes(&mut room);
+    !key.is_empty() && key.len() <= MAX_KEY_LEN
+}
+
 // Why a meta command is refused: its key, its flags, its key as base64, its mode, in this order.
 #[tactic(auto, unfolding(crate::specs::Lines::meta_fault))]
 fn meta_fault(verb: Verb, word: &[u8], flags: &Words) -> Option<MetaFault>
@@ -132,7 +143,7 @@ fn meta_fault(verb: Verb, word: &[u8], flags: &Words) -> Option<MetaFault>
     if let Some(fault) = flags_fault(flags.again()) {
         return Some(told_fault(verb, fault));
     }
-    if key_in(is_base64(flags.again()), word, &mut [0; KEY_ROOM]).is_none() {
+    if !spells_key(word, is_base64(flags.again())) {
         return Some(told_fault(verb, MetaFault::KeyFormat));
     }
     mode_fault(verb, argument_of(b"M".as_slice(), flags.again()))

@@ -8,15 +8,9 @@ ghost use Rattle.memcached_meta.specs.Next.{begins_meta, replaces_all, stale_of,
 use crate::MetaFault;
 use crate::flags::{argument_of, has_flag};
 use crate::line::{Meta, MetaLine, is_base64, line_of, verb_of};
+use memcached_commands::Key;
+use memcached_text::{Fault, MAX_LINE_LEN, MAX_TEXT_LEN, Words};
 use memchr::memchr;
-use memcached_text::{Fault, MAX_LINE_LEN, MAX_TEXT_LEN, Text, Words};
-
-/// A key as the client wrote it.
-#[derive(Drop)]
-pub struct Named<'a> {
-    pub word: Text<'a>,
-    pub base64: bool,
-}
 
 /// What a client's bytes begin with.
 #[derive(Drop)]
@@ -27,7 +21,7 @@ pub enum MetaNext<'a> {
     /// stale is to go.
     Dropped {
         fault: MetaFault,
-        stale: Option<Named<'a>>,
+        stale: Option<Key<'a>>,
         len: usize,
     },
     /// Not all of the block has come.
@@ -49,16 +43,13 @@ fn replaces_all(flags: &Words) -> bool
 }
 
 // The key whose item must not stay where the value is too large.
-fn stale_of<'a>(meta: Meta<'a>) -> Option<Named<'a>>
+fn stale_of<'a>(meta: Meta<'a>) -> Option<Key<'a>>
     ensures { result ≡ stale_of meta.entry }
 {
     if !replaces_all(&meta.flags) {
         return None;
     }
-    Some(Named {
-        word: meta.word,
-        base64: is_base64(meta.flags),
-    })
+    Some(Key::spelled(meta.word, is_base64(meta.flags)))
 }
 
 // A store whose line and block have so many bytes, with what has come behind its line.

@@ -1,17 +1,20 @@
 //! The texts of replies to meta commands.
-ghost use Rattle.std.specs.Prelude.{◌≡◌, ◌++◌, [], true, false, codes, decimal, length, OnOk};
+ghost use Rattle.std.specs.Prelude.{◌≡◌, ◌≤◌, ◌+◌, ◌++◌, ℕ, List, [], true, false, codes, decimal, length, OnOk, OnErr};
+ghost use Rattle.memcached_commands.specs.Answers.{shown_len};
 ghost use Rattle.memcached_meta.specs.Replies.{told, told_left, key_text, flag_text, flags_text, sets_time, mark, marks_text, status_text, shown_item, shown_count, line_text, is_expected, hides, head_text, block_text, expiry_text, debug_text, valued_text, said_text, meta_text};
 ghost use Rattle.memcached_meta.specs.Lines.{is_base64};
+ghost use Rattle.memcached_meta.specs.Short.{most_of_flag, most_of_flags};
 
 use crate::flags::has_flag;
 use crate::line::{Verb, is_base64};
+use crate::manner::Manner;
 use itoa::Buffer;
 use memcached_commands::{Left, Says};
 use memcached_text::{HEADER_LEN, Item, Reply, Words, fault_line, reply_line};
 use outside::NoMemory;
 
-/// The most bytes of a reply that are neither of the key nor of a value.
-pub const MAX_META_LEN: usize = 103;
+/// The most bytes of a reply that are not of a value.
+pub const MAX_SAID_LEN: usize = 760;
 
 /// What flags of a command may tell beside its key and its opaque.
 #[derive(Clone, Copy)]
@@ -25,6 +28,8 @@ pub struct Shown {
 // Appends bytes.
 fn put(out: &mut Vec<u8>, text: &[u8]) -> Result<(), NoMemory>
     ensures ok { OnOk result (out.new.items ≡ out.old.items ++ text.now) }
+    ensures short { OnOk result (length out.new.items ≤ length out.old.items + length text.now) }
+    ensures more { (text : List ℕ) × (out.new.items ≡ out.old.items ++ text) }
 {
     Ok(out.extend_from_slice(text)?)
 }
@@ -32,6 +37,8 @@ fn put(out: &mut Vec<u8>, text: &[u8]) -> Result<(), NoMemory>
 // Appends a number.
 fn put_digits(out: &mut Vec<u8>, number: u64) -> Result<(), NoMemory>
     ensures ok { OnOk result (out.new.items ≡ out.old.items ++ decimal number) }
+    ensures short { OnOk result (length out.new.items ≤ length out.old.items + 20) }
+    ensures more { (text : List ℕ) × (out.new.items ≡ out.old.items ++ text) }
 {
     let mut digits = Buffer::new();
     put(out, digits.format(number).as_bytes())
@@ -40,6 +47,8 @@ fn put_digits(out: &mut Vec<u8>, number: u64) -> Result<(), NoMemory>
 // Appends what a flag tells, where it tells a number.
 fn put_told(out: &mut Vec<u8>, letter: &[u8], number: Option<u64>) -> Result<(), NoMemory>
     ensures ok { OnOk result (out.new.items ≡ out.old.items ++ told letter.now number) }
+    ensures short { OnOk result (length out.new.items ≤ length out.old.items + length letter.now + 20) }
+    ensures more { (text : List ℕ) × (out.new.items ≡ out.old.items ++ text) }
 {
     let Some(number) = number else {
         return Ok(());
@@ -51,6 +60,8 @@ fn put_told(out: &mut Vec<u8>, letter: &[u8], number: Option<u64>) -> Result<(),
 // Appends the seconds that are left, and -1 for ever.
 fn put_left(out: &mut Vec<u8>, left: Option<Left>, late: bool) -> Result<(), NoMemory>
     ensures ok { OnOk result (out.new.items ≡ out.old.items ++ told_left left late) }
+    ensures short { OnOk result (length out.new.items ≤ length out.old.items + 22) }
+    ensures more { (text : List ℕ) × (out.new.items ≡ out.old.items ++ text) }
 {
     let Some(left) = left else {
         return Ok(());
@@ -64,6 +75,8 @@ fn put_left(out: &mut Vec<u8>, left: Option<Left>, late: bool) -> Result<(), NoM
 // Appends the key as the client wrote it, and `b` where it wrote base64.
 fn put_key(out: &mut Vec<u8>, base64: bool, word: &[u8]) -> Result<(), NoMemory>
     ensures ok { OnOk result (out.new.items ≡ out.old.items ++ key_text base64 word.now) }
+    ensures short { OnOk result (length out.new.items ≤ length out.old.items + length word.now + 4) }
+    ensures more { (text : List ℕ) × (out.new.items ≡ out.old.items ++ text) }
 {
     put(out, b" k")?;
     put(out, word)?;
@@ -80,6 +93,8 @@ fn put_flag(
     flag: &[u8],
 ) -> Result<(), NoMemory>
     ensures ok { OnOk result (out.new.items ≡ out.old.items ++ flag_text word.now base64 shown.now late flag.now) }
+    ensures short { OnOk result (length out.new.items ≤ length out.old.items + most_of_flag (length word.now) flag.now) }
+    ensures more { (text : List ℕ) × (out.new.items ≡ out.old.items ++ text) }
 {
     match flag {
         [b's', ..] => put_told(out, b" s", shown.len),
@@ -105,7 +120,7 @@ fn sets_time(flag: &[u8]) -> bool
 }
 
 // Appends what is told for each flag, in their order.
-#[tactic(auto, unfolding(crate::specs::Replies::flags_text))]
+#[tactic(auto, unfolding(crate::specs::Replies::flags_text, crate::specs::Short::most_of_flags))]
 fn put_flags(
     out: &mut Vec<u8>,
     word: &[u8],
@@ -114,6 +129,8 @@ fn put_flags(
     mut flags: Words,
 ) -> Result<(), NoMemory>
     ensures ok { OnOk result (out.new.items ≡ out.old.items ++ flags_text word.now base64 shown.now false flags.entry) }
+    ensures short { OnOk result (length out.new.items ≤ length out.old.items + most_of_flags (length word.now) flags.entry) }
+    ensures more { (text : List ℕ) × (out.new.items ≡ out.old.items ++ text) }
 {
     let mut late = false;
     while let Some(flag) = flags.next_word() {
@@ -126,6 +143,8 @@ fn put_flags(
 // Appends a mark, where it is set.
 fn put_mark(out: &mut Vec<u8>, set: bool, text: &[u8]) -> Result<(), NoMemory>
     ensures ok { OnOk result (out.new.items ≡ out.old.items ++ mark set text.now) }
+    ensures short { OnOk result (length out.new.items ≤ length out.old.items + length text.now) }
+    ensures more { (text : List ℕ) × (out.new.items ≡ out.old.items ++ text) }
 {
     if set { put(out, text) } else { Ok(()) }
 }
@@ -133,6 +152,8 @@ fn put_mark(out: &mut Vec<u8>, set: bool, text: &[u8]) -> Result<(), NoMemory>
 // Appends whether an item was won before, is stale, and is won now.
 fn put_marks(out: &mut Vec<u8>, item: &Item, wins: bool) -> Result<(), NoMemory>
     ensures ok { OnOk result (out.new.items ≡ out.old.items ++ marks_text item.now wins) }
+    ensures short { OnOk result (length out.new.items ≤ length out.old.items + 6) }
+    ensures more { (text : List ℕ) × (out.new.items ≡ out.old.items ++ text) }
 {
     put_mark(out, item.won, b" Z")?;
     put_mark(out, item.stale, b" X")?;
@@ -142,6 +163,8 @@ fn put_marks(out: &mut Vec<u8>, item: &Item, wins: bool) -> Result<(), NoMemory>
 // Appends the first words of a reply: of one that has a value, with its length.
 fn put_head(out: &mut Vec<u8>, valued: bool, len: usize) -> Result<(), NoMemory>
     ensures ok { OnOk result (out.new.items ≡ out.old.items ++ head_text valued len) }
+    ensures short { OnOk result (length out.new.items ≤ length out.old.items + 23) }
+    ensures more { (text : List ℕ) × (out.new.items ≡ out.old.items ++ text) }
 {
     if valued {
         put(out, b"VA ")?;
@@ -154,6 +177,8 @@ fn put_head(out: &mut Vec<u8>, valued: bool, len: usize) -> Result<(), NoMemory>
 // Appends the end of the first line, and a value behind it where one is wanted.
 fn put_block(out: &mut Vec<u8>, valued: bool, value: &[u8]) -> Result<(), NoMemory>
     ensures ok { OnOk result (out.new.items ≡ out.old.items ++ block_text valued value.now) }
+    ensures short { OnOk result (length out.new.items ≤ length out.old.items + length value.now + 4) }
+    ensures more { (text : List ℕ) × (out.new.items ≡ out.old.items ++ text) }
 {
     if valued {
         put(out, b"\r\n")?;
@@ -172,6 +197,8 @@ fn put_leased(
     wins: bool,
 ) -> Result<(), NoMemory>
     ensures ok { OnOk result (out.new.items ≡ out.old.items ++ valued_text word.now flags.now (shown_item item.now left) (marks_text item.now wins) item.now.value) }
+    ensures short { OnOk result (length out.new.items ≤ length out.old.items + most_of_flags (length word.now) flags.now + length item.now.value + 33) }
+    ensures more { (text : List ℕ) × (out.new.items ≡ out.old.items ++ text) }
 {
     let value = item.value.bytes();
     let valued = has_flag(b"v".as_slice(), flags.again());
@@ -197,6 +224,8 @@ fn put_counted(
     left: Left,
 ) -> Result<(), NoMemory>
     ensures ok { OnOk result (out.new.items ≡ out.old.items ++ valued_text word.now flags.now (shown_count unique left) [] (decimal number)) }
+    ensures short { OnOk result (length out.new.items ≤ length out.old.items + most_of_flags (length word.now) flags.now + 53) }
+    ensures more { (text : List ℕ) × (out.new.items ≡ out.old.items ++ text) }
 {
     let mut digits = Buffer::new();
     let digits = digits.format(number).as_bytes();
@@ -214,7 +243,8 @@ fn put_counted(
 
 // The two letters of what came of a command.
 fn status_of(reply: Reply) -> &'static [u8]
-    ensures { result.now ≡ status_text reply }
+    ensures is { result.now ≡ status_text reply }
+    ensures short { length result.now ≡ 2 }
 {
     match reply {
         Reply::NotStored => b"NS",
@@ -234,6 +264,8 @@ fn put_status(
     unique: u64,
 ) -> Result<(), NoMemory>
     ensures ok { OnOk result (out.new.items ≡ out.old.items ++ line_text verb word.now flags.now status.now unique) }
+    ensures short { OnOk result (length out.new.items ≤ length out.old.items + most_of_flags (length word.now) flags.now + length status.now + 2) }
+    ensures more { (text : List ℕ) × (out.new.items ≡ out.old.items ++ text) }
 {
     let shown = Shown {
         len: None,
@@ -252,6 +284,8 @@ fn put_status(
 // Appends what `me` tells of an item: its key as the client wrote it, and numbers by their names.
 fn put_debug(out: &mut Vec<u8>, word: &[u8], item: &Item) -> Result<(), NoMemory>
     ensures ok { OnOk result (out.new.items ≡ out.old.items ++ debug_text word.now item.now) }
+    ensures short { OnOk result (length out.new.items ≤ length out.old.items + length word.now + 100) }
+    ensures more { (text : List ℕ) × (out.new.items ≡ out.old.items ++ text) }
 {
     put(out, b"ME ")?;
     put(out, word)?;
@@ -289,7 +323,9 @@ fn put_said(
     says: &Says,
 ) -> Result<(), NoMemory>
     ensures ok { OnOk result (out.new.items ≡ out.old.items ++ said_text verb word.now flags.now says.now) }
-    {
+    ensures short { OnOk result (length out.new.items ≤ length out.old.items + most_of_flags (length word.now) flags.now + length word.now + shown_len says.now + 100) }
+    ensures more { (text : List ℕ) × (out.new.items ≡ out.old.items ++ text) }
+{
     match says {
         Says::Nothing => put_status(out, verb, word, flags, b"EN", 0),
         Says::Leases { item, left, wins } => put_leased(out, word, flags, item, *left, *wins),
@@ -307,19 +343,22 @@ fn put_said(
     }
 }
 
-/// Appends what is replied to a meta command, which is nothing where its flags ask for no reply to that. When out of memory, some of it may be appended.
-#[tactic(auto, unfolding(crate::specs::Replies::meta_text))]
-pub fn put_meta(
-    out: &mut Vec<u8>,
-    verb: Verb,
-    word: &[u8],
-    flags: &Words,
-    says: &Says,
-) -> Result<(), NoMemory>
-    ensures ok { OnOk result (out.new.items ≡ out.old.items ++ meta_text verb word.now flags.now says.now) }
+/// Appends what is replied to a meta command, which is nothing where its flags ask for no reply to that. When out of memory, nothing is appended.
+#[tactic(auto, unfolding(crate::specs::Replies::meta_text), using(crate::proofs::ShortLaws::flags_short))]
+pub fn put_meta(out: &mut Vec<u8>, manner: &Manner, says: &Says) -> Result<(), NoMemory>
+    ensures ok { OnOk result (out.new.items ≡ out.old.items ++ meta_text manner.now says.now) }
+    ensures err { OnErr result (out.new.items ≡ out.old.items) }
+    ensures short { length out.new.items ≤ length out.old.items + shown_len says.now + MAX_SAID_LEN }
 {
+    let word = manner.word.bytes();
+    let flags = &manner.flags;
     if is_expected(says) && has_flag(b"q".as_slice(), flags.again()) {
         return Ok(());
     }
-    put_said(out, verb, word, flags, says)
+    let start = out.len();
+    let put = put_said(out, manner.verb, word, flags, says);
+    if put.is_err() {
+        out.truncate(start);
+    }
+    put
 }
