@@ -11,7 +11,7 @@ ghost use Rattle.command_answers.specs.Going.{AnswersAt, value_found};
 use crate::buffers::Buffers;
 use crate::noted::Noted;
 use fronts::{Changed, Changes};
-use memcached_commands::{Ask, Asked};
+use memcached_commands::{Ask, Asked, KEY_ROOM};
 use memcached_decisions::CommandOrder;
 use memcached_requests::{Style, put_said};
 use memcached_stats::{Tally, counter_of};
@@ -67,7 +67,7 @@ pub fn answer_ask<F: Changes>(
     base: u64,
     partitions: u32,
     buffers: &mut Buffers,
-    style: Style,
+    style: &Style,
     asked: &Asked,
     is_last: bool,
     out: &mut Vec<u8>,
@@ -76,7 +76,7 @@ pub fn answer_ask<F: Changes>(
     requires left { 0 < F.left front.old }
     ensures answered { (answered : Answered)
         × AnswersAt (F.options front.old) F.is_alone base second (F.sessions front.old) asked.now (F.sessions front.new) answered
-        × OnOk result (out.new.items ≡ out.old.items ++ said_text style is_last asked.now.key (said_of base asked.now answered))
+        × OnOk result (out.new.items ≡ out.old.items ++ said_text style.now is_last asked.now.key (said_of base asked.now answered))
         × (F.left front.old ≤ F.left front.new + count_of_writes (answered ∷ []))
         × (buffers.new.tally ≡ tally_after base partitions asked.now answered buffers.old.tally) }
     ensures err { OnErr result (out.new.items ≡ out.old.items) }
@@ -94,7 +94,8 @@ pub fn answer_ask<F: Changes>(
         ..
     } = buffers;
     let order = CommandOrder::new(&asked.ask, base);
-    let key = asked.key.bytes();
+    let mut room = [0; KEY_ROOM];
+    let key = asked.key.bytes(&mut room);
     let changed = front.change(second, key, &order, found, next);
     let stored = value_found(changed.found, found);
     let says = order.says(changed.when, stored, changed.outcome);

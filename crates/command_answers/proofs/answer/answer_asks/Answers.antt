@@ -76,13 +76,13 @@ loop-count-preserved g c =
     let left = c.answer_ask.ensures.left in
     let fit = subst (AllByRecursion IsFitAsked) c.in-Some.ensures inv.fit in
     let said = said_of c.args.base c.in-Some.asked one.0 in
-    let text = one.2 ∙ ap (λ t. c.loop-count.out.items ++ said_text c.args.style t c.in-Some.asked.key said) c.is_empty-is_last.ensures in record {
+    let text = one.2 ∙ ap (λ t. c.loop-count.out.items ++ said_text c.args.style.now t c.in-Some.asked.key said) c.is_empty-is_last.ensures in record {
       answers = inv.answers ++ one.0 ∷ [];
       first = first g z one.0 one.1;
       many = many g z one.0;
       left_is = left_is g z;
       fit = fit.1;
-      text = text_more c.args.base c.args.style c.args.asks.now c.next_asked.new.self inv.answers c.in-Some.asked one.0 c.args.out.now.items
+      text = text_more c.args.base c.args.style.now c.args.asks.now c.next_asked.new.self inv.answers c.in-Some.asked one.0 c.args.out.now.items
           c.loop-count.out.items c.answer_ask.new.out.items (here g z) inv.text text;
       short = let less = c.loop-count-test.true in omega (arith, less, c.answer_ask.ensures.short);
       few = let less = c.loop-count-test.true in omega (arith, less);
@@ -108,13 +108,13 @@ returns-then-is_last-clause-answered g c =
     let inv = c.loop-count.invariant in
     let one = c.in-Ok.ensures.answered in
     let said = said_of c.args.base c.in-Some.asked one.0 in
-    let text = one.2 ∙ ap (λ t. c.loop-count.out.items ++ said_text c.args.style t c.in-Some.asked.key said) c.is_empty-is_last.ensures in (
+    let text = one.2 ∙ ap (λ t. c.loop-count.out.items ++ said_text c.args.style.now t c.in-Some.asked.key said) c.is_empty-is_last.ensures in (
       inv.answers ++ one.0 ∷ [],
       first g z one.0 one.1,
       record {
         many = many g z one.0;
         left_is = left_is g z;
-        text = text_more c.args.base c.args.style c.args.asks.now c.next_asked.new.self inv.answers c.in-Some.asked one.0 c.args.out.now.items
+        text = text_more c.args.base c.args.style.now c.args.asks.now c.next_asked.new.self inv.answers c.in-Some.asked one.0 c.args.out.now.items
             c.loop-count.out.items c.answer_ask.new.out.items (here g z) inv.text text;
         stops = inl (none_left c.next_asked.new.self (sym c.is_empty-is_last.ensures ∙ c.if-is_last.true));
       },
