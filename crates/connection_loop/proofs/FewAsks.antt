@@ -1,6 +1,7 @@
 -- What bytes begin with asks of few keys, in whatever protocol.
 use Rattle.std.proofs.Common.{◌≡◌, ◌+◌, ◌<◌, ◌≤◌, ◌^◌, ◌==◌, ℕ, Bool, true, false, true≢false, List, [], ◌∷◌, length, take, refl, sym, subst, arith}
 use Rattle.std.specs.Prelude.{Option, Some, None, if◌then◌else◌}
+use Rattle.std.specs.Option.{IfSome}
 use Rattle.memcached_text.specs.declared.limits.TheConstants.{MAX_GET_LINE_LEN, MAX_TEXT_LEN}
 use Rattle.memcached_text.specs.declared.command.Command.{Command}
 use Rattle.memcached_text.specs.declared.command.Command.TheVariants as commands

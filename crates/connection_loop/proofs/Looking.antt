@@ -6,6 +6,7 @@ use Rattle.partition_model.specs.declared.options.Options.{Options}
 use Rattle.memcached_text.specs.declared.limits.TheConstants.{MAX_WAITING_LEN}
 use Rattle.memcached_requests.specs.declared.request.Next.TheVariants.{More}
 use Rattle.memcached_text.specs.declared.next.Next.TheVariants as of_lines
+use Rattle.memcached_text.specs.Lines.{Lacks}
 use Rattle.memcached_text.specs.Next as text
 use Rattle.memcached_text.proofs.NextLaws.{binary_is}
 use Rattle.memcached_frames.specs.declared.header.TheConstants.{REQUEST}
