@@ -164,4 +164,4 @@ next_fits bytes = go (begins_meta bytes)
     go false = tt
 
 pub manner_fits : (meta : Meta) → IsFitMeta meta → IsFitManner meta.word meta.flags
-manner_fits meta fits = record { word = fits.word.1; flags = (lawful meta.verb meta.word meta.flags fits.lawful).flags_are }
+manner_fits meta fits = record { short = fits.word.1; lawful = (lawful meta.verb meta.word meta.flags fits.lawful).flags_are }

@@ -19,8 +19,8 @@ pub record IsFitMeta (meta : Meta) : Type 0 where
 
 -- each flag is one, and stands once
 pub record IsFitManner (word : List ℕ) (flags : List (List ℕ)) : Type 0 where
-  pub word : length word ≤ MAX_KEY_LEN
-  pub flags : flags_fault flags ≡ None
+  pub short : length word ≤ MAX_KEY_LEN
+  pub lawful : flags_fault flags ≡ None
 
 abbrev pub manner_of : Meta → Manner
 manner_of meta = record { verb = meta.verb; word = meta.word; flags = meta.flags }
