@@ -13,7 +13,9 @@ use Rattle.memcached_text.specs.Fit.{IsFitKey}
 use Rattle.memcached_text.specs.Line.{is_short, is_key}
 use Rattle.memcached_text.specs.Lines.{lacks, line_at, words_of, without_return}
 use Rattle.memcached_text.proofs.NextLaws.{block_has_come}
+use Rattle.memcached_text.specs.declared.fault.Fault.TheVariants.{TooLarge}
 use Rattle.memcached_meta.specs.declared.fault.MetaFault.{MetaFault}
+use Rattle.memcached_meta.specs.declared.fault.MetaFault.TheVariants as faults
 use Rattle.memcached_meta.specs.declared.line.Verb.{Verb}
 use Rattle.memcached_meta.specs.declared.line.Verb.TheVariants.{Get, Store, Delete, Count, Debug}
 use Rattle.memcached_meta.specs.declared.line.Meta.{Meta}
@@ -128,10 +130,10 @@ unfolding stored_at
 at_fits meta value_len len rest fits = go (nat_lt MAX_TEXT_LEN value_len) refl
   where
     go : (t : Bool) → nat_lt MAX_TEXT_LEN value_len ≡ t → IsFitMetaNext (stored_at meta value_len len rest)
-    go true is = rw is (stale_fits meta _ _ fits)
+    go true is = rw is (stale_fits meta (faults.Line TooLarge) (len + value_len + 2) fits)
     go false is =
         let most = ltb-false _ _ is in
-        rw is (blocked_fits meta _ (block_at value_len rest) fits (λ value whole. omega (arith, value_len_is value_len rest value whole)))
+        rw is (blocked_fits meta (len + value_len + 2) (block_at value_len rest) fits (λ value whole. omega (arith, value_len_is value_len rest value whole)))
 
 says_fits : (line : MetaLine) (len : ℕ) (rest : List ℕ) → IsFitLine line → IsFitMetaNext (line_next line len rest)
 unfolding line_next

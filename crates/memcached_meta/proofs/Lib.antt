@@ -3,5 +3,6 @@ pub mod NextLaws
 pub mod MetaLaws
 pub mod FitLaws
 pub mod AskLaws
+pub mod DebugLaws
 pub mod ShortLaws
 pub mod ReplyLaws

@@ -3,7 +3,7 @@ use Rattle.std.specs.Result.{result_ok}
 use Rattle.std.specs.Prelude.{if◌then◌else◌}
 use Rattle.std.specs.declared.result.Result.{Result}
 use Rattle.std.specs.declared.result.Result.TheVariants.{Ok, Err}
-use Rattle.std.proofs.Common.{◌≡◌, ℕ, ◌<◌, Bool, true, false, cond, List, [], ◌∷◌, length, refl, sym, ap, subst, ◌∙◌}
+use Rattle.std.proofs.Common.{◌≡◌, ℕ, ◌<◌, Bool, true, false, cond, List, [], ◌∷◌, length, refl, sym, ap, subst, ◌∙◌, arith}
 use Rattle.base64.specs.declared.decode.DecodeError.{DecodeError}
 use Rattle.base64.specs.GeneralPurpose.{encode_of, decode_of, decoded_of}
 use Rattle.base64.specs.Engines.{standard}
@@ -37,8 +37,8 @@ decodes word some = go (is_short word) refl (decode_of standard word) refl some
     go : (t : Bool) → is_short word ≡ t → (r : Result (List ℕ) DecodeError) → decode_of standard word ≡ r
         → 0 < length (spelled true word) → decode_of standard word ≡ Ok (spelled true word)
     go true short (Ok bytes) same is = same ∙ ap Ok (sym (rw (short, same) refl))
-    go true short (Err e) same is = let none : spelled true word ≡ [] = rw (short, same) refl in absurd (subst (λ key. 0 < length key) none is)
-    go false long r same is = let none : spelled true word ≡ [] = rw long refl in absurd (subst (λ key. 0 < length key) none is)
+    go true short (Err e) same is = let none : spelled true word ≡ [] = rw (short, same) refl in let few = ap length none in absurd (omega (arith, few, is))
+    go false long r same is = let none : spelled true word ≡ [] = rw long refl in let few = ap length none in absurd (omega (arith, few, is))
 
 pub one_spelling : IsOneSpelling
 one_spelling a b bytes_a bytes_b some same =

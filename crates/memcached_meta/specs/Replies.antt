@@ -85,10 +85,12 @@ abbrev pub block_text : Bool → List ℕ → List ℕ
 block_text true value = codes "\r\n" ++ (value ++ codes "\r\n")
 block_text false value = codes "\r\n"
 
+-- up to what is told for the last flag, where a value would have so many bytes
+abbrev pub front_text : List ℕ → List (List ℕ) → Shown → ℕ → List ℕ
+front_text word flags shown len = head_text (has_flag (codes "v") flags) len ++ flags_text word (is_base64 flags) shown false flags
+
 abbrev pub valued_text : List ℕ → List (List ℕ) → Shown → List ℕ → List ℕ → List ℕ
-valued_text word flags shown marks value =
-    head_text (has_flag (codes "v") flags) (length value)
-    ++ (flags_text word (is_base64 flags) shown false flags ++ (marks ++ block_text (has_flag (codes "v") flags) value))
+valued_text word flags shown marks value = front_text word flags shown (length value) ++ (marks ++ block_text (has_flag (codes "v") flags) value)
 
 abbrev pub mark : Bool → List ℕ → List ℕ
 mark true text = text
@@ -124,10 +126,14 @@ abbrev pub expiry_text : ℕ → List ℕ
 expiry_text expires = if expires == 0 then codes "-1" else decimal expires
 
 -- what `me` tells of an item: its key as the client wrote it, and numbers by their names
+abbrev pub debugged_text : List ℕ → List ℕ
+debugged_text word = codes "ME " ++ (word ++ codes " exp=")
+
+abbrev pub numbers_text : Item → List ℕ
+numbers_text item = told (codes " cas=") (Some item.unique) ++ (told (codes " size=") (Some (HEADER_LEN + length item.value)) ++ codes "\r\n")
+
 abbrev pub debug_text : List ℕ → Item → List ℕ
-debug_text word item =
-    codes "ME " ++ (word ++ (codes " exp=" ++ (expiry_text item.expires ++ (told (codes " cas=") (Some item.unique)
-    ++ (told (codes " size=") (Some (HEADER_LEN + length item.value)) ++ codes "\r\n")))))
+debug_text word item = debugged_text word ++ (expiry_text item.expires ++ numbers_text item)
 
 -- What is said to a meta command of this key and of these flags. What finds no room is told as to classic commands.
 unfoldable pub said_text : Verb → List ℕ → List (List ℕ) → Says → List ℕ

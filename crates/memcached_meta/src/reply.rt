@@ -1,7 +1,7 @@
 //! The texts of replies to meta commands.
 ghost use Rattle.std.specs.Prelude.{◌≡◌, ◌≤◌, ◌+◌, ◌++◌, ℕ, List, [], true, false, codes, decimal, length, OnOk, OnErr};
 ghost use Rattle.memcached_commands.specs.Answers.{shown_len};
-ghost use Rattle.memcached_meta.specs.Replies.{told, told_left, key_text, flag_text, flags_text, sets_time, mark, marks_text, status_text, shown_item, shown_count, line_text, is_expected, hides, head_text, block_text, expiry_text, debug_text, valued_text, said_text, meta_text};
+ghost use Rattle.memcached_meta.specs.Replies.{told, told_left, key_text, flag_text, flags_text, sets_time, mark, marks_text, status_text, shown_item, shown_count, line_text, is_expected, hides, head_text, block_text, front_text, expiry_text, debugged_text, numbers_text, debug_text, valued_text, said_text, meta_text};
 ghost use Rattle.memcached_meta.specs.Lines.{is_base64};
 ghost use Rattle.memcached_meta.specs.Short.{most_of_flag, most_of_flags};
 
@@ -187,6 +187,22 @@ fn put_block(out: &mut Vec<u8>, valued: bool, value: &[u8]) -> Result<(), NoMemo
     put(out, b"\r\n")
 }
 
+// Appends a reply's first words, and what is told for each flag.
+fn put_front(
+    out: &mut Vec<u8>,
+    word: &[u8],
+    flags: &Words,
+    shown: &Shown,
+    len: usize,
+) -> Result<(), NoMemory>
+    ensures ok { OnOk result (out.new.items ≡ out.old.items ++ front_text word.now flags.now shown.now len) }
+    ensures short { OnOk result (length out.new.items ≤ length out.old.items + most_of_flags (length word.now) flags.now + 23) }
+    ensures more { (text : List ℕ) × (out.new.items ≡ out.old.items ++ text) }
+{
+    put_head(out, has_flag(b"v".as_slice(), flags.again()), len)?;
+    put_flags(out, word, is_base64(flags.again()), shown, flags.again())
+}
+
 // Appends the item that a meta get found or made.
 fn put_leased(
     out: &mut Vec<u8>,
@@ -208,8 +224,7 @@ fn put_leased(
         unique: Some(item.unique),
         left: Some(left),
     };
-    put_head(out, valued, value.len())?;
-    put_flags(out, word, is_base64(flags.again()), &shown, flags.again())?;
+    put_front(out, word, flags, &shown, value.len())?;
     put_marks(out, item, wins)?;
     put_block(out, valued, value)
 }
@@ -236,8 +251,7 @@ fn put_counted(
         unique: Some(unique.unwrap_or(0)),
         left: Some(left),
     };
-    put_head(out, valued, digits.len())?;
-    put_flags(out, word, is_base64(flags.again()), &shown, flags.again())?;
+    put_front(out, word, flags, &shown, digits.len())?;
     put_block(out, valued, digits)
 }
 
@@ -281,23 +295,51 @@ fn put_status(
     put(out, b"\r\n")
 }
 
-// Appends what `me` tells of an item: its key as the client wrote it, and numbers by their names.
+// Appends the key as the client wrote it, in front of what `me` tells.
+fn put_debugged(out: &mut Vec<u8>, word: &[u8]) -> Result<(), NoMemory>
+    ensures ok { OnOk result (out.new.items ≡ out.old.items ++ debugged_text word.now) }
+    ensures short { OnOk result (length out.new.items ≤ length out.old.items + length word.now + 8) }
+    ensures more { (text : List ℕ) × (out.new.items ≡ out.old.items ++ text) }
+{
+    put(out, b"ME ")?;
+    put(out, word)?;
+    put(out, b" exp=")
+}
+
+// Appends the second at which an item ends, and -1 where it does not.
+fn put_expiry(out: &mut Vec<u8>, expires: u32) -> Result<(), NoMemory>
+    ensures ok { OnOk result (out.new.items ≡ out.old.items ++ expiry_text expires) }
+    ensures short { OnOk result (length out.new.items ≤ length out.old.items + 20) }
+    ensures more { (text : List ℕ) × (out.new.items ≡ out.old.items ++ text) }
+{
+    if expires == 0 {
+        put(out, b"-1")
+    } else {
+        put_digits(out, u64::from(expires))
+    }
+}
+
+// Appends its numbers by their names.
+fn put_numbers(out: &mut Vec<u8>, item: &Item) -> Result<(), NoMemory>
+    ensures ok { OnOk result (out.new.items ≡ out.old.items ++ numbers_text item.now) }
+    ensures short { OnOk result (length out.new.items ≤ length out.old.items + 53) }
+    ensures more { (text : List ℕ) × (out.new.items ≡ out.old.items ++ text) }
+{
+    let size = HEADER_LEN + item.value.bytes().len();
+    put_told(out, b" cas=", Some(item.unique))?;
+    put_told(out, b" size=", Some(size as u64))?;
+    put(out, b"\r\n")
+}
+
+// Appends what `me` tells of an item.
 fn put_debug(out: &mut Vec<u8>, word: &[u8], item: &Item) -> Result<(), NoMemory>
     ensures ok { OnOk result (out.new.items ≡ out.old.items ++ debug_text word.now item.now) }
     ensures short { OnOk result (length out.new.items ≤ length out.old.items + length word.now + 100) }
     ensures more { (text : List ℕ) × (out.new.items ≡ out.old.items ++ text) }
 {
-    put(out, b"ME ")?;
-    put(out, word)?;
-    put(out, b" exp=")?;
-    if item.expires == 0 {
-        put(out, b"-1")?;
-    } else {
-        put_digits(out, u64::from(item.expires))?;
-    }
-    put_told(out, b" cas=", Some(item.unique))?;
-    put_told(out, b" size=", Some((HEADER_LEN + item.value.bytes().len()) as u64))?;
-    put(out, b"\r\n")
+    put_debugged(out, word)?;
+    put_expiry(out, item.expires)?;
+    put_numbers(out, item)
 }
 
 // Whether a quiet command leaves the reply out: what went as it should, and a get that found nothing.
