@@ -70,7 +70,7 @@ fit_of : (verb : Verb) (word : List ℕ) (flags : List (List ℕ)) → meta_faul
 fit_of verb word flags is = let l = lawful verb word flags is in record { word = l.word_fits; key = l.key_is; lawful = is; value = omega arith }
 
 -- a line whose command may be carried out, once it has its value
-abbrev IsFitLine : MetaLine → Type 0
+abbrev pub IsFitLine : MetaLine → Type 0
 IsFitLine (lines.Whole meta) = IsFitMeta meta
 IsFitLine (lines.Storing meta len) = IsFitMeta meta
 IsFitLine (lines.Refused fault block) = ⊤
@@ -87,7 +87,7 @@ stored_fits : (word : List ℕ) (flags : List (List ℕ)) (len : Option ℕ) →
 stored_fits word flags None = tt
 stored_fits word flags (Some len) = storing_fits word flags len (meta_fault Store word flags) refl
 
-line_fits : (verb : Verb) (words : List (List ℕ)) → IsFitLine (line_of verb words)
+pub line_fits : (verb : Verb) (words : List (List ℕ)) → IsFitLine (line_of verb words)
 unfolding line_of storing_line
 line_fits Get [] = tt
 line_fits Store [] = tt
@@ -135,35 +135,11 @@ at_fits meta value_len len rest fits = go (nat_lt MAX_TEXT_LEN value_len) refl
         let most = ltb-false _ _ is in
         rw is (blocked_fits meta (len + value_len + 2) (block_at value_len rest) fits (λ value whole. omega (arith, value_len_is value_len rest value whole)))
 
-says_fits : (line : MetaLine) (len : ℕ) (rest : List ℕ) → IsFitLine line → IsFitMetaNext (line_next line len rest)
+pub says_fits : (line : MetaLine) (len : ℕ) (rest : List ℕ) → IsFitLine line → IsFitMetaNext (line_next line len rest)
 unfolding line_next
 says_fits (lines.Whole meta) len rest fits = fits
 says_fits (lines.Storing meta value_len) len rest fits = at_fits meta value_len len rest fits
 says_fits (lines.Refused fault block) len rest fits = tt
-
-verb_fits : (o : Option Verb) (words : List (List ℕ)) (len : ℕ) (rest : List ℕ) → IfSome (option_map (λ verb. line_next (line_of verb words) len rest) o) IsFitMetaNext
-verb_fits None words len rest = tt
-verb_fits (Some verb) words len rest = says_fits (line_of verb words) len rest (line_fits verb words)
-
-named_fits : (words : List (List ℕ)) (len : ℕ) (rest : List ℕ) → IfSome (named_next words len rest) IsFitMetaNext
-named_fits [] len rest = tt
-named_fits (name ∷ words) len rest = verb_fits (verb_of name) words len rest
-
-found_fits : (o : Option (List ℕ × List ℕ)) → IfSome (found_next o) IsFitMetaNext
-found_fits None = tt
-found_fits (Some found) = go (nat_lt MAX_LINE_LEN (length found.0))
-  where
-    go : (t : Bool) → IfSome (cond t None (named_next (words_of (without_return found.0)) (length found.0 + 1) found.1)) IsFitMetaNext
-    go true = tt
-    go false = named_fits (words_of (without_return found.0)) (length found.0 + 1) found.1
-
-pub next_fits : (bytes : List ℕ) → IfSome (next_meta bytes) IsFitMetaNext
-unfolding next_meta
-next_fits bytes = go (begins_meta bytes)
-  where
-    go : (t : Bool) → IfSome (cond t (found_next (line_at bytes)) None) IsFitMetaNext
-    go true = found_fits (line_at bytes)
-    go false = tt
 
 pub manner_fits : (meta : Meta) → IsFitMeta meta → IsFitManner meta.word meta.flags
 manner_fits meta fits = record { short = fits.word.1; lawful = (lawful meta.verb meta.word meta.flags fits.lawful).flags_are }

@@ -1,8 +1,8 @@
 -- How long what is told for flags is, where each stands once.
 use Rattle.std.specs.Prelude.{◌||◌, ◌&&◌, ◌==◌, if◌then◌else◌}
 use Rattle.std.specs.List.{list_any}
-use Rattle.std.proofs.Common.{◌≡◌, ℕ, ◌+◌, ◌≤◌, List, [], ◌∷◌, Bool, true, false, Option, Some, None, length, nat_lt, nat_le, refl, sym, subst, eqb-true, arith}
-use Rattle.std.proofs.lemmas.Bool.{ltb-false}
+use Rattle.std.proofs.Common.{◌≡◌, ℕ, ◌+◌, ◌≤◌, List, [], ◌∷◌, Bool, true, false, Option, Some, None, length, nat_lt, nat_le, refl, sym, subst, ◌∙◌, eqb-true, true≢false, arith}
+use Rattle.std.proofs.lemmas.Bool.{ltb-false, eq-eqb}
 use Rattle.memcached_meta.specs.declared.fault.MetaFault.{MetaFault}
 use Rattle.memcached_meta.specs.declared.fault.MetaFault.TheVariants.{LongOpaque}
 use Rattle.memcached_meta.specs.declared.flags.TheConstants.{MAX_OPAQUE_LEN}
@@ -50,6 +50,13 @@ of_k len rest letters fresh is = rw fresh (omega arith)
 of_opaque : (len : ℕ) (rest letters : List ℕ) → Lessens len rest letters 79
 of_opaque len rest letters fresh is = let few = opaque_short rest is in rw fresh (omega (arith, few))
 
+apart : (a b : ℕ) → (a == b) ≡ false → (b == a) ≡ false
+apart a b is = go (b == a) refl
+  where
+    go : (t : Bool) → (b == a) ≡ t → t ≡ false
+    go true same = absurd (true≢false (sym (eq-eqb a b (sym (eqb-true b a same))) ∙ is))
+    go false same = refl
+
 -- what a flag may have, by which letter it has
 abbrev most_by : Bool → Bool → Bool → Bool → Bool → Bool → ℕ → ℕ → ℕ
 most_by s t c f k o len size = if s then 22 else (if t then 22 else (if c then 22 else (if f then 22 else (if k then len + 4 else (if o then 1 + size else 0)))))
@@ -69,7 +76,7 @@ flag_lessens len a rest letters = go (a == 115) (a == 116) (a == 99) (a == 102) 
     go false false false false false true s_is t_is c_is f_is k_is o_is = of 79 o_is (of_opaque len rest letters)
     go false false false false false false s_is t_is c_is f_is k_is o_is = λ fresh is.
         let none : most_of_flag len (a ∷ rest) ≡ 0 =
-        λ i. most_by (s_is i && true) (t_is i && true) (c_is i && true) (f_is i && true) (k_is i && true) (o_is i && true) len (1 + length rest) in
+        λ i. most_by (apart a 115 s_is i && true) (apart a 116 t_is i && true) (apart a 99 c_is i && true) (apart a 102 f_is i && true) (apart a 107 k_is i && true) (apart a 79 o_is i && true) len (length (a ∷ rest)) in
         let same : left len (a ∷ letters) ≡ left len letters =
         λ i. unless (s_is i || seen 115 letters) 22 + (unless (t_is i || seen 116 letters) 22 + (unless (c_is i || seen 99 letters) 22
             + (unless (f_is i || seen 102 letters) 22 + (unless (k_is i || seen 107 letters) (len + 4) + unless (o_is i || seen 79 letters) 33)))) in

@@ -141,7 +141,7 @@ fn begins_meta(from: &[u8]) -> bool
 
 /// What the bytes begin with. None where that is no line of a meta command, or none that has come. It stays so whatever bytes follow, unless it is
 /// `More`.
-#[tactic(auto, unfolding(crate::specs::Next::next_meta), using(memcached_text::proofs::LineLaws::line_at_fed, memcached_text::proofs::LineLaws::line_at_none, crate::proofs::FitLaws::next_fits))]
+#[tactic(auto, unfolding(crate::specs::Next::next_meta), using(memcached_text::proofs::LineLaws::line_at_fed, memcached_text::proofs::LineLaws::line_at_none))]
 pub fn next_meta(from: &[u8]) -> Option<MetaNext>
     ensures next { result ≡ next_meta from.now }
     ensures fit { IfSome result IsFitMetaNext }
