@@ -2,6 +2,7 @@
 ghost use Rattle.std.specs.Prelude.{◌≡◌, ◌≤◌, ◌+◌, ◌++◌, length, OnOk, OnErr};
 ghost use Rattle.memcached_text.specs.declared.limits.TheConstants.{MAX_KEY_LEN, MAX_TEXT_LEN};
 ghost use Rattle.memcached_meta.specs.declared.reply.TheConstants.{MAX_SAID_LEN};
+ghost use Rattle.memcached_text.specs.Replies as lines;
 ghost use Rattle.memcached_commands.specs.Answers.{shown_len};
 ghost use Rattle.memcached_requests.specs.Replies.{said_text, stat_text};
 
@@ -37,6 +38,15 @@ pub fn put_said(
     }
 }
 
+// Appends one thing that is counted, as a line. When out of memory, nothing is appended.
+fn put_line(out: &mut Vec<u8>, name: &[u8], value: &[u8]) -> Result<(), NoMemory>
+    ensures ok { OnOk result (out.new.items ≡ out.old.items ++ lines.stat_text name.now value.now) }
+    ensures err { OnErr result (out.new.items ≡ out.old.items) }
+    ensures short { OnOk result (length out.new.items ≤ length out.old.items + 24 + length name.now + length value.now) }
+{
+    memcached_text::put_stat(out, name, value)
+}
+
 /// Appends one thing that the server counts. When out of memory, nothing is appended.
 pub fn put_stat(out: &mut Vec<u8>, style: &Style, name: &[u8], value: &[u8]) -> Result<(), NoMemory>
     requires name { length name.now ≤ MAX_KEY_LEN }
@@ -47,6 +57,8 @@ pub fn put_stat(out: &mut Vec<u8>, style: &Style, name: &[u8], value: &[u8]) -> 
 {
     match style {
         Style::Frame(echo) => put_count(out, *echo, name, value),
-        _ => memcached_text::put_stat(out, name, value),
+        Style::Classic { .. } => put_line(out, name, value),
+        Style::Meta(_) => put_line(out, name, value),
+        Style::Fault(_) => put_line(out, name, value),
     }
 }
