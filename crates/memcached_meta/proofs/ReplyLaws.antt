@@ -15,21 +15,20 @@ pub record IsToldSoFar (old new : List ℕ) (word : List ℕ) (base64 : Bool) (s
 module _ {old new : List ℕ} {word : List ℕ} {base64 : Bool} {shown : Shown} {flags : List (List ℕ)} {late : Bool} (flag : List ℕ) (left : List (List ℕ))
     (so_far : IsToldSoFar old new word base64 shown flags late (flag ∷ left))
   where
-
-  -- one flag more
-  pub told_more : (after : List ℕ) → after ≡ new ++ flag_text word base64 shown late flag → length after ≤ length new + most_of_flag (length word) flag
-      → IsToldSoFar old after word base64 shown flags (late || sets_time flag) left
-  unfolding flags_text most_of_flags
-  told_more after is few =
-      let here = flag_text word base64 shown late flag in
-      let later = flags_text word base64 shown (late || sets_time flag) left in
-      let grown = ap length is ∙ length-append new here in
-      record {
-        text = so_far.text ++ here;
-        new_is = is ∙ ap (λ bytes. bytes ++ here) so_far.new_is ∙ append_assoc old so_far.text here;
-        whole = append_assoc so_far.text here later ∙ so_far.whole;
-        few = omega (arith, so_far.few, few, grown, length-append so_far.text here);
-      }
+    -- one flag more
+    pub told_more : (after : List ℕ) → after ≡ new ++ flag_text word base64 shown late flag → length after ≤ length new + most_of_flag (length word) flag
+        → IsToldSoFar old after word base64 shown flags (late || sets_time flag) left
+    unfolding flags_text most_of_flags
+    told_more after is few =
+        let here = flag_text word base64 shown late flag in
+        let later = flags_text word base64 shown (late || sets_time flag) left in
+        let grown = ap length is ∙ length-append new here in
+        record {
+          text = so_far.text ++ here;
+          new_is = is ∙ ap (λ bytes. bytes ++ here) so_far.new_is ∙ append_assoc old so_far.text here;
+          whole = append_assoc so_far.text here later ∙ so_far.whole;
+          few = omega (arith, so_far.few, few, grown, length-append so_far.text here);
+        }
 
 -- nothing yet
 pub none_told : (old word : List ℕ) (base64 : Bool) (shown : Shown) (flags : List (List ℕ)) → IsToldSoFar old old word base64 shown flags false flags

@@ -79,7 +79,7 @@ flag_lessens len a rest letters = go (a == 115) (a == 116) (a == 99) (a == 102) 
         λ i. most_by (apart a 115 s_is i && true) (apart a 116 t_is i && true) (apart a 99 c_is i && true) (apart a 102 f_is i && true) (apart a 107 k_is i && true) (apart a 79 o_is i && true) len (length (a ∷ rest)) in
         let same : left len (a ∷ letters) ≡ left len letters =
         λ i. unless (s_is i || seen 115 letters) 22 + (unless (t_is i || seen 116 letters) 22 + (unless (c_is i || seen 99 letters) 22
-            + (unless (f_is i || seen 102 letters) 22 + (unless (k_is i || seen 107 letters) (len + 4) + unless (o_is i || seen 79 letters) 33)))) in
+        + (unless (f_is i || seen 102 letters) 22 + (unless (k_is i || seen 107 letters) (len + 4) + unless (o_is i || seen 79 letters) 33)))) in
         omega (arith, none, same)
 
 word_lessens : (len : ℕ) (word letters : List ℕ) → seen (letter_of word) letters ≡ false → fault_in word ≡ None

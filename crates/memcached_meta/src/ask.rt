@@ -4,7 +4,9 @@ ghost use Rattle.memcached_text.specs.declared.limits.TheConstants.{MAX_TEXT_LEN
 ghost use Rattle.memcached_commands.specs.Fit.{IsFitAsk};
 ghost use Rattle.memcached_meta.specs.Asks.{mode_of, lease_of, unless_zero, wants_of, store_of, delete_of, direction_of, count_of, meta_ask};
 
-use crate::flags::{argument_of, flag_lifetime, flag_number, flag_short, has_flag, is_late, vivified};
+use crate::flags::{
+    argument_of, flag_lifetime, flag_number, flag_short, has_flag, is_late, vivified,
+};
 use crate::line::{Meta, Verb};
 use memcached_commands::{Ask, Initial, Lease};
 use memcached_text::{Direction, Lifetime, Side, Text, Wants, Words};

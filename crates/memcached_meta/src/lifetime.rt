@@ -5,9 +5,13 @@ ghost use Rattle.memcached_text.specs.Lifetimes.{lifetime_at, lifetime_of};
 use memcached_text::{Lifetime, number_of};
 
 const MAX_SECONDS: u32 = 2_592_000;
+
 const LAST_SAID: u32 = 2_147_483_647;
+
 const MOST_ABOVE: u64 = 9_223_372_036_854_775_807;
+
 const MOST_BELOW: u64 = 9_223_372_036_854_775_808;
+
 const EXPIRIES: u64 = 4_294_967_296;
 
 fn lifetime_at(number: u32) -> Lifetime
