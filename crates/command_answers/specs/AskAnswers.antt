@@ -13,7 +13,7 @@ use Rattle.memcached_commands.specs.declared.asks.Asked.{Asked}
 use Rattle.memcached_commands.specs.declared.ask.Says.{Says}
 use Rattle.memcached_commands.specs.declared.ask.Says.TheVariants.{Nothing}
 use Rattle.memcached_requests.specs.declared.request.Style.{Style}
-use Rattle.memcached_requests.specs.declared.request.Style.TheVariants.{Classic, Frame}
+use Rattle.memcached_requests.specs.declared.request.Style.TheVariants.{Classic, Frame, Meta}
 use Rattle.memcached_requests.specs.Replies.{said_text}
 use Rattle.memcached_decisions.specs.Numbered.{Order, becoming_by, says_by}
 use Rattle.fronts.specs.Answered.{Answered, changed, kept}
@@ -45,9 +45,10 @@ abbrev pub is_set_opcode : Option Opcode → Bool
 is_set_opcode (Some opcode) = is_set_verb opcode.verb
 is_set_opcode None = false
 
--- a set by a line; or by a frame, whatever number that has
+-- a set by a line, or by a meta command with no number and no other mode; or by a frame, whatever number that has
 abbrev pub is_set : Style → Ask → Bool
 is_set (Classic quiet unique) (Store Whatever flags lifetime value) = true
+is_set (Meta manner) (Store Whatever flags lifetime value) = true
 is_set (Frame echo) (Store wants flags lifetime value) = is_set_opcode (opcode_of echo.opcode)
 is_set _ _ = false
 

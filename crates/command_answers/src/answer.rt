@@ -64,12 +64,12 @@ fn answer_stats(
     second: u64,
     partitions: u32,
     buffers: &mut Buffers,
-    style: Style,
+    style: &Style,
     done: usize,
     out: &mut Vec<u8>,
 ) -> Result<Progress, NoMemory>
     ensures told { IfOk result (λ progress. (progress ≡ record { done = done; is_whole = true })
-        × ((told : Told) × (out.new.items ≡ out.old.items ++ stats_text style partitions told))) }
+        × ((told : Told) × (out.new.items ≡ out.old.items ++ stats_text style.now partitions told))) }
     ensures err { OnErr result (out.new.items ≡ out.old.items) }
     ensures short { length out.new.items ≤ length out.old.items + MAX_REPLY_LEN }
     ensures tally { buffers.new.tally ≡ buffers.old.tally }
@@ -108,11 +108,11 @@ fn flush_due(next: &Next) -> Due
 }
 
 // How what was said is replied to.
-fn style_of(next: &Next) -> Style
+fn style_of<'a>(next: &Next<'a>) -> Style<'a>
     ensures { result ≡ style_of next.now }
 {
     match next {
-        Next::Whole { style, .. } => *style,
+        Next::Whole { style, .. } => style.again(),
         Next::More => Style::Classic {
             quiet: true,
             unique: false,
@@ -135,7 +135,7 @@ fn answer_flush<F: Changes>(
     partitions: u32,
     due: Due,
     key: &mut ItemBuf,
-    style: Style,
+    style: &Style,
     out: &mut Vec<u8>,
 ) -> Result<Progress, NoMemory>
     requires partitions { partitions ≡ (F.options front.old).partitions }
@@ -143,7 +143,7 @@ fn answer_flush<F: Changes>(
     ensures flushed { (answers : List Answered) × AnswersInOrder (F.options front.old) F.is_alone (F.sessions front.old) answers (F.sessions front.new)
         × FlushesFrom (F.options front.old) (flush_at second due) 0 answers × (length answers ≡ partitions)
         × IfOk result (λ progress. (progress ≡ record { done = partitions; is_whole = true })
-        × (out.new.items ≡ out.old.items ++ flush_text style true answers))
+        × (out.new.items ≡ out.old.items ++ flush_text style.now true answers))
         × (F.left front.old ≤ F.left front.new + count_of_writes answers) }
     ensures err { OnErr result (out.new.items ≡ out.old.items) }
     ensures short { length out.new.items ≤ length out.old.items + MAX_REPLY_LEN }
@@ -190,7 +190,7 @@ fn put_plain(out: &mut Vec<u8>, next: &Next) -> Result<(), NoMemory>
             request: Request::Said(says),
             style,
             ..
-        } => put_said(out, *style, true, b"", says),
+        } => put_said(out, style, true, b"", says),
         _ => Ok(()),
     }
 }
@@ -228,7 +228,7 @@ fn answer_asks<'a, F: Changes>(
     base: u64,
     partitions: u32,
     buffers: &mut Buffers,
-    style: Style,
+    style: &Style,
     asks: &mut Asks<'a>,
     limits: Limits,
     out: &mut Vec<u8>,
@@ -237,8 +237,8 @@ fn answer_asks<'a, F: Changes>(
     requires few { length asks.old + 1 < 2 ^ 64 }
     requires left { limits.asks + 1 ≤ F.left front.old }
     ensures answered { (answers : List Answered)
-        × AnswersFirst (F.options front.old) F.is_alone base second style asks.old (F.sessions front.old) (F.sessions front.new) answers
-        × IfOk result (λ count. RepliesFirst base style asks.old limits answers out.old.items out.new.items count asks.new)
+        × AnswersFirst (F.options front.old) F.is_alone base second style.now asks.old (F.sessions front.old) (F.sessions front.new) answers
+        × IfOk result (λ count. RepliesFirst base style.now asks.old limits answers out.old.items out.new.items count asks.new)
         × (F.left front.old ≤ F.left front.new + count_of_writes answers)
         × (buffers.new.tally ≡ tally_after_all base partitions asks.old answers buffers.old.tally)
         × (length answers ≤ limits.asks + 1) }
@@ -308,12 +308,12 @@ pub fn answer_next<'a, F: Changes>(
             numbering.partitions,
             flush_due(&next),
             &mut buffers.next,
-            style,
+            &style,
             out,
         );
     }
     if is_stats(&next) {
-        return answer_stats(second, numbering.partitions, buffers, style, done, out);
+        return answer_stats(second, numbering.partitions, buffers, &style, done, out);
     }
     if has_none(&next) {
         let Ok(()) = put_plain(out, &next) else {
@@ -333,7 +333,7 @@ pub fn answer_next<'a, F: Changes>(
         numbering.base,
         numbering.partitions,
         buffers,
-        style,
+        &style,
         &mut asks,
         limits,
         out,

@@ -11,7 +11,7 @@ ghost use Rattle.command_answers.specs.Going.{AnswersAt, AnswersFirst, value_fou
 use crate::buffers::Buffers;
 use crate::noted::Noted;
 use fronts::{Changed, Changes};
-use memcached_commands::{Ask, Asked};
+use memcached_commands::{Ask, Asked, KEY_ROOM};
 use memcached_decisions::CommandOrder;
 use memcached_frames::{Verb, opcode_of};
 use memcached_requests::{Style, put_said};
@@ -49,12 +49,12 @@ fn was_refused(outcome: Option<Outcome>) -> bool
 }
 
 // Whether a set asks this.
-fn is_set(style: Style, ask: &Ask) -> bool
-    ensures { result ≡ is_set style ask.now }
+fn is_set(style: &Style, ask: &Ask) -> bool
+    ensures { result ≡ is_set style.now ask.now }
 {
     match (style, ask) {
         (
-            Style::Classic { .. },
+            Style::Classic { .. } | Style::Meta(_),
             Ask::Store {
                 wants: Wants::Whatever,
                 ..
@@ -69,8 +69,8 @@ fn is_set(style: Style, ask: &Ask) -> bool
 }
 
 // Whether this was asked by a set, and refused.
-fn is_to_go(is_refused: bool, style: Style, ask: &Ask) -> bool
-    ensures { result ≡ (is_refused && is_set style ask.now) }
+fn is_to_go(is_refused: bool, style: &Style, ask: &Ask) -> bool
+    ensures { result ≡ (is_refused && is_set style.now ask.now) }
 {
     is_refused && is_set(style, ask)
 }
@@ -106,7 +106,7 @@ pub fn answer_ask<F: Changes>(
     base: u64,
     partitions: u32,
     buffers: &mut Buffers,
-    style: Style,
+    style: &Style,
     asked: &Asked,
     is_last: bool,
     out: &mut Vec<u8>,
@@ -115,7 +115,7 @@ pub fn answer_ask<F: Changes>(
     requires left { 0 < F.left front.old }
     ensures answered { (answered : Answered)
         × AnswersAt (F.options front.old) F.is_alone base second (F.sessions front.old) asked.now (F.sessions front.new) answered
-        × OnOk result (out.new.items ≡ out.old.items ++ said_text style is_last asked.now.key (said_of base asked.now answered))
+        × OnOk result (out.new.items ≡ out.old.items ++ said_text style.now is_last asked.now.key (said_of base asked.now answered))
         × (F.left front.old ≤ F.left front.new + count_of_writes (answered ∷ []))
         × (buffers.new.tally ≡ tally_after base partitions asked.now answered buffers.old.tally)
         × (buffers.new.is_refused ≡ is_refused answered) }
@@ -135,7 +135,8 @@ pub fn answer_ask<F: Changes>(
         ..
     } = buffers;
     let order = CommandOrder::new(&asked.ask, base);
-    let key = asked.key.bytes();
+    let mut room = [0; KEY_ROOM];
+    let key = asked.key.bytes(&mut room);
     let changed = front.change(second, key, &order, found, next);
     let stored = value_found(changed.found, found);
     let says = order.says(changed.when, stored, changed.outcome);
@@ -174,7 +175,8 @@ fn spoil<F: Changes>(
     } = buffers;
     let ask = Ask::Spoil;
     let order = CommandOrder::new(&ask, base);
-    let key = asked.key.bytes();
+    let mut room = [0; KEY_ROOM];
+    let key = asked.key.bytes(&mut room);
     let gone = front.change(second, key, &order, found, next);
     note_write(tally, noted, partitions, &ask, key, &gone);
 }
@@ -187,7 +189,7 @@ pub fn answer_last<F: Changes>(
     base: u64,
     partitions: u32,
     buffers: &mut Buffers,
-    style: Style,
+    style: &Style,
     asked: &Asked,
     count: usize,
     out: &mut Vec<u8>,
@@ -196,10 +198,10 @@ pub fn answer_last<F: Changes>(
     requires left { 1 < F.left front.old }
     requires few { count + 2 < 2 ^ 64 }
     ensures answered { (answered : Answered) × (later : List Answered)
-        × AnswersFirst (F.options front.old) F.is_alone base second style (asked.now ∷ []) (F.sessions front.old) (F.sessions front.new) (answered ∷ later)
-        × (length later ≡ length (asks_behind style asked.now answered))
+        × AnswersFirst (F.options front.old) F.is_alone base second style.now (asked.now ∷ []) (F.sessions front.old) (F.sessions front.new) (answered ∷ later)
+        × (length later ≡ length (asks_behind style.now asked.now answered))
         × IfOk result (λ many. (many ≡ count + length (answered ∷ later))
-        × (out.new.items ≡ out.old.items ++ said_text style true asked.now.key (said_of base asked.now answered)))
+        × (out.new.items ≡ out.old.items ++ said_text style.now true asked.now.key (said_of base asked.now answered)))
         × (F.left front.old ≤ F.left front.new + count_of_writes (answered ∷ later))
         × (buffers.new.tally ≡ tally_after_all base partitions (asked.now ∷ []) (answered ∷ later) buffers.old.tally) }
     ensures err { OnErr result (out.new.items ≡ out.old.items) }

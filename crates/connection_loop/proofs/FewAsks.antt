@@ -1,6 +1,7 @@
 -- What bytes begin with asks of few keys, in whatever protocol.
 use Rattle.std.proofs.Common.{◌≡◌, ◌+◌, ◌<◌, ◌≤◌, ◌^◌, ◌==◌, ℕ, Bool, true, false, true≢false, List, [], ◌∷◌, length, take, refl, sym, subst, arith}
 use Rattle.std.specs.Prelude.{Option, Some, None, if◌then◌else◌}
+use Rattle.std.specs.Option.{IfSome}
 use Rattle.memcached_text.specs.declared.limits.TheConstants.{MAX_GET_LINE_LEN, MAX_TEXT_LEN}
 use Rattle.memcached_text.specs.declared.command.Command.{Command}
 use Rattle.memcached_text.specs.declared.command.Command.TheVariants as commands
@@ -27,8 +28,15 @@ use Rattle.memcached_requests.specs.declared.request.Next.{Next}
 use Rattle.memcached_requests.specs.Requests.{asks_in, asks_of, len_of}
 use Rattle.memcached_requests.specs.Lines.{of_line, request_of, request_by as line_request}
 use Rattle.memcached_requests.specs.FrameRequests.{is_part, of_frame, request_by}
-use Rattle.memcached_requests.specs.Next.{is_frame, next_of}
-use Rattle.memcached_requests.proofs.NextLaws.{as_frame, as_line}
+use Rattle.memcached_requests.specs.MetaRequests.{refused_by, of_meta}
+use Rattle.memcached_requests.specs.Next.{is_frame, of_text, next_of}
+use Rattle.memcached_meta.specs.declared.fault.MetaFault.{MetaFault}
+use Rattle.memcached_meta.specs.declared.fault.MetaFault.TheVariants as faults
+use Rattle.memcached_meta.specs.declared.next.MetaNext.{MetaNext}
+use Rattle.memcached_meta.specs.declared.next.MetaNext.TheVariants as of_metas
+use Rattle.memcached_meta.specs.Next.{next_meta, IsWithin}
+use Rattle.memcached_meta.proofs.NextLaws.{meta_within, none_yet}
+use Rattle.memcached_requests.proofs.NextLaws.{as_frame, as_text}
 use Rattle.connection_loop.proofs.Few.{AsksFew, few_asked}
 
 -- What bytes begin with asks of no more keys than there are bytes, than a line has, and than it takes.
@@ -108,13 +116,48 @@ some_come : (bytes : List ℕ) → is_frame bytes ≡ true → 0 < length bytes
 some_come [] is = absurd (true≢false (sym is))
 some_come (byte ∷ bytes) is = omega arith
 
+-- Meta commands
+
+none_asked : (fault : MetaFault) → length (asks_of (refused_by fault None)) ≡ 0
+none_asked (faults.Line fault) = refl
+none_asked faults.FlagTwice = refl
+none_asked faults.UnknownFlag = refl
+none_asked faults.FlagFormat = refl
+none_asked faults.InitialFormat = refl
+none_asked faults.DeltaFormat = refl
+none_asked faults.LongOpaque = refl
+none_asked faults.LongMode = refl
+none_asked faults.StoreMode = refl
+none_asked faults.CountMode = refl
+none_asked faults.BadFlag = refl
+none_asked faults.KeyFormat = refl
+
+-- one asks of one key at most
+of_meta_few : (come : ℕ) (next : MetaNext) → 0 < come → IsWithin come next → FewAsks come (of_meta next)
+of_meta_few come (of_metas.Whole meta len) some within = record { within = omega (arith, some); counted = omega arith; taken = omega (arith, within.0) }
+of_meta_few come (of_metas.Dropped fault None len) some within = let none = none_asked fault in record { within = omega (arith, none); counted = omega (arith, none); taken = omega (arith, none) }
+of_meta_few come (of_metas.Dropped fault (Some key) len) some within = record { within = omega (arith, some); counted = omega arith; taken = omega (arith, within) }
+of_meta_few come of_metas.More some within = record { within = omega arith; counted = omega arith; taken = omega arith }
+
+meta_come : (bytes : List ℕ) → IfSome (next_meta bytes) (λ next. 0 < length bytes)
+meta_come [] = subst (λ o. IfSome o (λ next. 0 < 0)) (sym (none_yet [] tt)) tt
+meta_come (byte ∷ bytes) = come (next_meta (byte ∷ bytes))
+  where
+    come : (o : Option MetaNext) → IfSome o (λ next. 0 < length (byte ∷ bytes))
+    come None = tt
+    come (Some next) = omega arith
+
+of_text_few : (bytes : List ℕ) (o : Option MetaNext) → IfSome o (λ next. 0 < length bytes) → IfSome o (IsWithin (length bytes)) → FewAsks (length bytes) (of_text bytes o)
+of_text_few bytes None some within = of_line_few (length bytes) (text.next_of bytes) (few_asked bytes)
+of_text_few bytes (Some next) some within = of_meta_few (length bytes) next some within
+
 pub few_asks : (bytes : List ℕ) → FewAsks (length bytes) (next_of bytes)
 few_asks bytes = either (is_frame bytes) refl
   where
     either : (t : Bool) → is_frame bytes ≡ t → FewAsks (length bytes) (next_of bytes)
     either true is = subst (FewAsks (length bytes)) (sym (as_frame bytes is))
         (of_frame_few (length bytes) (header_in (take FRAME_LEN bytes)).body_len (frame_next MAX_TEXT_LEN bytes) (some_come bytes is) (keeps_frames MAX_TEXT_LEN bytes))
-    either false is = subst (FewAsks (length bytes)) (sym (as_line bytes is)) (of_line_few (length bytes) (text.next_of bytes) (few_asked bytes))
+    either false is = subst (FewAsks (length bytes)) (sym (as_text bytes is)) (of_text_few bytes (next_meta bytes) (meta_come bytes) (meta_within bytes))
 
 -- the keys of what bytes begin with can be counted
 pub few_asks_of : (next : Next) (bytes : List ℕ) → next ≡ next_of bytes → length (asks_in next) + 1 < 2 ^ 64

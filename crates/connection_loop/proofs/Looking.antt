@@ -6,12 +6,12 @@ use Rattle.partition_model.specs.declared.options.Options.{Options}
 use Rattle.memcached_text.specs.declared.limits.TheConstants.{MAX_WAITING_LEN}
 use Rattle.memcached_requests.specs.declared.request.Next.TheVariants.{More}
 use Rattle.memcached_text.specs.declared.next.Next.TheVariants as of_lines
+use Rattle.memcached_text.specs.Lines.{Lacks}
 use Rattle.memcached_text.specs.Next as text
 use Rattle.memcached_text.proofs.NextLaws.{binary_is}
 use Rattle.memcached_frames.specs.declared.header.TheConstants.{REQUEST}
-use Rattle.memcached_requests.specs.Lines.{of_line}
 use Rattle.memcached_requests.specs.Next.{next_of}
-use Rattle.memcached_requests.proofs.NextLaws.{as_line}
+use Rattle.memcached_requests.proofs.NextLaws.{line_is_due}
 use Rattle.connections.specs.State.{held}
 use Rattle.connections.specs.Log.{Log, connections_of}
 use Rattle.fronts.specs.Answered.{Answered}
@@ -51,13 +51,13 @@ none_dropped client fit some =
     kept_none client fit (elim fit.begun as (λ _. 0 < length client.kept) [ inl first ↦ absurd (omega (arith, first, some)) | inr less ↦ omega (arith, less, few) ])
 
 -- a line that waits is no frame
-pub line_waits : (bytes : List ℕ) → text.next_of bytes ≡ of_lines.More → next_of bytes ≡ More
-line_waits [] waits = nothing_next
-line_waits (byte ∷ bytes) waits = go (byte == REQUEST) refl
+pub line_waits : (bytes : List ℕ) → Lacks 10 bytes → text.next_of bytes ≡ of_lines.More → next_of bytes ≡ More
+line_waits [] lacks waits = nothing_next
+line_waits (byte ∷ bytes) lacks waits = go (byte == REQUEST) refl
   where
     go : (t : Bool) → (byte == REQUEST) ≡ t → next_of (byte ∷ bytes) ≡ More
     go true is = let quit = binary_is (byte ∷ bytes) is in cc
-    go false is = as_line (byte ∷ bytes) is ∙ ap of_line waits
+    go false is = line_is_due (byte ∷ bytes) is lacks waits
 
 module _ (options : Options) (base : ℕ) where
   -- A command that was answered in part is answered further.

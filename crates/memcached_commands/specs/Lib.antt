@@ -2,6 +2,7 @@ pub mod Moments
 pub mod Counting
 pub mod Decide
 pub mod Changes
+pub mod Keys
 pub mod Asks
 pub mod Fit
 pub mod Laws

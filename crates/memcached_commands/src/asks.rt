@@ -5,14 +5,14 @@ ghost use Rattle.memcached_text.specs.Fit.{IsFit, IsFitNext};
 ghost use Rattle.memcached_commands.specs.Fit.{IsFitAsked};
 ghost use Rattle.memcached_commands.specs.Asks.{asked, get_ask, asks_of, asks_in, wants_numbers};
 
-use crate::Ask;
+use crate::{Ask, Key};
 use memcached_text::{Command, Lifetime, Next, Text, Words};
 use std::marker::Model;
 
 /// What is asked of a key.
 #[derive(Drop)]
 pub struct Asked<'a> {
-    pub key: Text<'a>,
+    pub key: Key<'a>,
     pub ask: Ask<'a>,
 }
 
@@ -56,9 +56,9 @@ impl<'a> Asks<'a> {
         }
     }
 
-    /// This alone.
+    /// This alone, of a key in whatever spelling.
     #[inline(always)]
-    pub fn one(key: Text<'a>, ask: Ask<'a>) -> Asks<'a>
+    pub fn spelled(key: Key<'a>, ask: Ask<'a>) -> Asks<'a>
         ensures { result ≡ asked ask.entry key.entry ∷ [] }
     {
         Asks {
@@ -66,6 +66,14 @@ impl<'a> Asks<'a> {
             keys: Words::of(b"".as_slice()),
             lifetime: None,
         }
+    }
+
+    /// This alone, of a key that is spelled by its own bytes.
+    #[inline(always)]
+    pub fn one(key: Text<'a>, ask: Ask<'a>) -> Asks<'a>
+        ensures { result ≡ asked ask.entry key.entry ∷ [] }
+    {
+        Asks::spelled(Key::spelled(key, false), ask)
     }
 
     /// What a command asks. A command that has no key asks nothing.
@@ -164,7 +172,7 @@ impl<'a> Asks<'a> {
         }
         let key = self.keys.next_word()?;
         Some(Asked {
-            key: key.into(),
+            key: Key::spelled(key.into(), false),
             ask: get_ask(self.lifetime),
         })
     }

@@ -10,6 +10,7 @@ mod ask;
 mod asks;
 mod change;
 mod counting;
+mod key;
 mod laws;
 mod lease;
 mod moment;
@@ -22,6 +23,7 @@ pub use ask::{Ask, Initial, Lease, Left, Says};
 pub use asks::{Asked, Asks, wants_numbers};
 pub use change::{change_stored, looks, only_gets};
 pub use counting::{counted, number_in};
+pub use key::{KEY_ROOM, Key};
 pub use laws::{
     counts, fits, in_time, leases, leaves_alike, one_value, tells_number, what_is_meant,
 };

@@ -7,6 +7,7 @@ use Rattle.memcached_text.specs.declared.command.Command.TheVariants as commands
 use Rattle.memcached_text.specs.declared.command.Direction.TheVariants as directions
 use Rattle.memcached_text.specs.declared.command.Side.TheVariants.{Front, Back}
 use Rattle.memcached_text.specs.declared.command.Wants.TheVariants.{Whatever, Absent, Present}
+use Rattle.memcached_text.specs.declared.lifetime.Lifetime.TheVariants.{Forever}
 use Rattle.memcached_commands.specs.declared.ask.Says.{Says}
 use Rattle.memcached_frames.specs.declared.opcode.Verb.{Verb}
 use Rattle.memcached_frames.specs.declared.opcode.Verb.TheVariants as verbs
@@ -16,7 +17,9 @@ use Rattle.memcached_frames.specs.Replies.{reply_text}
 use Rattle.memcached_requests.specs.declared.request.Request.{Request}
 use Rattle.memcached_requests.specs.declared.request.Next.TheVariants.{More}
 use Rattle.memcached_requests.specs.Requests.{is_last, len_of}
+use Rattle.memcached_meta.specs.declared.line.Verb.TheVariants as metas
 use Rattle.memcached_requests.specs.Lines.{request_of}
+use Rattle.memcached_requests.specs.MetaRequests.{request_of as meta_request}
 use Rattle.memcached_requests.specs.FrameRequests.{lifetime_at, due_in, initial_of, request_in}
 use Rattle.memcached_requests.specs.FrameReplies.{said_frame, told_as, frame_text}
 use Rattle.memcached_requests.specs.Next.{next_of}
@@ -58,6 +61,15 @@ IsAlike request (Some command) = request ≡ request_of command
 -- A frame wants what its line wants, where it tells no unique number, and a count of what is not there makes nothing. So what is proved of what lines ask holds of frames.
 abbrev pub AsksAlike : Type 0
 AsksAlike = (frame : Frame) → frame.unique ≡ 0 → initial_of frame.extras ≡ None → IsAlike (request_in frame) (line_for frame.opcode.verb frame)
+
+-- A meta command of no flags wants what its line wants: `ms` as a `set` with flags 0 and for ever, `md` as a `delete`, `ma` as an `incr` by 1.
+pub record MetaAlike (word value : List ℕ) : Type 0 where
+  pub store : meta_request (record { verb = metas.Store; word = word; flags = []; value = value }) ≡ request_of (commands.Store Whatever word 0 Forever value false)
+  pub delete : meta_request (record { verb = metas.Delete; word = word; flags = []; value = [] }) ≡ request_of (commands.Delete word false)
+  pub count : meta_request (record { verb = metas.Count; word = word; flags = []; value = [] }) ≡ request_of (commands.Count directions.Up word 1 false)
+
+abbrev pub MetaAsksAlike : Type 0
+MetaAsksAlike = (word value : List ℕ) → MetaAlike word value
 
 -- What goes wrong is told to each, quiet or not. So a client that hears nothing up to the reply of its noop knows that all went as it asked.
 abbrev pub NeverHidesFaults : Type 0

@@ -1,5 +1,6 @@
 pub mod FrameReplies
 pub mod FrameRequests
+pub mod MetaRequests
 pub mod Laws
 pub mod Lines
 pub mod Next

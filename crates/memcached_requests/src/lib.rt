@@ -9,6 +9,7 @@ mod frame;
 mod frame_reply;
 mod laws;
 mod line;
+mod meta;
 mod next;
 mod reply;
 mod request;

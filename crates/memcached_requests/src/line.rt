@@ -50,7 +50,7 @@ fn is_quit(command: &Command) -> bool
 }
 
 // How a command is replied to. A quit is not.
-fn style_of(command: &Command) -> Style
+fn style_of<'a>(command: &Command) -> Style<'a>
     ensures { result ≡ style_of command.now }
 {
     Style::Classic {
@@ -60,7 +60,7 @@ fn style_of(command: &Command) -> Style
 }
 
 // A line that is not carried out.
-fn classic(quiet: bool) -> Style
+pub fn classic<'a>(quiet: bool) -> Style<'a>
     ensures { result ≡ Style.Classic quiet false }
 {
     Style::Classic {

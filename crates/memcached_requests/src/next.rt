@@ -5,8 +5,10 @@ ghost use Rattle.memcached_requests.specs.Requests.{IsFitNext};
 
 use crate::frame::of_frame;
 use crate::line::of_line;
+use crate::meta::of_meta;
 use crate::request::Next;
 use memcached_frames::{REQUEST, next_frame};
+use memcached_meta::next_meta;
 use memcached_text::MAX_TEXT_LEN;
 
 // Whether the bytes begin with a frame: with its byte no line begins that is a command.
@@ -29,6 +31,8 @@ pub fn next_command(from: &[u8]) -> Next
 {
     if is_frame(from) {
         of_frame(next_frame(from, MAX_TEXT_LEN))
+    } else if let Some(next) = next_meta(from) {
+        of_meta(next)
     } else {
         of_line(memcached_text::next_command(from))
     }

@@ -4,6 +4,7 @@ ghost use Rattle.memcached_requests.specs.Requests.{IsFitRequest, IsFitStale, is
 
 use memcached_commands::{Ask, Asks, Says};
 use memcached_frames::Echo;
+use memcached_meta::{Manner, MetaFault};
 use memcached_text::{Due, Fault, Text};
 
 /// What a client wants, in whatever way it is spelled.
@@ -20,8 +21,8 @@ pub enum Request<'a> {
 }
 
 /// How what was said is to be replied to.
-#[derive(Clone, Copy)]
-pub enum Style {
+#[derive(Drop)]
+pub enum Style<'a> {
     /// As to lines with no flags.
     Classic {
         /// No reply is wanted.
@@ -31,6 +32,28 @@ pub enum Style {
     },
     /// As to a frame, whose opcode says what is told of what was said.
     Frame(Echo),
+    /// As to a meta command, whose flags say what is told of what was said.
+    Meta(Manner<'a>),
+    /// By the line of this fault of a meta command, whatever was said.
+    Fault(MetaFault),
+}
+
+impl<'a> Style<'a> {
+    /// The same once more.
+    #[inline(always)]
+    pub fn again(&self) -> Style<'a>
+        ensures { result ≡ self.now }
+    {
+        match self {
+            Style::Classic { quiet, unique } => Style::Classic {
+                quiet: *quiet,
+                unique: *unique,
+            },
+            Style::Frame(echo) => Style::Frame(*echo),
+            Style::Meta(manner) => Style::Meta(manner.again()),
+            Style::Fault(fault) => Style::Fault(*fault),
+        }
+    }
 }
 
 /// What a client's bytes begin with.
@@ -39,7 +62,7 @@ pub enum Next<'a> {
     /// A request, which takes so many bytes. Of what is refused, some of them may not have come yet.
     Whole {
         request: Request<'a>,
-        style: Style,
+        style: Style<'a>,
         len: usize,
         /// The connection is to end behind it.
         is_last: bool,

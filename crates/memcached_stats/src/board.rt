@@ -167,12 +167,12 @@ impl Board {
     /// Appends what the server tells of itself at this second. When out of memory, nothing is appended.
     pub fn put_stats(
         &self,
-        style: Style,
+        style: &Style,
         second: u64,
         partitions: u32,
         out: &mut Vec<u8>,
     ) -> Result<(), NoMemory>
-        ensures ok { OnOk result ((told : Told) × (out.new.items ≡ out.old.items ++ stats_text style partitions told)) }
+        ensures ok { OnOk result ((told : Told) × (out.new.items ≡ out.old.items ++ stats_text style.now partitions told)) }
         ensures short { OnOk result (length out.new.items ≤ length out.old.items + MAX_REPLY_LEN) }
         ensures err { OnErr result (out.new.items ≡ out.old.items) }
     {

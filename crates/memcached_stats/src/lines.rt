@@ -33,9 +33,9 @@ fn told(name: &'static [u8], number: u64) -> Line
 }
 
 // Appends a name and its number. When out of memory, nothing is appended.
-fn put_line(out: &mut Vec<u8>, style: Style, name: &[u8], number: u64) -> Result<(), NoMemory>
+fn put_line(out: &mut Vec<u8>, style: &Style, name: &[u8], number: u64) -> Result<(), NoMemory>
     requires name { length name.now ≤ MOST_NAME }
-    ensures ok { OnOk result (out.new.items ≡ out.old.items ++ line_of style (stat name.now number)) }
+    ensures ok { OnOk result (out.new.items ≡ out.old.items ++ line_of style.now (stat name.now number)) }
     ensures short { OnOk result (length out.new.items ≤ length out.old.items + most_len (stat name.now number)) }
     ensures more { (text : List ℕ) × (out.new.items ≡ out.old.items ++ text) }
 {
@@ -44,9 +44,9 @@ fn put_line(out: &mut Vec<u8>, style: Style, name: &[u8], number: u64) -> Result
 }
 
 // Appends lines. When out of memory, some of them may be appended.
-fn put_lines(out: &mut Vec<u8>, style: Style, lines: &[Line]) -> Result<(), NoMemory>
+fn put_lines(out: &mut Vec<u8>, style: &Style, lines: &[Line]) -> Result<(), NoMemory>
     requires names { All (λ line. length line.name.now ≤ MOST_NAME) lines.now }
-    ensures ok { OnOk result (out.new.items ≡ out.old.items ++ flat_map (line_of style) (map stat_in lines.now)) }
+    ensures ok { OnOk result (out.new.items ≡ out.old.items ++ flat_map (line_of style.now) (map stat_in lines.now)) }
     ensures short { OnOk result (length out.new.items ≤ length out.old.items + sum_by most_len (map stat_in lines.now)) }
     ensures more { (text : List ℕ) × (out.new.items ≡ out.old.items ++ text) }
 {
@@ -122,13 +122,13 @@ fn command_lines(counts: &Counts) -> [Line; 19]
 // Appends one number of a partition. When out of memory, nothing is appended.
 fn put_partition(
     out: &mut Vec<u8>,
-    style: Style,
+    style: &Style,
     partition: u32,
     what: &'static [u8],
     number: u64,
 ) -> Result<(), NoMemory>
     requires what { length what.now ≤ 12 }
-    ensures ok { OnOk result (out.new.items ≡ out.old.items ++ line_of style (partition_stat partition what.now number)) }
+    ensures ok { OnOk result (out.new.items ≡ out.old.items ++ line_of style.now (partition_stat partition what.now number)) }
     ensures short { OnOk result (length out.new.items ≤ length out.old.items + 76) }
     ensures more { (text : List ℕ) × (out.new.items ≡ out.old.items ++ text) }
 {
@@ -142,8 +142,8 @@ fn put_partition(
 }
 
 // Appends how far a partition is worn. When out of memory, some of it may be appended.
-fn put_wear(out: &mut Vec<u8>, style: Style, partition: u32, wear: Wear) -> Result<(), NoMemory>
-    ensures ok { OnOk result (out.new.items ≡ out.old.items ++ flat_map (line_of style) (wear_stats partition wear)) }
+fn put_wear(out: &mut Vec<u8>, style: &Style, partition: u32, wear: Wear) -> Result<(), NoMemory>
+    ensures ok { OnOk result (out.new.items ≡ out.old.items ++ flat_map (line_of style.now) (wear_stats partition wear)) }
     ensures short { OnOk result (length out.new.items ≤ length out.old.items + 152) }
     ensures more { (text : List ℕ) × (out.new.items ≡ out.old.items ++ text) }
 {
@@ -164,11 +164,11 @@ fn wear_at(wears: &[Wear], partition: u32) -> Wear
 
 fn put_wears(
     out: &mut Vec<u8>,
-    style: Style,
+    style: &Style,
     partitions: u32,
     wears: &[Wear],
 ) -> Result<(), NoMemory>
-    ensures ok { OnOk result (out.new.items ≡ out.old.items ++ wear_text style 0 partitions (wear_in wears.now)) }
+    ensures ok { OnOk result (out.new.items ≡ out.old.items ++ wear_text style.now 0 partitions (wear_in wears.now)) }
     ensures short { OnOk result (length out.new.items ≤ length out.old.items + 152 * partitions) }
     ensures more { (text : List ℕ) × (out.new.items ≡ out.old.items ++ text) }
 {
@@ -182,13 +182,13 @@ fn put_wears(
 #[tactic(auto, unfolding(crate::specs::Stats::stats_text))]
 fn put_all(
     out: &mut Vec<u8>,
-    style: Style,
+    style: &Style,
     partitions: u32,
     about: &About,
     counts: &Counts,
     wears: &[Wear],
 ) -> Result<(), NoMemory>
-    ensures ok { OnOk result (out.new.items ≡ out.old.items ++ stats_text style partitions (told_of about.now counts.now wears.now)) }
+    ensures ok { OnOk result (out.new.items ≡ out.old.items ++ stats_text style.now partitions (told_of about.now counts.now wears.now)) }
     ensures short { OnOk result (length out.new.items ≤ length out.old.items + MAX_REPLY_LEN) }
     ensures more { (text : List ℕ) × (out.new.items ≡ out.old.items ++ text) }
 {
@@ -203,13 +203,13 @@ fn put_all(
 /// Appends what a server tells of itself. When out of memory, nothing is appended.
 pub fn put_stats(
     out: &mut Vec<u8>,
-    style: Style,
+    style: &Style,
     partitions: u32,
     about: &About,
     counts: &Counts,
     wears: &[Wear],
 ) -> Result<(), NoMemory>
-    ensures ok { OnOk result (out.new.items ≡ out.old.items ++ stats_text style partitions (told_of about.now counts.now wears.now)) }
+    ensures ok { OnOk result (out.new.items ≡ out.old.items ++ stats_text style.now partitions (told_of about.now counts.now wears.now)) }
     ensures short { OnOk result (length out.new.items ≤ length out.old.items + MAX_REPLY_LEN) }
     ensures err { OnErr result (out.new.items ≡ out.old.items) }
 {

@@ -27,10 +27,10 @@ pub loop-count-init : goal.loop-count-init
 loop-count-init g c =
     let F = g.F.Front in record {
       answers = [];
-      first = none_yet (F.options c.args.front.now) F.is_alone c.args.base c.args.second c.args.style c.args.asks.now (F.sessions c.args.front.now);
+      first = none_yet (F.options c.args.front.now) F.is_alone c.args.base c.args.second c.args.style.now c.args.asks.now (F.sessions c.args.front.now);
       many = refl;
       left_is = refl;
-      whole = whole_part c.args.style c.args.asks.now c.args.asks.now [] refl (inl refl);
+      whole = whole_part c.args.style.now c.args.asks.now c.args.asks.now [] refl (inl refl);
       fit = c.requires.fit;
       text = sym (append-nil c.args.out.now.items);
       short = omega arith;
@@ -63,7 +63,7 @@ loop-count-preserved g c =
     let at = subst (λ (o : Options). AnswersAt o F.is_alone c.args.base c.args.second (F.sessions c.loop-count.front) asked (F.sessions c.answer_ask.new.front) one.0) inv.options one.1 in
     let fit = subst (AllByRecursion IsFitAsked) c.in-Some.ensures inv.fit in
     let said = said_of c.args.base asked one.0 in
-    let text = one.2 ∙ ap (λ t. c.loop-count.out.items ++ said_text c.args.style t asked.key said) (sym is_last) in
+    let text = one.2 ∙ ap (λ t. c.loop-count.out.items ++ said_text c.args.style.now t asked.key said) (sym is_last) in
     let then : c.next_asked.new.self ≡ drop (c.loop-count.count + 1) asks =
     left_of c.loop-count.asks c.next_asked.new.self c.next_asked.result c.next_asked.ensures ∙ ap (drop 1) inv.left_is ∙ drop-drop 1 c.loop-count.count asks in
     let grown = length-append inv.answers (one.0 ∷ []) in record {
@@ -71,10 +71,10 @@ loop-count-preserved g c =
       first = more_first (asked ∷ c.next_asked.new.self) (one.0 ∷ []) inv.first all (omega arith) (one_first c.next_asked.new.self one.0 at);
       many = let many = inv.many in omega (arith, many, grown);
       left_is = then;
-      whole = whole_part c.args.style asks c.next_asked.new.self (inv.answers ++ one.0 ∷ []) (then ∙ ap (λ n. drop n asks) (let many = inv.many in omega (arith, many, grown)))
+      whole = whole_part c.args.style.now asks c.next_asked.new.self (inv.answers ++ one.0 ∷ []) (then ∙ ap (λ n. drop n asks) (let many = inv.many in omega (arith, many, grown)))
           (inr (some_left c.next_asked.new.self is_last));
       fit = fit.1;
-      text = text_more c.args.base c.args.style asks c.next_asked.new.self inv.answers asked one.0 [] c.args.out.now.items c.loop-count.out.items c.answer_ask.new.out.items all inv.text refl text;
+      text = text_more c.args.base c.args.style.now asks c.next_asked.new.self inv.answers asked one.0 [] c.args.out.now.items c.loop-count.out.items c.answer_ask.new.out.items all inv.text refl text;
       short = omega (arith, less, c.answer_ask.ensures.short);
       few = omega (arith, less);
       few_answers = let many = inv.many in omega (arith, less, many, grown);
@@ -111,8 +111,8 @@ returns-in_default-answer_ask-clause-answered g c =
 pub returns-then-is_empty-clause-part : goal.returns-then-is_empty-clause-part
 returns-then-is_empty-clause-part g c =
     let r = c.answer_last.ensures.answered in
-    let so_far = asks_text c.args.base c.args.style c.args.asks.now c.loop-count.invariant.answers in
-    let one = part_of c.loop-count.out.items c.answer_last.new.out.items (said_text c.args.style true c.in-Some.asked.key (said_of c.args.base c.in-Some.asked r.0)) c.answer_last.result _ r.4
+    let so_far = asks_text c.args.base c.args.style.now c.args.asks.now c.loop-count.invariant.answers in
+    let one = part_of c.loop-count.out.items c.answer_last.new.out.items (said_text c.args.style.now true c.in-Some.asked.key (said_of c.args.base c.in-Some.asked r.0)) c.answer_last.result _ r.4
     c.answer_last.ensures.err in
     (so_far ++ one.0, one.1 ∙ ap (λ t. t ++ one.0) c.loop-count.invariant.text ∙ append_assoc c.args.out.now.items so_far one.0)
 
@@ -131,20 +131,20 @@ returns-then-is_empty-clause-answered g c =
     let none = none_left left (sym c.is_empty.ensures ∙ c.if-is_empty.true) in
     let all : drop (length inv.answers) asks ≡ asked ∷ [] =
     here asks c.loop-count.asks left asked c.loop-count.count (length inv.answers) inv.many inv.left_is c.in-Some.ensures ∙ ap (λ l. asked ∷ l) none in
-    let last = subst (λ (o : Options). AnswersFirst o F.is_alone c.args.base c.args.second c.args.style (asked ∷ []) (F.sessions c.loop-count.front) (F.sessions c.answer_last.new.front) two) inv.options r.2 in
+    let last = subst (λ (o : Options). AnswersFirst o F.is_alone c.args.base c.args.second c.args.style.now (asked ∷ []) (F.sessions c.loop-count.front) (F.sessions c.answer_last.new.front) two) inv.options r.2 in
     let below = is_less asks (asked ∷ []) (length inv.answers) (sym all) (omega arith) in
-    let many = many_by c.args.style asks inv.answers two below ∙ ap (λ l. length inv.answers + length (asks_by c.args.style l two)) all in
+    let many = many_by c.args.style.now asks inv.answers two below ∙ ap (λ l. length inv.answers + length (asks_by c.args.style.now l two)) all in
     let grown = length-append inv.answers two in
     let asked_all = ap length all ∙ refl in
     let len = length-drop (length inv.answers) asks in
-    let few = behind_few c.args.style asked r.0 in (
+    let few = behind_few c.args.style.now asked r.0 in (
       inv.answers ++ two,
       more_first (asked ∷ []) two inv.first all (omega arith) last,
-      if_ok _ (λ count. RepliesFirst c.args.base c.args.style asks c.args.limits (inv.answers ++ two) before after count left) c.answer_last.result (λ count is. record {
+      if_ok _ (λ count. RepliesFirst c.args.base c.args.style.now asks c.args.limits (inv.answers ++ two) before after count left) c.answer_last.result (λ count is. record {
         many = let at = inv.many in omega (arith, is.0, at, grown);
         left_is = none ∙ sym (drop_all count asks (let at = inv.many in omega (arith, is.0, at, asked_all, len)));
-        whole = ap (λ l. length l == 0) none ∙ sym (eq-eqb (length (inv.answers ++ two)) (length (asks_by c.args.style asks (inv.answers ++ two))) (omega (arith, grown, many, r.3)));
-        text = text_more c.args.base c.args.style asks [] inv.answers asked r.0 r.1 before c.loop-count.out.items after all inv.text (no_text c.args.base c.args.style r.1) is.1;
+        whole = ap (λ l. length l == 0) none ∙ sym (eq-eqb (length (inv.answers ++ two)) (length (asks_by c.args.style.now asks (inv.answers ++ two))) (omega (arith, grown, many, r.3)));
+        text = text_more c.args.base c.args.style.now asks [] inv.answers asked r.0 r.1 before c.loop-count.out.items after all inv.text (no_text c.args.base c.args.style.now r.1) is.1;
         stops = inl none;
       }) r.4,
       omega (arith, r.5, inv.given, writes_more inv.answers two),

@@ -11,25 +11,25 @@ use Rattle.command_answers.proofs.ask.answer_last.Goals as goal
 pub returns-in_default-clause-answered : goal.returns-in_default-clause-answered
 returns-in_default-clause-answered g c =
     let one = c.answer_ask-said.ensures.answered in
-    let stays : (is_refused one.0 && is_set c.args.style c.args.asked.now.ask) ≡ false =
-    ap (λ t. t && is_set c.args.style c.args.asked.now.ask) (sym one.5) ∙ sym c.is_to_go.ensures ∙ c.if-not-is_to_go.true in
-    (one.0, [], one_first [] one.0 one.1, sym (ap length (behind_none c.args.style c.args.asked.now one.0 stays)), tt, one.3, one.4)
+    let stays : (is_refused one.0 && is_set c.args.style.now c.args.asked.now.ask) ≡ false =
+    ap (λ t. t && is_set c.args.style.now c.args.asked.now.ask) (sym one.5) ∙ sym c.is_to_go.ensures ∙ c.if-not-is_to_go.true in
+    (one.0, [], one_first [] one.0 one.1, sym (ap length (behind_none c.args.style.now c.args.asked.now one.0 stays)), tt, one.3, one.4)
 
 pub returns-then-not-is_to_go-clause-answered : goal.returns-then-not-is_to_go-clause-answered
 returns-then-not-is_to_go-clause-answered g c =
     let one = c.in-Ok.ensures.answered in
-    let stays : (is_refused one.0 && is_set c.args.style c.args.asked.now.ask) ≡ false =
-    ap (λ t. t && is_set c.args.style c.args.asked.now.ask) (sym one.5) ∙ sym c.is_to_go.ensures ∙ c.if-not-is_to_go.true in
-    (one.0, [], one_first [] one.0 one.1, sym (ap length (behind_none c.args.style c.args.asked.now one.0 stays)), (omega arith, one.2), one.3, one.4)
+    let stays : (is_refused one.0 && is_set c.args.style.now c.args.asked.now.ask) ≡ false =
+    ap (λ t. t && is_set c.args.style.now c.args.asked.now.ask) (sym one.5) ∙ sym c.is_to_go.ensures ∙ c.if-not-is_to_go.true in
+    (one.0, [], one_first [] one.0 one.1, sym (ap length (behind_none c.args.style.now c.args.asked.now one.0 stays)), (omega arith, one.2), one.3, one.4)
 
 pub returns-in_default-said-clause-answered : goal.returns-in_default-said-clause-answered
 returns-in_default-said-clause-answered g c =
     let F = g.F.Front in
     let one = c.answer_ask-said.ensures.answered in
     let gone = c.spoil.ensures.answered in
-    let goes : (is_refused one.0 && is_set c.args.style c.args.asked.now.ask) ≡ true =
-    ap (λ t. t && is_set c.args.style c.args.asked.now.ask) (sym one.5) ∙ sym c.is_to_go.ensures ∙ c.if-not-is_to_go.false in
-    let behind = behind_one c.args.style c.args.asked.now one.0 goes in
+    let goes : (is_refused one.0 && is_set c.args.style.now c.args.asked.now.ask) ≡ true =
+    ap (λ t. t && is_set c.args.style.now c.args.asked.now.ask) (sym one.5) ∙ sym c.is_to_go.ensures ∙ c.if-not-is_to_go.false in
+    let behind = behind_one c.args.style.now c.args.asked.now one.0 goes in
     let then = subst (λ (o : Options). AnswersAt o F.is_alone c.args.base c.args.second (F.sessions c.answer_ask-said.new.front) (spoiled c.args.asked.now) (F.sessions c.spoil.new.front) gone.0)
     c.answer_ask-said.ensures.options gone.1 in (
       one.0,
@@ -46,9 +46,9 @@ returns-clause-answered g c =
     let F = g.F.Front in
     let one = c.in-Ok-said.ensures.answered in
     let gone = c.spoil.ensures.answered in
-    let goes : (is_refused one.0 && is_set c.args.style c.args.asked.now.ask) ≡ true =
-    ap (λ t. t && is_set c.args.style c.args.asked.now.ask) (sym one.5) ∙ sym c.is_to_go.ensures ∙ c.if-not-is_to_go.false in
-    let behind = behind_one c.args.style c.args.asked.now one.0 goes in
+    let goes : (is_refused one.0 && is_set c.args.style.now c.args.asked.now.ask) ≡ true =
+    ap (λ t. t && is_set c.args.style.now c.args.asked.now.ask) (sym one.5) ∙ sym c.is_to_go.ensures ∙ c.if-not-is_to_go.false in
+    let behind = behind_one c.args.style.now c.args.asked.now one.0 goes in
     let then = subst (λ (o : Options). AnswersAt o F.is_alone c.args.base c.args.second (F.sessions c.answer_ask-said.new.front) (spoiled c.args.asked.now) (F.sessions c.spoil.new.front) gone.0)
     c.answer_ask-said.ensures.options gone.1 in (
       one.0,

@@ -14,7 +14,7 @@ use Rattle.memcached_stats.proofs.lines.put_all.Goals as goal
 pub returns-clause-ok : goal.returns-clause-ok
 unfolding stats_text
 returns-clause-ok c =
-    let style = c.args.style in
+    let style = c.args.style.now in
     let before = c.args.out.now.items in
     let version = stat_text style (codes "version") version_name in
     let about = flat_map (line_of style) (about_stats c.args.about.now (count_in c.args.counts.now)) in

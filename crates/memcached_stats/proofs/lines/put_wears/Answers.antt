@@ -6,7 +6,7 @@ use Rattle.memcached_stats.proofs.lines.put_wears.Goals as goal
 
 pub loop-partition-preserved : goal.loop-partition-preserved
 loop-partition-preserved c =
-    let style = c.args.style in
+    let style = c.args.style.now in
     let wears = wear_in c.args.wears.now in
     let before = c.args.out.now.items in
     let p = c.loop-partition.partition in

@@ -2,10 +2,10 @@ use Rattle.std.proofs.Common.{length, ap, arith, length-append}
 use Rattle.std.proofs.lemmas.Result.{on_ok_weaker}
 use Rattle.memcached_text.specs.Replies.{stat_text}
 use Rattle.memcached_requests.proofs.StatLaws.{stat_len}
-use Rattle.memcached_requests.proofs.reply.put_stat.Goals as goal
+use Rattle.memcached_requests.proofs.reply.put_line.Goals as goal
 
-pub returns-in-Classic-clause-short : goal.returns-in-Classic-clause-short
-returns-in-Classic-clause-short c =
+pub returns-clause-short : goal.returns-clause-short
+returns-clause-short c =
     on_ok_weaker c.put_stat.result (λ text. omega (
       arith,
       ap length text,
