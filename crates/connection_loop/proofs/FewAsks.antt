@@ -1,7 +1,7 @@
 -- What bytes begin with asks of few keys, in whatever protocol.
 use Rattle.std.proofs.Common.{◌≡◌, ◌+◌, ◌<◌, ◌≤◌, ◌^◌, ◌==◌, ℕ, Bool, true, false, true≢false, List, [], ◌∷◌, length, take, refl, sym, subst, arith}
 use Rattle.std.specs.Prelude.{Option, Some, None, if◌then◌else◌}
-use Rattle.memcached_text.specs.declared.limits.TheConstants.{MAX_LINE_LEN, MAX_TEXT_LEN}
+use Rattle.memcached_text.specs.declared.limits.TheConstants.{MAX_GET_LINE_LEN, MAX_TEXT_LEN}
 use Rattle.memcached_text.specs.declared.command.Command.{Command}
 use Rattle.memcached_text.specs.declared.command.Command.TheVariants as commands
 use Rattle.memcached_text.specs.declared.command.Topic.TheVariants.{Server, NoPart}
@@ -35,7 +35,7 @@ use Rattle.connection_loop.proofs.Few.{AsksFew, few_asked}
 -- What bytes begin with asks of no more keys than there are bytes, than a line has, and than it takes.
 pub record FewAsks (come : ℕ) (next : Next) : Type 0 where
   pub within : length (asks_in next) ≤ come
-  pub counted : length (asks_in next) ≤ MAX_LINE_LEN + 1
+  pub counted : length (asks_in next) ≤ MAX_GET_LINE_LEN + 1
   pub taken : length (asks_in next) ≤ len_of next
 
 -- Lines

@@ -62,8 +62,12 @@ IsPaid more client = unanswered (position_of client) + more ≤ client.asks
 
 -- So many bytes lie there after a read: each is paid for. Where it gave some, one ask more is, and more lie there than were kept. No read was made where there
 -- was no room for any.
+abbrev pub PaysThese : ℕ → ℕ → ℕ → Option Input → Type 0
+PaysThese asks had count None = (count ≤ asks) × (had ≡ MAX_WAITING_LEN)
+PaysThese asks had count (Some (Bytes some)) = (count < asks) × (had < count)
+PaysThese asks had count (Some (All some)) = (count < asks) × (had < count)
+PaysThese asks had count (Some _) = count ≤ asks
+
+-- so, behind what is kept of a client
 abbrev pub PaysFor : Client → ℕ → Option Input → Type 0
-PaysFor client count None = (count ≤ client.asks) × (length client.kept ≡ MAX_WAITING_LEN)
-PaysFor client count (Some (Bytes some)) = (count < client.asks) × (length client.kept < count)
-PaysFor client count (Some (All some)) = (count < client.asks) × (length client.kept < count)
-PaysFor client count (Some _) = count ≤ client.asks
+PaysFor client count input = PaysThese client.asks (length client.kept) count input

@@ -58,7 +58,7 @@ pub struct HowFar {
 
 impl HowFar {
     /// Where all that was taken has come.
-    fn at(taken: usize, done: usize, halt: Halt) -> HowFar
+    pub fn at(taken: usize, done: usize, halt: Halt) -> HowFar
         ensures { (result.taken ≡ taken) × (result.done ≡ done) × (result.dropping ≡ 0) × (result.halt ≡ halt) }
     {
         HowFar {

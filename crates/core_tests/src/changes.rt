@@ -14,7 +14,7 @@ use cache_partition::CachePartition;
 use fronts::{Changes, Decide, Front, When};
 use locked_front::{LockedFront, LockedPart, PartitionLocks, ServerPlan};
 use locked_server::{FilledPart, lend_hand, lock_parts, open_parts};
-use mica_words::{key_fits, value_fits};
+use mica_words::{key_fits, stored_fits};
 use partition_model::{Answer, Change, ItemBuf, Mode, Op, Options, Outcome};
 use partition_table::{Note, OwnerSeat, ReaderSeat};
 use partition_words::LendPartition;
@@ -139,7 +139,7 @@ fn put_long<R: Abort + AllocGlobal, F: Changes>(
     ensures { F.left front.old ≤ F.left front.new + length keys.now }
 {
     for i in 0..keys.len() {
-        assert!(rt; key_fits(keys[i]) && value_fits(&LONG));
+        assert!(rt; key_fits(keys[i]) && stored_fits(&LONG));
         front.write(rt.alloc(), Op::Put, keys[i], &LONG)?;
     }
     Ok(())
@@ -154,13 +154,13 @@ fn expect_row<R: Abort + AllocGlobal, F: Changes>(
     requires { 8 ≤ F.left front.old }
     ensures { F.left front.old ≤ F.left front.new + 8 }
 {
-    assert!(rt; key_fits(KEY) && value_fits(row.value) && row.later.len() <= 6);
+    assert!(rt; key_fits(KEY) && stored_fits(row.value) && row.later.len() <= 6);
     let alloc = rt.alloc();
     let mut found = ItemBuf::new(alloc)?;
     let mut next = ItemBuf::new(alloc)?;
     match row.before {
         Some(value) => {
-            assert!(rt; value_fits(value));
+            assert!(rt; stored_fits(value));
             front.write(alloc, Op::Put, KEY, value)?;
         }
         None => {

@@ -12,7 +12,7 @@ use cache_partition::CachePartition;
 use fronts::{Changes, Decide, Front, When};
 use locked_front::{PartitionLock, ServerPlan};
 use locked_server::{FilledPart, lend_hand, lock_parts, open_parts};
-use mica_words::{key_fits, value_fits};
+use mica_words::{key_fits, stored_fits};
 use partition_model::{Answer, Change, ItemBuf, Mode, Op, Options};
 use partition_table::{Note, OwnerSeat, ReaderSeat};
 use partition_words::LendPartition;
@@ -99,7 +99,7 @@ fn write_one<R: Abort + AllocGlobal, F: Changes>(
     ensures { F.left front.old ≤ F.left front.new + 1 }
 {
     assert!(rt;
-        key_fits(key) && value_fits(value) && (op == Op::Put || op == Op::Del && value.is_empty())
+        key_fits(key) && stored_fits(value) && (op == Op::Put || op == Op::Del && value.is_empty())
     );
     front.write(rt.alloc(), op, key, value)?;
     Ok(())

@@ -14,7 +14,7 @@ use locked_front::ServerPlan;
 use locked_server::{FilledPart, lend_hand, lock_parts, open_parts};
 use memcached_commands::Ask;
 use memcached_text::Lifetime;
-use mica_words::{key_fits, key_hash, tail_of, value_fits};
+use mica_words::{key_fits, key_hash, stored_fits, tail_of};
 use partition_model::{Answer, ItemBuf, Mode, Op, Options, Outcome};
 use partition_table::{Note, OwnerSeat, ReaderSeat};
 use partition_words::LendPartition;
@@ -43,7 +43,7 @@ fn put<R: Abort + AllocGlobal, F: Front>(
     ensures left { F.left front.old ≤ F.left front.new + 1 }
     ensures options { F.options front.new ≡ F.options front.old }
 {
-    assert!(rt; key_fits(key) && value_fits(value));
+    assert!(rt; key_fits(key) && stored_fits(value));
     Ok(front.write(rt.alloc(), Op::Put, key, value)?)
 }
 

@@ -34,6 +34,7 @@ Memory
                             four sizes in place of it [4, 1024, 1024, 65536]
 
 Items
+  -I, --item-size SIZE      the longest value: 1M, and no other bound is served [1M]
       --mode cache          a set always finds room: the oldest items go [beside memcached's clients]
   -M, --mode store          none goes before its time: a set without room is refused
       --image FILE          a store begins with the pairs of this image
