@@ -151,6 +151,23 @@ fn look_while_held<
     lock.let_go(held);
 }
 
+// One front looks at what the other wrote, while the lock is held.
+fn look_beside<
+    R: Abort + AllocGlobal + Wait,
+    J: ServerPlan,
+    P: LendPartition<Reader = ReaderSeat, Note = Note> + Drop,
+    F: Changes,
+>(rt: &R, lock: &PartitionLock<J, P>, one: &mut F, two: &mut F, room: &mut Room) -> Result<(), Fail>
+    requires one { 0 < F.left one.old }
+    requires two { 2 ≤ F.left two.old }
+    ensures one { F.left one.old ≤ F.left one.new }
+    ensures two { F.left two.old ≤ F.left two.new + 2 }
+{
+    write_one(rt, two, Op::Put, KEY, b"held")?;
+    look_while_held(rt, lock, one, room);
+    write_one(rt, two, Op::Del, KEY, b"")
+}
+
 // Looks while another counts up: the count never falls.
 fn look_often<F: Changes + Drop>(front: F, room: Room) -> bool
     requires { TIMES ≤ F.left front }
@@ -195,14 +212,13 @@ fn look_by_two<
     let first = lend_hand::<J, P>(alloc, &mut parts, 0)?;
     let second = lend_hand::<J, P>(alloc, &mut parts, 1)?;
     let locks = lock_parts::<J, P>(alloc, parts)?;
+    let lock = locks.of(0);
     let ended = AtomicBool::new(false);
     let mut first = front_of(rt, options, &locks, 0, first, &ended);
     let mut second = front_of(rt, options, &locks, 1, second, &ended);
     let (one, mut two) = (Room::new(alloc)?, Room::new(alloc)?);
     look_in_turn(rt, &mut first, &mut second, &mut two)?;
-    write_one(rt, &mut second, Op::Put, KEY, b"held")?;
-    look_while_held(rt, locks.of(0), &mut first, &mut two);
-    write_one(rt, &mut second, Op::Del, KEY, b"")?;
+    look_beside(rt, lock, &mut first, &mut second, &mut two)?;
     let (_, rose) = join(
         rt,
         move ||
