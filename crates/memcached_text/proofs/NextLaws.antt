@@ -120,6 +120,14 @@ get_here (a ∷ b ∷ c ∷ []) rest = refl
 get_here (a ∷ b ∷ c ∷ d ∷ []) rest = refl
 get_here (a ∷ b ∷ c ∷ d ∷ e ∷ line) rest = refl
 
+-- there is room for a carriage return
+pub returned : (line : List ℕ) → length line < most_line line → length (line ++ 13 ∷ []) ≤ most_line (line ++ 13 ∷ [])
+returned line short = go (nat_lt 4 (length line)) refl
+  where
+    go : (t : Bool) → nat_lt 4 (length line) ≡ t → length (line ++ 13 ∷ []) ≤ most_line (line ++ 13 ∷ [])
+    go true many = omega (arith, short, most_more line (13 ∷ []) (ltb-true _ _ many), length-append line (13 ∷ []))
+    go false few = omega (arith, ltb-false _ _ few, may_be (line ++ 13 ∷ []), length-append line (13 ∷ []))
+
 -- or by the line alone
 pub most_here : (from line rest : List ℕ) → HasLine from line rest → most_line from ≡ most_line line
 unfolding most_line

@@ -1,7 +1,7 @@
 -- The line and the block of a value are taken together.
 use Rattle.std.proofs.Common.{◌≡◌, ℕ, ◌+◌, ◌<◌, ◌≤◌, Bool, true, false, List, ◌∷◌, ◌++◌, length, Option, Some, None, nat_lt, refl, sym, ap, subst, ◌∙◌, arith, cond, length-append}
 use borrow.Author.Tests.{ltb-true}
-use Rattle.memcached_text.specs.declared.limits.TheConstants.{MAX_TEXT_LEN, MAX_LINE_LEN}
+use Rattle.memcached_text.specs.declared.limits.TheConstants.{MAX_TEXT_LEN}
 use Rattle.memcached_text.specs.declared.command.Wants.TheVariants.{Whatever, Absent, Present}
 use Rattle.memcached_text.specs.declared.command.Side.TheVariants.{Front, Back}
 use Rattle.memcached_text.specs.declared.storage_line.Verb.{Verb}
@@ -17,10 +17,10 @@ use Rattle.memcached_text.specs.Line.{quiet_tail}
 use Rattle.memcached_text.specs.StorageLine.{block_len, numbered_item_of, item_of, stored, set_line, cas_line}
 use Rattle.memcached_text.specs.Forms.{or_unknown, line_of}
 use Rattle.memcached_text.specs.Block.{block_at}
-use Rattle.memcached_text.specs.Next.{blocked, storing_at, says_at, next_of}
+use Rattle.memcached_text.specs.Next.{blocked, storing_at, says_at, most_line, next_of}
 use Rattle.memcached_text.specs.Place.{Takes, KeepsPlace}
 use Rattle.memcached_text.proofs.WordLaws.{is_binary_word, text_by_words}
-use Rattle.memcached_text.proofs.NextLaws.{text_more, a_line, may_be}
+use Rattle.memcached_text.proofs.NextLaws.{text_more, a_line}
 
 -- a line that tells a value's length: it stores an item of that length, or is refused with its block
 abbrev TellsBlock : ℕ → Line → Type 0
@@ -67,11 +67,11 @@ stored_tells None len quiet = refl
 stored_tells (Some item) len quiet = refl
 
 -- bytes that begin with a line which tells a value's length
-takes : (line rest : List ℕ) (words : List (List ℕ)) (value_len : ℕ) → Lacks 10 line → length line ≤ MAX_LINE_LEN → words_of (without_return line) ≡ words → is_binary_word words ≡ false → TellsBlock value_len (line_of words)
+takes : (line rest : List ℕ) (words : List (List ℕ)) (value_len : ℕ) → Lacks 10 line → length line ≤ most_line line → words_of (without_return line) ≡ words → is_binary_word words ≡ false → TellsBlock value_len (line_of words)
     → Takes (length line + 1 + value_len + END_LEN) (length (line ++ 10 ∷ rest)) (next_of (line ++ 10 ∷ rest))
 takes line rest words value_len lacks short spelled text tells =
     let text_here = text_more line (10 ∷ rest) (text_by_words line (ap is_binary_word spelled ∙ text)) refl in
-    let next = a_line (line ++ 10 ∷ rest) line rest text_here (record { whole = refl; first = lacks }) (omega (arith, short, may_be line)) in
+    let next = a_line (line ++ 10 ∷ rest) line rest text_here (record { whole = refl; first = lacks }) short in
     let come : length line + 1 + length rest ≡ length (line ++ 10 ∷ rest) = omega (arith, length-append line (10 ∷ rest)) in
     let here = says_takes _ (length line + 1) value_len rest (subst (TellsBlock value_len) (ap line_of (sym spelled)) tells) in
     subst (Takes (length line + 1 + value_len + END_LEN) (length (line ++ 10 ∷ rest))) (sym next) (subst (λ n. Takes (length line + 1 + value_len + END_LEN) n (says_at (line_of (words_of (without_return line))) (length line + 1) rest)) come here)

@@ -9,7 +9,7 @@ use Rattle.std.proofs.lemmas.Int.Digits.{digits_value_more}
 use Rattle.std.proofs.lemmas.Bool.{le-leb}
 use Rattle.std.proofs.lemmas.List.{append-nil, take_more}
 use Rattle.memchr.specs.Find.{is_byte3}
-use Rattle.memcached_text.specs.declared.limits.TheConstants.{MAX_KEY_LEN, MAX_TEXT_LEN, MAX_LINE_LEN}
+use Rattle.memcached_text.specs.declared.limits.TheConstants.{MAX_KEY_LEN, MAX_TEXT_LEN}
 use Rattle.memcached_text.specs.declared.lifetime.TheConstants.{MAX_SECONDS, LAST_SAID}
 use Rattle.memcached_text.specs.declared.lifetime.Lifetime.TheVariants.{Forever, Over, For, Until}
 use Rattle.memcached_text.specs.declared.command.Command.{Command}
@@ -20,7 +20,8 @@ use Rattle.memcached_text.specs.declared.command.Direction.{Direction}
 use Rattle.memcached_text.specs.declared.command.Direction.TheVariants.{Up, Down}
 use Rattle.memcached_text.specs.Lines.{Lacks}
 use Rattle.memcached_text.specs.Lifetimes.{lifetime_at}
-use Rattle.memcached_text.specs.Next.{next_of}
+use Rattle.memcached_text.specs.Next.{most_line, next_of}
+use Rattle.memcached_text.proofs.NextLaws.{may_be}
 use Rattle.memcached_text.specs.Spelling.{IsKey, asking, lifetime_text, count_word, command_text, BeginsAs}
 use Rattle.memcached_text.proofs.NumberLaws.{own, both, digit_is}
 use Rattle.memcached_text.proofs.FitLaws.{at_said}
@@ -59,7 +60,7 @@ get_begins from text line tail rest key whole parts no_space no_feed no_zero fee
       no_feed = Lacks_front 10 key (13 ∷ []) (subst (Lacks 10) stripped no_feed);
       no_zero = Lacks_front 0 key (13 ∷ []) (subst (Lacks 0) stripped no_zero);
     } in
-    let fits : length (codes "get " ++ (key ++ [])) < MAX_LINE_LEN = omega (arith, short, length-append (codes "get ") (key ++ []), length-append key []) in
+    let fits : length (codes "get " ++ (key ++ [])) < most_line (codes "get " ++ (key ++ [])) = omega (arith, short, may_be (codes "get " ++ (key ++ [])), length-append (codes "get ") (key ++ []), length-append key []) in
     let here : from ≡ codes "get " ++ (key ++ 13 ∷ 10 ∷ rest) = whole ∙ ap (λ t. codes "get " ++ t) (parts ∙ ap (λ t. t ++ tail) stripped ∙ ap (λ t. (key ++ 13 ∷ []) ++ t) feed ∙ append_assoc key (13 ∷ []) (10 ∷ rest)) in
     let there : command_text (Get (key ∷ []) false None) ++ rest ≡ codes "get " ++ (key ++ 13 ∷ 10 ∷ rest) = regroup_text (codes "get " ++ (key ++ [])) [] rest ∙ ap (λ t. codes "get " ++ (t ++ 13 ∷ 10 ∷ rest)) (append-nil key) in
     let size : length (command_text (Get (key ∷ []) false None)) ≡ length (codes "get " ++ (key ++ [])) + 2 + 0 = text_len (codes "get " ++ (key ++ [])) [] in

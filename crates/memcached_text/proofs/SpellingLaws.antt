@@ -8,7 +8,7 @@ use Rattle.std.proofs.lemmas.List.{append-nil, append_cancel_left}
 use Rattle.std.proofs.Math.Seq.{take-append_seam, drop-append_seam}
 use Rattle.std.proofs.lemmas.Bool.{le-ltb, le-leb, lt-leb, leb-true, ltb-true, eqb-false, ne_eqb}
 use Rattle.std.proofs.lemmas.Fmt.{decimal_nonempty, length-decimal-le}
-use Rattle.memcached_text.specs.declared.limits.TheConstants.{MAX_KEY_LEN, MAX_TEXT_LEN, MAX_LINE_LEN, MAX_BLOCK_LEN}
+use Rattle.memcached_text.specs.declared.limits.TheConstants.{MAX_KEY_LEN, MAX_TEXT_LEN, MAX_BLOCK_LEN}
 use Rattle.memcached_text.specs.declared.lifetime.TheConstants.{MAX_SECONDS, LAST_SAID, MOST_ABOVE}
 use Rattle.memcached_text.specs.declared.lifetime.Lifetime.{Lifetime}
 use Rattle.memcached_text.specs.declared.lifetime.Lifetime.TheVariants.{Forever, Over, For, Until}
@@ -44,7 +44,7 @@ use Rattle.memcached_text.specs.Spelling.{IsLineWant, IsKey, quiet_words, lifeti
 use Rattle.memcached_text.proofs.LineLaws.{Lacks_append, lacks_all, lacks_is, line_at_fed, without_return_fed}
 use Rattle.memcached_text.proofs.WordLaws.{is_binary_word, text_by_words, words_of_word, words_of_last}
 use Rattle.memcached_text.proofs.NumberLaws.{both, decimal_lacks, decimal_digits, number_of_decimal}
-use Rattle.memcached_text.proofs.NextLaws.{text_more, next_is, may_be}
+use Rattle.memcached_text.proofs.NextLaws.{text_more, next_is, may_be, returned}
 
 abbrev AreKeys : List (List ℕ) → Type 0
 AreKeys words = AllByRecursion IsKey words
@@ -87,7 +87,7 @@ joined_short word (next ∷ words) is all = omega (arith, is.short, joined_short
 record IsRead (word : List ℕ) (words : List (List ℕ)) (says : Line) : Type 0 where
   name : IsKey word
   rest : AreKeys words
-  short : length (joined (word ∷ words)) < MAX_LINE_LEN
+  short : length (joined (word ∷ words)) < most_line (joined (word ∷ words))
   text : is_binary_word (word ∷ words) ≡ false
   meaning : line_of (word ∷ words) ≡ says
 
@@ -99,9 +99,8 @@ read_line word words says rest is =
     let fed : line ++ 13 ∷ 10 ∷ rest ≡ (line ++ 13 ∷ []) ++ 10 ∷ rest = simp append_assoc in
     let lacks_both : Lacks 10 (line ++ 13 ∷ []) = Lacks_append 10 line (13 ∷ []) (joined_lack word words is.name is.rest) ((λ e. omega arith), tt) in
     let found : line_at (line ++ 13 ∷ 10 ∷ rest) ≡ Some (line ++ 13 ∷ [], rest) = ap line_at fed ∙ line_at_fed (line ++ 13 ∷ []) rest lacks_both in
-    let long : length (line ++ 13 ∷ []) ≡ length line + 1 = length-append line (13 ∷ []) in
-    let test : nat_lt (most_line (line ++ 13 ∷ [])) (length (line ++ 13 ∷ [])) ≡ false = le-ltb _ _ (omega (arith, is.short, long, may_be (line ++ 13 ∷ []))) in
-    let count : length (line ++ 13 ∷ []) + 1 ≡ length line + 2 = omega arith in
+    let test : nat_lt (most_line (line ++ 13 ∷ [])) (length (line ++ 13 ∷ [])) ≡ false = le-ltb _ _ (returned line is.short) in
+    let count : length (line ++ 13 ∷ []) + 1 ≡ length line + 2 = omega (arith, length-append line (13 ∷ [])) in
     let spelled : words_of line ≡ word ∷ words = joined_words word words is.name is.rest in
     let text = text_more (line ++ 13 ∷ []) (10 ∷ rest) (text_by_words (line ++ 13 ∷ []) (ap is_binary_word (ap words_of (without_return_fed line) ∙ spelled) ∙ is.text)) refl in
     next_is _ _ (ap is_binary fed ∙ text) found ∙ rw (test, count, without_return_fed line, spelled, is.meaning) refl
@@ -110,7 +109,7 @@ read_line word words says rest is =
 few : (word : List ℕ) (words : List (List ℕ)) (says : Line) → is_plain word ≡ true → AreKeys words → length words ≤ 8 → is_binary_word (word ∷ words) ≡ false → line_of (word ∷ words) ≡ says → IsRead word words says
 few word words says plain rest count text meaning =
     let name = plain_key word plain in
-    record { name = name; rest = rest; short = omega (arith, joined_short word words name rest); text = text; meaning = meaning }
+    record { name = name; rest = rest; short = omega (arith, joined_short word words name rest, may_be (joined (word ∷ words))); text = text; meaning = meaning }
 
 decimal_is_key : (n : ℕ) → n < 2 ^ 64 → IsKey (decimal n)
 decimal_is_key n is = record {

@@ -1,14 +1,13 @@
 -- A connection keeps its place: the bytes of a value are never taken for a command where its line tells their length.
 use Rattle.std.specs.Prelude.{◌≡◌, ℕ, ◌+◌, ◌<◌, ◌≤◌, Bool, List, [], ◌∷◌, ◌++◌, length, codes, Some}
 use Rattle.std.specs.List.{AllByRecursion}
-use Rattle.memcached_text.specs.declared.limits.TheConstants.{MAX_LINE_LEN}
 use Rattle.memcached_text.specs.declared.block.TheConstants.{END_LEN}
 use Rattle.memcached_text.specs.declared.next.Next.{Next}
 use Rattle.memcached_text.specs.declared.next.Next.TheVariants.{Command, Refused, More, LongLine}
 use Rattle.memcached_text.specs.Lines.{Lacks, words_of, without_return}
 use Rattle.memcached_text.specs.Line.{quiet_tail}
 use Rattle.memcached_text.specs.StorageLine.{block_len}
-use Rattle.memcached_text.specs.Next.{next_of}
+use Rattle.memcached_text.specs.Next.{most_line, next_of}
 
 -- what takes or drops just so many bytes, or waits where they have not all come
 abbrev pub Takes : ℕ → ℕ → Next → Type 0
@@ -21,7 +20,7 @@ Takes len come LongLine = ⊥
 -- whatever else is right or wrong with them, and as soon as they have come.
 abbrev pub TakesBlock : List (List ℕ) → List ℕ → List ℕ → List (List ℕ) → Type 0
 TakesBlock words len last tail =
-    (line rest : List ℕ) (value_len : ℕ) (quiet : Bool) → Lacks 10 line → length line ≤ MAX_LINE_LEN
+    (line rest : List ℕ) (value_len : ℕ) (quiet : Bool) → Lacks 10 line → length line ≤ most_line line
     → words_of (without_return line) ≡ words → block_len len ≡ Some value_len → quiet_tail last tail ≡ Some quiet
     → Takes (length line + 1 + value_len + END_LEN) (length (line ++ 10 ∷ rest)) (next_of (line ++ 10 ∷ rest))
 

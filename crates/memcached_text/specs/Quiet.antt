@@ -1,7 +1,6 @@
 -- Which commands and refusals want no reply.
 use Rattle.std.specs.Prelude.{◌≡◌, ⊤, ℕ, ◌≤◌, Bool, false, List, [], ◌∷◌, ◌++◌, length, drop, codes, bytes_eq, if◌then◌else◌}
 use Rattle.std.specs.List.{list_any}
-use Rattle.memcached_text.specs.declared.limits.TheConstants.{MAX_LINE_LEN}
 use Rattle.memcached_text.specs.declared.fault.Fault.TheVariants.{Unknown}
 use Rattle.memcached_text.specs.declared.command.Command.{Command}
 use Rattle.memcached_text.specs.declared.command.Command.TheVariants.{Store, Join, Count, Delete, Touch, Flush, Verbosity, Quit}
@@ -9,7 +8,7 @@ use Rattle.memcached_text.specs.declared.next.Next.{Next}
 use Rattle.memcached_text.specs.declared.next.Next.TheVariants as nexts
 use Rattle.memcached_text.specs.Lines.{Lacks, words_of, without_return}
 use Rattle.memcached_text.specs.Line.{is_noreply}
-use Rattle.memcached_text.specs.Next.{next_of}
+use Rattle.memcached_text.specs.Next.{most_line, next_of}
 
 -- whether a command wants no reply
 abbrev pub is_quiet : Command → Bool
@@ -55,5 +54,5 @@ IsQuietAs asked _ = ⊤
 
 -- The bytes of a line are quiet just where its last word says so. So a client never takes one reply for another's.
 abbrev pub IsQuiet : Type 0
-IsQuiet = (line rest name : List ℕ) (words : List (List ℕ)) → Lacks 10 line → length line ≤ MAX_LINE_LEN
+IsQuiet = (line rest name : List ℕ) (words : List (List ℕ)) → Lacks 10 line → length line ≤ most_line line
     → words_of (without_return line) ≡ name ∷ words → IsQuietAs (ends_quietly (asking_words name words)) (next_of (line ++ 10 ∷ rest))

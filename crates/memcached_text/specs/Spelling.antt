@@ -1,7 +1,7 @@
 -- How commands are spelled: one text of each, of those that a client may write.
 use Rattle.std.specs.Prelude.{◌≡◌, ◌≢◌, ℕ, ◌^◌, ◌<◌, ◌≤◌, ⊤, Bool, true, false, List, [], ◌∷◌, ◌++◌, length, codes, decimal, flat_map, Option, Some, None}
 use Rattle.std.specs.List.{AllByRecursion}
-use Rattle.memcached_text.specs.declared.limits.TheConstants.{MAX_KEY_LEN, MAX_TEXT_LEN, MAX_LINE_LEN}
+use Rattle.memcached_text.specs.declared.limits.TheConstants.{MAX_KEY_LEN, MAX_TEXT_LEN}
 use Rattle.memcached_text.specs.declared.lifetime.Lifetime.{Lifetime}
 use Rattle.memcached_text.specs.declared.lifetime.Lifetime.TheVariants.{Forever, Over, For, Until}
 use Rattle.memcached_text.specs.declared.lifetime.Due.{Due}
@@ -20,7 +20,7 @@ use Rattle.memcached_text.specs.declared.next.Next.TheVariants as nexts
 use Rattle.memcached_text.specs.Lifetimes.{IsSaid, IsSaidDue}
 use Rattle.memcached_text.specs.Lines.{Lacks}
 use Rattle.memcached_text.specs.Fit.{IsWant}
-use Rattle.memcached_text.specs.Next.{next_of}
+use Rattle.memcached_text.specs.Next.{most_line, next_of}
 
 -- a key that a line can have: some bytes, none a space, a line feed or a 0
 pub record IsKey (key : List ℕ) : Type 0 where
@@ -133,7 +133,7 @@ IsLineWant wants = IsWant wants
 -- a command that has a text
 abbrev pub IsCommand : Command → Type 0
 IsCommand (Get keys unique lifetime) =
-    HasKeys lifetime keys × AllByRecursion IsKey keys × (length (joined (command_words (Get keys unique lifetime))) < MAX_LINE_LEN)
+    let line = joined (command_words (Get keys unique lifetime)) in HasKeys lifetime keys × AllByRecursion IsKey keys × (length line < most_line line)
 IsCommand (Store wants key flags lifetime value quiet) =
     IsLineWant wants × IsKey key × (flags < 2 ^ 32) × IsSaid lifetime × (length value ≤ MAX_TEXT_LEN)
 IsCommand (Join side key value quiet) = IsKey key × (length value ≤ MAX_TEXT_LEN)

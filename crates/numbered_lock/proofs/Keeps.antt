@@ -2,9 +2,9 @@
 use Rattle.std.proofs.Common.{◌≡◌, ◌≢◌, ℕ, zero, suc, ◌<◌, ◌==◌, List, [], ◌∷◌, ◌++◌, get_or, set, sym, refl, ap, ◌∙◌, subst, ◌⊎◌, ⊎_elim, arith, Option, Some, None}
 use Rattle.std.proofs.Math.Dec.{eqb-suc-zero}
 use prog.Atomic.{either}
-use mathlib.Core.Option.{Option as Home, some, none, some-injective, some-ne-none}
+use mathlib.Core.Option.{Option as Home, some, none}
 use lib.ListN.{get_elem?}
-use Rattle.atomic_table.specs.Table.{State, Act, keeps, takes, gives, step, stepped, opening, Allows, Enters, Valid, carried_after, put_back, rest}
+use Rattle.atomic_table.specs.Table.{State, Act, keeps, takes, gives, step, stepped, Allows, Enters, Valid, carried_after, put_back, rest}
 use Rattle.atomic_table.proofs.Lists.{at_set, at_snoc}
 use Rattle.numbered_lock.specs.declared.rule.LockSeatView.{LockSeatView}
 use Rattle.atomic_table.specs.Seated.{TableId}
@@ -40,19 +40,11 @@ module _ {X : Type 0} (number_of : X → ℕ) (number : ℕ) where
   abbrev Views : List LockSeatView → Type 0
   Views views = (seat : ℕ) (v : LockSeatView) → get_elem? views seat ≡ some v → v ≡ seat_view number
 
-  knows_one : Views (seat_view number ∷ [])
-  knows_one zero v e = sym (some-injective (seat_view number) v e)
-  knows_one (suc seat) v e = absurd (some-ne-none v (sym e))
-
   knows_set : (views : List LockSeatView) (seat : ℕ) (w : LockSeatView) → w ≡ seat_view number → Views views → Views (set views seat w)
   knows_set views seat w is old j u e = ⊎_elim (λ (x : (j ≡ seat) × (w ≡ u)). sym x.1 ∙ is) (λ (x : (j ≢ seat) × (get_elem? views j ≡ some u)). old j u x.1) (at_set views seat j w u e)
 
   knows_more : (views : List LockSeatView) → Views views → Views (views ++ seat_view number ∷ [])
   knows_more views old j u e = ⊎_elim (λ (x : get_elem? views j ≡ some u). old j u x) (λ (is : seat_view number ≡ u). sym is) (at_snoc views (seat_view number) u j e)
-
-  -- a lock with what has its number
-  pub begins : (x : X) (others : List ℕ) → number_of x ≡ number → IsKept number_of number (opening (0 ∷ others) (Some x ∷ []) (seat_view number))
-  begins x others is = record { word = 0; others = others; home = some (Some x); words_are = refl; homes_are = refl; stands = is; knows = knows_one }
 
   -- whoever comes learns the number
   pub enters : (slots : ℕ) → Enters (IsKept number_of number) slots 0 (λ n w. comes {X = X} (step slots 0 0 0 none) (seat_view number, []) n (w, []))

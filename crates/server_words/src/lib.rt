@@ -7,9 +7,7 @@
 mod ask_options;
 mod limits;
 mod ports;
-mod stream_ports;
 
 pub use ask_options::AskOptions;
 pub use limits::{MAX_BATCHES, MAX_SOURCE_LEN, MOST_FRONTS};
 pub use ports::PortOptions;
-pub use stream_ports::StreamPorts;
