@@ -12,12 +12,12 @@ abbrev pub invariant-loop-count : goal.invariant-loop-count
 invariant-loop-count g l =
     let F = g.F.Front in record {
       answers : List Answered;
-      first : AnswersFirst (F.options l.initial.front) F.is_alone l.base l.second l.style.now l.initial.asks (F.sessions l.initial.front) (F.sessions l.front) answers;
+      first : AnswersFirst (F.options l.initial.front) F.is_alone l.base l.second l.style l.initial.asks (F.sessions l.initial.front) (F.sessions l.front) answers;
       many : l.count ≡ length answers;
       left_is : l.asks ≡ drop l.count l.initial.asks;
-      whole : (length l.asks == 0) ≡ (length answers == length (asks_by l.style.now l.initial.asks answers));
+      whole : (length l.asks == 0) ≡ (length answers == length (asks_by l.style l.initial.asks answers));
       fit : AllByRecursion IsFitAsked l.asks;
-      text : l.out.items ≡ l.initial.out.items ++ asks_text l.base l.style.now l.initial.asks answers;
+      text : l.out.items ≡ l.initial.out.items ++ asks_text l.base l.style l.initial.asks answers;
       short : length l.out.items ≤ max (length l.initial.out.items) l.limits.bytes + MAX_REPLY_LEN;
       few : l.count ≤ l.limits.asks;
       few_answers : length answers ≤ l.limits.asks;
