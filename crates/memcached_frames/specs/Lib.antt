@@ -4,3 +4,4 @@ pub mod Header
 pub mod Laws
 pub mod Opcodes
 pub mod Replies
+pub mod Spelling

@@ -3,6 +3,7 @@ ghost use Rattle.std.specs.Prelude.{◌≡◌, ◌<◌, ◌≤◌, ◌+◌, leng
 ghost use Rattle.memcached_frames.specs.Frames.{echo_of, fits, stale_of, frame_in, frame_by, frame_of, frame_at, frame_next};
 ghost use Rattle.memcached_frames.specs.Fit.{IsFitNext};
 ghost use Rattle.memcached_frames.specs.Header.{frame_len};
+ghost use Rattle.memcached_frames.specs.Spelling.{FramesReadBack};
 ghost use Rattle.memcached_frames.specs.Laws.{EndsAtOnce, FramesStay, FramesWait, KeepsFrames};
 
 use crate::header::{FRAME_LEN, Header, read_header};
@@ -197,4 +198,9 @@ pub fn whole_frames()
     ensures keeps { KeepsFrames }
     ensures at_once { EndsAtOnce }
     ensures waits { FramesWait }
+{}
+
+/// A frame is read as it was written, whatever follows. So bytes begin with one at most.
+pub fn one_frame()
+    ensures { FramesReadBack }
 {}

@@ -9,7 +9,7 @@ mod header;
 mod opcode;
 mod reply;
 
-pub use frame::{Echo, Frame, FrameFault, FrameNext, next_frame, whole_frames};
+pub use frame::{Echo, Frame, FrameFault, FrameNext, next_frame, one_frame, whole_frames};
 pub use header::{FRAME_LEN, Header, REPLY, REQUEST, header_bytes, one_header, read_header};
 pub use opcode::{MOST_EXTRAS, Opcode, Verb, opcode_of};
 pub use reply::{FrameReply, one_reply, put_reply};
