@@ -6,12 +6,10 @@
 
 mod beside;
 mod memory;
-mod memory_file;
 mod place;
 mod replacing;
 
 pub use beside::Beside;
 pub use memory::MemPlace;
-pub use memory_file::MemFile;
 pub use place::Place;
 pub use replacing::{put_in_place, replace, use_up};

@@ -4,10 +4,14 @@ ghost use Rattle.outside.specs.Faults.{Rose};
 ghost use Rattle.named_files.specs.Files.{LeavesOf, MayLeave, seen};
 ghost use Rattle.named_files.specs.Memory.{version_of, state_in, settled};
 
-use crate::{MemFile, Place};
+use crate::Place;
+use memory_outside::MemSource;
 use outside::{Failed, NoMemory};
 use std::alloc::Global;
 use std::mem;
+
+// As many bytes as a read gives at most.
+const PIECE: u32 = 1_000;
 
 /// What a name stood for, and how many of its first bytes are on the disk.
 #[derive(Drop)]
@@ -142,7 +146,7 @@ fn fails_now(fails: &[u32], calls: &mut u32, faults: &mut u64) -> bool
 }
 
 impl Place for MemPlace {
-    type Opened = MemFile;
+    type Opened = MemSource;
 
     ghost state = { λ p. Some (state_in p) };
 
@@ -158,14 +162,14 @@ impl Place for MemPlace {
         Ok(self.is_free)
     }
 
-    fn open(&mut self, alloc: Global) -> Result<Option<MemFile>, Failed> {
+    fn open(&mut self, alloc: Global) -> Result<Option<MemSource>, Failed> {
         if fails_now(&self.fails, &mut self.calls, &mut self.faults) {
             return Err(Failed);
         }
         let Some(bytes) = &self.newest.file else {
             return Ok(None);
         };
-        match MemFile::new(alloc, bytes.as_slice()) {
+        match MemSource::new(alloc, bytes.as_slice(), PIECE, &[]) {
             Ok(source) => Ok(Some(source)),
             Err(NoMemory) => {
                 self.faults = self.faults.saturating_add(1);
