@@ -16,25 +16,25 @@ def item(flags, end, unique, value):
 
 
 def small(mode="store", secret=SECRET):
-    text = head(1_700_000_000, 0, secret, mode, 2)
-    text += pair(b"a", item(0, 0, 5, b"1")) + pair(b"lock:7", item(42, 1_700_000_060, 6, b"owner")) + closing(2, 9, 12)
+    text = head(1_700_000_000, secret, mode, 2)
+    text += pair(b"a", item(0, 0, 5, b"1")) + pair(b"lock:7", item(42, 1_700_000_060, 6, b"owner")) + closing(2, 9, 12, 1_700_000_100)
     return text + closing(0, 0, 7)
 
 
 def long():
     """Pairs that lie across blocks, and values of all lengths to the longest."""
-    text = head(1_700_000_000, 1_700_000_100, None, "cache", 3)
+    text = head(1_700_000_000, None, "cache", 3)
     for number in range(20):
         text += pair(b"k%d" % number, bytes([97 + number]) * 8_192, number % 4, number % 2 == 1)
-    text += closing(20, 400, 1 << 61) + closing(0, 0, 1)
+    text += closing(20, 400, 1 << 61, (1 << 64) - 1) + closing(0, 0, 1, 1)
     text += pair(b"K" * 250, b"") + pair(b"\0", b"\xff") + closing(2, (1 << 64) - 1, (1 << 62) - 1)
     return text
 
 
 def exact():
     """Content that fills its blocks: nothing is behind the last closing."""
-    text = head(1, 0, SECRET, "cache", 1)
-    left = CONTENT - len(text) - 24
+    text = head(1, SECRET, "cache", 1)
+    left = CONTENT - len(text) - 32
     while left > 8_192 + 8 + 3:
         text += pair(b"key", b"v" * 8_000)
         left -= 8_000 + 8 + 3
@@ -70,22 +70,22 @@ def files():
         ("magic", 0, b"X"),
         ("version_1", 4, b"\1"),
         ("version_high", 7, b"\1"),
-        ("hashing_2", 24, b"\2"),
-        ("papers_with_secret", 24, b"\0"),
-        ("mode_2", 48, b"\2"),
-        ("no_partitions", 56, b"\0"),
-        ("partitions_65537", 56, words(65_537)),
-        ("one_partition_more", 56, b"\3"),
-        ("one_partition_less", 56, b"\1"),
-        ("key_of_251", 64, words(251 | 17 << 32)),
-        ("value_of_8193", 64, words(1 | 8_193 << 32)),
-        ("a_bit_that_must_be_0", 65, b"\x08"),
-        ("the_last_bit_that_must_be_0", 67, b"\x80"),
-        ("key_of_0", 64, words(17 << 32)),
-        ("closed_by_1", len(small()) - 48, words(256)),
-        ("closed_by_3", len(small()) - 48, words(3 * 256)),
-        ("next_0", len(small()) - 32, words(0)),
-        ("next_2_62", len(small()) - 32, words(1 << 62)),
+        ("hashing_2", 16, b"\2"),
+        ("papers_with_secret", 16, b"\0"),
+        ("mode_2", 40, b"\2"),
+        ("no_partitions", 48, b"\0"),
+        ("partitions_65537", 48, words(65_537)),
+        ("one_partition_more", 48, b"\3"),
+        ("one_partition_less", 48, b"\1"),
+        ("key_of_251", 56, words(251 | 17 << 32)),
+        ("value_of_8193", 56, words(1 | 8_193 << 32)),
+        ("a_bit_that_must_be_0", 57, b"\x08"),
+        ("the_last_bit_that_must_be_0", 59, b"\x80"),
+        ("key_of_0", 56, words(17 << 32)),
+        ("closed_by_1", len(small()) - 64, words(256)),
+        ("closed_by_3", len(small()) - 64, words(3 * 256)),
+        ("next_0", len(small()) - 48, words(0)),
+        ("next_2_62", len(small()) - 48, words(1 << 62)),
     ):
         yield name, blocks(changed(filled(small()), at, data))
 

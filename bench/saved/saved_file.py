@@ -33,16 +33,16 @@ def blocks(content):
     return file
 
 
-def head(second, until, secret, mode, partitions):
-    return MAGIC + words(second, until, *((1, *secret) if secret else (0, 0, 0)), ("cache", "store").index(mode), partitions)
+def head(second, secret, mode, partitions):
+    return MAGIC + words(second, *((1, *secret) if secret else (0, 0, 0)), ("cache", "store").index(mode), partitions)
 
 
 def pair(key, value, reads=0, is_long=False):
     return words(len(key) | reads << 8 | is_long << 10 | len(value) << 32) + key + value
 
 
-def closing(pairs, written, upcoming):
-    return words(256 * pairs % WORD, written, upcoming)
+def closing(pairs, written, upcoming, until=0):
+    return words(256 * pairs % WORD, written, upcoming, until)
 
 
 def filled(content):
@@ -85,16 +85,16 @@ def shown(data):
 
 
 def head_of(reader):
-    first = reader.take(64)
+    first = reader.take(56)
     if first[:4] != MAGIC[:4]:
         raise Fault("magic")
     if first[4:8] != MAGIC[4:]:
         raise Fault("version")
-    second, until, kind, k0, k1, mode, partitions = struct.unpack("<7Q", first[8:])
+    second, kind, k0, k1, mode, partitions = struct.unpack("<6Q", first[8:])
     if kind > 1 or kind == 0 and (k0 or k1) or mode > 1 or not 1 <= partitions <= MAX_PARTITIONS:
         raise Fault("head")
     hashing = f"secret {k0} {k1}" if kind else "papers"
-    return f"head {second} {until} {hashing} {('cache', 'store')[mode]} {partitions}", partitions
+    return f"head {second} {hashing} {('cache', 'store')[mode]} {partitions}", partitions
 
 
 def partition_of(reader):
@@ -104,10 +104,10 @@ def partition_of(reader):
         if word % 256 == 0:
             if word != 256 * count % WORD:
                 raise Fault("count")
-            written, upcoming = struct.unpack("<2Q", reader.take(16))
+            written, upcoming, until = struct.unpack("<3Q", reader.take(24))
             if not 0 < upcoming < 1 << 62:
                 raise Fault("count")
-            yield f"close {written} {upcoming}"
+            yield f"close {written} {upcoming} {until}"
             return
         key_len, reads, is_long, value_len = word & 255, word >> 8 & 3, word >> 10 & 1, word >> 32
         if key_len > MAX_KEY or word >> 11 & (1 << 21) - 1 or value_len > MAX_VALUE:

@@ -3,6 +3,7 @@
 use crate::HostPlace;
 use named_files::{Beside, Place, put_in_place, replace, use_up};
 use outside::{read_up_to, write_all};
+use std::fs::OpenOptions;
 use std::os::unix::fs::PermissionsExt;
 use std::test::Fail;
 use std::{fs, process};
@@ -109,6 +110,27 @@ fn a_call_fails_where_the_folder_is_gone(rt: HostRuntime) -> Result<(), Fail> {
         assert!(&rt; place.rename().is_err());
         assert!(&rt; place.sync_names().is_err());
     }
+    fs::remove_dir_all(&rt, folder.as_str())?;
+    Ok(())
+}
+
+// A full disk, as the system's own file of that kind has it: what was not written whole gets no further byte and no name.
+#[test]
+fn a_file_on_a_full_disk_gets_no_name(rt: HostRuntime) -> Result<(), Fail> {
+    let alloc = rt.alloc();
+    let folder = new_folder(&rt, "full")?;
+    let path = format!(in alloc; "{folder}/saved")?;
+    let mut place = HostPlace::new(alloc, &rt, path.as_str())?;
+    replace(&mut place, b"one")?;
+    place.begin()?;
+    let mut how = OpenOptions::new();
+    how.write(true);
+    place.beside = Some(how.open(&rt, "/dev/full")?);
+    assert!(&rt; place.append(b"two").is_err());
+    assert!(&rt; place.append(b"three").is_err());
+    assert!(&rt; place.sync_beside().is_err());
+    assert!(&rt; place.rename().is_err());
+    assert_eq!(&rt; fs::read(&rt, path.as_str())?.as_slice(), b"one".as_slice());
     fs::remove_dir_all(&rt, folder.as_str())?;
     Ok(())
 }

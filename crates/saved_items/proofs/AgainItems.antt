@@ -9,7 +9,7 @@ use Rattle.mica_words.specs.Item.{words_for}
 use Rattle.mica_words.specs.Packing.{packed, packed_words, little}
 use Rattle.mica_words.proofs.PackedBytes.{length-words}
 use Rattle.word_sums.specs.Sum.{IsWord}
-use Rattle.mica_words.specs.declared.item.TheConstants.{MAX_VALUE_LEN}
+use Rattle.mica_words.specs.declared.item.TheConstants.{MAX_STORED_LEN}
 use Rattle.saved_items.specs.declared.items.TheConstants.{MAX_SAVED_KEY_LEN}
 use Rattle.saved_items.specs.declared.fault.SavedFault.{SavedFault}
 use Rattle.saved_items.specs.declared.items.Head.{Head}
@@ -49,23 +49,23 @@ packed_text words are =
 in_range : (partitions : ℕ) → 1 ≤ partitions → partitions ≤ 65536 → (ltb 0 partitions ≡ true) × (ltb partitions 65537 ≡ true)
 in_range partitions some few = (lt-ltb 0 partitions (omega arith), lt-ltb partitions 65537 (omega arith))
 
-head_again_words : (second until partitions : ℕ) (hashing : Hashing) (mode : SavedMode) → 1 ≤ partitions → partitions ≤ 65536
-    → head_in (head_words (record { second = second; until = until; hashing = hashing; mode = mode; partitions = partitions }))
-    ≡ Ok (record { second = second; until = until; hashing = hashing; mode = mode; partitions = partitions })
-head_again_words second until partitions Papers Cache some few = let t = in_range partitions some few in rw (t.0, t.1) refl
-head_again_words second until partitions Papers Store some few = let t = in_range partitions some few in rw (t.0, t.1) refl
-head_again_words second until partitions (Secret k0 k1) Cache some few = let t = in_range partitions some few in rw (t.0, t.1) refl
-head_again_words second until partitions (Secret k0 k1) Store some few = let t = in_range partitions some few in rw (t.0, t.1) refl
+head_again_words : (second partitions : ℕ) (hashing : Hashing) (mode : SavedMode) → 1 ≤ partitions → partitions ≤ 65536
+    → head_in (head_words (record { second = second; hashing = hashing; mode = mode; partitions = partitions }))
+    ≡ Ok (record { second = second; hashing = hashing; mode = mode; partitions = partitions })
+head_again_words second partitions Papers Cache some few = let t = in_range partitions some few in rw (t.0, t.1) refl
+head_again_words second partitions Papers Store some few = let t = in_range partitions some few in rw (t.0, t.1) refl
+head_again_words second partitions (Secret k0 k1) Cache some few = let t = in_range partitions some few in rw (t.0, t.1) refl
+head_again_words second partitions (Secret k0 k1) Store some few = let t = in_range partitions some few in rw (t.0, t.1) refl
 
-words_of_head : (head : Head) → HeadFits head → AllByRecursion IsWord (head_words head) × (length (words_text (head_words head)) ≡ 64)
+words_of_head : (head : Head) → HeadFits head → AllByRecursion IsWord (head_words head) × (length (words_text (head_words head)) ≡ 56)
 words_of_head head fits = are head.hashing head.mode fits.hashing
   where
     are : (hashing : Hashing) (mode : SavedMode) → HashingFits hashing
-        → AllByRecursion IsWord (head_words (record head { hashing = hashing; mode = mode })) × (length (words_text (head_words (record head { hashing = hashing; mode = mode }))) ≡ 64)
-    are Papers Cache h = ((omega arith, (fits.second, (fits.until, (omega arith, (omega arith, (omega arith, (omega arith, (omega (arith, fits.partitions), tt)))))))), refl)
-    are Papers Store h = ((omega arith, (fits.second, (fits.until, (omega arith, (omega arith, (omega arith, (omega arith, (omega (arith, fits.partitions), tt)))))))), refl)
-    are (Secret k0 k1) Cache h = ((omega arith, (fits.second, (fits.until, (omega arith, (h.0, (h.1, (omega arith, (omega (arith, fits.partitions), tt)))))))), refl)
-    are (Secret k0 k1) Store h = ((omega arith, (fits.second, (fits.until, (omega arith, (h.0, (h.1, (omega arith, (omega (arith, fits.partitions), tt)))))))), refl)
+        → AllByRecursion IsWord (head_words (record head { hashing = hashing; mode = mode })) × (length (words_text (head_words (record head { hashing = hashing; mode = mode }))) ≡ 56)
+    are Papers Cache h = ((omega arith, (fits.second, (omega arith, (omega arith, (omega arith, (omega arith, (omega (arith, fits.partitions), tt))))))), refl)
+    are Papers Store h = ((omega arith, (fits.second, (omega arith, (omega arith, (omega arith, (omega arith, (omega (arith, fits.partitions), tt))))))), refl)
+    are (Secret k0 k1) Cache h = ((omega arith, (fits.second, (omega arith, (h.0, (h.1, (omega arith, (omega (arith, fits.partitions), tt))))))), refl)
+    are (Secret k0 k1) Store h = ((omega arith, (fits.second, (omega arith, (h.0, (h.1, (omega arith, (omega (arith, fits.partitions), tt))))))), refl)
 
 pub head_again : (head : Head) (rest : List ℕ) (stop : Stop) → HeadFits head
     → head_at (record { content = words_text (head_words head) ++ rest; stop = stop }) ≡ Ok (head, record { content = rest; stop = stop })
@@ -73,28 +73,28 @@ unfolding head_at
 head_again head rest stop fits =
     let words = words_of_head head fits in
     let found : head_in (packed (words_text (head_words head))) ≡ Ok head =
-    ap head_in (packed_text (head_words head) words.0) ∙ head_again_words head.second head.until head.partitions head.hashing head.mode fits.some fits.partitions in
-    rw (bytes_again (words_text (head_words head)) rest stop 64 words.1, found) refl
+    ap head_in (packed_text (head_words head) words.0) ∙ head_again_words head.second head.partitions head.hashing head.mode fits.some fits.partitions in
+    rw (bytes_again (words_text (head_words head)) rest stop 56 words.1, found) refl
 
 -- ---- the pairs
 
 lengths_made : (w k v r : ℕ) (l : Bool) → w % 256 ≡ k → w / 2048 % 2097152 ≡ 0 → w / 4294967296 ≡ v → w / 256 % 4 ≡ r → eqb (w / 1024 % 2) 1 ≡ l
-    → ltb k (MAX_SAVED_KEY_LEN + 1) ≡ true → ltb v (MAX_VALUE_LEN + 1) ≡ true
+    → ltb k (MAX_SAVED_KEY_LEN + 1) ≡ true → ltb v (MAX_STORED_LEN + 1) ≡ true
     → lengths_in w ≡ Some (record { key_len = k; value_len = v; reads = r; is_long = l })
 lengths_made w k v r l key zeros value reads long few short = rw (key, zeros, value, reads, long, few, short) refl
 
-lengths_again : (k v r : ℕ) (l : Bool) → k ≤ MAX_SAVED_KEY_LEN → v ≤ MAX_VALUE_LEN → r < 4
+lengths_again : (k v r : ℕ) (l : Bool) → k ≤ MAX_SAVED_KEY_LEN → v ≤ MAX_STORED_LEN → r < 4
     → lengths_in (k + 2 ^ 8 * r + 2 ^ 10 * bit l + 2 ^ 32 * v) ≡ Some (record { key_len = k; value_len = v; reads = r; is_long = l })
 lengths_again k v r true few short reads =
     lengths_made (k + 256 * r + 1024 * 1 + 4294967296 * v) k v r true (omega arith) (omega arith) (omega arith) (omega arith)
     (ap (λ (n : ℕ). eqb n 1) (let e : (k + 256 * r + 1024 * 1 + 4294967296 * v) / 1024 % 2 ≡ 1 = omega arith in e))
-    (lt-ltb k (MAX_SAVED_KEY_LEN + 1) (omega arith)) (lt-ltb v (MAX_VALUE_LEN + 1) (omega arith))
+    (lt-ltb k (MAX_SAVED_KEY_LEN + 1) (omega arith)) (lt-ltb v (MAX_STORED_LEN + 1) (omega arith))
 lengths_again k v r false few short reads =
     lengths_made (k + 256 * r + 1024 * 0 + 4294967296 * v) k v r false (omega arith) (omega arith) (omega arith) (omega arith)
     (ap (λ (n : ℕ). eqb n 1) (let e : (k + 256 * r + 1024 * 0 + 4294967296 * v) / 1024 % 2 ≡ 0 = omega arith in e))
-    (lt-ltb k (MAX_SAVED_KEY_LEN + 1) (omega arith)) (lt-ltb v (MAX_VALUE_LEN + 1) (omega arith))
+    (lt-ltb k (MAX_SAVED_KEY_LEN + 1) (omega arith)) (lt-ltb v (MAX_STORED_LEN + 1) (omega arith))
 
-word_of_pair : (k v r : ℕ) (l : Bool) → k ≤ MAX_SAVED_KEY_LEN → v ≤ MAX_VALUE_LEN → r < 4 → IsWord (k + 2 ^ 8 * r + 2 ^ 10 * bit l + 2 ^ 32 * v)
+word_of_pair : (k v r : ℕ) (l : Bool) → k ≤ MAX_SAVED_KEY_LEN → v ≤ MAX_STORED_LEN → r < 4 → IsWord (k + 2 ^ 8 * r + 2 ^ 10 * bit l + 2 ^ 32 * v)
 word_of_pair k v r true few short reads = omega arith
 word_of_pair k v r false few short reads = omega arith
 
@@ -114,13 +114,13 @@ low_byte k v r false some few = ne_eqb ((k + 256 * r + 1024 * 0 + 4294967296 * v
 -- ---- what closes a partition
 
 closing_again : (closing : Closing) (rest : List ℕ) (stop : Stop) → ClosingFits closing
-    → closing_at (record { content = words_text (closing.written ∷ closing.next ∷ []) ++ rest; stop = stop }) ≡ Ok (closing, record { content = rest; stop = stop })
+    → closing_at (record { content = words_text (closing.written ∷ closing.next ∷ closing.until ∷ []) ++ rest; stop = stop }) ≡ Ok (closing, record { content = rest; stop = stop })
 unfolding closing_at
 closing_again closing rest stop fits =
-    let words : AllByRecursion IsWord (closing.written ∷ closing.next ∷ []) = (fits.written, (omega (arith, fits.next), tt)) in
+    let words : AllByRecursion IsWord (closing.written ∷ closing.next ∷ closing.until ∷ []) = (fits.written, (omega (arith, fits.next), (fits.until, tt))) in
     let some : ltb 0 closing.next ≡ true = lt-ltb 0 closing.next fits.some in
     let low : ltb closing.next (2 ^ 62) ≡ true = lt-ltb closing.next (2 ^ 62) fits.next in
-    rw (bytes_again (words_text (closing.written ∷ closing.next ∷ [])) rest stop 16 refl, packed_text (closing.written ∷ closing.next ∷ []) words, some, low) refl
+    rw (bytes_again (words_text (closing.written ∷ closing.next ∷ closing.until ∷ [])) rest stop 24 refl, packed_text (closing.written ∷ closing.next ∷ closing.until ∷ []) words, some, low) refl
 
 -- ---- an entry
 
@@ -144,7 +144,7 @@ entry_again close (Keeps pair) rest stop is fits =
     let at : List ℕ → Result (Entry × Stream) SavedFault = λ c. word_at (record { content = c; stop = stop }) >>= λ w. behind_word close w.0 w.1 in
     ap at regrouped ∙ rw first (rw low (rw (pair_again pair rest stop fits) refl))
 entry_again close (Closes closing) rest stop is fits =
-    let words = words_text (closing.written ∷ closing.next ∷ []) in
+    let words = words_text (closing.written ∷ closing.next ∷ closing.until ∷ []) in
     let regrouped : entry_text close (Closes closing) ++ rest ≡ word_text close ++ (words ++ rest) = append_assoc (word_text close) words rest in
     let first = word_again close (words ++ rest) stop is.0 in
     let low : eqb (close % 256) 0 ≡ true = eq-eqb (close % 256) 0 is.1 in

@@ -60,7 +60,7 @@ grows_fault {A} fault s t a more stop e = absurd cc
 
 pub grows_head : Grows head_at
 unfolding head_at
-grows_head = grows_then (bytes_at 64) (λ bytes s. with_rest s (head_in (packed bytes))) (grows_bytes 64) (λ bytes. grows_given (head_in (packed bytes)))
+grows_head = grows_then (bytes_at 56) (λ bytes s. with_rest s (head_in (packed bytes))) (grows_bytes 56) (λ bytes. grows_given (head_in (packed bytes)))
 
 grows_texts : (lengths : Option Lengths) → Grows (texts_at lengths)
 unfolding texts_at
@@ -72,7 +72,7 @@ grows_texts (Some lengths) =
 
 grows_closing : Grows closing_at
 unfolding closing_at
-grows_closing = grows_then (bytes_at 16) (λ bytes s. with_rest s (closing_in (packed bytes))) (grows_bytes 16) (λ bytes. grows_given (closing_in (packed bytes)))
+grows_closing = grows_then (bytes_at 24) (λ bytes s. with_rest s (closing_in (packed bytes))) (grows_bytes 24) (λ bytes. grows_given (closing_in (packed bytes)))
 
 grows_behind : (close word : ℕ) → Grows (behind_word close word)
 grows_behind close word =

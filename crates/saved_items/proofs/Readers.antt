@@ -14,7 +14,7 @@ use Rattle.saved_items.specs.Reading.{Stream, bytes_at, word_at, head_in, head_a
 use Rattle.saved_items.specs.Moves.{Reads}
 
 -- a head in the bytes that were read
-pub reads_head : (old mid : Option Stream) (bytes : List ℕ) (result : Result Head SavedFault) → Reads (λ (_ : Unit {0}). bytes) old mid (let r : Result (Unit {0}) SavedFault = Ok tt in r) (bytes_at 64)
+pub reads_head : (old mid : Option Stream) (bytes : List ℕ) (result : Result Head SavedFault) → Reads (λ (_ : Unit {0}). bytes) old mid (let r : Result (Unit {0}) SavedFault = Ok tt in r) (bytes_at 56)
     → result ≡ head_in (packed bytes) → Reads (λ head. head) old mid result head_at
 unfolding head_at
 reads_head None mid bytes result one is = tt
@@ -23,7 +23,7 @@ reads_head (Some s) (Some m) bytes (Ok head) one is = ap (λ (r : Result (List �
 reads_head (Some s) (Some m) bytes (Err fault) one is = λ told. ap (λ (r : Result (List ℕ × Stream) SavedFault). r >>= λ b. with_rest b.1 (head_in (packed b.0))) one ∙ ap (with_rest m) (sym is)
 
 -- what closes a partition, in the bytes that were read
-pub reads_closing : (old mid : Option Stream) (bytes : List ℕ) (result : Result Closing SavedFault) → Reads (λ (_ : Unit {0}). bytes) old mid (let r : Result (Unit {0}) SavedFault = Ok tt in r) (bytes_at 16)
+pub reads_closing : (old mid : Option Stream) (bytes : List ℕ) (result : Result Closing SavedFault) → Reads (λ (_ : Unit {0}). bytes) old mid (let r : Result (Unit {0}) SavedFault = Ok tt in r) (bytes_at 24)
     → result ≡ closing_in (packed bytes) → Reads (λ closing. closing) old mid result closing_at
 unfolding closing_at
 reads_closing None mid bytes result one is = tt
@@ -54,12 +54,12 @@ pub word_lost : (bytes : List ℕ) (fault : SavedFault) (old mid new : Option St
 word_lost bytes fault None mid new lost = tt
 word_lost bytes fault (Some s) mid new lost = λ told. ap (λ (r : Result (List ℕ × Stream) SavedFault). r >>= λ b. Ok (from_le_bytes w64 b.0, b.1)) (lost told)
 
-pub head_lost : (bytes : List ℕ) (fault : SavedFault) (old mid new : Option Stream) → Lost bytes 64 fault old mid → Stopped Head (λ h. h) fault old new head_at
+pub head_lost : (bytes : List ℕ) (fault : SavedFault) (old mid new : Option Stream) → Lost bytes 56 fault old mid → Stopped Head (λ h. h) fault old new head_at
 unfolding head_at
 head_lost bytes fault None mid new lost = tt
 head_lost bytes fault (Some s) mid new lost = λ told. ap (λ (r : Result (List ℕ × Stream) SavedFault). r >>= λ b. with_rest b.1 (head_in (packed b.0))) (lost told)
 
-pub closing_lost : (bytes : List ℕ) (fault : SavedFault) (old mid new : Option Stream) → Lost bytes 16 fault old mid → Stopped Closing (λ c. c) fault old new closing_at
+pub closing_lost : (bytes : List ℕ) (fault : SavedFault) (old mid new : Option Stream) → Lost bytes 24 fault old mid → Stopped Closing (λ c. c) fault old new closing_at
 unfolding closing_at
 closing_lost bytes fault None mid new lost = tt
 closing_lost bytes fault (Some s) mid new lost = λ told. ap (λ (r : Result (List ℕ × Stream) SavedFault). r >>= λ b. with_rest b.1 (closing_in (packed b.0))) (lost told)

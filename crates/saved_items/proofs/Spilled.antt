@@ -53,7 +53,7 @@ pub pair_saved : (old new : Option (List ℕ)) (spiller spiller' : Spiller) (pai
 pair_saved old new spiller spiller' pair close puts = saved_entry old new spiller spiller' (Keeps pair) close puts
 
 pub closing_saved : (old new : Option (List ℕ)) (spiller spiller' : Spiller) (closing : Closing) → spiller'.close ≡ 0
-    → PutsBytes old new spiller spiller' (words_text (spiller.close ∷ closing.written ∷ closing.next ∷ [])) → Saves old new spiller spiller' (Closes closing)
+    → PutsBytes old new spiller spiller' (words_text (spiller.close ∷ closing.written ∷ closing.next ∷ closing.until ∷ [])) → Saves old new spiller spiller' (Closes closing)
 closing_saved old new spiller spiller' closing close puts = saved_entry old new spiller spiller' (Closes closing) close puts
 
 -- ---- the end

@@ -1,8 +1,8 @@
 -- What a file of saved items keeps.
 use Rattle.std.specs.Prelude.{◌≡◌, ℕ, zero, suc, ◌<◌, ◌≤◌, ◌-◌, ◌^◌, Bool, ◌+◌, ◌%◌, List, [], ◌∷◌, length, Option, Some, None, ⊤}
 use Rattle.std.specs.List.{AllByRecursion}
-use Rattle.mica_words.specs.declared.item.TheConstants.{MAX_VALUE_LEN}
-use Rattle.mica_words.specs.Item.{ValueFits}
+use Rattle.mica_words.specs.declared.item.TheConstants.{MAX_STORED_LEN}
+use Rattle.mica_words.specs.Item.{StoredFits}
 use Rattle.saved_items.specs.declared.items.TheConstants.{MAX_SAVED_KEY_LEN, MAX_PARTITIONS}
 use Rattle.saved_items.specs.declared.items.Head.{Head}
 use Rattle.saved_items.specs.declared.items.Hashing.{Hashing}
@@ -51,7 +51,6 @@ HashingFits (Secret k0 k1) = (k0 < 2 ^ 64) × (k1 < 2 ^ 64)
 
 pub record HeadFits (head : Head) : Type 0 where
   pub second : head.second < 2 ^ 64
-  pub until : head.until < 2 ^ 64
   pub hashing : HashingFits head.hashing
   pub some : 1 ≤ head.partitions
   pub partitions : head.partitions ≤ MAX_PARTITIONS
@@ -60,17 +59,18 @@ pub record ClosingFits (closing : Closing) : Type 0 where
   pub written : closing.written < 2 ^ 64
   pub some : 0 < closing.next
   pub next : closing.next < 2 ^ 62
+  pub until : closing.until < 2 ^ 64
 
 pub record PairFits (pair : Pair) : Type 0 where
   pub some : 0 < length pair.key
   pub key : length pair.key ≤ MAX_SAVED_KEY_LEN
-  pub value : ValueFits pair.value
+  pub value : StoredFits pair.value
   pub reads : pair.reads < 4
 
 pub record LengthsFit (lengths : Lengths) : Type 0 where
   pub some : 0 < lengths.key_len
   pub key : lengths.key_len ≤ MAX_SAVED_KEY_LEN
-  pub value : lengths.value_len ≤ MAX_VALUE_LEN
+  pub value : lengths.value_len ≤ MAX_STORED_LEN
   pub reads : lengths.reads < 4
 
 abbrev pub EntryFits : Entry → Type 0

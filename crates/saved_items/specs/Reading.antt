@@ -2,7 +2,7 @@
 use Rattle.std.specs.Prelude.{◌≡◌, ◌<◌, ℕ, zero, suc, ◌+◌, ◌*◌, ◌/◌, ◌%◌, ◌^◌, ◌&&◌, not, Bool, true, false, List, [], ◌∷◌, ◌++◌, length, take, drop, Option, Some, None, Result, Ok, Err, nat_lt, ◌==◌, if◌then◌else◌}
 use Rattle.std.specs.Int.{w64, from_le_bytes}
 use Rattle.std.specs.List.{list_all}
-use Rattle.mica_words.specs.declared.item.TheConstants.{MAX_VALUE_LEN}
+use Rattle.mica_words.specs.declared.item.TheConstants.{MAX_STORED_LEN}
 use Rattle.mica_words.specs.Packing.{packed}
 use Rattle.saved_items.specs.declared.items.TheConstants.{MAGIC, MAX_SAVED_KEY_LEN, MAX_PARTITIONS}
 use Rattle.saved_items.specs.declared.blocks.TheConstants.{CONTENT_LEN, BLOCK_LEN, FIRST_SUM}
@@ -77,30 +77,30 @@ abbrev pub mode_in : ℕ → Option SavedMode
 mode_in word = if word == 0 then Some Cache else if word == 1 then Some Store else None
 
 -- a head whose first word is right
-abbrev pub head_of : ℕ → ℕ → ℕ → Option Hashing → Option SavedMode → Result Head SavedFault
-head_of second until partitions (Some hashing) (Some mode) =
+abbrev pub head_of : ℕ → ℕ → Option Hashing → Option SavedMode → Result Head SavedFault
+head_of second partitions (Some hashing) (Some mode) =
     if nat_lt 0 partitions && nat_lt partitions (MAX_PARTITIONS + 1)
-    then Ok (record { second = second; until = until; hashing = hashing; mode = mode; partitions = partitions })
+    then Ok (record { second = second; hashing = hashing; mode = mode; partitions = partitions })
     else Err faults.Head
-head_of second until partitions None mode = Err faults.Head
-head_of second until partitions (Some hashing) None = Err faults.Head
+head_of second partitions None mode = Err faults.Head
+head_of second partitions (Some hashing) None = Err faults.Head
 
 abbrev pub head_in : List ℕ → Result Head SavedFault
-head_in (magic ∷ second ∷ until ∷ kind ∷ k0 ∷ k1 ∷ mode ∷ partitions ∷ []) =
+head_in (magic ∷ second ∷ kind ∷ k0 ∷ k1 ∷ mode ∷ partitions ∷ []) =
     if not (magic % 2 ^ 32 == MAGIC % 2 ^ 32) then Err faults.Magic
     else if not (magic == MAGIC) then Err faults.Version
-    else head_of second until partitions (hashing_in kind k0 k1) (mode_in mode)
+    else head_of second partitions (hashing_in kind k0 k1) (mode_in mode)
 head_in words = Err faults.Head
 
--- the two words behind the one that closes a partition
+-- the three words behind the one that closes a partition
 abbrev pub closing_in : List ℕ → Result Closing SavedFault
-closing_in (written ∷ next ∷ []) = if nat_lt 0 next && nat_lt next (2 ^ 62) then Ok (record { written = written; next = next }) else Err faults.Count
+closing_in (written ∷ next ∷ until ∷ []) = if nat_lt 0 next && nat_lt next (2 ^ 62) then Ok (record { written = written; next = next; until = until }) else Err faults.Count
 closing_in words = Err faults.Count
 
 -- the lengths and marks in the word of a pair, where it is one
 abbrev pub lengths_in : ℕ → Option Lengths
 lengths_in word =
-    if nat_lt (word % 2 ^ 8) (MAX_SAVED_KEY_LEN + 1) && (word / 2 ^ 11 % 2 ^ 21 == 0) && nat_lt (word / 2 ^ 32) (MAX_VALUE_LEN + 1)
+    if nat_lt (word % 2 ^ 8) (MAX_SAVED_KEY_LEN + 1) && (word / 2 ^ 11 % 2 ^ 21 == 0) && nat_lt (word / 2 ^ 32) (MAX_STORED_LEN + 1)
     then Some (record { key_len = word % 2 ^ 8; value_len = word / 2 ^ 32; reads = word / 2 ^ 8 % 4; is_long = (word / 2 ^ 10 % 2 == 1) })
     else None
 
@@ -114,7 +114,7 @@ with_rest rest (Ok x) = Ok (x, rest)
 with_rest rest (Err fault) = Err fault
 
 unfoldable pub head_at : Stream → Result (Head × Stream) SavedFault
-head_at stream = bytes_at 64 stream >>= λ bytes. with_rest bytes.1 (head_in (packed bytes.0))
+head_at stream = bytes_at 56 stream >>= λ bytes. with_rest bytes.1 (head_in (packed bytes.0))
 
 -- the key and the value behind the word of a pair
 unfoldable pub texts_at : Option Lengths → Stream → Result (Pair × Stream) SavedFault
@@ -124,7 +124,7 @@ texts_at (Some lengths) stream = bytes_at lengths.key_len stream >>= λ key. byt
 
 -- what closes a partition, behind its word
 unfoldable pub closing_at : Stream → Result (Closing × Stream) SavedFault
-closing_at stream = bytes_at 16 stream >>= λ bytes. with_rest bytes.1 (closing_in (packed bytes.0))
+closing_at stream = bytes_at 24 stream >>= λ bytes. with_rest bytes.1 (closing_in (packed bytes.0))
 
 abbrev pub behind_word : ℕ → ℕ → Stream → Result (Entry × Stream) SavedFault
 behind_word close word stream =

@@ -28,9 +28,9 @@ abbrev pub mode_word : SavedMode → ℕ
 mode_word Cache = 0
 mode_word Store = 1
 
--- eight words
+-- seven words
 abbrev pub head_words : Head → List ℕ
-head_words head = (MAGIC ∷ head.second ∷ head.until ∷ []) ++ hashing_words head.hashing ++ mode_word head.mode ∷ head.partitions ∷ []
+head_words head = (MAGIC ∷ head.second ∷ []) ++ hashing_words head.hashing ++ mode_word head.mode ∷ head.partitions ∷ []
 
 abbrev pub bit : Bool → ℕ
 bit b = if b then 1 else 0
@@ -42,10 +42,10 @@ pair_word pair = length pair.key + 2 ^ 8 * pair.reads + 2 ^ 10 * bit pair.is_lon
 abbrev pub pair_text : Pair → List ℕ
 pair_text pair = word_text (pair_word pair) ++ pair.key ++ pair.value
 
--- a pair, or three words behind the pairs of a partition
+-- a pair, or four words behind the pairs of a partition
 abbrev pub entry_text : ℕ → Entry → List ℕ
 entry_text close (Keeps pair) = pair_text pair
-entry_text close (Closes closing) = words_text (close ∷ closing.written ∷ closing.next ∷ [])
+entry_text close (Closes closing) = words_text (close ∷ closing.written ∷ closing.next ∷ closing.until ∷ [])
 
 abbrev pub entries_text : ℕ → List Entry → List ℕ
 entries_text close [] = []

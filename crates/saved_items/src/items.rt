@@ -27,13 +27,11 @@ pub enum SavedMode {
     Store,
 }
 
-/// What is said of all items.
+/// What is said of all partitions.
 #[derive(Clone, Copy, Debug, PartialEq, Eq)]
 pub struct Head {
     /// The server's second at which saving began.
     pub second: u64,
-    /// The second of a flush that waits, else 0.
-    pub until: u64,
     pub hashing: Hashing,
     pub mode: SavedMode,
     pub partitions: u64,
@@ -46,6 +44,8 @@ pub struct Closing {
     pub written: u64,
     /// It had given this unique number to no item, nor one above it.
     pub next: u64,
+    /// The second of a flush that waits there, else 0.
+    pub until: u64,
 }
 
 /// A pair as it is written and read, in room that is used again.

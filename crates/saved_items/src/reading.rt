@@ -10,7 +10,7 @@ use crate::blocks::CONTENT_LEN;
 use crate::items::{Lengths, MAGIC, MAX_PARTITIONS, MAX_SAVED_KEY_LEN};
 use crate::stream::read_bytes;
 use crate::{Closing, Hashing, Head, SavedFault, SavedMode, SavedPair, SavedReader};
-use mica_words::{MAX_VALUE_LEN, pack};
+use mica_words::{MAX_STORED_LEN, pack};
 use outside::Source;
 use std::alloc::Global;
 
@@ -36,11 +36,11 @@ fn mode_in(word: u64) -> Option<SavedMode>
     }
 }
 
-// The head in these eight words.
+// The head in these seven words.
 fn head_in(words: &[u64]) -> Result<Head, SavedFault>
     ensures { result ≡ head_in words.now }
 {
-    let [magic, second, until, kind, k0, k1, mode, partitions] = words else {
+    let [magic, second, kind, k0, k1, mode, partitions] = words else {
         return Err(SavedFault::Head);
     };
     if *magic % 4_294_967_296 != MAGIC % 4_294_967_296 {
@@ -60,7 +60,6 @@ fn head_in(words: &[u64]) -> Result<Head, SavedFault>
     }
     Ok(Head {
         second: *second,
-        until: *until,
         hashing,
         mode,
         partitions: *partitions,
@@ -79,8 +78,8 @@ pub fn read_head<S: Source>(
     ensures open { OnOk result (S.has_ended source.new ≡ false) }
 {
     let mut bytes = Vec::new(alloc);
-    read_bytes(source, reader, 64, &mut bytes)?;
-    let mut words = [0u64; 8];
+    read_bytes(source, reader, 56, &mut bytes)?;
+    let mut words = [0u64; 7];
     pack(bytes.as_slice(), &mut words);
     head_in(&words)
 }
@@ -92,7 +91,7 @@ fn lengths_in(word: u64) -> Option<Lengths>
 {
     let key_len = (word % 256) as usize;
     let value_len = (word / 4_294_967_296) as usize;
-    if key_len > MAX_SAVED_KEY_LEN || word / 2_048 % 2_097_152 != 0 || value_len > MAX_VALUE_LEN {
+    if key_len > MAX_SAVED_KEY_LEN || word / 2_048 % 2_097_152 != 0 || value_len > MAX_STORED_LEN {
         return None;
     }
     Some(Lengths {
@@ -103,11 +102,11 @@ fn lengths_in(word: u64) -> Option<Lengths>
     })
 }
 
-// The two words behind the one that closes a partition.
+// The three words behind the one that closes a partition.
 fn closing_in(words: &[u64]) -> Result<Closing, SavedFault>
     ensures { result ≡ closing_in words.now }
 {
-    let [written, next] = words else {
+    let [written, next, until] = words else {
         return Err(SavedFault::Count);
     };
     if *next == 0 || *next >= 4_611_686_018_427_387_904 {
@@ -116,6 +115,7 @@ fn closing_in(words: &[u64]) -> Result<Closing, SavedFault>
     Ok(Closing {
         written: *written,
         next: *next,
+        until: *until,
     })
 }
 
@@ -173,8 +173,8 @@ fn read_closing<S: Source>(
     ensures read { Reads (λ closing. closing) (stream_of (S.left source.old) reader.old) (stream_of (S.left source.new) reader.new) result closing_at }
     ensures open { OnOk result (S.has_ended source.new ≡ false) }
 {
-    read_bytes(source, reader, 16, room)?;
-    let mut words = [0u64; 2];
+    read_bytes(source, reader, 24, room)?;
+    let mut words = [0u64; 3];
     pack(room.as_slice(), &mut words);
     closing_in(&words)
 }

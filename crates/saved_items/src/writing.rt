@@ -127,7 +127,6 @@ pub fn put_head<K: Sink>(sink: &mut K, spiller: &mut Spiller, head: &Head) -> Re
     let words = [
         MAGIC,
         head.second,
-        head.until,
         kind,
         k0,
         k1,
@@ -176,7 +175,7 @@ pub fn close_partition<K: Sink>(
 ) -> Result<(), SpillFault>
     ensures { OnOk result (Saves (K.taken sink.old) (K.taken sink.new) spiller.old spiller.new (Closes closing)) }
 {
-    let words = [spiller.close, closing.written, closing.next];
+    let words = [spiller.close, closing.written, closing.next, closing.until];
     put_words(sink, spiller, &words)?;
     spiller.close = 0;
     Ok(())

@@ -72,9 +72,9 @@ impl Copied {
             SavedMode::Cache => "cache",
             SavedMode::Store => "store",
         };
-        let (second, until, partitions) = (head.second, head.until, head.partitions);
+        let (second, partitions) = (head.second, head.partitions);
         self.lines.push_str(format!(in self.alloc;
-            "head {second} {until} {hashing} {mode} {partitions}\n"
+            "head {second} {hashing} {mode} {partitions}\n"
         )?.as_str())?;
         let Ok(spiller) = Spiller::new(self.alloc) else {
             return Err(SpillFault::NoMemory);
@@ -94,8 +94,8 @@ impl Copied {
     }
 
     fn add_closing(&mut self, closing: Closing) -> Result<(), NoMemory> {
-        let (written, next) = (closing.written, closing.next);
-        self.lines.push_str(format!(in self.alloc; "close {written} {next}\n")?.as_str())?;
+        let (written, next, until) = (closing.written, closing.next, closing.until);
+        self.lines.push_str(format!(in self.alloc; "close {written} {next} {until}\n")?.as_str())?;
         Ok(())
     }
 
