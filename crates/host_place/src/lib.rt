@@ -50,9 +50,10 @@ fn counted<T>(faults: &mut u64, answer: io::Result<T>) -> Result<T, Failed>
 impl<'a, R: Files<File = File>> HostPlace<'a, R> {
     /// The place of the file with this path.
     pub fn new(alloc: Global, rt: &'a R, path: &str) -> Result<HostPlace<'a, R>, NoMemory> {
+        let folder = folder_of(path);
         Ok(HostPlace {
             rt,
-            folder: String::from_str(alloc, folder_of(path))?,
+            folder: format!(in alloc; "{folder}/.")?,
             path: String::from_str(alloc, path)?,
             beside_path: format!(in alloc; "{path}.new")?,
             away_path: format!(in alloc; "{path}.loaded")?,

@@ -1,3 +1,7 @@
-pub mod Saved
-pub mod Sound
+pub mod Parts
+pub mod Kept
+pub mod Walk
+pub mod Left
+pub mod Loaded
 pub mod GoesOn
+pub mod Laws
