@@ -2,10 +2,9 @@
 use Rattle.std.proofs.Common.{◌≡◌, ◌≢◌, ◌⊎◌, inl, inr, ℕ, suc, ◌+◌, ◌<◌, ◌&&◌, Bool, true, false, cond, eqb, ltb, List, [], ◌∷◌, ◌++◌, map, length, Option, Some, None, option_map, bytes_eq, refl, sym, ap, subst, ◌∙◌, arith, append_assoc}
 use Rattle.std.specs.List.{fold, AllByRecursion}
 use Rattle.std.specs.FinMap.{get, get-insert}
-use Rattle.std.specs.Ordering.{nat_cmp, is_eq}
+use Rattle.std.specs.Ordering.{nat_cmp, ordering_reverse, is_eq}
 use Rattle.std.specs.declared.cmp.Ordering.{Ordering}
 use Rattle.std.specs.declared.cmp.Ordering.TheVariants.{Less, Equal, Greater}
-use Rattle.std.specs.Cmp.{ordering_reverse}
 use Rattle.std.specs.Cmp.Lexicographic.{slice_cmp, nat_list_cmp_total}
 use Rattle.std.proofs.lemmas.Bool.{le-ltb, ne_eqb, true≢false}
 use Rattle.std.proofs.lemmas.List.{append-nil}
@@ -70,8 +69,8 @@ some_filled options part pairs (write ∷ other ∷ more) asks some = absurd ask
 
 -- a flush is a delete
 delete_gives_none : (op : Op) → is_delete op ≡ true → GivesValue op → ⊥
-delete_gives_none Put is gives = cc
-delete_gives_none Add is gives = cc
+delete_gives_none Put is gives = true≢false (sym is)
+delete_gives_none Add is gives = true≢false (sym is)
 delete_gives_none Touch is gives = gives
 delete_gives_none Del is gives = gives
 
@@ -106,7 +105,7 @@ gives_puts options part all (pair ∷ pairs) flush asks are = (λ gives. are.0, 
 
 -- ---- in a store: what was put
 
-or_else : Option (List ℕ) → Option (List ℕ) → Option (List ℕ)
+abbrev or_else : Option (List ℕ) → Option (List ℕ) → Option (List ℕ)
 or_else None other = other
 or_else (Some x) other = Some x
 

@@ -1,5 +1,5 @@
 -- What a command finds behind a stop and a start.
-use Rattle.std.proofs.Common.{◌≡◌, ◌≢◌, inl, inr, ℕ, ◌+◌, ◌≤◌, ◌<◌, Bool, true, false, cond, min, List, length, Option, Some, None, IfSome, refl, ap, subst, ◌∙◌, arith}
+use Rattle.std.proofs.Common.{◌≡◌, ◌≢◌, inl, inr, ⊎_elim, ℕ, ◌+◌, ◌≤◌, ◌<◌, Bool, true, false, cond, min, List, length, Option, Some, None, IfSome, refl, ap, subst, ◌∙◌, arith}
 use Rattle.std.proofs.lemmas.Bool.{and_left}
 use Rattle.partition_model.specs.declared.options.Mode.{Mode}
 use Rattle.partition_model.specs.declared.options.Mode.TheVariants.{Cache, Store}
@@ -37,21 +37,18 @@ module _ (base base' second start later written n : ℕ) (flushes : Flushes) (fi
 
   goes : (stored : List ℕ) → (item_in stored).unique < numbered base written → (second < flushes.due → is_kept (moment base flushes.due flushes written) stored ≡ false)
       → found_in new (passing (lasts start) (kept_of saved (Some stored))) ≡ found_in old (Some stored)
-  goes stored low takes = go (is_kept saved stored) (is_before start item.expires) refl refl
+  goes stored low takes = go (is_kept saved stored) (is_before start (item_in stored).expires) refl refl
     where
-      abbrev item : Item
-      item = item_in stored
-
-      go : (k l : Bool) → is_kept saved stored ≡ k → is_before start item.expires ≡ l → found_in new (passing (lasts start) (kept_of saved (Some stored))) ≡ found_in old (Some stored)
+      go : (k l : Bool) → is_kept saved stored ≡ k → is_before start (item_in stored).expires ≡ l → found_in new (passing (lasts start) (kept_of saved (Some stored))) ≡ found_in old (Some stored)
       go true true k l =
-          let same : is_up later new.flushed item.expires item.unique ≡ is_up later old.flushed item.expires item.unique =
-          same_behind base second later flushes item.expires item.unique (omega (arith, first, next)) takes base' n some (within (base + written) LAST_UNIQUE item.unique low) (omega (arith, low, above)) k in
-          rw (k, l) (ap (λ (b : Bool). cond b (Some item) None) same)
+          let same : is_up later new.flushed (item_in stored).expires (item_in stored).unique ≡ is_up later old.flushed (item_in stored).expires (item_in stored).unique =
+          same_behind base second later flushes (item_in stored).expires (item_in stored).unique (omega (arith, first, next)) takes base' n some (within (base + written) LAST_UNIQUE (item_in stored).unique low) (omega (arith, low, above)) k in
+          rw (k, l) (ap (λ (b : Bool). cond b (Some (item_in stored)) None) same)
       go true false k l =
-          let over : is_up later old.flushed item.expires item.unique ≡ false = and_left (is_before later item.expires) _ (before_earlier start later item.expires next l) in
+          let over : is_up later old.flushed (item_in stored).expires (item_in stored).unique ≡ false = and_left (is_before later (item_in stored).expires) _ (before_earlier start later (item_in stored).expires next l) in
           rw (k, l, over) refl
       go false l k at =
-          let over : is_up later old.flushed item.expires item.unique ≡ false = stays_gone base second later flushes item.expires item.unique (omega (arith, first, next)) takes k in
+          let over : is_up later old.flushed (item_in stored).expires (item_in stored).unique ≡ false = stays_gone base second later flushes (item_in stored).expires (item_in stored).unique (omega (arith, first, next)) takes k in
           rw (k, over) refl
 
   goes_on_from : (o : Option (List ℕ)) → IfSome o (λ stored. (item_in stored).unique < numbered base written)
