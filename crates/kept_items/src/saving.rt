@@ -18,8 +18,7 @@ pub fn is_kept(at: &Moment, stored: &[u8]) -> bool
 }
 
 // The next pair of the walk, which fails for want of memory alone.
-fn next_pair<W: Walks>(walk: &mut W, pair: &mut SavedPair) -> Result<bool, SpillFault>
-{
+fn next_pair<W: Walks>(walk: &mut W, pair: &mut SavedPair) -> Result<bool, SpillFault> {
     match walk.next(pair) {
         Ok(more) => Ok(more),
         Err(NoMemory) => Err(SpillFault::NoMemory),

@@ -52,7 +52,14 @@ fn save(alloc: Global, row: &mut Row, beside: &mut Beside<MemPlace>) -> Result<(
     let mut pair = SavedPair::new(alloc);
     beside.place.begin()?;
     put_head(beside, &mut spiller, &head_at(row.second))?;
-    save_part(beside, &mut spiller, &mut row.walked, &at, closing, &mut pair)?;
+    save_part(
+        beside,
+        &mut spiller,
+        &mut row.walked,
+        &at,
+        closing,
+        &mut pair,
+    )?;
     finish(beside, &mut spiller)
 }
 

@@ -30,7 +30,10 @@ fn item_line(alloc: Global, key: &str, stored: &[u8]) -> Result<String, NoMemory
     let flags = LittleEndian::read_u32(stored);
     let end = LittleEndian::read_u32(&stored[4..]);
     let number = LittleEndian::read_u64(&stored[8..]);
-    Ok(format!(in alloc; "kept {key} {flags} {end} {number} {}\n", text_of(&stored[16..]))?)
+    Ok(format!(in alloc;
+        "kept {key} {flags} {end} {number} {}\n",
+        text_of(&stored[16..])
+    )?)
 }
 
 impl Shown {

@@ -124,15 +124,7 @@ pub fn put_head<K: Sink>(sink: &mut K, spiller: &mut Spiller, head: &Head) -> Re
 {
     let [kind, k0, k1] = hashing_words(head.hashing);
     let mode = mode_word(head.mode);
-    let words = [
-        MAGIC,
-        head.second,
-        kind,
-        k0,
-        k1,
-        mode,
-        head.partitions,
-    ];
+    let words = [MAGIC, head.second, kind, k0, k1, mode, head.partitions];
     put_words(sink, spiller, &words)
 }
 
