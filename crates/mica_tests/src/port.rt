@@ -53,6 +53,15 @@ impl<'a, R: Wait, K: Clock + Drop> Share<'a, R, K> {
         }
     }
 
+    /// The next report and the share behind it, where it has not ended or failed.
+    pub(crate) fn next_event(self) -> Option<(Event, Self)> {
+        let mut connections = self.connections;
+        match connections.next() {
+            Ok(Some(event)) => Some((event, Share { connections })),
+            _ => None,
+        }
+    }
+
     pub(crate) fn read(&mut self, number: u32, out: &mut [u8]) -> Result<Input, Broken>
         requires { 0 < length out.old }
     {
@@ -152,4 +161,24 @@ pub(crate) fn new_share<'a, R: Abort + AllocGlobal + Sockets + Wait + Sync, K: C
         }
     }
     panic!(rt; "no port is free");
+}
+
+/// Both shares of a place, where it can be had.
+pub(crate) fn shares_at<'a, R: AllocGlobal + Sockets + Wait + Sync, K: Clock + Copy + Drop + Send>(
+    rt: &'a R,
+    clock: K,
+    flags: &'a Flags,
+    port: u16,
+    most: u32,
+) -> Option<(Share<'a, R, K>, Share<'a, R, K>)> {
+    let address = Ipv4Addr::LOCALHOST;
+    let mut places = Vec::with_capacity(rt.alloc(), 1).ok()?;
+    places.push_reserved(Place { address, port });
+    let mut shares = Vec::with_capacity(rt.alloc(), 2).ok()?;
+    let mut listeners = TcpListeners::new(rt, rt.alloc(), clock, &flags.has_failed, &flags.stopping);
+    listeners.set_places(places, most);
+    listeners.listen(0, 2, &mut shares).ok()?;
+    let second = shares.pop()?;
+    let first = shares.pop()?;
+    Some((Share { connections: first }, Share { connections: second }))
 }

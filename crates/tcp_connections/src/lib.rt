@@ -1,6 +1,7 @@
 //! TCP connections of this machine: listeners and connections over epoll. What they give no contract can say.
 #![tactic(auto)]
 
+mod hall;
 mod patience;
 mod tcp_connections;
 mod tcp_listeners;

@@ -2,12 +2,16 @@
 ghost use Rattle.std.specs.Prelude.{◌≡◌, [], None};
 
 use crate::TcpConnections;
-use crate::tcp_port::TcpPort;
+use crate::hall::{Hall, Seat};
+use crate::tcp_port::{Limits, TcpPort};
 use connections::{Listeners, Place};
+use mio::Poll;
+use mio::net::TcpListener;
 use outside::{Clock, Failed};
 use std::alloc::Global;
-use std::net::Net as Sockets;
-use std::sync::Wait;
+use std::io;
+use std::net::{Net as Sockets, SocketAddr};
+use std::sync::{Arc, Wait};
 use std::sync::atomic::AtomicBool;
 
 /// The TCP places of this machine. They tell nothing of content. All shares fail together: once one has failed, which `has_failed` tells, each other one fails when it
@@ -24,6 +28,34 @@ pub struct TcpListeners<'a, R, K> {
     has_failed: &'a AtomicBool,
     stopping: &'a AtomicBool,
     faults: u64,
+}
+
+/// The shares of a place. The first one listens there.
+fn open_shares<'a>(
+    rt: &impl Sockets,
+    alloc: Global,
+    place: Place,
+    shares: usize,
+    limits: Limits<'a>,
+) -> io::Result<Vec<TcpPort<'a>>> {
+    let mut polls = Vec::with_capacity(alloc, shares)?;
+    let mut seats = Vec::with_capacity(alloc, shares)?;
+    for _ in 0..shares {
+        let poll = Poll::new(rt)?;
+        seats.push(Seat::new(alloc, &poll)?)?;
+        polls.push(poll)?;
+    }
+    let hall = Arc::new(alloc, Hall::new(seats))?;
+    let address = SocketAddr::from((place.address, place.port));
+    let mut listener = Some(TcpListener::bind(rt, address)?);
+    let mut ports = Vec::with_capacity(alloc, shares)?;
+    let mut seat = 0usize;
+    for poll in polls {
+        let hall = Arc::try_clone(&hall)?;
+        ports.push(TcpPort::open(alloc, poll, listener.take(), hall, seat, limits)?)?;
+        seat += 1;
+    }
+    Ok(ports)
 }
 
 impl<'a, R: Sockets + Wait + Sync, K: Clock + Copy + Drop + Send> TcpListeners<'a, R, K> {
@@ -79,8 +111,6 @@ impl<'a, R: Sockets + Wait + Sync, K: Clock + Copy + Drop + Send> Listeners
         self.heard.clear();
     }
 
-    // One share: to deal connections to several is the hall's.
-    #[tactic(auto, using(crate::proofs::Given::gives_pushed))]
     fn listen(
         &mut self,
         place: u32,
@@ -88,18 +118,23 @@ impl<'a, R: Sockets + Wait + Sync, K: Clock + Copy + Drop + Send> Listeners
         out: &mut Vec<TcpConnections<'a, R, K>>,
     ) -> Result<(), Failed> {
         let at = self.places[place as usize];
-        if shares == 1 && self.given < u32::MAX {
-            let most = self.most as usize;
-            if let Ok(sockets) = TcpPort::open(self.rt, self.alloc, at, most, self.has_failed) {
+        let limits = Limits {
+            most: self.most as usize,
+            has_failed: self.has_failed,
+        };
+        if self.given.checked_add(shares).is_some() {
+            if let Ok(ports) = open_shares(self.rt, self.alloc, at, shares as usize, limits) {
                 if self.heard.push(place).is_ok() {
-                    out.push_reserved(TcpConnections::new(
-                        self.rt,
-                        self.given,
-                        sockets,
-                        self.clock,
-                        self.stopping,
-                    ));
-                    self.given += 1;
+                    for sockets in ports {
+                        out.push_reserved(TcpConnections::new(
+                            self.rt,
+                            self.given,
+                            sockets,
+                            self.clock,
+                            self.stopping,
+                        ));
+                        self.given += 1;
+                    }
                     return Ok(());
                 }
             }

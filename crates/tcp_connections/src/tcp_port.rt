@@ -2,8 +2,9 @@
 ghost use Rattle.std.specs.Prelude.{◌<◌, ◌≤◌, length, IfOk};
 ghost use Rattle.connections.specs.Calls.{FitsRoom};
 
+use crate::hall::{CALL, Hall};
 use crate::patience::Patience;
-use connections::{Broken, Event, Input, Place};
+use connections::{Broken, Event, Input};
 use mio::event::Events;
 use mio::net::{TcpListener, TcpStream};
 use mio::{Interest, Poll, Token};
@@ -11,7 +12,8 @@ use slab::Slab;
 use std::alloc::Global;
 use std::io::{self, ErrorKind, Read, Write};
 use std::mem;
-use std::net::{Net as Sockets, Shutdown, SocketAddr};
+use std::net::Shutdown;
+use std::sync::Arc;
 use std::sync::atomic::{AtomicBool, Ordering};
 use std::time::Duration;
 
@@ -36,6 +38,9 @@ const SCRATCH_LEN: usize = 4_096;
 /// What a connection is told that is turned away.
 const TOO_MANY: &[u8] = b"ERROR Too many open connections\r\n";
 
+/// How many connections are dealt between two rounds.
+const MOST_DEALT: usize = 64;
+
 /// How often a read or a write that was interrupted is tried. A socket that never blocks is hardly interrupted at all.
 const MOST_TRIES: u32 = 64;
 
@@ -59,7 +64,7 @@ enum Accepting {
     Refused,
 }
 
-/// A TCP port and its connections, at most so many at a time: more are turned away.
+/// A share of a place and its connections. All shares of the place have at most so many at a time: more are turned away. The first share has the listener, and deals what comes.
 #[derive(Drop)]
 pub(crate) struct TcpPort<'a> {
     most: usize,
@@ -67,7 +72,13 @@ pub(crate) struct TcpPort<'a> {
     has_failed: &'a AtomicBool,
     poll: Poll,
     events: Events,
-    listener: TcpListener,
+    /// The listener, of the first share alone.
+    listener: Option<TcpListener>,
+    hall: Arc<Hall, Global>,
+    /// Which share of the place it is.
+    seat: usize,
+    /// To whom the next connection is dealt where several have the fewest.
+    next: usize,
     accepting: Accepting,
     slots: Slab<Slot>,
     /// The connections to be reported in the next round, each once. There is room for all.
@@ -95,7 +106,7 @@ fn put_events(events: &Events, slots: &mut Slab<Slot>, queue: &mut Vec<u32>) -> 
     let mut listens = false;
     for event in events {
         let token = event.token();
-        if token == LISTENER {
+        if token == LISTENER || token == CALL {
             listens = true;
         } else {
             let ended = event.is_read_closed() || event.is_error();
@@ -181,26 +192,37 @@ fn turn_away(stream: TcpStream) {
     drop_unread(&mut slot);
 }
 
+/// What all shares of a place look at.
+#[derive(Clone, Copy)]
+pub(crate) struct Limits<'a> {
+    pub(crate) most: usize,
+    pub(crate) has_failed: &'a AtomicBool,
+}
+
 impl<'a> TcpPort<'a> {
-    /// Listens at a place.
+    /// The share of this seat, whose waker is registered at the poll.
     pub(crate) fn open(
-        rt: &impl Sockets,
         alloc: Global,
-        place: Place,
-        most: usize,
-        has_failed: &'a AtomicBool,
+        poll: Poll,
+        listener: Option<TcpListener>,
+        hall: Arc<Hall, Global>,
+        seat: usize,
+        limits: Limits<'a>,
     ) -> io::Result<TcpPort<'a>> {
-        let poll = Poll::new(rt)?;
         let events = Events::with_capacity(alloc, MOST_EVENTS)?;
-        let mut listener = TcpListener::bind(rt, SocketAddr::from((place.address, place.port)))?;
-        poll.registry()
-            .register(&mut listener, LISTENER, Interest::READABLE)?;
+        let mut listener = listener;
+        if let Some(first) = &mut listener {
+            poll.registry().register(first, LISTENER, Interest::READABLE)?;
+        }
         Ok(TcpPort {
-            most,
-            has_failed,
+            most: limits.most,
+            has_failed: limits.has_failed,
             poll,
             events,
             listener,
+            hall,
+            seat,
+            next: 0,
             accepting: Accepting::Ready,
             slots: Slab::new(alloc),
             queue: Vec::new(alloc),
@@ -235,12 +257,10 @@ impl<'a> TcpPort<'a> {
         u32::try_from(number).ok()
     }
 
-    /// The next connection that waits, where there is one.
+    /// The next connection that waits at the listener, where there is one.
     fn accept(&mut self) -> Option<TcpStream> {
-        if self.accepting != Accepting::Ready {
-            return None;
-        }
-        match self.listener.accept() {
+        let listener = self.listener.as_ref()?;
+        match listener.accept() {
             Ok((stream, _)) => Some(stream),
             Err(error) => {
                 match error.kind() {
@@ -253,14 +273,54 @@ impl<'a> TcpPort<'a> {
         }
     }
 
-    /// Takes in the next connection that waits, or turns it away where there is no room.
-    fn open_next(&mut self) -> Option<Event> {
-        let stream = self.accept()?;
-        if self.slots.len() >= self.most {
-            turn_away(stream);
-            return Some(Event::TurnedAway);
+    /// Takes in a connection that is counted at this seat.
+    fn take_own(&mut self, stream: TcpStream) -> Option<Event> {
+        let number = self.take_in(stream);
+        if number.is_none() {
+            self.hall.goes(self.seat);
         }
-        Some(Event::Opened(self.take_in(stream)?))
+        Some(Event::Opened(number?))
+    }
+
+    /// Deals the connections that wait, each to the share with the fewest, until one is taken in here or turned away.
+    fn deal(&mut self) -> Option<Event> {
+        for _ in 0..MOST_DEALT {
+            let stream = self.accept()?;
+            if self.hall.open() >= self.most {
+                turn_away(stream);
+                return Some(Event::TurnedAway);
+            }
+            let to = self.hall.least(self.next);
+            self.next = to.wrapping_add(1);
+            let back = if to == self.seat {
+                Some(stream)
+            } else {
+                self.hall.deal(to, stream)
+            };
+            if let Some(stream) = back {
+                self.hall.comes(self.seat);
+                return self.take_own(stream);
+            }
+        }
+        None
+    }
+
+    /// Takes in the next connection, where there is one.
+    fn open_next(&mut self) -> Option<Event> {
+        if self.accepting != Accepting::Ready {
+            return None;
+        }
+        if self.listener.is_some() {
+            return self.deal();
+        }
+        match self.hall.take(self.seat) {
+            Ok(Some(stream)) => self.take_own(stream),
+            Ok(None) => {
+                self.accepting = Accepting::Idle;
+                None
+            }
+            Err(_) => None,
+        }
     }
 
     /// How long to wait: not at all where something is to be reported or accepted, and never for long.
@@ -376,7 +436,9 @@ impl<'a> TcpPort<'a> {
                 drop_unread(slot);
             }
         }
-        let _gone = self.slots.try_remove(number as usize);
+        if self.slots.try_remove(number as usize).is_some() {
+            self.hall.goes(self.seat);
+        }
         if self.accepting == Accepting::Refused {
             self.accepting = Accepting::Ready;
         }
