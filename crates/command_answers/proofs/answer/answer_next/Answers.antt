@@ -12,7 +12,7 @@ use Rattle.command_answers.specs.declared.answer.Progress.{Progress}
 use Rattle.command_answers.specs.AskAnswers.{AnswersAsks, quiet_of}
 use Rattle.command_answers.specs.declared.plain.Style.{Style}
 use Rattle.command_answers.specs.FlushAnswers.{FlushesFrom, flush_at}
-use Rattle.command_answers.specs.Exchange.{IsOpenAt, flush_due, flush_text, is_flush_all}
+use Rattle.command_answers.specs.Exchange.{IsOpenAt, flush_text, is_flush_all}
 use Rattle.command_answers.specs.Going.{AnswersFirst, RepliesFirst, Replies}
 use Rattle.command_answers.proofs.AskLaws.{none_left, some_left, few_answers}
 use Rattle.memcached_stats.specs.Stats.{stats_text}
