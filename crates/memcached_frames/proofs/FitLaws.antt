@@ -10,16 +10,11 @@ use Rattle.memcached_frames.specs.declared.opcode.Verb.TheVariants as verbs
 use Rattle.memcached_frames.specs.declared.opcode.Opcode.{Opcode}
 use Rattle.memcached_frames.specs.declared.header.Header.{Header}
 use Rattle.memcached_frames.specs.declared.frame.FrameFault.TheVariants.{Unknown, Invalid, TooLarge}
-use Rattle.memcached_frames.specs.declared.frame.FrameNext.{FrameNext}
 use Rattle.memcached_frames.specs.declared.frame.FrameNext.TheVariants.{Whole, More, Over}
 use Rattle.memcached_frames.specs.Opcodes.{opcode_of, fits_extras, fits_key}
 use Rattle.memcached_frames.specs.Header.{frame_len}
 use Rattle.memcached_frames.specs.Frames.{echo_of, value_len, frame_in, fits, stale_of, dropped, frame_by, frame_of, frame_at}
 use Rattle.memcached_frames.specs.Fit.{IsFitFrame, IsStale, IsFitNext}
-
-either : (t : Bool) (most : ℕ) (one two : FrameNext) → IsFitNext most one → IsFitNext most two → IsFitNext most (if t then one else two)
-either true most one two here there = here
-either false most one two here there = there
 
 first_of : (a b : Bool) → (a && b) ≡ true → a ≡ true
 first_of true b is = refl
