@@ -124,9 +124,9 @@ class Ended:
 
 
 def unbound_line(port="N"):
-    """What micad writes where it can't bind a port: README's line, of this port."""
-    line = next(cells[2].split("`")[1] for _, cells in documents.rows(documents.TOP / "README.md") if cells[0] == "7")
-    return re.sub(r"\d+", str(port), line).encode() + b"\n"
+    """What micad writes where it can't bind a port: OPERATING's line, of this port."""
+    line = next(cells[2].split("`")[1] for _, cells in documents.rows(documents.TOP / "docs/OPERATING.md") if cells[0] == "7")
+    return re.sub(r"\bP\b", str(port), line).encode() + b"\n"
 
 
 def kill(running):

@@ -14,3 +14,4 @@ pub mod Giving
 pub mod Finding
 pub mod Ranking
 pub mod Marking
+pub mod Parting

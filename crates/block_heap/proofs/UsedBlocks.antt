@@ -1,5 +1,5 @@
 -- The used blocks: they lie apart in the heap, taking adds one to them, and giving back removes one.
-use Rattle.std.proofs.Common.{◌≡◌, ℕ, ◌+◌, ◌≤◌, ◌⊎◌, inl, inr, List, [], ◌∷◌, ◌++◌, refl, sym, ap, ◌∙◌, subst, arith, Bool, true, false}
+use Rattle.std.proofs.Common.{◌≡◌, ℕ, ◌+◌, ◌-◌, ◌<◌, ◌≤◌, ◌⊎◌, inl, inr, List, [], ◌∷◌, ◌++◌, refl, sym, ap, ◌∙◌, subst, arith, Bool, true, false}
 use Rattle.std.specs.List.{All, AllPairs, Contains}
 use Rattle.std.proofs.lemmas.List.{get_or_default}
 use Rattle.std.proofs.lemmas.List.Elements.{All-nil, All-cons, All-contains, All-weaker, All-filter, All-append, filter-append}
@@ -7,9 +7,10 @@ use Rattle.std.proofs.lemmas.List.Kept.{AllPairs-cons}
 use Rattle.std.proofs.lemmas.Grind.{common_steps}
 use Rattle.block_heap.specs.declared.block.Block.{Block}
 use Rattle.block_heap.specs.Blocks.{free_block, used_block, Fills, IsBlockList, words_of, used_blocks}
-use Rattle.block_heap.specs.Changes.{merged, IsTaken, IsGiven}
+use Rattle.block_heap.specs.Changes.{merged, IsTaken, IsGiven, IsParted}
 use Rattle.block_heap.proofs.Order.{words_of-fills, front_fills, back_fills}
 use Rattle.block_heap.proofs.Counting.{used_more, used_same}
+use Rattle.block_heap.proofs.Places.{in_middle}
 use Rattle.block_heap.proofs.Taking.{place_within}
 
 -- one block more, and all others as they were
@@ -19,7 +20,7 @@ pub record AddsBlock (old new : List Block) (block : Block) : Type 0 where
   pub was : old ≡ before ++ after
   pub now : new ≡ before ++ block ∷ after
 
-used_blocks-append : (xs ys : List Block) → used_blocks (xs ++ ys) ≡ used_blocks xs ++ used_blocks ys
+pub used_blocks-append : (xs ys : List Block) → used_blocks (xs ++ ys) ≡ used_blocks xs ++ used_blocks ys
 used_blocks-append xs ys = filter-append (λ (b : Block). b.used) xs ys
 
 pub used_blocks-taken : (old new : List Block) (place need : ℕ) → IsTaken old new place need → AddsBlock (used_blocks old) (used_blocks new) (used_block place need)
@@ -39,6 +40,15 @@ used_blocks-given old new place given =
           grind (arith, common_steps, used_blocks-merged (given.before ++ free_block place given.size ∷ given.after), used_blocks-append given.before (free_block place given.size ∷ given.after));
       now = ap used_blocks given.was ∙ used_blocks-append given.before (used_block place given.size ∷ given.after);
     }
+
+-- a parted block is two used ones, and all others are as they were
+pub used_blocks-parted : (old new : List Block) (place need : ℕ) → (parted : IsParted old new place need)
+    → (used_blocks old ≡ used_blocks parted.before ++ used_block place parted.size ∷ used_blocks parted.after)
+    × (used_blocks new ≡ used_blocks parted.before ++ used_block place need ∷ (used_block (place + need) (parted.size - need) ∷ used_blocks parted.after))
+used_blocks-parted old new place need parted = (
+  ap used_blocks parted.was ∙ used_blocks-append parted.before (used_block place parted.size ∷ parted.after),
+  ap used_blocks parted.now ∙ used_blocks-append parted.before (used_block place need ∷ (used_block (place + need) (parted.size - need) ∷ parted.after)),
+)
 
 -- each block lies between the places where the blocks begin and end
 all_within : (from end : ℕ) (blocks : List Block) → Fills from blocks end → All (λ block. (from ≤ block.place) × (block.place + block.size ≤ end)) blocks
@@ -108,3 +118,12 @@ same_or_apart words blocks list one other has has' =
     let apart = used_apart words blocks list in
     let is = get_or_default (used_blocks blocks) has.0 other one has.1 in
     grind (arith, is, has.1, has.2, has'.1, has'.2, apart has.0 has'.0 other, apart has'.0 has.0 other)
+
+-- a used block that begins where another one does is that one
+pub same_size : (words : ℕ) (blocks before after : List Block) (place n size : ℕ) → IsBlockList words blocks → blocks ≡ before ++ used_block place n ∷ after
+    → 0 < size → Contains (used_blocks blocks) (used_block place size) → n ≡ size
+same_size words blocks before after place n size list is some has =
+    let back = back_fills 0 words before (used_block place n ∷ after) (subst (λ bs. Fills 0 bs words) is list.fills) in
+    let own = subst (λ (bs : List Block). Contains bs (used_block place n)) (sym (ap used_blocks is ∙ used_blocks-append before (used_block place n ∷ after)))
+    (in_middle (used_blocks before) (used_blocks after) (used_block place n)) in
+    grind (arith, back.1, some, same_or_apart words blocks list (used_block place n) (used_block place size) own has)

@@ -49,6 +49,12 @@ pub record HasUsed (blocks : List Block) (place : ℕ) : Type 0 where
   pub size : ℕ
   pub among : Contains (used_blocks blocks) (used_block place size)
 
+-- a used block of more words than are needed begins at the place
+pub record HasLonger (blocks : List Block) (place need : ℕ) : Type 0 where
+  pub has : HasUsed blocks place
+  pub some : 0 < need
+  pub more : need < has.size
+
 -- no free block has as many words as are needed
 abbrev pub NoneFits : List Block → ℕ → Type 0
 NoneFits blocks need = All (λ size. size < need) (free_sizes blocks)

@@ -1,5 +1,5 @@
 -- How a block list changes where a block is taken or given back.
-use Rattle.std.specs.Prelude.{◌≡◌, ℕ, zero, suc, ◌+◌, ◌-◌, ◌≤◌, ◌||◌, if◌then◌else◌, List, [], ◌∷◌, ◌++◌}
+use Rattle.std.specs.Prelude.{◌≡◌, ℕ, zero, suc, ◌+◌, ◌-◌, ◌<◌, ◌≤◌, ◌||◌, if◌then◌else◌, List, [], ◌∷◌, ◌++◌}
 use Rattle.block_heap.specs.declared.block.Block.{Block}
 use Rattle.block_heap.specs.Blocks.{free_block, used_block}
 
@@ -35,3 +35,13 @@ pub record IsGiven (old new : List Block) (place : ℕ) : Type 0 where
   pub size : ℕ
   pub was : old ≡ before ++ used_block place size ∷ after
   pub now : new ≡ merged (before ++ free_block place size ∷ after)
+
+-- A used block is two used ones now, the first of as many words as are needed. The blocks before and after it stay.
+pub record IsParted (old new : List Block) (place need : ℕ) : Type 0 where
+  pub before : List Block
+  pub after : List Block
+  pub size : ℕ
+  pub some : 0 < need
+  pub more : need < size
+  pub was : old ≡ before ++ used_block place size ∷ after
+  pub now : new ≡ before ++ used_block place need ∷ (used_block (place + need) (size - need) ∷ after)

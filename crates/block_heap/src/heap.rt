@@ -2,8 +2,8 @@
 ghost use Rattle.std.specs.Prelude.{◌≡◌, ◌+◌, ◌<◌, ◌≤◌, ◌↔◌, ℕ, List, [], ◌∷◌, ◌++◌, IfOk, IfNone, IfSome, IsNone, Contains, All, length};
 ghost use Rattle.block_heap.specs.declared.block.TheConstants.{MOST_WORDS};
 ghost use Rattle.block_heap.specs.declared.block.Block.{Block};
-ghost use Rattle.block_heap.specs.Blocks.{free_block, IsBlockList, HasUsed, NoneFits, MayLack, IsFree, IsLargest, words_of};
-ghost use Rattle.block_heap.specs.Changes.{IsTaken, IsGiven};
+ghost use Rattle.block_heap.specs.Blocks.{free_block, IsBlockList, HasUsed, HasLonger, NoneFits, MayLack, IsFree, IsLargest, words_of};
+ghost use Rattle.block_heap.specs.Changes.{IsTaken, IsGiven, IsParted};
 ghost use Rattle.block_heap.specs.Lists.{AreListed, list_of};
 ghost use Rattle.block_heap.specs.Inside.{IsHeap, IsListable, blocks_in, words_in, AreShort, IsMost};
 ghost use Rattle.block_heap.specs.Ranks.{rank_of};
@@ -185,6 +185,17 @@ impl Heap {
         let rank = rank_of(block.size);
         let slot = self.free.add(rank, block.place);
         self.blocks.put_slot(block, slot);
+    }
+
+    /// Parts the used block that begins at the place in two used ones, of which the first has as many words as are needed.
+    pub fn part(&mut self, place: u32, need: u32)
+        requires { HasLonger self.old place need }
+        ensures parted { IsParted self.old self.new place need }
+        ensures blocks { IsBlockList (words_of self.old) self.new }
+    {
+        let size = self.blocks.size_at(place);
+        self.blocks.cut(Block::used(place, size), need);
+        self.blocks.replace(Block::used(place + need, size - need));
     }
 
     /// The size of the largest free block, or 0 where there is none.

@@ -10,6 +10,7 @@ pub use Rattle.std.specs.Bool.{then_some}
 pub use Rattle.std.specs.List.{AllByRecursion as AllOf, filter, find, list_any}
 unfoldable pub use Rattle.std.specs.List.{IsDistinct}
 pub use Rattle.std.specs.Prelude.{MatchOption, nat_le, ◌&&◌, ◌||◌}
+pub use Rattle.partition_model.specs.Rooms.{keeps}
 pub use Rattle.mica_words.proofs.Fields.{entry_not_empty, entry_offset-entry_of, entry_tag-entry_of}
 pub use Rattle.mica_words.proofs.Hashes.{bucket_of_hash, tag_of-range, tag_of_hash}
 pub use Rattle.mica_words.proofs.ItemWords.{length-item_words}

@@ -9,7 +9,7 @@ use Rattle.cache_partition.proofs.Words.{Record, SLOTS, Some, SpellsItem, Stands
 use Rattle.cache_partition.proofs.Words.{accepted_step, after, ap, arith, bucket_in, cached_in, cell_at, cond, ended_gains, entry_in}
 use Rattle.cache_partition.proofs.Words.{entry_not_empty, entry_of, entry_offset, entry_offset-entry_of, entry_tag-entry_of, false, fits_kept}
 use Rattle.cache_partition.proofs.Words.{had_record, had_record_by, is_accepted, is_live, is_some, is_at_end, is_worn, item_in, item_room, item_size, item_words}
-use Rattle.cache_partition.proofs.Words.{keeps_put, kept_offset, kept_offset_by, kept_record, last_tail, length, length-item_words, main}
+use Rattle.cache_partition.proofs.Words.{keeps, keeps_put, kept_offset, kept_offset_by, kept_record, last_tail, length, length-item_words, main}
 use Rattle.cache_partition.proofs.Words.{marked, marked_in, marked_item, marked_with, may_begin, may_end, may_mark, most_added, nat_le, nat_tests}
 use Rattle.cache_partition.proofs.Words.{new_record, option_map, options_in, put_entry, put_same, put_stamp, put_words, record_of, refl, room_at}
 use Rattle.cache_partition.proofs.Words.{room_in, room_is, size_of, stamp_in, stamp_of, stamp_of_state, state_after}
@@ -355,15 +355,15 @@ module _ (o : OwnerState) (s : Kept o) (may : MayWrite o) (w : Write) (is : IsWr
 
   pub slot_keeps : (c slot : ℕ) → c ≡ b → IsSlotOf o c w.key slot → (stamp offset room : ℕ) → stamp ≡ stamp_in o → offset ≡ entry_offset (entry_in o c slot)
       → room ≡ room_in o (entry_in o c slot) → (fits : Bool)
-      → ((size_of w ≤ room) × (fits ≡ is_live o.shape.words (stamp + 1) offset)) ⊎ ((room < size_of w) × (fits ≡ false)) → then_some fits offset ≡ kept_offset o w
+      → ((keeps (size_of w) room ≡ true) × (fits ≡ is_live o.shape.words (stamp + 1) offset)) ⊎ ((keeps (size_of w) room ≡ false) × (fits ≡ false)) → then_some fits offset ≡ kept_offset o w
   slot_keeps c slot here found stamp offset room stamp_now offset_is room_now fits fits_is =
       let own = found_slot h c (stands_at h may.idle w.key c here) w.key (sym here) is.key_bytes slot found in
       let offset_held = offset_is ∙ sym own.1.offset in
       let room_held = room_now ∙ room_is o s c (entry_in o c slot) w.key (cell_at own.0).0 own.1.spelt in
       let stamp_held = stamp_now ∙ stamp_is h in
-      let may_keep : fits ≡ (nat_le (size_of w) room && is_live o.shape.words (stamp + 1) offset) = grind (arith, nat_tests, common_steps, fits_is) in
+      let may_keep : fits ≡ (keeps (size_of w) room && is_live o.shape.words (stamp + 1) offset) = grind (arith, nat_tests, common_steps, fits_is) in
       let offset_of_kept = λ (z : Option Record). option_map (λ (r : Record). r.offset) z in
-      (λ j. then_some ((may_keep ∙ (λ j. nat_le (size_of w) (room_held j) && is_live o.shape.words (stamp_held j + 1) (offset_held j))) j) (offset_held j))
+      (λ j. then_some ((may_keep ∙ (λ j. keeps (size_of w) (room_held j) && is_live o.shape.words (stamp_held j + 1) (offset_held j))) j) (offset_held j))
       ∙ (elim (cs.may_keep (options_in o) h.m w own.0) as (λ b. then_some b own.0.offset ≡ offset_of_kept (cond b (Some own.0) None)) [ true ↦ refl | false ↦ refl ]
       ∙ (ap (λ (z : Option Record). offset_of_kept (cs.kept_if (options_in o) h.m w z)) (sym own.1.is) ∙ sym kept_is))
 

@@ -13,7 +13,7 @@ use crate::seeking::{Sought, begin, seek};
 use circular_log::{append_hashed, is_live, rewrite};
 use lossy_index::place;
 use mica_words::{header_room, item_size, tag_of, tail_of};
-use partition_model::Op;
+use partition_model::{Op, keeps};
 use partition_words::{OwnerWords, WordAt};
 
 /// Stores the value for the key, and answers the new stamp.
@@ -34,7 +34,7 @@ pub(crate) fn put<W: OwnerWords>(words: &mut W, key: &[u8], value: &[u8]) -> u64
     }
 }
 
-// The offset of the key's item where its room suffices, and the log will not have passed it by the next stamp.
+// The offset of the key's item where the new one keeps its room, and the log will not have passed it by the next stamp.
 fn offset_that_keeps<W: OwnerWords>(
     words: &mut W,
     sought: &Sought,
@@ -53,8 +53,8 @@ fn offset_that_keeps<W: OwnerWords>(
     sought.slot?;
     let offset = sought.offset;
     let room = header_room(words.read(WordAt::Item(offset)));
-    let fits = item_size(key.len(), value.len()) <= room;
-    (fits && is_live(offset, sought.stamp + 1, words.shape().words)).then_some(offset)
+    let stays = keeps(item_size(key.len(), value.len()), room);
+    (stays && is_live(offset, sought.stamp + 1, words.shape().words)).then_some(offset)
 }
 
 // The put writes its value into the room of the key's item.

@@ -1,44 +1,28 @@
 -- Answers to asks, one after another.
 use Rattle.std.proofs.Common.{◌≡◌, ◌<◌, ◌≤◌, ◌==◌, ℕ, Bool, true, false, true≢false, cond, List, [], ◌∷◌, ◌++◌, length, drop, Option, Some, None, refl, sym, ap, ◌∙◌, subst, arith, append_assoc}
-use Rattle.std.specs.Prelude.{MatchOption}
+use Rattle.std.specs.Prelude.{IfSome, MatchOption}
 use Rattle.std.proofs.Math.Dec.{eqb-suc-zero}
 use Rattle.std.proofs.Math.Seq.{drop-nil}
 use Rattle.std.proofs.lemmas.List.{append-nil}
-use Rattle.std.proofs.lemmas.List.Elements.{filter_map-append}
-use Rattle.std.specs.List.{cons_option}
-use Rattle.outside.specs.Seconds.{ClockView, once_read}
+use Rattle.std.specs.List.{AllByRecursion}
 use Rattle.partition_model.specs.declared.options.Options.{Options}
 use Rattle.memcached_text.specs.declared.next.Next.{Next}
 use Rattle.memcached_commands.specs.declared.asks.Asked.{Asked}
 use Rattle.memcached_commands.specs.Answers.{unless_quiet}
 use Rattle.fronts.specs.Answered.{Answered}
-use Rattle.command_answers.specs.Seconds.{second_in, seconds_of, ToldFrom}
+use Rattle.command_answers.specs.Seconds.{second_in, IsAt}
 use Rattle.command_answers.specs.AskAnswers.{AnswersAsks, said_of, quiet_of, shown_text, line_text, asks_text}
 use Rattle.command_answers.specs.declared.plain.Style.{Style}
 use Rattle.command_answers.specs.declared.plain.Style.TheVariants.{Classic}
 use Rattle.command_answers.specs.Exchange.{is_quiet, flush_text}
 use Rattle.command_answers.specs.Going.{ask_text}
 
--- Seconds
+pub all_append : {X : Type 0} (P : X → Type 0) (xs ys : List X) → AllByRecursion P xs → AllByRecursion P ys → AllByRecursion P (xs ++ ys)
+all_append P [] ys first then = then
+all_append P (x ∷ xs) ys first then = (first.0, all_append P xs ys first.1 then)
 
-pub told_then : (told between tells : ClockView) (one two : List ℕ) → ToldFrom told one between → ToldFrom between two tells → ToldFrom told (one ++ two) tells
-told_then told between tells [] two first then = subst (λ t. ToldFrom t two tells) first then
-told_then told between tells (second ∷ one) two first then = (first.0, told_then (once_read second told) between tells one two first.1 then)
-
-pub one_second : (options : Options) (a : Answered) (second : ℕ) → second_in options a ≡ Some second → seconds_of options (a ∷ []) ≡ second ∷ []
-one_second options a second is = ap (λ o. cons_option o []) is
-
--- the seconds of some answers and of others behind them
-pub seconds_then : (options : Options) (told between tells : ClockView) (one two : List Answered) → ToldFrom told (seconds_of options one) between → ToldFrom between (seconds_of options two) tells
-    → ToldFrom told (seconds_of options (one ++ two)) tells
-seconds_then options told between tells one two first then =
-    subst (λ s. ToldFrom told s tells) (sym (filter_map-append (second_in options) one two)) (told_then told between tells (seconds_of options one) (seconds_of options two) first then)
-
--- one more second was told
-pub tells_more : (options : Options) (told between tells : ClockView) (answers : List Answered) (a : Answered) (second : ℕ) → ToldFrom told (seconds_of options answers) between
-    → ToldFrom between (second ∷ []) tells → second_in options a ≡ Some second → ToldFrom told (seconds_of options (answers ++ a ∷ [])) tells
-tells_more options told between tells answers a second before read is =
-    seconds_then options told between tells answers (a ∷ []) before (subst (λ s. ToldFrom between s tells) (sym (one_second options a second is)) read)
+pub is_at : (options : Options) (a : Answered) (second : ℕ) → second_in options a ≡ Some second → IsAt options second a
+is_at options a second is = subst (λ o. IfSome o (λ s. s ≡ second)) (sym is) refl
 
 module _ (base : ℕ) where
   -- Answers

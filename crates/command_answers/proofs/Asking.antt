@@ -1,7 +1,6 @@
 -- Asks that are answered one after another.
 use Rattle.std.proofs.Common.{◌≡◌, ◌==◌, ◌+◌, ℕ, Bool, List, [], ◌∷◌, ◌++◌, length, drop, refl, sym, ap, ◌∙◌, subst, append_assoc, length-append}
 use Rattle.std.proofs.lemmas.List.Elements.{filter_map-append}
-use Rattle.outside.specs.Seconds.{ClockView}
 use Rattle.partition_model.specs.declared.options.Options.{Options}
 use Rattle.memcached_commands.specs.declared.asks.Asked.{Asked}
 use Rattle.memcached_commands.specs.Answers.{unless_quiet}
@@ -11,18 +10,18 @@ use Rattle.fronts.proofs.InOrder.{answers_append}
 use Rattle.command_answers.specs.AskAnswers.{AnswersAsks, said_of, quiet_of, asks_text}
 use Rattle.command_answers.specs.declared.plain.Style.{Style}
 use Rattle.command_answers.specs.Going.{AnswersAt, AnswersFirst, ask_text}
-use Rattle.command_answers.specs.Seconds.{ToldFrom}
-use Rattle.command_answers.proofs.AskLaws.{tells_more, more_answers, more_text, one_text, quiet_both}
+use Rattle.command_answers.specs.Seconds.{IsAt}
+use Rattle.command_answers.proofs.AskLaws.{all_append, is_at, more_answers, more_text, one_text, quiet_both}
 
-pub none_yet : (options : Options) (is_alone : Bool) (base : ℕ) (asks : List Asked) (old : Sessions) (told : ClockView) → AnswersFirst options is_alone base asks old told old told []
-none_yet options is_alone base asks old told = record { in_order = λ q. refl; seconds = refl; to_asks = tt }
+pub none_yet : (options : Options) (is_alone : Bool) (base second : ℕ) (asks : List Asked) (old : Sessions) → AnswersFirst options is_alone base second asks old old []
+none_yet options is_alone base second asks old = record { in_order = λ q. refl; seconds = tt; to_asks = tt }
 
-module _ {options : Options} {is_alone : Bool} {base : ℕ} {asks : List Asked} {old between new : Sessions} {told then tells : ClockView} {answers : List Answered} {asked : Asked} {left : List Asked} where
-  pub one_more : (a : Answered) → AnswersFirst options is_alone base asks old told between then answers → drop (length answers) asks ≡ asked ∷ left
-      → ToldFrom then (tells.last ∷ []) tells → AnswersAt options is_alone base tells.last between asked new a → AnswersFirst options is_alone base asks old told new tells (answers ++ a ∷ [])
-  one_more a first left_is read at = record {
+module _ {options : Options} {is_alone : Bool} {base second : ℕ} {asks : List Asked} {old between new : Sessions} {answers : List Answered} {asked : Asked} {left : List Asked} where
+  pub one_more : (a : Answered) → AnswersFirst options is_alone base second asks old between answers → drop (length answers) asks ≡ asked ∷ left
+      → AnswersAt options is_alone base second between asked new a → AnswersFirst options is_alone base second asks old new (answers ++ a ∷ [])
+  one_more a first left_is at = record {
     in_order = answers_append options is_alone answers (a ∷ []) old between new first.in_order (new, at.one, λ q. refl);
-    seconds = tells_more options told then tells answers a tells.last first.seconds read at.at;
+    seconds = all_append (IsAt options second) answers (a ∷ []) first.seconds (is_at options a second at.at, tt);
     to_asks = more_answers base asks answers (a ∷ []) first.to_asks (subst (λ l. AnswersAsks base l (a ∷ [])) (sym left_is) (at.to_ask, tt));
   }
 

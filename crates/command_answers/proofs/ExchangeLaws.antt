@@ -2,15 +2,12 @@
 use Rattle.std.proofs.Common.{◌≡◌, ◌<◌, ◌≤◌, ◌+◌, ◌-◌, ◌==◌, ◌⊎◌, inl, inr, ℕ, Bool, true, false, true≢false, cond, ltb, List, [], ◌∷◌, ◌++◌, length, drop, refl, sym, ap, ◌∙◌, subst, arith}
 use Rattle.std.proofs.lemmas.List.{append-nil, length-drop, nil_from_length}
 use Rattle.std.proofs.lemmas.Bool.{eqb-true, eq-eqb, ne_eqb, ltb-true, ltb-false}
-use Rattle.outside.specs.Seconds.{ClockView}
 use Rattle.partition_model.specs.declared.options.Options.{Options}
 use Rattle.memcached_text.specs.declared.command.Command.{Command}
 use Rattle.memcached_text.specs.declared.command.Command.TheVariants as commands
 use Rattle.memcached_text.specs.declared.command.Topic.TheVariants.{Server, NoPart}
 use Rattle.memcached_text.specs.declared.next.Next.{Next}
 use Rattle.memcached_text.specs.declared.next.Next.TheVariants as nexts
-use Rattle.memcached_text.specs.Fit.{IsFit, IsFitNext}
-use Rattle.memcached_text.specs.Lifetimes.{IsDue}
 use Rattle.memcached_commands.specs.declared.asks.Asked.{Asked}
 use Rattle.memcached_commands.specs.Asks.{asks_in, asks_of}
 use Rattle.memcached_commands.specs.Answers.{unless_quiet}
@@ -23,8 +20,8 @@ use Rattle.command_answers.specs.Exchange.{Exchange, AnswersBy, AnswersNext, ask
 use Rattle.fronts.specs.Session.{Sessions, AnswersInOrder}
 use Rattle.command_answers.specs.declared.answer.Limits.{Limits}
 use Rattle.command_answers.specs.declared.answer.Progress.{Progress}
-use Rattle.command_answers.specs.Seconds.{seconds_of, ToldFrom}
 use Rattle.command_answers.specs.Going.{StandsAt, AnswersFirst, RepliesFirst, GoesOn, Replies}
+use Rattle.command_answers.proofs.Flushing.{flushed_at}
 use Rattle.command_answers.proofs.AskLaws.{none_flushed_yet, more_answers, few_answers, more_text, quiet_both}
 
 not_all : (n m : ℕ) → n ≤ m → (n == m) ≡ false → n < m
@@ -122,27 +119,6 @@ no_asks (nexts.Refused fault stale quiet len) is = absurd (true≢false (sym is)
 no_asks nexts.More is = refl
 no_asks nexts.LongLine is = refl
 
--- the second of a flush is one that a word may say
-pub fit_due : (next : Next) → IsFitNext next → IsDue (flush_due next)
-fit_due (nexts.Command command len) fit = go command fit
-  where
-    go : (command : Command) → IsFit command → IsDue (flush_due (nexts.Command command len))
-    go (commands.Get keys unique lifetime) fit = tt
-    go (commands.Store wants key flags lifetime value quiet) fit = tt
-    go (commands.Join side key value quiet) fit = tt
-    go (commands.Count direction key delta quiet) fit = tt
-    go (commands.Delete key quiet) fit = tt
-    go (commands.Touch key lifetime quiet) fit = tt
-    go (commands.Flush due quiet) fit = fit
-    go (commands.Stats topic) fit = tt
-    go commands.Version fit = tt
-    go (commands.Verbosity quiet) fit = tt
-    go commands.Noop fit = tt
-    go commands.Quit fit = tt
-fit_due (nexts.Refused fault stale quiet len) fit = tt
-fit_due nexts.More fit = tt
-fit_due nexts.LongLine fit = tt
-
 -- how many bytes are due before a flush, and after it
 module _ (options : Options) (base : ℕ) (next : Next) (flushes : is_flush_all next ≡ true) (e : Exchange) (at : StandsAt options base next 0 e) (told : Told) (answers : List Answered) where
   empty : e.answers ≡ []
@@ -202,21 +178,21 @@ pub at_first : (next : Next) (done : ℕ) → IsOpenAt next done → asks_in nex
 at_first next done stands none =
     elim stands as (λ _. done ≡ 0) [ inl first ↦ first | inr less ↦ let many : length (asks_in next) ≡ 0 = ap length none in absurd (omega (arith, less, many)) ]
 
-module _ (options : Options) (is_alone : Bool) (base : ℕ) (next : Next) (done : ℕ) (stands : IsOpenAt next done) (old new : Sessions) (told tells : ClockView) where
+module _ (options : Options) (is_alone : Bool) (base second : ℕ) (next : Next) (done : ℕ) (stands : IsOpenAt next done) (old new : Sessions) where
   -- A flush
 
-  module _ (flushes : is_flush_all next ≡ true) (answers : List Answered) (is : (second : ℕ) × FlushesFrom options (flush_at second (flush_due next)) 0 answers) where
+  module _ (flushes : is_flush_all next ≡ true) (answers : List Answered) (is : FlushesFrom options (flush_at second (flush_due next)) 0 answers) where
     first : done ≡ 0
     first = at_first next done stands (no_asks next flushes)
 
     here : (e : Exchange) → StandsAt options base next done e → StandsAt options base next 0 e
     here e at = subst (λ n. StandsAt options base next n e) first at
 
-    pub flush_goes : AnswersInOrder options is_alone old answers new → ToldFrom told (seconds_of options answers) tells → GoesOn options is_alone base next done old told new tells answers
-    flush_goes in_order seconds = record {
+    pub flush_goes : AnswersInOrder options is_alone old answers new → GoesOn options is_alone base second next done old new answers
+    flush_goes in_order = record {
       in_order = in_order;
-      seconds = seconds;
-      next_ones = λ e at. flush_goes_on options base next flushes e (here e at) untold answers is;
+      seconds = flushed_at options second (flush_due next) 0 answers is;
+      next_ones = λ e at. flush_goes_on options base next flushes e (here e at) untold answers (second, is);
     }
 
     pub flush_replies : (limits : Limits) (before after : List ℕ) (progress : Progress) → length answers ≡ options.partitions
@@ -237,8 +213,8 @@ module _ (options : Options) (is_alone : Bool) (base : ℕ) (next : Next) (done 
   -- What asks nothing
 
   module _ (keyed : is_flush_all next ≡ false) (none : asks_in next ≡ []) where
-    pub plain_goes : GoesOn options is_alone base next done old told old told []
-    plain_goes = record { in_order = λ q. refl; seconds = refl; next_ones = nothing_more options base next done }
+    pub plain_goes : GoesOn options is_alone base second next done old old []
+    plain_goes = record { in_order = λ q. refl; seconds = tt; next_ones = nothing_more options base next done }
 
     pub plain_replies : (said : Told) (limits : Limits) (before after : List ℕ) → after ≡ before ++ unless_quiet (is_quiet next) (plain_text options.partitions said next)
         → Replies options base next done limits [] before after (record { done = done; is_whole = true })
@@ -256,7 +232,7 @@ module _ (options : Options) (is_alone : Bool) (base : ℕ) (next : Next) (done 
   -- Asks of keys
 
   module _ (keyed : is_flush_all next ≡ false) (answers : List Answered) where
-    pub asks_go : AnswersFirst options is_alone base (drop done (asks_in next)) old told new tells answers → GoesOn options is_alone base next done old told new tells answers
+    pub asks_go : AnswersFirst options is_alone base second (drop done (asks_in next)) old new answers → GoesOn options is_alone base second next done old new answers
     asks_go first = record {
       in_order = first.in_order;
       seconds = first.seconds;

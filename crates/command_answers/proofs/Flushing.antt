@@ -1,15 +1,13 @@
 -- Partitions that are flushed one after another.
-use Rattle.std.proofs.Common.{◌≡◌, ◌<◌, ◌≤◌, ◌+◌, ◌*◌, ◌%◌, ◌^◌, ◌&&◌, ◌==◌, ℕ, suc, Bool, true, false, cond, List, [], ◌∷◌, ◌++◌, length, drop, nat_lt, Option, Some, None, option_to_list, refl, sym, ap, ◌∙◌, subst, arith, append_assoc, length-append}
-use Rattle.std.specs.Prelude.{bit_xor, if◌then◌else◌}
+use Rattle.std.proofs.Common.{◌≡◌, ◌<◌, ◌≤◌, ◌+◌, ◌*◌, ◌%◌, ◌^◌, ◌&&◌, ◌==◌, ℕ, suc, Bool, true, false, cond, List, [], ◌∷◌, ◌++◌, length, drop, nat_lt, Option, Some, None, refl, sym, ap, ◌∙◌, subst, arith, append_assoc, length-append}
+use Rattle.std.specs.Prelude.{bit_xor, IfSome, if◌then◌else◌}
 use Rattle.std.specs.Int.{w64, to_le_bytes, from_le_bytes}
-use Rattle.std.specs.List.{list_all, cons_option}
+use Rattle.std.specs.List.{list_all}
 use Rattle.std.proofs.Math.Bool.{and-true}
-use Rattle.std.proofs.Math.Dec.{eqb-suc-zero}
 use Rattle.std.proofs.lemmas.Bool.{le-ltb}
 use Rattle.std.proofs.lemmas.Nat.{from_le_bytes-to_le_bytes_8}
 use Rattle.std.proofs.lemmas.List.Folds.{list_all-append}
 use Rattle.std.proofs.lemmas.List.Sums.{fold-append}
-use Rattle.outside.specs.Seconds.{ClockView}
 use Rattle.mica_words.specs.Hash.{fnv1a, hash_partition, hash_bucket, partition_of, bucket_of}
 use Rattle.mica_words.proofs.Hashes.{partition_of_hash, bucket_of_hash}
 use Rattle.partition_model.specs.declared.options.Options.{Options}
@@ -23,8 +21,9 @@ use Rattle.fronts.specs.declared.flushes.Flush.{Flush}
 use Rattle.fronts.specs.Flushes.{begins_with_feed, flush_in}
 use Rattle.fronts.specs.Session.{Sessions, Answers, AnswersInOrder, ChangesOnly, Writes}
 use Rattle.fronts.proofs.InOrder.{answers_append}
-use Rattle.command_answers.specs.Seconds.{second_asked, second_in, seconds_of, ToldFrom}
+use Rattle.command_answers.specs.Seconds.{second_asked, second_in, AreAt}
 use Rattle.memcached_text.specs.declared.lifetime.Due.{Due}
+use Rattle.memcached_text.specs.declared.lifetime.Due.TheVariants.{Now, After, At}
 use Rattle.command_answers.specs.FlushAnswers.{FlushesOne, FlushesFrom, flush_at}
 
 -- so many partitions were flushed, and each took it or not
@@ -62,40 +61,36 @@ module _ (options : Options) (flush : Flush) (is_alone : Bool) (old between new 
 
 -- Seconds
 
-module _ (options : Options) (flush : Flush) where
-  -- that of the first partition, and of another
-  one_asked : (partition : ℕ) (a : Answered) → FlushesOne options flush partition a → second_in options a ≡ (if partition == 0 then second_asked flush else None)
-  one_asked partition (wrote step) is = (λ i. cond (is.0 i && (is.2 i == 0)) (second_asked (is.1 i)) None)
-  one_asked partition (got key stamp value) is = absurd is
-  one_asked partition (changed step look) is = absurd is
-  one_asked partition (kept key stamp look) is = absurd is
+-- that of the first partition, and of another
+one_asked : (options : Options) (flush : Flush) (partition : ℕ) (a : Answered) → FlushesOne options flush partition a
+    → second_in options a ≡ (if partition == 0 then second_asked flush else None)
+one_asked options flush partition (wrote step) is = (λ i. cond (is.0 i && (is.2 i == 0)) (second_asked (is.1 i)) None)
+one_asked options flush partition (got key stamp value) is = absurd is
+one_asked options flush partition (changed step look) is = absurd is
+one_asked options flush partition (kept key stamp look) is = absurd is
 
-  -- no other partition than the first tells one
-  none_told : (partition : ℕ) (answers : List Answered) → FlushesFrom options flush (suc partition) answers → seconds_of options answers ≡ []
-  none_told partition [] is = refl
-  none_told partition (a ∷ answers) is =
-      let none = one_asked (suc partition) a is.0 ∙ ap (λ t. cond t (second_asked flush) None) (eqb-suc-zero partition) in
-      (λ i. cons_option (none i) (none_told (suc partition) answers is.1 i))
+module _ (options : Options) (second : ℕ) where
+  abbrev Is : Option ℕ → Type 0
+  Is o = IfSome o (λ s. s ≡ second)
 
-  one_told : (second : Option ℕ) → cons_option second [] ≡ option_to_list second
-  one_told None = refl
-  one_told (Some second) = refl
+  tells : (t : Bool) → Is (if t then Some second else None)
+  tells true = refl
+  tells false = tt
 
-  pub flush_told : (answers : List Answered) → 0 < length answers → FlushesFrom options flush 0 answers → seconds_of options answers ≡ option_to_list (second_asked flush)
-  flush_told [] some is = absurd (omega (arith, some))
-  flush_told (a ∷ answers) some is = (λ i. cons_option (one_asked 0 a is.0 i) (none_told 0 answers is.1 i)) ∙ one_told (second_asked flush)
+  asked_at : (due : Due) → Is (second_asked (flush_at second due))
+  asked_at Now = tt
+  asked_at (After seconds) = tells (nat_lt 0 (flush_at second (After seconds)).due)
+  asked_at (At due) = tells (nat_lt 0 due)
 
--- the first partition tells the second at which all are asked, where there are any
-pub all_told : (options : Options) (flush : Flush) (answers : List Answered) (told tells : ClockView) (partitions : ℕ) (due : Due) → length answers ≡ partitions
-    → FlushesFrom options flush 0 answers → (0 < partitions → (second : ℕ) × (flush ≡ flush_at second due)) → (partitions ≡ 0 → tells ≡ told)
-    → ToldFrom told (option_to_list (second_asked flush)) tells
-    → ToldFrom told (seconds_of options answers) tells × ((second : ℕ) × FlushesFrom options (flush_at second due) 0 answers)
-all_told options flush [] told tells partitions due many is asked none at = (none (sym many), (0, tt))
-all_told options flush (a ∷ answers) told tells partitions due many is asked none at =
-    let here = asked (omega (arith, many)) in (
-      subst (λ s. ToldFrom told s tells) (sym (flush_told options flush (a ∷ answers) (omega arith) is)) at,
-      (here.0, subst (λ f. FlushesFrom options f 0 (a ∷ answers)) here.1 is),
-    )
+  -- Flushes that are asked for at a second are at it.
+  pub flushed_at : (due : Due) (partition : ℕ) (answers : List Answered) → FlushesFrom options (flush_at second due) partition answers → AreAt options second answers
+  flushed_at due partition [] is = tt
+  flushed_at due partition (a ∷ answers) is =
+      (subst Is (sym (one_asked options (flush_at second due) partition a is.0)) (here (partition == 0)), flushed_at due (suc partition) answers is.1)
+    where
+      here : (first : Bool) → Is (if first then second_asked (flush_at second due) else None)
+      here true = asked_at due
+      here false = tt
 
 -- Writes
 

@@ -7,7 +7,7 @@ use Rattle.fronts.specs.declared.flushes.Flush.{Flush}
 use Rattle.fronts.specs.Answered.{Answered, wrote, partition_in}
 use Rattle.fronts.specs.Flushes.{is_flush, flush_in}
 
--- the flush that is asked for at a second; one at once reads no clock
+-- the flush that is asked for at a second; one at once is asked for at none
 abbrev pub flush_at : ℕ → Due → Flush
 flush_at second Now = record { due = 0; asked = 0 }
 flush_at second (After seconds) = record { due = min (second + seconds) 18446744073709551615; asked = second }

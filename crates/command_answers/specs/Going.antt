@@ -1,6 +1,5 @@
 -- What one call makes of an exchange.
 use Rattle.std.specs.Prelude.{◌≡◌, ◌≤◌, ◌⊎◌, ◌+◌, ◌==◌, ℕ, Bool, false, List, ◌++◌, length, drop, Option, Some, None, if◌then◌else◌, []}
-use Rattle.outside.specs.Seconds.{ClockView}
 use Rattle.partition_model.specs.declared.options.Options.{Options}
 use Rattle.partition_model.specs.declared.write.Answer.{Answer}
 use Rattle.partition_model.specs.declared.write.Answer.TheVariants.{Hit}
@@ -13,7 +12,7 @@ use Rattle.fronts.specs.Session.{Sessions, Answers, AnswersInOrder}
 use Rattle.command_answers.specs.declared.answer.Limits.{Limits}
 use Rattle.command_answers.specs.declared.answer.Progress.{Progress}
 use Rattle.command_answers.specs.declared.plain.Style.{Style}
-use Rattle.command_answers.specs.Seconds.{second_in, seconds_of, ToldFrom}
+use Rattle.command_answers.specs.Seconds.{second_in, AreAt}
 use Rattle.command_answers.specs.AskAnswers.{AnswersAsk, AnswersAsks, quiet_of, shown_text, line_text, asks_text}
 use Rattle.memcached_stats.specs.Stats.{Told}
 use Rattle.command_answers.specs.Exchange.{Exchange, AnswersNext, IsOpenAt, count_of_answers, due_before, due_to, longer}
@@ -36,11 +35,11 @@ value_found _ buffer = None
 abbrev pub ask_text : Style → Bool → List ℕ → Says → List ℕ
 ask_text style is_last key says = unless_quiet (quiet_of style) (shown_text style key says ++ (if is_last then line_text style says else []))
 
--- These asks were answered, as far as the answers go.
-pub record AnswersFirst (options : Options) (is_alone : Bool) (base : ℕ) (asks : List Asked) (old : Sessions) (told : ClockView) (new : Sessions) (tells : ClockView)
+-- These asks were answered, as far as the answers go, at this second.
+pub record AnswersFirst (options : Options) (is_alone : Bool) (base : ℕ) (second : ℕ) (asks : List Asked) (old new : Sessions)
     (answers : List Answered) : Type 0 where
   pub in_order : AnswersInOrder options is_alone old answers new
-  pub seconds : ToldFrom told (seconds_of options answers) tells
+  pub seconds : AreAt options second answers
   pub to_asks : AnswersAsks base asks answers
 
 -- The text that is due to them was appended. All are answered; or as many are as the limits allow.
@@ -59,11 +58,11 @@ pub record StandsAt (options : Options) (base : ℕ) (next : Next) (done : ℕ) 
   pub count : length e.answers ≡ done
   pub answers : AnswersNext options base e.next e.answers
 
--- The front's sessions and the clock went on by these answers and no others, and they are the next to what was said.
-pub record GoesOn (options : Options) (is_alone : Bool) (base : ℕ) (next : Next) (done : ℕ) (old : Sessions) (told : ClockView) (new : Sessions) (tells : ClockView)
+-- The front's sessions went on by these answers and no others, at this second, and they are the next to what was said.
+pub record GoesOn (options : Options) (is_alone : Bool) (base second : ℕ) (next : Next) (done : ℕ) (old new : Sessions)
     (answers : List Answered) : Type 0 where
   pub in_order : AnswersInOrder options is_alone old answers new
-  pub seconds : ToldFrom told (seconds_of options answers) tells
+  pub seconds : AreAt options second answers
   pub next_ones : (e : Exchange) → StandsAt options base next done e → AnswersNext options base e.next (e.answers ++ answers)
 
 -- The text that is due to them was appended. All is answered; or as many were as the limits allow.

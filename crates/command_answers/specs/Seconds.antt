@@ -1,7 +1,6 @@
 -- The seconds at which answers were made.
-use Rattle.std.specs.Prelude.{◌≡◌, ◌==◌, ◌&&◌, ℕ, List, [], ◌∷◌, nat_lt, Option, Some, None, if◌then◌else◌}
-use Rattle.std.specs.List.{filter_map}
-use Rattle.outside.specs.Seconds.{ClockView, IsReading, once_read}
+use Rattle.std.specs.Prelude.{◌≡◌, ◌==◌, ◌&&◌, ℕ, List, nat_lt, Option, Some, None, IfSome, if◌then◌else◌}
+use Rattle.std.specs.List.{AllByRecursion}
 use Rattle.mica_words.specs.Hash.{partition_of}
 use Rattle.partition_model.specs.declared.options.Options.{Options}
 use Rattle.fronts.specs.declared.flushes.Flush.{Flush}
@@ -20,11 +19,9 @@ second_in options (got key stamp value) = None
 second_in options (changed step look) = Some look.when.second
 second_in options (kept key stamp look) = Some look.when.second
 
--- the seconds of all answers that have one, in order
-abbrev pub seconds_of : Options → List Answered → List ℕ
-seconds_of options answers = filter_map (second_in options) answers
+-- It was given at this second, if it was at any.
+abbrev pub IsAt : Options → ℕ → Answered → Type 0
+IsAt options second answered = IfSome (second_in options answered) (λ s. s ≡ second)
 
--- The readings of a clock gave these seconds, one after another, and no others.
-abbrev pub ToldFrom : ClockView → List ℕ → ClockView → Type 0
-ToldFrom before [] after = after ≡ before
-ToldFrom before (second ∷ later) after = IsReading before second × ToldFrom (once_read second before) later after
+abbrev pub AreAt : Options → ℕ → List Answered → Type 0
+AreAt options second answers = AllByRecursion (IsAt options second) answers

@@ -3,7 +3,6 @@ ghost use Rattle.std.specs.Prelude.{◌≡◌, ◌<◌, ◌≤◌, ◌+◌, ◌^
 ghost use Rattle.std.specs.List.{AllByRecursion, list_all};
 ghost use Rattle.memcached_text.specs.declared.limits.TheConstants.{MAX_FRAME_LEN, MAX_REPLY_LEN};
 ghost use Rattle.memcached_text.specs.Fit.{IsFitNext};
-ghost use Rattle.memcached_text.specs.Lifetimes.{IsDue};
 ghost use Rattle.memcached_commands.specs.Answers.{unless_quiet};
 ghost use Rattle.memcached_commands.specs.Asks.{asks_in};
 ghost use Rattle.memcached_commands.specs.Fit.{IsFitAsked};
@@ -13,7 +12,6 @@ ghost use Rattle.memcached_stats.specs.Stats.{Told, stats_text};
 ghost use Rattle.command_answers.specs.Counting.{tally_after_all, tally_after_next};
 ghost use Rattle.command_answers.specs.Exchange.{IsOpenAt, asks_stats, flush_due, flush_text, is_flush_all};
 ghost use Rattle.command_answers.specs.FlushAnswers.{FlushesFrom, flush_at};
-ghost use Rattle.command_answers.specs.Seconds.{ToldFrom, seconds_of};
 ghost use Rattle.command_answers.specs.Going.{AnswersFirst, RepliesFirst, GoesOn, Replies};
 
 use crate::ask::answer_ask;
@@ -24,7 +22,7 @@ use fronts::Changes;
 use memcached_commands::Asks;
 use memcached_stats::counter_by;
 use memcached_text::{Command, Due, Next, Reply, Topic, reply_line};
-use outside::{Clock, NoMemory};
+use outside::NoMemory;
 use partition_model::ItemBuf;
 
 /// The partitions of a server, as commands see them.
@@ -63,8 +61,8 @@ fn is_stats(next: &Next) -> bool
 }
 
 // Tells what the server counts. When out of memory, nothing is appended.
-fn answer_stats<C: Clock>(
-    clock: &C,
+fn answer_stats(
+    second: u64,
     partitions: u32,
     buffers: &mut Buffers,
     done: usize,
@@ -77,7 +75,7 @@ fn answer_stats<C: Clock>(
     ensures tally { buffers.new.tally ≡ buffers.old.tally }
 {
     buffers.show();
-    buffers.board.put_stats(clock.present(), partitions, out)?;
+    buffers.board.put_stats(second, partitions, out)?;
     Ok(Progress {
         done,
         is_whole: true,
@@ -122,21 +120,19 @@ fn flush_line(took: bool) -> &'static [u8]
 }
 
 // Flushes all partitions, and appends the line that is due to it.
-fn answer_flush<F: Changes, C: Clock>(
+fn answer_flush<F: Changes>(
     front: &mut F,
-    clock: &mut C,
+    second: u64,
     partitions: u32,
     due: Due,
     key: &mut ItemBuf,
     quiet: bool,
     out: &mut Vec<u8>,
 ) -> Result<Progress, NoMemory>
-    requires due { IsDue due }
     requires partitions { partitions ≡ (F.options front.old).partitions }
     requires left { partitions ≤ F.left front.old }
     ensures flushed { (answers : List Answered) × AnswersInOrder (F.options front.old) F.is_alone (F.sessions front.old) answers (F.sessions front.new)
-        × ToldFrom (C.view clock.old) (seconds_of (F.options front.old) answers) (C.view clock.new)
-        × ((second : ℕ) × FlushesFrom (F.options front.old) (flush_at second due) 0 answers) × (length answers ≡ partitions)
+        × FlushesFrom (F.options front.old) (flush_at second due) 0 answers × (length answers ≡ partitions)
         × IfOk result (λ progress. (progress ≡ record { done = partitions; is_whole = true })
         × (out.new.items ≡ out.old.items ++ unless_quiet quiet (flush_text true answers)))
         × (F.left front.old ≤ F.left front.new + count_of_writes answers) }
@@ -147,7 +143,7 @@ fn answer_flush<F: Changes, C: Clock>(
     ensures number { F.number front.new ≡ F.number front.old }
     ensures stands { F.stands front.new ≡ F.stands front.old }
 {
-    let flush = ask_flush(clock, partitions, due);
+    let flush = ask_flush(second, due);
     let took = flush_all(front, partitions, flush, key);
     let Ok(()) = put_line(out, quiet, flush_line(took)) else {
         return Err(NoMemory);
@@ -170,9 +166,9 @@ fn skip(asks: &mut Asks, count: usize)
 }
 
 // Answers asks in order, as far as the limits allow, and appends the text that is due to them. When out of memory, some of it may be appended.
-fn answer_asks<'a, F: Changes, C: Clock>(
+fn answer_asks<'a, F: Changes>(
     front: &mut F,
-    clock: &mut C,
+    second: u64,
     base: u64,
     partitions: u32,
     buffers: &mut Buffers,
@@ -184,7 +180,7 @@ fn answer_asks<'a, F: Changes, C: Clock>(
     requires fit { AllByRecursion IsFitAsked asks.old }
     requires left { limits.asks ≤ F.left front.old }
     ensures answered { (answers : List Answered)
-        × AnswersFirst (F.options front.old) F.is_alone base asks.old (F.sessions front.old) (C.view clock.old) (F.sessions front.new) (C.view clock.new) answers
+        × AnswersFirst (F.options front.old) F.is_alone base second asks.old (F.sessions front.old) (F.sessions front.new) answers
         × IfOk result (λ count. RepliesFirst base style asks.old limits answers out.old.items out.new.items count asks.new)
         × (F.left front.old ≤ F.left front.new + count_of_writes answers)
         × (buffers.new.tally ≡ tally_after_all base partitions asks.old answers buffers.old.tally)
@@ -203,7 +199,7 @@ fn answer_asks<'a, F: Changes, C: Clock>(
         };
         let is_last = asks.is_empty();
         let Ok(()) = answer_ask(
-            front, clock, base, partitions, buffers, style, &asked, is_last, out,
+            front, second, base, partitions, buffers, style, &asked, is_last, out,
         ) else {
             return Err(NoMemory);
         };
@@ -217,9 +213,9 @@ fn answer_asks<'a, F: Changes, C: Clock>(
 
 /// Answers what a client said, of which so many answers were given, and appends the text that is due. What came of it is counted. When out of memory, nothing is appended, though
 /// some of it may be done: then the connection is to end.
-pub fn answer_next<'a, F: Changes, C: Clock>(
+pub fn answer_next<'a, F: Changes>(
     front: &mut F,
-    clock: &mut C,
+    second: u64,
     numbering: Numbering,
     buffers: &mut Buffers,
     next: Next<'a>,
@@ -233,7 +229,7 @@ pub fn answer_next<'a, F: Changes, C: Clock>(
     requires partitions { numbering.partitions ≡ (F.options front.old).partitions }
     requires left { limits.asks + numbering.partitions ≤ F.left front.old }
     ensures answered { (answers : List Answered)
-        × GoesOn (F.options front.old) F.is_alone numbering.base next.entry done (F.sessions front.old) (C.view clock.old) (F.sessions front.new) (C.view clock.new) answers
+        × GoesOn (F.options front.old) F.is_alone numbering.base second next.entry done (F.sessions front.old) (F.sessions front.new) answers
         × IfOk result (Replies (F.options front.old) numbering.base next.entry done limits answers out.old.items out.new.items)
         × (F.left front.old ≤ F.left front.new + count_of_writes answers)
         × (buffers.new.tally ≡ tally_after_next numbering.base numbering.partitions next.entry done answers buffers.old.tally)
@@ -251,7 +247,7 @@ pub fn answer_next<'a, F: Changes, C: Clock>(
     if is_flush_all(&next) {
         return answer_flush(
             front,
-            clock,
+            second,
             numbering.partitions,
             flush_due(&next),
             &mut buffers.next,
@@ -260,7 +256,7 @@ pub fn answer_next<'a, F: Changes, C: Clock>(
         );
     }
     if is_stats(&next) {
-        return answer_stats(clock, numbering.partitions, buffers, done, out);
+        return answer_stats(second, numbering.partitions, buffers, done, out);
     }
     let line = plain_line(&next);
     let mut asks = Asks::by(next);
@@ -277,7 +273,7 @@ pub fn answer_next<'a, F: Changes, C: Clock>(
     let start = out.len();
     match answer_asks(
         front,
-        clock,
+        second,
         numbering.base,
         numbering.partitions,
         buffers,

@@ -7,7 +7,6 @@ ghost use Rattle.fronts.specs.Answered.{Answered, count_of_writes};
 ghost use Rattle.command_answers.specs.AskAnswers.{said_of};
 ghost use Rattle.command_answers.specs.Counting.{count_of_accepted, noted_if, tally_after};
 ghost use Rattle.command_answers.specs.Going.{AnswersAt, ask_text, value_found};
-ghost use Rattle.command_answers.specs.Seconds.{ToldFrom};
 
 use crate::buffers::Buffers;
 use crate::noted::Noted;
@@ -17,7 +16,7 @@ use memcached_commands::{Ask, Asked, Says, put_part, put_whole};
 use memcached_decisions::CommandOrder;
 use memcached_stats::{Tally, counter_of};
 use mica_words::{key_hash, partition_of};
-use outside::{Clock, NoMemory};
+use outside::NoMemory;
 use partition_model::{Answer, ItemBuf, Outcome};
 
 // Appends the text that is due to one ask. When out of memory, nothing is appended.
@@ -81,10 +80,10 @@ fn note_write(
     }
 }
 
-/// Decides of one look what is asked of a key, and does it with nothing between, at the second that the clock tells. It appends the text that is due to it. What came of it is counted. When out of memory, nothing is appended, and it is done all the same.
-pub fn answer_ask<F: Changes, C: Clock>(
+/// Decides of one look what is asked of a key, and does it with nothing between, at this second. It appends the text that is due to it. What came of it is counted. When out of memory, nothing is appended, and it is done all the same.
+pub fn answer_ask<F: Changes>(
     front: &mut F,
-    clock: &mut C,
+    second: u64,
     base: u64,
     partitions: u32,
     buffers: &mut Buffers,
@@ -96,13 +95,12 @@ pub fn answer_ask<F: Changes, C: Clock>(
     requires fit { IsFitAsked asked.now }
     requires left { 0 < F.left front.old }
     ensures answered { (answered : Answered)
-        × AnswersAt (F.options front.old) F.is_alone base (C.view clock.new).last (F.sessions front.old) asked.now (F.sessions front.new) answered
+        × AnswersAt (F.options front.old) F.is_alone base second (F.sessions front.old) asked.now (F.sessions front.new) answered
         × OnOk result (out.new.items ≡ out.old.items ++ ask_text style is_last asked.now.key (said_of base asked.now answered))
         × (F.left front.old ≤ F.left front.new + count_of_writes (answered ∷ []))
         × (buffers.new.tally ≡ tally_after base partitions asked.now answered buffers.old.tally) }
     ensures err { OnErr result (out.new.items ≡ out.old.items) }
     ensures short { length out.new.items ≤ length out.old.items + MAX_REPLY_LEN }
-    ensures read { ToldFrom (C.view clock.old) ((C.view clock.new).last ∷ []) (C.view clock.new) }
     ensures left { F.left front.old ≤ F.left front.new + 1 }
     ensures options { F.options front.new ≡ F.options front.old }
     ensures number { F.number front.new ≡ F.number front.old }
@@ -115,7 +113,6 @@ pub fn answer_ask<F: Changes, C: Clock>(
         tally,
         ..
     } = buffers;
-    let second = clock.second();
     let order = CommandOrder::new(&asked.ask, base);
     let key = asked.key.bytes();
     let changed = front.change(second, key, &order, found, next);

@@ -1,42 +1,30 @@
 //! A flush of all partitions.
-ghost use Rattle.std.specs.Prelude.{◌≡◌, ◌<◌, ◌≤◌, ◌+◌, ◌++◌, ◌∷◌, [], ℕ, true, List, length, option_to_list, IfSome};
+ghost use Rattle.std.specs.Prelude.{◌≡◌, ◌<◌, ◌≤◌, ◌+◌, ◌++◌, ◌∷◌, [], ℕ, true, List, length};
 ghost use Rattle.std.specs.List.{list_all};
 ghost use Rattle.mica_words.specs.Hash.{bucket_of, fnv1a, partition_of};
 ghost use Rattle.mica_words.specs.Item.{KeyFits};
-ghost use Rattle.memcached_text.specs.Lifetimes.{IsDue};
 ghost use Rattle.fronts.specs.Answered.{Answered, accepts, count_of_writes};
 ghost use Rattle.fronts.specs.Flushes.{begins_with_feed, flush_in};
 ghost use Rattle.fronts.specs.Session.{Answers, AnswersInOrder};
 ghost use Rattle.command_answers.specs.FlushAnswers.{FlushesOne, FlushesFrom, flush_at};
-ghost use Rattle.command_answers.specs.Seconds.{ToldFrom, second_asked};
 
 use fronts::{Changes, Flush};
 use memcached_text::Due;
-use outside::Clock;
 use partition_model::ItemBuf;
 
-/// The flush that is asked for now. The clock is read unless it is to take place at once, and not where there is no partition to tell its second.
-pub fn ask_flush<C: Clock>(clock: &mut C, partitions: u32, due: Due) -> Flush
-    requires due { IsDue due }
-    ensures asked { 0 < partitions → (second : ℕ) × (result ≡ flush_at second due) }
-    ensures told { ToldFrom (C.view clock.old) (option_to_list (second_asked result)) (C.view clock.new) }
-    ensures none { partitions ≡ 0 → C.view clock.new ≡ C.view clock.old }
+/// The flush that is asked for at this second.
+pub fn ask_flush(second: u64, due: Due) -> Flush
+    ensures { result ≡ flush_at second due }
 {
-    if partitions == 0 {
-        return Flush { due: 0, asked: 0 };
-    }
     match due {
         Due::Now => Flush { due: 0, asked: 0 },
-        Due::After(seconds) => {
-            let asked = clock.second();
-            Flush {
-                due: asked.saturating_add(u64::from(seconds)),
-                asked,
-            }
-        }
-        Due::At(second) => Flush {
-            due: u64::from(second),
-            asked: clock.second(),
+        Due::After(seconds) => Flush {
+            due: second.saturating_add(u64::from(seconds)),
+            asked: second,
+        },
+        Due::At(due) => Flush {
+            due: u64::from(due),
+            asked: second,
         },
     }
 }

@@ -2,8 +2,6 @@
 ghost use Rattle.std.specs.Prelude.{◌≤◌};
 ghost use Rattle.command_answers.specs.declared.pace.TheConstants.{LONG_STRETCH};
 
-use outside::Clock;
-
 /// The fewest places that one sweep looks at: so many where the last one found nothing to take away.
 const LEAST_STRETCH: u32 = 1;
 
@@ -56,13 +54,12 @@ impl Pace {
     }
 
     /// How many places the next sweep looks at.
-    pub fn places<C: Clock>(&mut self, clock: &C) -> u32
+    pub fn places(&mut self, second: u64) -> u32
         ensures { result ≤ LONG_STRETCH }
     {
         if !self.hurried {
             return LONG_STRETCH.min(self.stretch);
         }
-        let second = clock.present();
         if second != self.second {
             self.second = second;
             self.looks = MOST_LOOKS;

@@ -1,6 +1,5 @@
 //! Items that are over give their room back, and items that are used stay.
 ghost use Rattle.std.specs.Prelude.{◌≡◌, ◌<◌, ◌≤◌, ◌+◌, ℕ};
-ghost use Rattle.outside.specs.Seconds.{ClockView};
 ghost use Rattle.mica_words.specs.Item.{KeyFits};
 ghost use Rattle.command_answers.specs.declared.noted.TheConstants.{MOST_USED};
 ghost use Rattle.command_answers.specs.Sweeps.{SweepsBy};
@@ -10,7 +9,7 @@ use crate::noted::Noted;
 use crate::pace::Pace;
 use fronts::{Changed, Changes, Glances, Glimpse, When};
 use memcached_decisions::{SweepOrder, is_over};
-use outside::{Clock, NoMemory};
+use outside::NoMemory;
 use partition_model::ItemBuf;
 use std::alloc::Global;
 
@@ -112,9 +111,9 @@ impl Sweeper {
 }
 
 // Looks at a key under a hold, and deletes what is over.
-fn sweep_key<F: Changes, C: Clock>(
+fn sweep_key<F: Changes>(
     front: &mut F,
-    clock: &mut C,
+    second: u64,
     base: u64,
     key: &[u8],
     found: &mut ItemBuf,
@@ -122,27 +121,21 @@ fn sweep_key<F: Changes, C: Clock>(
 ) -> Changed
     requires key { KeyFits key.now }
     requires left { 0 < F.left front.old }
-    ensures swept { SweepsBy (F.options front.old) F.is_alone base 1 (F.sessions front.old) (F.left front.old) (C.view clock.old) (F.sessions front.new) (F.left front.new) (C.view clock.new) }
+    ensures swept { SweepsBy (F.options front.old) F.is_alone base second 1 (F.sessions front.old) (F.left front.old) (F.sessions front.new) (F.left front.new) }
     ensures left { F.left front.old ≤ F.left front.new + 1 }
     ensures options { F.options front.new ≡ F.options front.old }
     ensures number { F.number front.new ≡ F.number front.old }
     ensures stands { F.stands front.new ≡ F.stands front.old }
 {
-    let second = clock.second();
     let order = SweepOrder::new(base);
     front.change(second, key, &order, found, next)
 }
 
 // Takes away the item that was glanced at, unless it is there, and says whether it did. It looks under a hold once for so many items, and where one seems to be over.
-fn sweep_item<F: Changes, C: Clock>(
-    front: &mut F,
-    clock: &mut C,
-    base: u64,
-    sweeper: &mut Sweeper,
-) -> bool
+fn sweep_item<F: Changes>(front: &mut F, second: u64, base: u64, sweeper: &mut Sweeper) -> bool
     requires key { KeyFits sweeper.old.key }
     requires left { 0 < F.left front.old }
-    ensures swept { SweepsBy (F.options front.old) F.is_alone base 1 (F.sessions front.old) (F.left front.old) (C.view clock.old) (F.sessions front.new) (F.left front.new) (C.view clock.new) }
+    ensures swept { SweepsBy (F.options front.old) F.is_alone base second 1 (F.sessions front.old) (F.left front.old) (F.sessions front.new) (F.left front.new) }
     ensures left { F.left front.old ≤ F.left front.new + 1 }
     ensures options { F.options front.new ≡ F.options front.old }
     ensures number { F.number front.new ≡ F.number front.old }
@@ -159,7 +152,7 @@ fn sweep_item<F: Changes, C: Clock>(
         next,
         ..
     } = sweeper;
-    let changed = sweep_key(front, clock, base, key.value(), found, next);
+    let changed = sweep_key(front, second, base, key.value(), found, next);
     sweeper.when = Some(changed.when);
     sweeper.fresh = FRESH;
     let gone = changed.outcome.is_some_and(|outcome| outcome.is_accepted());
@@ -170,15 +163,15 @@ fn sweep_item<F: Changes, C: Clock>(
 }
 
 // Looks at the next place, and says whether an item was taken away there.
-fn sweep_place<F: Glances, C: Clock>(
+fn sweep_place<F: Glances>(
     front: &mut F,
-    clock: &mut C,
+    second: u64,
     numbering: Numbering,
     sweeper: &mut Sweeper,
 ) -> bool
     requires partitions { numbering.partitions ≡ (F.options front.old).partitions }
     requires left { 0 < F.left front.old }
-    ensures swept { SweepsBy (F.options front.old) F.is_alone numbering.base 1 (F.sessions front.old) (F.left front.old) (C.view clock.old) (F.sessions front.new) (F.left front.new) (C.view clock.new) }
+    ensures swept { SweepsBy (F.options front.old) F.is_alone numbering.base second 1 (F.sessions front.old) (F.left front.old) (F.sessions front.new) (F.left front.new) }
     ensures left { F.left front.old ≤ F.left front.new + 1 }
     ensures options { F.options front.new ≡ F.options front.old }
     ensures number { F.number front.new ≡ F.number front.old }
@@ -190,7 +183,7 @@ fn sweep_place<F: Glances, C: Clock>(
         return false;
     }
     match front.glance(partition, place, &mut sweeper.key, &mut sweeper.head) {
-        Glimpse::Item => sweep_item(front, clock, numbering.base, sweeper),
+        Glimpse::Item => sweep_item(front, second, numbering.base, sweeper),
         Glimpse::Nothing => {
             sweeper.step();
             false
@@ -203,16 +196,16 @@ fn sweep_place<F: Glances, C: Clock>(
 }
 
 // Looks at the next places, so many at most, and takes away what is over. Says how many places it looked at.
-fn sweep_places<F: Glances, C: Clock>(
+fn sweep_places<F: Glances>(
     front: &mut F,
-    clock: &mut C,
+    second: u64,
     numbering: Numbering,
     most: u32,
     sweeper: &mut Sweeper,
 ) -> u32
     requires partitions { numbering.partitions ≡ (F.options front.old).partitions }
     requires left { most ≤ F.left front.old }
-    ensures swept { SweepsBy (F.options front.old) F.is_alone numbering.base result (F.sessions front.old) (F.left front.old) (C.view clock.old) (F.sessions front.new) (F.left front.new) (C.view clock.new) }
+    ensures swept { SweepsBy (F.options front.old) F.is_alone numbering.base second result (F.sessions front.old) (F.left front.old) (F.sessions front.new) (F.left front.new) }
     ensures few { result ≤ most }
     ensures left { F.left front.old ≤ F.left front.new + result }
     ensures options { F.options front.new ≡ F.options front.old }
@@ -222,7 +215,7 @@ fn sweep_places<F: Glances, C: Clock>(
     let mut looked = 0;
     let mut taken: u32 = 0;
     while looked < most && !sweeper.pace.is_enough(taken) {
-        let gone = sweep_place(front, clock, numbering, sweeper);
+        let gone = sweep_place(front, second, numbering, sweeper);
         taken = taken.saturating_add(u32::from(gone));
         looked += 1;
     }
@@ -233,7 +226,7 @@ fn sweep_places<F: Glances, C: Clock>(
 // Touches a key with this hash, if its item is old, and if it may give a write. Says how many it gave.
 fn touch_old<F: Glances>(front: &mut F, most: u64, hash: u64, key: &mut ItemBuf) -> u64
     requires left { most ≤ F.left front.old }
-    ensures swept { (base : ℕ) (told : ClockView) → SweepsBy (F.options front.old) F.is_alone base 1 (F.sessions front.old) (F.left front.old) told (F.sessions front.new) (F.left front.new) told }
+    ensures swept { (base second : ℕ) → SweepsBy (F.options front.old) F.is_alone base second 1 (F.sessions front.old) (F.left front.old) (F.sessions front.new) (F.left front.new) }
     ensures few { result ≤ most }
     ensures left { F.left front.old ≤ F.left front.new + result }
     ensures options { F.options front.new ≡ F.options front.old }
@@ -250,7 +243,7 @@ fn touch_old<F: Glances>(front: &mut F, most: u64, hash: u64, key: &mut ItemBuf)
 // Touches keys that were noted whose items are old, so many at most, and notes none any more. Says how many it touched.
 fn touch_used<F: Glances>(front: &mut F, most: u64, noted: &mut Noted, key: &mut ItemBuf) -> u64
     requires left { most ≤ F.left front.old }
-    ensures swept { (base : ℕ) (told : ClockView) → SweepsBy (F.options front.old) F.is_alone base MOST_USED (F.sessions front.old) (F.left front.old) told (F.sessions front.new) (F.left front.new) told }
+    ensures swept { (base second : ℕ) → SweepsBy (F.options front.old) F.is_alone base second MOST_USED (F.sessions front.old) (F.left front.old) (F.sessions front.new) (F.left front.new) }
     ensures few { result ≤ most }
     ensures left { F.left front.old ≤ F.left front.new + result }
     ensures options { F.options front.new ≡ F.options front.old }
@@ -267,9 +260,9 @@ fn touch_used<F: Glances>(front: &mut F, most: u64, noted: &mut Noted, key: &mut
 
 /// Touches what was used and is old, and looks at the next places of an index, as far as so many writes reach. Takes away what is over there. Where a write found
 /// no room, it looks far in that partition. Says how many writes it may have made.
-pub fn sweep<F: Glances, C: Clock>(
+pub fn sweep<F: Glances>(
     front: &mut F,
-    clock: &mut C,
+    second: u64,
     numbering: Numbering,
     most: u64,
     noted: &mut Noted,
@@ -277,7 +270,7 @@ pub fn sweep<F: Glances, C: Clock>(
 ) -> u64
     requires partitions { numbering.partitions ≡ (F.options front.old).partitions }
     requires left { most ≤ F.left front.old }
-    ensures swept { SweepsBy (F.options front.old) F.is_alone numbering.base MOST_SWEPT (F.sessions front.old) (F.left front.old) (C.view clock.old) (F.sessions front.new) (F.left front.new) (C.view clock.new) }
+    ensures swept { SweepsBy (F.options front.old) F.is_alone numbering.base second MOST_SWEPT (F.sessions front.old) (F.left front.old) (F.sessions front.new) (F.left front.new) }
     ensures few { result ≤ most }
     ensures left { F.left front.old ≤ F.left front.new + result }
     ensures options { F.options front.new ≡ F.options front.old }
@@ -286,8 +279,8 @@ pub fn sweep<F: Glances, C: Clock>(
 {
     let touched = touch_used(front, most, noted, &mut sweeper.key);
     sweeper.want_room(noted.take_full());
-    let places = sweeper.pace.places(clock);
+    let places = sweeper.pace.places(second);
     let left = u32::try_from(most - touched).unwrap_or(u32::MAX);
-    let looked = sweep_places(front, clock, numbering, places.min(left), sweeper);
+    let looked = sweep_places(front, second, numbering, places.min(left), sweeper);
     touched + u64::from(looked)
 }

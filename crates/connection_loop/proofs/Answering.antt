@@ -4,7 +4,6 @@ use Rattle.std.specs.Prelude.{MatchResult, Result, Err}
 use Rattle.std.proofs.Math.Nat.{add-mul, mul-le-mul_right, one-mul}
 use Rattle.std.proofs.lemmas.List.{append-nil, drop-drop, drop_all}
 use mir.Val.{bool_byte}
-use Rattle.outside.specs.Seconds.{ClockView}
 use Rattle.partition_model.specs.declared.options.Options.{Options}
 use Rattle.memcached_text.specs.Next.{next_of}
 use Rattle.fronts.specs.Answered.{Answered}
@@ -68,19 +67,22 @@ module _ (options : Options) (is_alone : Bool) (base : ℕ) where
   few_in_all : (answers : List Answered) (count : ℕ) → count ≤ MOST_COMMANDS → length answers ≤ count * most_to_one options → length answers ≤ most_answers options
   few_in_all answers count within few = times_most count MOST_COMMANDS (most_to_one options) (length answers) within few
 
-  module _ {old between new : Sessions} {left then_left left_after : ℕ} {told then tells : ClockView} where
+  module _ {old between new : Sessions} {left then_left left_after : ℕ} {told then tells : ℕ} where
     -- a command more was answered
-    pub on_said : (count : ℕ) (position : Position) (bytes rest : List ℕ) (done : ℕ) (before here after : List ℕ) (o : Options) (said is : Said) → rest ≡ bytes → o ≡ options → said ≡ is
+    pub on_said : (count : ℕ) (position : Position) (bytes rest : List ℕ) (done : ℕ) (before here after : List ℕ) (o : Options) (b : ℕ) (said is : Said) → rest ≡ bytes → o ≡ options → b ≡ base → said ≡ is
         → GoesBySome options is_alone old left told between then_left then
         (λ answers. GoesOnTo options base position answers before here (Reaches options base (position_at bytes done)) × HasSpoken count answers before here)
         → GoesBySome o is_alone between then_left then new left_after tells
-        (λ answers. (length answers ≤ most_to_one o) × (GoesOnTo o base (position_at rest done) answers here after (ReachesAfter o base rest done said) × SpeaksAs said answers here after))
+        (λ answers. (length answers ≤ most_to_one o) × (GoesOnTo o b (position_at rest done) answers here after (ReachesAfter o b rest done said) × SpeaksAs said answers here after))
         → GoesBySome options is_alone old left told new left_after tells
         (λ answers. GoesOnTo options base position answers before after (ReachesAfter options base bytes done is) × SpokenOn count is answers before after)
-    on_said count position bytes rest done before here after o said is rest_is same said_is first second =
-        let one = subst (λ (x : Options). GoesBySome x is_alone between then_left then new left_after tells
-        (λ answers. (length answers ≤ most_to_one x) × (GoesOnTo x base (position_at rest done) answers here after (ReachesAfter x base rest done said) × SpeaksAs said answers here after)))
+    on_said count position bytes rest done before here after o b said is rest_is same same_base said_is first second =
+        let there = subst (λ (x : Options). GoesBySome x is_alone between then_left then new left_after tells
+        (λ answers. (length answers ≤ most_to_one x) × (GoesOnTo x b (position_at rest done) answers here after (ReachesAfter x b rest done said) × SpeaksAs said answers here after)))
         same second in
+        let one = subst (λ x. GoesBySome options is_alone between then_left then new left_after tells
+        (λ answers. (length answers ≤ most_to_one options) × (GoesOnTo options x (position_at rest done) answers here after (ReachesAfter options x rest done said) × SpeaksAs said answers here after)))
+        same_base there in
         let by_said = subst (λ (s : Said). GoesBySome options is_alone between then_left then new left_after tells
         (λ answers. (length answers ≤ most_to_one options) × (GoesOnTo options base (position_at rest done) answers here after (ReachesAfter options base rest done s) × SpeaksAs s answers here after))) said_is one in
         let all = subst (λ r. GoesBySome options is_alone between then_left then new left_after tells
@@ -95,12 +97,13 @@ module _ (options : Options) (is_alone : Bool) (base : ℕ) where
         )
 
     -- memory lacked
-    pub spoke_on : (count : ℕ) → count + 1 ≤ MOST_COMMANDS → (most : ℕ) (position : Position) (bytes rest : List ℕ) (done : ℕ) (before here : List ℕ) (o : Options) → rest ≡ bytes → o ≡ options → length bytes ≤ most
+    pub spoke_on : (count : ℕ) → count + 1 ≤ MOST_COMMANDS → (most : ℕ) (position : Position) (bytes rest : List ℕ) (done : ℕ) (before here : List ℕ) (o : Options) (b : ℕ) → rest ≡ bytes → o ≡ options → b ≡ base → length bytes ≤ most
         → GoesBySome options is_alone old left told between then_left then (λ answers. GoesOnTo options base position answers before here (Reaches options base (position_at bytes done)) × HasSpoken count answers before here)
-        → GoesBySome o is_alone between then_left then new left_after tells (λ answers. (length answers ≤ most_to_one o) × SpokeFrom o base (length rest) (position_at rest done) answers)
+        → GoesBySome o is_alone between then_left then new left_after tells (λ answers. (length answers ≤ most_to_one o) × SpokeFrom o b (length rest) (position_at rest done) answers)
         → GoesBySome options is_alone old left told new left_after tells (λ answers. (length answers ≤ most_answers options) × SpokeFrom options base most position answers)
-    spoke_on count within most position bytes rest done before here o rest_is same less first second =
-        let one = subst (λ (x : Options). GoesBySome x is_alone between then_left then new left_after tells (λ answers. (length answers ≤ most_to_one x) × SpokeFrom x base (length rest) (position_at rest done) answers)) same second in
+    spoke_on count within most position bytes rest done before here o b rest_is same same_base less first second =
+        let there = subst (λ (x : Options). GoesBySome x is_alone between then_left then new left_after tells (λ answers. (length answers ≤ most_to_one x) × SpokeFrom x b (length rest) (position_at rest done) answers)) same second in
+        let one = subst (λ x. GoesBySome options is_alone between then_left then new left_after tells (λ answers. (length answers ≤ most_to_one options) × SpokeFrom options x (length rest) (position_at rest done) answers)) same_base there in
         let all = subst (λ r. GoesBySome options is_alone between then_left then new left_after tells (λ answers. (length answers ≤ most_to_one options) × SpokeFrom options base (length r) (position_at r done) answers)) rest_is one in (
           first.0 ++ all.0,
           these_then options is_alone first.1 all.1,
@@ -108,7 +111,7 @@ module _ (options : Options) (is_alone : Bool) (base : ℕ) where
         )
 
   -- by the same answers, more is said of where the talk came to
-  pub some_as : {old new : Sessions} {left left_after : ℕ} {told tells : ClockView} (position : Position) (before after : List ℕ) (P Q : List ℕ → List Answered → List ℕ → Type 0)
+  pub some_as : {old new : Sessions} {left left_after : ℕ} {told tells : ℕ} (position : Position) (before after : List ℕ) (P Q : List ℕ → List Answered → List ℕ → Type 0)
       → ((received : List ℕ) (given : List Answered) (due : List ℕ) → P received given due → Q received given due)
       → (R S : List Answered → Type 0) → ((answers : List Answered) → GoesByThese options is_alone old left told answers new left_after tells → R answers → (length answers ≤ most_answers options) × S answers)
       → GoesBySome options is_alone old left told new left_after tells (λ answers. GoesOnTo options base position answers before after P × R answers)
@@ -116,7 +119,7 @@ module _ (options : Options) (is_alone : Bool) (base : ℕ) where
   some_as position before after P Q as_q R S as_s some =
       let said = as_s some.0 some.1 some.2.1 in (some.0, some.1, (said.0, (on_as options base {P = P} {Q = Q} as_q some.2.0, said.1)))
 
-  pub some_on : {old new : Sessions} {left left_after : ℕ} {told tells : ClockView} (position : Position) (before after : List ℕ) (P Q : List ℕ → List Answered → List ℕ → Type 0)
+  pub some_on : {old new : Sessions} {left left_after : ℕ} {told tells : ℕ} (position : Position) (before after : List ℕ) (P Q : List ℕ → List Answered → List ℕ → Type 0)
       → ((received : List ℕ) (given : List Answered) (due : List ℕ) → P received given due → Q received given due)
       → (R S : List Answered → Type 0) → ((answers : List Answered) → R answers → S answers)
       → GoesBySome options is_alone old left told new left_after tells (λ answers. GoesOnTo options base position answers before after P × R answers)
@@ -130,7 +133,7 @@ module _ (options : Options) (is_alone : Bool) (base : ℕ) where
   few_spoken count within {answers} has = few_in_all answers count within has.few
 
   -- of what came no whole command is left, or nothing more is read
-  pub halts_by : {old new : Sessions} {left left_after : ℕ} {told tells : ClockView} (may : Type 0) (halt is : Halt) → halt ≡ is → is ≢ Enough → (position : Position) (before after : List ℕ)
+  pub halts_by : {old new : Sessions} {left left_after : ℕ} {told tells : ℕ} (may : Type 0) (halt is : Halt) → halt ≡ is → is ≢ Enough → (position : Position) (before after : List ℕ)
       → (P Q : List ℕ → List Answered → List ℕ → Type 0) → ((received : List ℕ) (given : List Answered) (due : List ℕ) → P received given due → Q received given due)
       → (R : List Answered → Type 0) → ((answers : List Answered) → R answers → length answers ≤ most_answers options)
       → GoesBySome options is_alone old left told new left_after tells (λ answers. GoesOnTo options base position answers before after P × R answers)

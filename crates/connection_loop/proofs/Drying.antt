@@ -7,13 +7,13 @@ use Rattle.std.proofs.lemmas.Option.{none-some, same_Some}
 use Rattle.std.proofs.lemmas.List.{length-take-le, drop_all}
 use Rattle.connections.specs.declared.schedule.Change.{Change}
 use Rattle.connections.specs.declared.schedule.Step.{Step}
-use Rattle.connections.specs.declared.schedule.Step.TheVariants.{Opens, Reports, Happens}
+use Rattle.connections.specs.declared.schedule.Step.TheVariants.{Opens, TurnsAway, Reports, Happens}
 use Rattle.connections.specs.declared.connections.Broken.{Broken}
 use Rattle.connections.specs.declared.connections.Input.{Input}
 use Rattle.connections.specs.declared.connections.Input.TheVariants.{Bytes, All, Later, Ended}
 use Rattle.connections.specs.Connection.{Connection, new_connection, readable, after_change, after_read, after_write, after_ask, after_close}
-use Rattle.connections.specs.State.{State, Entry, opened, reported, met, received, sent, asked, closed, changed, state_after, after_step, after_report, after_meeting, held}
-use Rattle.connections.specs.Log.{Log, connections_of, state_of, with_entries, logged, after_met}
+use Rattle.connections.specs.State.{State, Entry, opened, reported, turned_away, met, second, received, sent, asked, closed, changed, state_after, after_step, after_report, after_meeting, held}
+use Rattle.connections.specs.Log.{Log, connections_of, state_of, now_of, with_entries, logged, after_met}
 use Rattle.connections.specs.Calls.{GivesSome, IsAll, IsGiven, ReadGives, gave}
 use Rattle.connection_loop.specs.Traffic.{IsSend, Sends, Reads, IsIn, IsBroken, HasEnded, IsDrained, after_receiving, ReadsTo, why, bytes_read, OnHeld}
 use Rattle.connection_loop.specs.Open.{IsOpen, OnLogs}
@@ -54,6 +54,7 @@ dry_change change x dry is = by change.ends x.has_ended refl refl is
 
 dry_step : (number : ℕ) (step : Step) (all : List Connection) → AllByRecursion IsDry all → AllByRecursion IsDry (after_step number step all)
 dry_step number (Opens window bytes) all dry = dry_more all (new_connection number window bytes) dry (λ is. absurd (true≢false (sym is)))
+dry_step number TurnsAway all dry = dry
 dry_step number (Reports c change) all dry = dry_all (after_change change) (dry_change change) c all dry
 dry_step number (Happens c change) all dry = dry_all (after_change change) (dry_change change) c all dry
 
@@ -64,6 +65,7 @@ dry_report number state (step ∷ later) dry = dry_step number step state.connec
 dry_meeting : (state : State) (later : List Step) → AllByRecursion IsDry state.connections → AllByRecursion IsDry (after_meeting state later).connections
 dry_meeting state [] dry = dry
 dry_meeting state (Opens window bytes ∷ later) dry = dry
+dry_meeting state (TurnsAway ∷ later) dry = dry
 dry_meeting state (Reports c change ∷ later) dry = dry
 dry_meeting state (Happens c change ∷ later) dry = dry_all (after_change change) (dry_change change) c state.connections dry
 
@@ -71,6 +73,8 @@ dry : (schedule : List Step) (entries : List Entry) → AllByRecursion IsDry (st
 dry schedule [] = tt
 dry schedule (opened n ∷ entries) = let s = state_after schedule entries in dry_report n s s.later (dry schedule entries)
 dry schedule (reported n ∷ entries) = let s = state_after schedule entries in dry_report n s s.later (dry schedule entries)
+dry schedule (turned_away ∷ entries) = let s = state_after schedule entries in dry_report 0 s s.later (dry schedule entries)
+dry schedule (second t ∷ entries) = dry schedule entries
 dry schedule (met ∷ entries) = let s = state_after schedule entries in dry_meeting s s.later (dry schedule entries)
 dry schedule (received c bytes ∷ entries) = dry_all (after_read (length bytes)) (λ x d. d) c (state_after schedule entries).connections (dry schedule entries)
 dry schedule (sent c bytes ∷ entries) = dry_all (after_write (length bytes)) (λ x d. d) c (state_after schedule entries).connections (dry schedule entries)
@@ -104,6 +108,7 @@ in_changed = if_changed HasEnded
 ended_meeting : (d : ℕ) (state : State) (later : List Step) → IfSome (slice_get state.connections d) HasEnded → IfSome (slice_get (after_meeting state later).connections d) HasEnded
 ended_meeting d state [] is = is
 ended_meeting d state (Opens window bytes ∷ later) is = is
+ended_meeting d state (TurnsAway ∷ later) is = is
 ended_meeting d state (Reports c change ∷ later) is = is
 ended_meeting d state (Happens c change ∷ later) is = in_changed c (after_change change) (ended_change change) d state.connections is
 
@@ -117,6 +122,8 @@ ended_sends c schedule (sent e bytes ∷ more) entries each d is =
     (ended_sends c schedule more entries each.1 d is)
 ended_sends c schedule (opened n ∷ more) entries each d is = absurd each.0
 ended_sends c schedule (reported n ∷ more) entries each d is = absurd each.0
+ended_sends c schedule (turned_away ∷ more) entries each d is = absurd each.0
+ended_sends c schedule (second s ∷ more) entries each d is = absurd each.0
 ended_sends c schedule (received e bytes ∷ more) entries each d is = absurd each.0
 ended_sends c schedule (asked e ∷ more) entries each d is = absurd each.0
 ended_sends c schedule (closed e ∷ more) entries each d is = absurd each.0
@@ -130,13 +137,13 @@ sends_ended {c} {text} {old} {new} sends d is =
 
 -- A read
 
-receives_some : (c : ℕ) (bytes : List ℕ) (entries : List Entry) → 0 < length bytes → after_receiving c bytes entries ≡ received c bytes ∷ entries
-receives_some c [] entries some = absurd (omega (arith, some))
-receives_some c (byte ∷ bytes) entries some = refl
+receives_some : (t c : ℕ) (bytes : List ℕ) (entries : List Entry) → 0 < length bytes → after_receiving t c bytes entries ≡ second t ∷ received c bytes ∷ entries
+receives_some t c [] entries some = absurd (omega (arith, some))
+receives_some t c (byte ∷ bytes) entries some = refl
 
-some_reads : (c most : ℕ) (out : List ℕ) (count : ℕ) (old : Log) (x : Connection) → GivesSome x most out count
-    → Reads c (take count out) old (logged (received c (take count x.waiting)) (after_met old))
-some_reads c most out count old x given =
+some_reads : (t c most : ℕ) (out : List ℕ) (count : ℕ) (old : Log) (x : Connection) → GivesSome x most out count
+    → Reads c (take count out) old (logged (second t) (logged (received c (take count x.waiting)) (after_met old)))
+some_reads t c most out count old x given =
     let m = met_entries (state_of old).later old.entries in
     let fits : count ≤ length x.waiting = let n = given.1 in omega (arith, n) in
     let len : length (take count out) ≡ count = ap length given.2 ∙ length-take-le count x.waiting fits in
@@ -146,9 +153,10 @@ some_reads c most out count old x given =
       piece = refl;
       mets = m.0;
       each = m.1;
+      at = t;
       entries =
-          ap (λ b. received c b ∷ (after_met old).entries) (sym given.2) ∙ ap (λ e. received c (take count out) ∷ e) m.2
-          ∙ sym (receives_some c (take count out) (m.0 ++ old.entries) some);
+          ap (λ b. second t ∷ received c b ∷ (after_met old).entries) (sym given.2) ∙ ap (λ e. second t ∷ received c (take count out) ∷ e) m.2
+          ∙ sym (receives_some t c (take count out) (m.0 ++ old.entries) some);
     }
 
 -- nothing is left where all was given
@@ -160,25 +168,25 @@ all_drained c count log x is all =
     let drained : IsDrained (after_read k x) = record { read = drop_all k x.waiting (omega (arith, whole, len)); whole = all.1; goes_on = all.2 } in
     subst (λ o. IfSome o IsDrained) (sym (changed_here c (after_read k) (connections_of log) x is)) drained
 
-gave_reads : (c most : ℕ) (out : List ℕ) (answer : Result Input Broken) (old : Log) (x : Connection) → slice_get (connections_of (after_met old)) c ≡ Some x → IsGiven x most out answer
-    → ReadsTo why (bytes_read out answer) answer c old (with_entries (gave c x answer) (after_met old))
-gave_reads c most out (Ok (Bytes count)) old x is given = (some_reads c most out count old x given, tt)
-gave_reads c most out (Ok (All count)) old x is given = (some_reads c most out count old x given.0, inr (all_drained c count (after_met old) x is given.1))
-gave_reads c most out (Ok Later) old x is given =
+gave_reads : (t c most : ℕ) (out : List ℕ) (answer : Result Input Broken) (old : Log) (x : Connection) → slice_get (connections_of (after_met old)) c ≡ Some x → IsGiven x most out answer
+    → ReadsTo why (bytes_read out answer) answer c old (with_entries (gave t c x answer) (after_met old))
+gave_reads t c most out (Ok (Bytes count)) old x is given = (some_reads t c most out count old x given, tt)
+gave_reads t c most out (Ok (All count)) old x is given = (some_reads t c most out count old x given.0, inr (all_drained c count (after_met old) x is given.1))
+gave_reads t c most out (Ok Later) old x is given =
     let m = met_entries (state_of old).later old.entries in
     let drained : IsDrained x = record { read = given.0; whole = given.1; goes_on = given.2 } in
-    (record { schedule = refl; piece = refl; mets = m.0; each = m.1; entries = m.2 }, inr (subst (λ o. IfSome o IsDrained) (sym is) drained))
-gave_reads c most out (Ok Ended) old x is given =
+    (record { schedule = refl; piece = refl; mets = m.0; each = m.1; at = t; entries = m.2 }, inr (subst (λ o. IfSome o IsDrained) (sym is) drained))
+gave_reads t c most out (Ok Ended) old x is given =
     let m = met_entries (state_of old).later old.entries in
     let ended : HasEnded x = record {
       ended = given.2;
       read = given.0;
       none = dry_at (connections_of (after_met old)) c x (dry old.schedule (after_met old).entries) is given.2;
     } in
-    (record { schedule = refl; piece = refl; mets = m.0; each = m.1; entries = m.2 }, subst (λ o. IfSome o HasEnded) (sym is) ended)
-gave_reads c most out (Err broken) old x is given =
+    (record { schedule = refl; piece = refl; mets = m.0; each = m.1; at = t; entries = m.2 }, subst (λ o. IfSome o HasEnded) (sym is) ended)
+gave_reads t c most out (Err broken) old x is given =
     let m = met_entries (state_of old).later old.entries in
-    (record { schedule = refl; piece = refl; mets = m.0; each = m.1; entries = m.2 }, subst (λ o. IfSome o IsBroken) (sym is) given.1)
+    (record { schedule = refl; piece = refl; mets = m.0; each = m.1; at = t; entries = m.2 }, subst (λ o. IfSome o IsBroken) (sym is) given.1)
 
 -- what one call of `read` makes of a log
 pub read_reads : (number room : ℕ) (out : List ℕ) (answer : Result Input Broken) (old : Log) (new : Option Log) (c : ℕ) → held number (connections_of old) ≡ Some c
@@ -188,7 +196,7 @@ read_reads number room out answer old new c is gives =
     let x = there number c (connections_of (after_met old)) at.0 in
     let g = found _ (held number (connections_of old)) c is gives in
     let g' = found _ (slice_get (connections_of (after_met old)) c) x.0 x.1 g in
-    (with_entries (gave c x.0 answer) (after_met old), g'.1, gave_reads c (min room old.script.piece) out answer old x.0 x.1 g'.0)
+    let t = now_of (after_met old) in (with_entries (gave t c x.0 answer) (after_met old), g'.1, gave_reads t c (min room old.script.piece) out answer old x.0 x.1 g'.0)
 
 pub reads_told : (number asks room : ℕ) (out : List ℕ) (answer : Result Input Broken) (old new : Option Log) → IfSome old (IsOpen number asks)
     → IfSome old (λ l. ReadGives number room out answer l new) → OnLogs (OnHeld number (ReadsTo why (bytes_read out answer) answer)) old new

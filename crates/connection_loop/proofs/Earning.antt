@@ -6,7 +6,7 @@ use Rattle.std.proofs.lemmas.Bool.{eq-eqb}
 use Rattle.partition_model.specs.declared.options.Options.{Options}
 use Rattle.memcached_text.specs.Next.{next_of}
 use Rattle.connections.specs.declared.connections.Input.{Input}
-use Rattle.connections.specs.State.{Entry, opened, reported, met, received, sent, asked, closed}
+use Rattle.connections.specs.State.{Entry, opened, reported, turned_away, met, second, received, sent, asked, closed}
 use Rattle.connections.specs.Log.{Log, received_of, sent_of}
 use Rattle.fronts.specs.Answered.{Answered}
 use Rattle.connection_loop.specs.declared.answer.Halt.{Halt}
@@ -28,6 +28,8 @@ asks_append c [] rest = omega arith
 asks_append c (asked d ∷ calls) rest = once_more (d == c) (asks_of c (calls ++ rest)) (asks_of c calls) (asks_of c rest) (asks_append c calls rest)
 asks_append c (opened n ∷ calls) rest = asks_append c calls rest
 asks_append c (reported n ∷ calls) rest = asks_append c calls rest
+asks_append c (turned_away ∷ calls) rest = asks_append c calls rest
+asks_append c (second s ∷ calls) rest = asks_append c calls rest
 asks_append c (met ∷ calls) rest = asks_append c calls rest
 asks_append c (received d bytes ∷ calls) rest = asks_append c calls rest
 asks_append c (sent d bytes ∷ calls) rest = asks_append c calls rest
@@ -43,6 +45,8 @@ received_append c [] rest = omega arith
 received_append c (received d bytes ∷ calls) rest = longer_by (d == c) (received_of c (calls ++ rest)) (received_of c calls) (received_of c rest) bytes (received_append c calls rest)
 received_append c (opened n ∷ calls) rest = received_append c calls rest
 received_append c (reported n ∷ calls) rest = received_append c calls rest
+received_append c (turned_away ∷ calls) rest = received_append c calls rest
+received_append c (second s ∷ calls) rest = received_append c calls rest
 received_append c (met ∷ calls) rest = received_append c calls rest
 received_append c (sent d bytes ∷ calls) rest = received_append c calls rest
 received_append c (asked d ∷ calls) rest = received_append c calls rest
@@ -53,6 +57,8 @@ sent_append c [] rest = omega arith
 sent_append c (sent d bytes ∷ calls) rest = longer_by (d == c) (sent_of c (calls ++ rest)) (sent_of c calls) (sent_of c rest) bytes (sent_append c calls rest)
 sent_append c (opened n ∷ calls) rest = sent_append c calls rest
 sent_append c (reported n ∷ calls) rest = sent_append c calls rest
+sent_append c (turned_away ∷ calls) rest = sent_append c calls rest
+sent_append c (second s ∷ calls) rest = sent_append c calls rest
 sent_append c (met ∷ calls) rest = sent_append c calls rest
 sent_append c (received d bytes ∷ calls) rest = sent_append c calls rest
 sent_append c (asked d ∷ calls) rest = sent_append c calls rest
@@ -73,6 +79,8 @@ asks_sends c (met ∷ more) entries each d = asks_sends c more entries each.1 d
 asks_sends c (sent e bytes ∷ more) entries each d = asks_sends c more entries each.1 d
 asks_sends c (opened n ∷ more) entries each d = absurd each.0
 asks_sends c (reported n ∷ more) entries each d = absurd each.0
+asks_sends c (turned_away ∷ more) entries each d = absurd each.0
+asks_sends c (second s ∷ more) entries each d = absurd each.0
 asks_sends c (received e bytes ∷ more) entries each d = absurd each.0
 asks_sends c (asked e ∷ more) entries each d = absurd each.0
 asks_sends c (closed e ∷ more) entries each d = absurd each.0
@@ -80,13 +88,13 @@ asks_sends c (closed e ∷ more) entries each d = absurd each.0
 pub sends_unasked : {c : ℕ} {text : List ℕ} {old new : Log} → Sends c text old new → (d : ℕ) → asks_of d new.entries ≡ asks_of d old.entries
 sends_unasked {c} {text} {old} sends d = ap (asks_of d) sends.entries ∙ asks_sends c sends.more old.entries sends.each d
 
-asks_receiving : (c d : ℕ) (bytes : List ℕ) (entries : List Entry) → asks_of d (after_receiving c bytes entries) ≡ asks_of d entries
-asks_receiving c d [] entries = refl
-asks_receiving c d (byte ∷ bytes) entries = refl
+asks_receiving : (t c d : ℕ) (bytes : List ℕ) (entries : List Entry) → asks_of d (after_receiving t c bytes entries) ≡ asks_of d entries
+asks_receiving t c d [] entries = refl
+asks_receiving t c d (byte ∷ bytes) entries = refl
 
 pub reads_unasked : {c : ℕ} {bytes : List ℕ} {old new : Log} → Reads c bytes old new → (d : ℕ) → asks_of d new.entries ≡ asks_of d old.entries
 reads_unasked {c} {bytes} {old} reads d =
-    ap (asks_of d) reads.entries ∙ asks_receiving c d bytes (reads.mets ++ old.entries) ∙ asks_sends c reads.mets old.entries (mets_send c reads.mets reads.each) d
+    ap (asks_of d) reads.entries ∙ asks_receiving reads.at c d bytes (reads.mets ++ old.entries) ∙ asks_sends c reads.mets old.entries (mets_send c reads.mets reads.each) d
 
 -- What they move
 
@@ -96,15 +104,15 @@ sends_moved {c} {text} {old} sends =
     let went = ap length sends.sent ∙ length-append (sent_of c old.entries) text in
     omega (arith, came, went)
 
-moved_receiving : (c : ℕ) (bytes : List ℕ) (entries : List Entry) → moved c (after_receiving c bytes entries) ≡ moved c entries + length bytes
-moved_receiving c [] entries = omega arith
-moved_receiving c (byte ∷ bytes) entries =
+moved_receiving : (t c : ℕ) (bytes : List ℕ) (entries : List Entry) → moved c (after_receiving t c bytes entries) ≡ moved c entries + length bytes
+moved_receiving t c [] entries = omega arith
+moved_receiving t c (byte ∷ bytes) entries =
     let came = ap (λ t. length (cond t (received_of c entries ++ byte ∷ bytes) (received_of c entries))) (eq-eqb c c refl) ∙ length-append (received_of c entries) (byte ∷ bytes) in
     omega (arith, came)
 
 pub reads_moved : {c : ℕ} {bytes : List ℕ} {old new : Log} → Reads c bytes old new → moved c new.entries ≡ moved c old.entries + length bytes
 reads_moved {c} {bytes} {old} reads =
-    let all = ap (moved c) reads.entries ∙ moved_receiving c bytes (reads.mets ++ old.entries) in
+    let all = ap (moved c) reads.entries ∙ moved_receiving reads.at c bytes (reads.mets ++ old.entries) in
     let came = ap length (mets_received c reads.mets old.entries reads.each) in
     let went = ap length (mets_sent c reads.mets old.entries reads.each) in
     omega (arith, all, came, went)

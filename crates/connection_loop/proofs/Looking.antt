@@ -109,13 +109,13 @@ module _ (options : Options) (base : ℕ) where
     }
 
 -- nothing was called
-pub on_same : (number : ℕ) (P : ℕ → Log → Log → Type 0) (log : Option Log) → ((c : ℕ) (a : Log) → P c a a) → OnLogs (OnHeld number P) log log
-on_same number P None is = tt
-on_same number P (Some a) is = by (held number (connections_of a))
+pub on_same : (number : ℕ) (P : ℕ → Log → Log → Type 0) (R : Log → Type 0) (log : Option Log) → IfSome log R → ((c : ℕ) (a : Log) → R a → P c a a) → OnLogs (OnHeld number P) log log
+on_same number P R None told is = tt
+on_same number P R (Some a) told is = by (held number (connections_of a))
   where
     by : (h : Option ℕ) → IfSome h (λ c. P c a a)
     by None = tt
-    by (Some c) = is c a
+    by (Some c) = is c a told
 
 pub if_match : {T E : Type 0} (P Q : T → Type 0) (S U : E → Type 0) (r : Result T E) → ((t : T) → P t → Q t) → ((e : E) → S e → U e) → MatchResult r P S → MatchResult r Q U
 if_match P Q S U (Ok t) then or_else is = then t is

@@ -4,9 +4,9 @@ use Rattle.std.specs.Prelude.{slice_get, None}
 use Rattle.std.specs.List.{AllByRecursion}
 use Rattle.std.proofs.lemmas.Option.{none-some}
 use Rattle.connections.specs.declared.schedule.Step.{Step}
-use Rattle.connections.specs.declared.schedule.Step.TheVariants.{Opens, Reports, Happens}
+use Rattle.connections.specs.declared.schedule.Step.TheVariants.{Opens, TurnsAway, Reports, Happens}
 use Rattle.connections.specs.Connection.{Connection, after_change, after_read, after_write}
-use Rattle.connections.specs.State.{State, Entry, opened, reported, met, received, sent, asked, closed, changed, state_after, after_report, after_meeting}
+use Rattle.connections.specs.State.{State, Entry, opened, reported, turned_away, met, second, received, sent, asked, closed, changed, state_after, after_report, after_meeting}
 use Rattle.connections.specs.Log.{Log, connections_of}
 use Rattle.connection_loop.specs.Traffic.{IsSend, Sends, Reads, after_receiving}
 use Rattle.connection_loop.proofs.Traffic.{mets_send}
@@ -27,12 +27,14 @@ made_pushed (y ∷ all) x (suc d) none = made_pushed all x d none
 pub made_report : (number : ℕ) (state : State) (later : List Step) (d : ℕ) → slice_get (after_report number state later).connections d ≡ None → slice_get state.connections d ≡ None
 made_report number state [] d none = none
 made_report number state (Opens window bytes ∷ later) d none = made_pushed state.connections _ d none
+made_report number state (TurnsAway ∷ later) d none = none
 made_report number state (Reports c change ∷ later) d none = made_changed c (after_change change) d state.connections none
 made_report number state (Happens c change ∷ later) d none = made_changed c (after_change change) d state.connections none
 
 made_meeting : (state : State) (later : List Step) (d : ℕ) → slice_get (after_meeting state later).connections d ≡ None → slice_get state.connections d ≡ None
 made_meeting state [] d none = none
 made_meeting state (Opens window bytes ∷ later) d none = none
+made_meeting state (TurnsAway ∷ later) d none = none
 made_meeting state (Reports c change ∷ later) d none = none
 made_meeting state (Happens c change ∷ later) d none = made_changed c (after_change change) d state.connections none
 
@@ -45,14 +47,16 @@ made_more c schedule (sent e bytes ∷ more) entries each d none =
     made_more c schedule more entries each.1 d (made_changed e (after_write (length bytes)) d (state_after schedule (more ++ entries)).connections none)
 made_more c schedule (opened n ∷ more) entries each d none = absurd each.0
 made_more c schedule (reported n ∷ more) entries each d none = absurd each.0
+made_more c schedule (turned_away ∷ more) entries each d none = absurd each.0
+made_more c schedule (second s ∷ more) entries each d none = absurd each.0
 made_more c schedule (received e bytes ∷ more) entries each d none = absurd each.0
 made_more c schedule (asked e ∷ more) entries each d none = absurd each.0
 made_more c schedule (closed e ∷ more) entries each d none = absurd each.0
 
-made_receiving : (c : ℕ) (schedule : List Step) (bytes : List ℕ) (entries : List Entry) (d : ℕ) → slice_get (state_after schedule (after_receiving c bytes entries)).connections d ≡ None
+made_receiving : (t c : ℕ) (schedule : List Step) (bytes : List ℕ) (entries : List Entry) (d : ℕ) → slice_get (state_after schedule (after_receiving t c bytes entries)).connections d ≡ None
     → slice_get (state_after schedule entries).connections d ≡ None
-made_receiving c schedule [] entries d none = none
-made_receiving c schedule (byte ∷ bytes) entries d none = made_changed c (after_read (length (byte ∷ bytes))) d (state_after schedule entries).connections none
+made_receiving t c schedule [] entries d none = none
+made_receiving t c schedule (byte ∷ bytes) entries d none = made_changed c (after_read (length (byte ∷ bytes))) d (state_after schedule entries).connections none
 
 -- of what a log tells, by its parts
 by_parts : (schedule s : List Step) (entries e : List Entry) (d : ℕ) → schedule ≡ s → entries ≡ e → slice_get (state_after schedule entries).connections d ≡ None
@@ -67,5 +71,5 @@ made_sends {c} {text} {old} {new} sends d none =
 
 pub made_reads : {c : ℕ} {bytes : List ℕ} {old new : Log} → Reads c bytes old new → (d : ℕ) → slice_get (connections_of new) d ≡ None → slice_get (connections_of old) d ≡ None
 made_reads {c} {bytes} {old} {new} reads d none =
-    made_more c old.schedule reads.mets old.entries (mets_send c reads.mets reads.each) d (made_receiving c old.schedule bytes (reads.mets ++ old.entries) d
-    (by_parts new.schedule old.schedule new.entries (after_receiving c bytes (reads.mets ++ old.entries)) d reads.schedule reads.entries none))
+    made_more c old.schedule reads.mets old.entries (mets_send c reads.mets reads.each) d (made_receiving reads.at c old.schedule bytes (reads.mets ++ old.entries) d
+    (by_parts new.schedule old.schedule new.entries (after_receiving reads.at c bytes (reads.mets ++ old.entries)) d reads.schedule reads.entries none))

@@ -1,5 +1,5 @@
 -- What is true at each moment of a log stays so as calls add to it, and as more is answered.
-use Rattle.std.proofs.Common.{◌≡◌, ℕ, ◌+◌, ◌==◌, ◌≤◌, inl, inr, Bool, true, false, cond, List, [], ◌∷◌, ◌++◌, length, map, refl, sym, ap, ◌∙◌, subst, arith, append_assoc, length-append}
+use Rattle.std.proofs.Common.{◌≡◌, ℕ, ◌+◌, ◌==◌, ◌≤◌, inl, inr, Bool, true, false, true≢false, cond, List, [], ◌∷◌, ◌++◌, length, map, refl, sym, ap, ◌∙◌, subst, arith, append_assoc, length-append}
 use Rattle.std.specs.Prelude.{filter}
 use Rattle.std.specs.List.{AllByRecursion}
 use Rattle.std.proofs.lemmas.List.{append-nil, map-append}
@@ -8,16 +8,18 @@ use Rattle.std.proofs.lemmas.Bool.{eqb-true, eq-eqb}
 use Rattle.partition_model.specs.declared.options.Options.{Options}
 use Rattle.memcached_text.specs.declared.limits.TheConstants.{MAX_WAITING_LEN}
 use Rattle.connections.specs.declared.schedule.Step.{Step}
-use Rattle.connections.specs.State.{Entry, opened, reported, met, received, sent, asked, closed}
-use Rattle.connections.specs.Log.{received_of, sent_of}
+use Rattle.connections.specs.State.{Entry, opened, reported, turned_away, met, second, received, sent, asked, closed}
+use Rattle.connections.specs.Log.{Log, received_of, second_of, sent_of}
 use Rattle.fronts.specs.Answered.{Answered}
-use Rattle.connection_loop.specs.Given.{Given, given_to}
+use Rattle.command_answers.specs.Seconds.{IsAt, AreAt}
+use Rattle.command_answers.proofs.AskLaws.{all_append}
+use Rattle.connection_loop.specs.Given.{Given, answers_in, given_to}
 use Rattle.connection_loop.specs.Talk.{IsBeginning, TalksWith}
-use Rattle.connection_loop.specs.Moments.{IsAmong, TalksWithOne, TalksWithAll, IsCaused, TalksThrough}
-use Rattle.connection_loop.specs.Traffic.{IsSend}
+use Rattle.connection_loop.specs.Moments.{IsAmong, TalksWithOne, TalksWithAll, IsCaused, is_timed, AreSince, TalksThrough}
+use Rattle.connection_loop.specs.Traffic.{IsSend, Sends, Reads, after_receiving}
 use Rattle.connection_loop.specs.Held.{all_to}
 use Rattle.connection_loop.proofs.Talking.{Told}
-use Rattle.connection_loop.proofs.Traffic.{sent_here, sends_received}
+use Rattle.connection_loop.proofs.Traffic.{sent_here, sends_received, mets_send}
 
 -- To whom answers were given
 
@@ -36,12 +38,54 @@ to_others c d (a ∷ answers) other =
 given_both : (c : ℕ) (one two : List Given) → given_to c (one ++ two) ≡ given_to c one ++ given_to c two
 given_both c one two = ap (map (λ (g : Given). g.answered)) (filter-append (λ (g : Given). g.to == c) one two) ∙ map-append (λ (g : Given). g.answered) (filter (λ (g : Given). g.to == c) one) (filter (λ (g : Given). g.to == c) two)
 
+pub answers_all_to : (c : ℕ) (answers : List Answered) → answers_in (all_to c answers) ≡ answers
+answers_all_to c [] = refl
+answers_all_to c (a ∷ answers) = ap (λ l. a ∷ l) (answers_all_to c answers)
+
 pub given_more : (c : ℕ) (all : List Given) (answers : List Answered) → given_to c (all ++ all_to c answers) ≡ given_to c all ++ answers
 given_more c all answers = given_both c all (all_to c answers) ∙ ap (λ l. given_to c all ++ l) (to_one c answers)
 
 pub given_others : (c d : ℕ) (all : List Given) (answers : List Answered) → (c == d) ≡ false → given_to d (all ++ all_to c answers) ≡ given_to d all
 given_others c d all answers other =
     given_both d all (all_to c answers) ∙ ap (λ l. given_to d all ++ l) (to_others c d answers other) ∙ append-nil (given_to d all)
+
+-- At which seconds they were given
+
+since_both : (options : Options) (entries : List Entry) (one two : List Given) → AreSince options entries one → AreSince options entries two → AreSince options entries (one ++ two)
+since_both options entries one two first then =
+    let t = second_of entries in record {
+      at = subst (AreAt options t) (sym (map-append (λ (g : Given). g.answered) one two)) (all_append (IsAt options t) (answers_in one) (answers_in two) first.at then.at);
+      timed = λ untimed. ap (λ l. l ++ two) (first.timed untimed) ∙ then.timed untimed;
+    }
+
+-- to one connection, where it was told which second it is
+pub since_told : (options : Options) (c : ℕ) (entries : List Entry) (answers : List Answered) → is_timed entries ≡ true → AreAt options (second_of entries) answers
+    → AreSince options entries (all_to c answers)
+since_told options c entries answers timed at =
+    record { at = subst (AreAt options (second_of entries)) (sym (answers_all_to c answers)) at; timed = λ untimed. absurd (true≢false (sym timed ∙ untimed)) }
+
+sends_told : (c : ℕ) (more entries : List Entry) → AllByRecursion (IsSend c) more → is_timed entries ≡ true → is_timed (more ++ entries) ≡ true
+sends_told c [] entries each timed = timed
+sends_told c (met ∷ more) entries each timed = refl
+sends_told c (sent e bytes ∷ more) entries each timed = refl
+sends_told c (opened n ∷ more) entries each timed = absurd each.0
+sends_told c (reported n ∷ more) entries each timed = absurd each.0
+sends_told c (turned_away ∷ more) entries each timed = absurd each.0
+sends_told c (second s ∷ more) entries each timed = absurd each.0
+sends_told c (received e bytes ∷ more) entries each timed = absurd each.0
+sends_told c (asked e ∷ more) entries each timed = absurd each.0
+sends_told c (closed e ∷ more) entries each timed = absurd each.0
+
+pub sends_timed : {c : ℕ} {text : List ℕ} {old new : Log} → Sends c text old new → is_timed old.entries ≡ true → is_timed new.entries ≡ true
+sends_timed {c} {old = old} sends timed = ap is_timed sends.entries ∙ sends_told c sends.more old.entries sends.each timed
+
+receiving_told : (t c : ℕ) (bytes : List ℕ) (entries : List Entry) → is_timed entries ≡ true → is_timed (after_receiving t c bytes entries) ≡ true
+receiving_told t c [] entries timed = timed
+receiving_told t c (byte ∷ bytes) entries timed = refl
+
+pub reads_timed : {c : ℕ} {bytes : List ℕ} {old new : Log} → Reads c bytes old new → is_timed old.entries ≡ true → is_timed new.entries ≡ true
+reads_timed {c} {bytes} {old} reads timed =
+    ap is_timed reads.entries ∙ receiving_told reads.at c bytes (reads.mets ++ old.entries) (sends_told c reads.mets old.entries (mets_send c reads.mets reads.each) timed)
 
 among_more : (x c : ℕ) (all : List ℕ) → IsAmong c all → IsAmong c (x ∷ all)
 among_more x c all among = (x ∷ among.0, among.1, ap (λ l. x ∷ l) among.2)
@@ -98,6 +142,8 @@ module _ (options : Options) (base most : ℕ) where
     ]
     cause_lacking x (opened n) entries all cause = tt
     cause_lacking x (reported n) entries all cause = tt
+    cause_lacking x turned_away entries all cause = tt
+    cause_lacking x (second s) entries all cause = tt
     cause_lacking x met entries all cause = tt
     cause_lacking x (received e bytes) entries all cause = tt
     cause_lacking x (sent e bytes) entries all cause = tt
@@ -115,16 +161,28 @@ module _ (options : Options) (base most : ℕ) where
     pub through_entry : (entry : Entry) (entries : List Entry) (all : List Given) → TalksWithAll options base most lacking (entry ∷ entries) all
         → IsCaused options base schedule lacking entry entries all → TalksThrough options base most schedule lacking entries all
         → TalksThrough options base most schedule lacking (entry ∷ entries) all
-    through_entry entry entries all talks cause through = (talks, (all, ([], sym (append-nil all)), cause, through))
+    through_entry entry entries all talks cause through = (talks, (all, ([], sym (append-nil all), record { at = tt; timed = λ untimed. refl }), cause, through))
+
+    -- it is told which second it is
+    pub through_second : (t : ℕ) (entries : List Entry) (all : List Given) → TalksThrough options base most schedule lacking entries all
+        → TalksThrough options base most schedule lacking (second t ∷ entries) all
+    through_second t entries all through = through_entry (second t) entries all (last_moment entries all through) tt through
 
     -- more answers at one moment
-    pub through_answers : (entries : List Entry) (all more : List Given) → TalksWithAll options base most lacking entries (all ++ more)
+    pub through_answers : (entries : List Entry) (all more : List Given) → AreSince options entries more → TalksWithAll options base most lacking entries (all ++ more)
         → TalksThrough options base most schedule lacking entries all → TalksThrough options base most schedule lacking entries (all ++ more)
-    through_answers [] all more talks through = talks
-    through_answers (e ∷ entries) all more talks through = (
-      talks,
-      (through.1.0, (through.1.1.0 ++ more, ap (λ l. l ++ more) through.1.1.1 ∙ append_assoc through.1.0 through.1.1.0 more), through.1.2, through.1.3),
-    )
+    through_answers [] all more since talks through = talks
+    through_answers (e ∷ entries) all more since talks through =
+        let first = through.1.0 in
+        let later = through.1.1.0 in (
+          talks,
+          (
+            first,
+            (later ++ more, ap (λ l. l ++ more) through.1.1.1 ∙ append_assoc first later more, since_both options (e ∷ entries) later more through.1.1.2 since),
+            through.1.2,
+            through.1.3,
+          ),
+        )
 
     -- Bytes are sent
 
@@ -141,6 +199,8 @@ module _ (options : Options) (base most : ℕ) where
           omega (arith, rest, own)
       longer (opened n ∷ more) each = absurd each.0
       longer (reported n ∷ more) each = absurd each.0
+      longer (turned_away ∷ more) each = absurd each.0
+      longer (second s ∷ more) each = absurd each.0
       longer (received e bytes ∷ more) each = absurd each.0
       longer (asked e ∷ more) each = absurd each.0
       longer (closed e ∷ more) each = absurd each.0
@@ -168,6 +228,8 @@ module _ (options : Options) (base most : ℕ) where
           (talks_same lacking c (sends_received c more entries each.1 c) refl refl (inl here)) (last_moment now all through)) tt through
       through_sends (opened n ∷ more) each due few told begins = absurd each.0
       through_sends (reported n ∷ more) each due few told begins = absurd each.0
+      through_sends (turned_away ∷ more) each due few told begins = absurd each.0
+      through_sends (second s ∷ more) each due few told begins = absurd each.0
       through_sends (received e bytes ∷ more) each due few told begins = absurd each.0
       through_sends (asked e ∷ more) each due few told begins = absurd each.0
       through_sends (closed e ∷ more) each due few told begins = absurd each.0

@@ -5,9 +5,9 @@ use Rattle.std.specs.List.{AllByRecursion}
 use Rattle.std.proofs.Math.Seq.{drop-nil}
 use Rattle.std.proofs.lemmas.Bool.{cases_eq, eqb-false}
 use Rattle.connections.specs.declared.schedule.Step.{Step}
-use Rattle.connections.specs.declared.schedule.Step.TheVariants.{Opens, Reports, Happens}
+use Rattle.connections.specs.declared.schedule.Step.TheVariants.{Opens, TurnsAway, Reports, Happens}
 use Rattle.connections.specs.Connection.{Connection, nothing, after_change, after_read, after_write, after_ask}
-use Rattle.connections.specs.State.{State, Entry, opened, reported, met, received, sent, asked, closed, changed, is_under, held, after, state_after, after_meeting}
+use Rattle.connections.specs.State.{State, Entry, opened, reported, turned_away, met, second, received, sent, asked, closed, changed, is_under, held, after, state_after, after_meeting}
 use Rattle.connections.specs.Log.{Log, state_of}
 use Rattle.connection_loop.specs.Traffic.{IsSend, Sends, Reads, IsDrained, IsToCome, after_receiving}
 use Rattle.connection_loop.specs.Resting.{is_there, AreApart, Moves}
@@ -38,12 +38,14 @@ apart_as all now there same apart n d is = same n ∙ apart n d (sym (there n d)
 come_front : (d : ℕ) (later more : List Step) → IsToCome d later → IsToCome d (later ++ more)
 come_front d [] more is = absurd is
 come_front d (Opens window bytes ∷ later) more is = come_front d later more is
+come_front d (TurnsAway ∷ later) more is = come_front d later more is
 come_front d (Reports e change ∷ later) more is = elim is as (λ _. (e ≡ d) ⊎ IsToCome d (later ++ more)) [ inl same ↦ inl same | inr come ↦ inr (come_front d later more come) ]
 come_front d (Happens e change ∷ later) more is = elim is as (λ _. (e ≡ d) ⊎ IsToCome d (later ++ more)) [ inl same ↦ inl same | inr come ↦ inr (come_front d later more come) ]
 
 come_back : (d e : ℕ) → e ≡ d → (later : List Step) → IsToCome d (later ++ Reports e nothing ∷ [])
 come_back d e same [] = inl same
 come_back d e same (Opens window bytes ∷ later) = come_back d e same later
+come_back d e same (TurnsAway ∷ later) = come_back d e same later
 come_back d e same (Reports f change ∷ later) = inr (come_back d e same later)
 come_back d e same (Happens f change ∷ later) = inr (come_back d e same later)
 
@@ -53,17 +55,17 @@ pub moves_none : (c : ℕ) (s : State) → Moves c s s
 moves_none c s = record { there = λ n d. refl; same = λ n. refl; to_come = λ d is. is; others = λ d other. inr refl; own = inr (λ is. is) }
 
 pub moves_then : {c : ℕ} {old between new : State} → Moves c old between → Moves c between new → Moves c old new
-moves_then {c} {old} {between} {new} first second = record {
-  there = λ n d. second.there n d ∙ first.there n d;
-  same = λ n. second.same n ∙ first.same n;
-  to_come = λ d is. second.to_come d (first.to_come d is);
+moves_then {c} {old} {between} {new} first behind = record {
+  there = λ n d. behind.there n d ∙ first.there n d;
+  same = λ n. behind.same n ∙ first.same n;
+  to_come = λ d is. behind.to_come d (first.to_come d is);
   others = λ d other. elim (first.others d other) as (λ _. IsToCome d new.later ⊎ (slice_get new.connections d ≡ slice_get old.connections d)) [
-    | inl come ↦ inl (second.to_come d come)
-    | inr same ↦ elim (second.others d other) as (λ _. IsToCome d new.later ⊎ (slice_get new.connections d ≡ slice_get old.connections d)) [ inl come ↦ inl come | inr still ↦ inr (still ∙ same) ]
+    | inl come ↦ inl (behind.to_come d come)
+    | inr same ↦ elim (behind.others d other) as (λ _. IsToCome d new.later ⊎ (slice_get new.connections d ≡ slice_get old.connections d)) [ inl come ↦ inl come | inr still ↦ inr (still ∙ same) ]
   ];
   own = elim first.own as (λ _. IsToCome c new.later ⊎ (IfSome (slice_get old.connections c) IsDrained → IfSome (slice_get new.connections c) IsDrained)) [
-    | inl come ↦ inl (second.to_come c come)
-    | inr one ↦ elim second.own as (λ _. IsToCome c new.later ⊎ (IfSome (slice_get old.connections c) IsDrained → IfSome (slice_get new.connections c) IsDrained)) [
+    | inl come ↦ inl (behind.to_come c come)
+    | inr one ↦ elim behind.own as (λ _. IsToCome c new.later ⊎ (IfSome (slice_get old.connections c) IsDrained → IfSome (slice_get new.connections c) IsDrained)) [
       | inl come ↦ inl come
       | inr two ↦ inr (λ is. two (one is))
     ]
@@ -111,6 +113,7 @@ asked_comes c s = come_back c c refl s.later
 moves_meeting : (c : ℕ) (s : State) (later : List Step) → s.later ≡ later → Moves c s (after_meeting s later)
 moves_meeting c s [] is = moves_none c s
 moves_meeting c s (Opens window bytes ∷ later) is = moves_none c s
+moves_meeting c s (TurnsAway ∷ later) is = moves_none c s
 moves_meeting c s (Reports e change ∷ later) is = moves_none c s
 moves_meeting c s (Happens e change ∷ later) is = moves_owed c e (after_change change) (λ n x. refl) s later (λ d come. subst (IsToCome d) is come)
 
@@ -125,6 +128,8 @@ moves_more c schedule (sent e bytes ∷ more) entries each =
     (moves_changed c e (after_write (length bytes)) (λ n x. refl) (λ x is. record { read = is.read; whole = is.whole; goes_on = is.goes_on }) each.0 (state_after schedule (more ++ entries)))
 moves_more c schedule (opened n ∷ more) entries each = absurd each.0
 moves_more c schedule (reported n ∷ more) entries each = absurd each.0
+moves_more c schedule (turned_away ∷ more) entries each = absurd each.0
+moves_more c schedule (second s ∷ more) entries each = absurd each.0
 moves_more c schedule (received e bytes ∷ more) entries each = absurd each.0
 moves_more c schedule (asked e ∷ more) entries each = absurd each.0
 moves_more c schedule (closed e ∷ more) entries each = absurd each.0
@@ -132,9 +137,9 @@ moves_more c schedule (closed e ∷ more) entries each = absurd each.0
 drained_read : (count : ℕ) (x : Connection) → IsDrained x → IsDrained (after_read count x)
 drained_read count x is = record { read = ap (drop count) is.read ∙ drop-nil count; whole = is.whole; goes_on = is.goes_on }
 
-moves_receiving : (c : ℕ) (schedule : List Step) (bytes : List ℕ) (entries : List Entry) → Moves c (state_after schedule entries) (state_after schedule (after_receiving c bytes entries))
-moves_receiving c schedule [] entries = moves_none c (state_after schedule entries)
-moves_receiving c schedule (byte ∷ bytes) entries =
+moves_receiving : (t c : ℕ) (schedule : List Step) (bytes : List ℕ) (entries : List Entry) → Moves c (state_after schedule entries) (state_after schedule (after_receiving t c bytes entries))
+moves_receiving t c schedule [] entries = moves_none c (state_after schedule entries)
+moves_receiving t c schedule (byte ∷ bytes) entries =
     moves_changed c c (after_read (length (byte ∷ bytes))) (λ n x. refl) (drained_read (length (byte ∷ bytes))) refl (state_after schedule entries)
 
 -- of what a log tells, by its parts
@@ -149,5 +154,5 @@ moves_sends {c} {text} {old} {new} sends =
 
 pub moves_reads : {c : ℕ} {bytes : List ℕ} {old new : Log} → Reads c bytes old new → Moves c (state_of old) (state_of new)
 moves_reads {c} {bytes} {old} {new} reads =
-    moves_to new old.schedule (after_receiving c bytes (reads.mets ++ old.entries)) reads.schedule reads.entries
-    (moves_then (moves_more c old.schedule reads.mets old.entries (mets_send c reads.mets reads.each)) (moves_receiving c old.schedule bytes (reads.mets ++ old.entries)))
+    moves_to new old.schedule (after_receiving reads.at c bytes (reads.mets ++ old.entries)) reads.schedule reads.entries
+    (moves_then (moves_more c old.schedule reads.mets old.entries (mets_send c reads.mets reads.each)) (moves_receiving reads.at c old.schedule bytes (reads.mets ++ old.entries)))

@@ -6,15 +6,15 @@ use Rattle.std.proofs.lemmas.Bool.{true≢false}
 use Rattle.std.proofs.lemmas.List.{length-take-le}
 use Rattle.connections.specs.declared.schedule.Change.{Change}
 use Rattle.connections.specs.declared.schedule.Step.{Step}
-use Rattle.connections.specs.declared.schedule.Step.TheVariants.{Opens, Reports, Happens}
+use Rattle.connections.specs.declared.schedule.Step.TheVariants.{Opens, TurnsAway, Reports, Happens}
 use Rattle.connections.specs.declared.connections.Event.{Event}
-use Rattle.connections.specs.declared.connections.Event.TheVariants.{Opened, Ready}
+use Rattle.connections.specs.declared.connections.Event.TheVariants.{Opened, TurnedAway, Ready}
 use Rattle.connections.specs.declared.connections.Input.{Input}
 use Rattle.connections.specs.declared.connections.Input.TheVariants.{Bytes, All, Later, Ended}
 use Rattle.connections.specs.declared.connections.Broken.{Broken}
 use Rattle.connections.specs.Connection.{Connection, after_change, after_read, after_write}
 use Rattle.connections.specs.State.{State, Entry, held, state_after, after_report, after_meeting}
-use Rattle.connections.specs.Log.{Log, IsHeld, connections_of, state_of, with_entries, after_met, after_meeting_one}
+use Rattle.connections.specs.Log.{Log, IsHeld, connections_of, state_of, now_of, with_entries, after_met, after_meeting_one}
 use Rattle.connections.specs.Calls.{GivesSome, IsGiven, ReadGives, WriteTakes, MayAsk, Asks, Closes, ReportsNext, IsNext, gave, took, after_sending}
 use Rattle.connection_loop.specs.Open.{asks_in, IsAt, IsOpen, IsOpenIn, Keeps, KeepsOthers, AsksOnce, OnLogs, IsOpened, gained}
 use Rattle.connection_loop.proofs.Places.{KeepsOpen, changed_keeps, changed_here, there, asked_here, asked_others, closed_others, pushed, pushed_here}
@@ -32,6 +32,7 @@ pub met_one : (schedule : List Step) (entries : List Entry) (later : List Step) 
     → IsAt n d a (state_after schedule entries).connections → IsAt n d a (state_after schedule (after_meeting_one later entries)).connections
 met_one schedule entries [] is n d a at = at
 met_one schedule entries (Opens window bytes ∷ later) is n d a at = at
+met_one schedule entries (TurnsAway ∷ later) is n d a at = at
 met_one schedule entries (Reports c change ∷ later) is n d a at = at
 met_one schedule entries (Happens c change ∷ later) is n d a at =
     let s = state_after schedule entries in
@@ -41,31 +42,31 @@ pub met_at : (log : Log) (n d a : ℕ) → IsAt n d a (connections_of log) → I
 met_at log n d a at = met_one log.schedule log.entries (state_of log).later refl n d a at
 
 -- all stay open as a read answers, and this one may be asked for so often
-abbrev ReadAt : ℕ → ℕ → ℕ → Connection → Result Input Broken → Log → Type 0
-ReadAt number c asks x answer met =
-    ((n d a : ℕ) → IsAt n d a (connections_of met) → IsAt n d a (connections_of (with_entries (gave c x answer) met)))
-    × IsAt number c (asks + gained answer) (connections_of (with_entries (gave c x answer) met))
+abbrev ReadAt : ℕ → ℕ → ℕ → ℕ → Connection → Result Input Broken → Log → Type 0
+ReadAt t number c asks x answer met =
+    ((n d a : ℕ) → IsAt n d a (connections_of met) → IsAt n d a (connections_of (with_entries (gave t c x answer) met)))
+    × IsAt number c (asks + gained answer) (connections_of (with_entries (gave t c x answer) met))
 
-some_at : (number c asks most : ℕ) (x : Connection) (out : List ℕ) (count : ℕ) (met : Log) → slice_get (connections_of met) c ≡ Some x
-    → IsAt number c asks (connections_of met) → GivesSome x most out count → ReadAt number c asks x (Ok (Bytes count)) met
-some_at number c asks most x out count met is at given =
+some_at : (t number c asks most : ℕ) (x : Connection) (out : List ℕ) (count : ℕ) (met : Log) → slice_get (connections_of met) c ≡ Some x
+    → IsAt number c asks (connections_of met) → GivesSome x most out count → ReadAt t number c asks x (Ok (Bytes count)) met
+some_at t number c asks most x out count met is at given =
     let k = length (take count x.waiting) in
     let fits : count ≤ length x.waiting = let m = given.1 in omega (arith, m) in
     let same : k ≡ count = length-take-le count x.waiting fits in
     let here : asks_in (slice_get (connections_of met) c) ≡ x.asks = ap asks_in is in
-    let after : asks_in (slice_get (connections_of (with_entries (gave c x (Ok (Bytes count))) met)) c) ≡ x.asks + 2 * k =
+    let after : asks_in (slice_get (connections_of (with_entries (gave t c x (Ok (Bytes count))) met)) c) ≡ x.asks + 2 * k =
     ap asks_in (changed_here c (after_read k) (connections_of met) x is) in
     let moved = changed_keeps (after_read k) (read_keeps k) c (connections_of met) in
     (moved, ((moved number c asks at).0, omega (arith, at.1, here, after, same)))
 
 -- the answer of a read is taken note of
-read_at : (number c asks most : ℕ) (x : Connection) (out : List ℕ) (answer : Result Input Broken) (met : Log) → slice_get (connections_of met) c ≡ Some x
-    → IsAt number c asks (connections_of met) → IsGiven x most out answer → ReadAt number c asks x answer met
-read_at number c asks most x out (Ok (Bytes count)) met is at given = some_at number c asks most x out count met is at given
-read_at number c asks most x out (Ok (All count)) met is at given = some_at number c asks most x out count met is at given.0
-read_at number c asks most x out (Ok Later) met is at given = (λ n d a at. at, (at.0, omega (arith, at.1)))
-read_at number c asks most x out (Ok Ended) met is at given = (λ n d a at. at, (at.0, omega (arith, at.1)))
-read_at number c asks most x out (Err broken) met is at given = (λ n d a at. at, (at.0, omega (arith, at.1)))
+read_at : (t number c asks most : ℕ) (x : Connection) (out : List ℕ) (answer : Result Input Broken) (met : Log) → slice_get (connections_of met) c ≡ Some x
+    → IsAt number c asks (connections_of met) → IsGiven x most out answer → ReadAt t number c asks x answer met
+read_at t number c asks most x out (Ok (Bytes count)) met is at given = some_at t number c asks most x out count met is at given
+read_at t number c asks most x out (Ok (All count)) met is at given = some_at t number c asks most x out count met is at given.0
+read_at t number c asks most x out (Ok Later) met is at given = (λ n d a at. at, (at.0, omega (arith, at.1)))
+read_at t number c asks most x out (Ok Ended) met is at given = (λ n d a at. at, (at.0, omega (arith, at.1)))
+read_at t number c asks most x out (Err broken) met is at given = (λ n d a at. at, (at.0, omega (arith, at.1)))
 
 sent_at : (c : ℕ) (bytes : List ℕ) (met : Log) (n d a : ℕ) → IsAt n d a (connections_of met) → IsAt n d a (connections_of (with_entries (after_sending c bytes) met))
 sent_at c [] met n d a at = at
@@ -95,8 +96,9 @@ read_told number room asks out answer old new stands gives =
     let x = there number stands.0 (connections_of (after_met old)) at.0 in
     let g = found _ (held number (connections_of old)) stands.0 stands.1.0 gives in
     let g' = found _ (slice_get (connections_of (after_met old)) stands.0) x.0 x.1 g in
-    let r = read_at number stands.0 asks (min room old.script.piece) x.0 out answer (after_met old) x.1 at g'.0 in
-    told old new (with_entries (gave stands.0 x.0 answer) (after_met old)) (Receives number (asks + gained answer)) g'.1
+    let t = now_of (after_met old) in
+    let r = read_at t number stands.0 asks (min room old.script.piece) x.0 out answer (after_met old) x.1 at g'.0 in
+    told old new (with_entries (gave t stands.0 x.0 answer) (after_met old)) (Receives number (asks + gained answer)) g'.1
     (λ n a o. (o.0, r.0 n o.0 a (met_at old n o.0 a o.1)), (stands.0, r.1))
 
 pub receives : (number room asks : ℕ) (out : List ℕ) (answer : Result Input Broken) (old new : Option Log) → IfSome old (IsOpen number asks)
@@ -151,24 +153,34 @@ may_ask number asks (Some old) some stands =
 abbrev pub Tells : Event → Log → Log → Type 0
 Tells event old new = Keeps old new × IsOpened event new
 
-abbrev number_in : Event → ℕ
+-- the number under which it is entered; where a connection was turned away that is no matter
+abbrev pub number_in : Event → ℕ
 number_in (Opened number) = number
+number_in TurnedAway = 0
 number_in (Ready number) = number
 
 pub next_at : (event : Event) (s : State) (later : List Step) → IsNext event s.connections later → (n d a : ℕ) → IsAt n d a s.connections
     → IsAt n d a (after_report (number_in event) s later).connections
 next_at (Opened number) s [] is n d a at = absurd is
 next_at (Opened number) s (Opens window bytes ∷ later) is n d a at = pushed n d a s.connections _ at
+next_at (Opened number) s (TurnsAway ∷ later) is n d a at = absurd is
 next_at (Opened number) s (Reports c change ∷ later) is n d a at = absurd is
 next_at (Opened number) s (Happens c change ∷ later) is n d a at = absurd is
+next_at TurnedAway s [] is n d a at = absurd is
+next_at TurnedAway s (Opens window bytes ∷ later) is n d a at = absurd is
+next_at TurnedAway s (TurnsAway ∷ later) is n d a at = at
+next_at TurnedAway s (Reports c change ∷ later) is n d a at = absurd is
+next_at TurnedAway s (Happens c change ∷ later) is n d a at = absurd is
 next_at (Ready number) s [] is n d a at = absurd is
 next_at (Ready number) s (Opens window bytes ∷ later) is n d a at = absurd is
+next_at (Ready number) s (TurnsAway ∷ later) is n d a at = absurd is
 next_at (Ready number) s (Reports c change ∷ later) is n d a at = changed_keeps (after_change change) (change_keeps change) c s.connections n d a at
 next_at (Ready number) s (Happens c change ∷ later) is n d a at = changed_keeps (after_change change) (change_keeps change) c s.connections n d a at
 
 opened_at : (number : ℕ) (s : State) (later : List Step) → IsNext (Opened number) s.connections later → IsOpenIn number 0 (after_report number s later).connections
 opened_at number s [] is = absurd is
 opened_at number s (Opens window bytes ∷ later) is = (length s.connections, pushed_here number window bytes s.connections is)
+opened_at number s (TurnsAway ∷ later) is = absurd is
 opened_at number s (Reports c change ∷ later) is = absurd is
 opened_at number s (Happens c change ∷ later) is = absurd is
 
@@ -176,6 +188,8 @@ next_told : (event : Event) (old : Log) (new : Option Log) → ReportsNext old e
 next_told (Opened number) old new r =
     told old new _ (Tells (Opened number)) r.result
     (λ n a o. (o.0, next_at (Opened number) (state_of old) (state_of old).later r.next n o.0 a o.1), opened_at number (state_of old) (state_of old).later r.next)
+next_told TurnedAway old new r =
+    told old new _ (Tells TurnedAway) r.result (λ n a o. (o.0, next_at TurnedAway (state_of old) (state_of old).later r.next n o.0 a o.1), tt)
 next_told (Ready number) old new r =
     told old new _ (Tells (Ready number)) r.result (λ n a o. (o.0, next_at (Ready number) (state_of old) (state_of old).later r.next n o.0 a o.1), tt)
 

@@ -2,7 +2,6 @@
 use Rattle.std.proofs.Common.{◌≡◌, ◌≢◌, ℕ, ◌+◌, ◌-◌, ◌==◌, ◌≤◌, Bool, true, false, ltb, List, [], ◌∷◌, ◌++◌, length, drop, refl, sym, ap, ◌∙◌, subst, arith, append_assoc, length-append, length-drop}
 use Rattle.std.proofs.lemmas.List.{append-nil, drop-append-le, drop-drop, drop_all, drop_at, nil_from_length}
 use Rattle.std.proofs.lemmas.Bool.{ltb-true, ltb-false}
-use Rattle.outside.specs.Seconds.{ClockView}
 use Rattle.partition_model.specs.declared.options.Options.{Options}
 use Rattle.memcached_text.specs.declared.next.Next.{Next}
 use Rattle.memcached_text.specs.declared.next.Next.TheVariants.{More}
@@ -123,11 +122,11 @@ module _ (options : Options) (base : ℕ) where
 
   -- What one call makes of it
 
-  module _ {done : ℕ} {limits : Limits} {is_alone : Bool} {old new : Sessions} {told tells : ClockView} {answers : List Answered} {before after : List ℕ} {progress : Progress}
-      (bytes : List ℕ) (next : Next) (is : next ≡ next_of bytes) (goes : GoesOn options is_alone base next done old told new tells answers)
+  module _ {done : ℕ} {limits : Limits} {is_alone : Bool} {second : ℕ} {old new : Sessions} {answers : List Answered} {before after : List ℕ} {progress : Progress}
+      (bytes : List ℕ) (next : Next) (is : next ≡ next_of bytes) (goes : GoesOn options is_alone base second next done old new answers)
       (replies : Replies options base next done limits answers before after progress) where
-    by_all : GoesOn options is_alone base (next_of bytes) done old told new tells answers
-    by_all = subst (λ (n : Next). GoesOn options is_alone base n done old told new tells answers) is goes
+    by_all : GoesOn options is_alone base second (next_of bytes) done old new answers
+    by_all = subst (λ (n : Next). GoesOn options is_alone base second n done old new answers) is goes
 
     all : Replies options base (next_of bytes) done limits answers before after progress
     all = subst (λ (n : Next). Replies options base n done limits answers before after progress) is replies
@@ -186,11 +185,11 @@ module _ (options : Options) (base : ℕ) where
       by false keyed (asked ∷ asks) is =
           (_, asks_are_due options base (next_of bytes) done told answers keyed stands (let many = ap length is in omega (arith, many)) (begun bytes part told) at)
 
-  module _ {is_alone : Bool} {old new : Sessions} {told tells : ClockView} {answers : List Answered} (bytes : List ℕ) (done : ℕ) (next : Next) (is : next ≡ next_of bytes)
-      (goes : GoesOn options is_alone base next done old told new tells answers) (some : next ≢ More) (stands : IsOpenAt (next_of bytes) done) where
+  module _ {is_alone : Bool} {second : ℕ} {old new : Sessions} {answers : List Answered} (bytes : List ℕ) (done : ℕ) (next : Next) (is : next ≡ next_of bytes)
+      (goes : GoesOn options is_alone base second next done old new answers) (some : next ≢ More) (stands : IsOpenAt (next_of bytes) done) where
     pub spoke_of : SpokeFrom options base (length bytes) (position_at bytes done) answers
     spoke_of received given due r =
-        let by_all = subst (λ (n : Next). GoesOn options is_alone base n done old told new tells answers) is goes in
+        let by_all = subst (λ (n : Next). GoesOn options is_alone base second n done old new answers) is goes in
         let begins = by_all.next_ones (begun bytes r.part r.told) (here r) in
         let grows = due_grows bytes done r.part answers r.told stands (here r) in
         let now = begun bytes (r.part ++ answers) r.told in

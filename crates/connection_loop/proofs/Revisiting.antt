@@ -1,5 +1,5 @@
 -- Visits of one connection, one after another.
-use Rattle.std.proofs.Common.{◌≡◌, ◌≢◌, ◌⊎◌, inl, inr, ℕ, ◌+◌, ◌*◌, ◌<◌, ◌≤◌, List, ◌++◌, length, refl, sym, ap, ◌∙◌, subst, arith, append_assoc, length-append}
+use Rattle.std.proofs.Common.{◌≡◌, ◌≢◌, ◌⊎◌, inl, inr, ℕ, ◌+◌, ◌*◌, ◌<◌, ◌≤◌, true, List, ◌++◌, length, refl, sym, ap, ◌∙◌, subst, arith, append_assoc, length-append}
 use Rattle.std.proofs.lemmas.List.{map-append}
 use Rattle.partition_model.specs.declared.options.Options.{Options}
 use Rattle.memcached_text.specs.declared.next.Next.{Next}
@@ -13,7 +13,7 @@ use Rattle.connection_loop.specs.declared.desk.TheConstants.{MOST_UNSENT}
 use Rattle.connection_loop.specs.declared.visit.After.{After}
 use Rattle.connection_loop.specs.declared.visit.After.TheVariants.{Again}
 use Rattle.connection_loop.specs.Given.{Given, given_to}
-use Rattle.connection_loop.specs.Moments.{TalksThrough}
+use Rattle.connection_loop.specs.Moments.{TalksThrough, is_timed}
 use Rattle.connection_loop.specs.Turns.{moved, most_answers}
 use Rattle.connection_loop.specs.Held.{Holds, all_to, Becomes, Visits, VisitLacks}
 use Rattle.connection_loop.proofs.Earning.{grows_moved}
@@ -55,14 +55,14 @@ module _ (options : Options) (base c : ℕ) where
         subst (λ (s : List Step). TalksThrough options base MOST_UNSENT s lacking new.entries (all ++ all_to c (one ++ two))) first.passes.schedule
         (subst (λ l. TalksThrough options base MOST_UNSENT mid.schedule lacking new.entries l) (all_both all one two) through)
 
-    module _ (lacking : List ℕ) (all : List Given) (holds : Holds options base MOST_UNSENT c old (given_to c all) client)
+    module _ (lacking : List ℕ) (all : List Given) (timed : is_timed old.entries ≡ true) (holds : Holds options base MOST_UNSENT c old (given_to c all) client)
         (through : TalksThrough options base MOST_UNSENT old.schedule lacking old.entries all) where
       held_between : Holds options base MOST_UNSENT c mid (given_to c (all ++ all_to c one)) between
-      held_between = subst (λ g. Holds options base MOST_UNSENT c mid g between) (sym (given_more c all one)) (first.talks lacking all holds through).1
+      held_between = subst (λ g. Holds options base MOST_UNSENT c mid g between) (sym (given_more c all one)) (first.talks lacking all timed holds through).1
 
       through_between : TalksThrough options base MOST_UNSENT mid.schedule lacking mid.entries (all ++ all_to c one)
       through_between =
-          subst (λ (s : List Step). TalksThrough options base MOST_UNSENT s lacking mid.entries (all ++ all_to c one)) (sym first.passes.schedule) (first.talks lacking all holds through).0
+          subst (λ (s : List Step). TalksThrough options base MOST_UNSENT s lacking mid.entries (all ++ all_to c one)) (sym first.passes.schedule) (first.talks lacking all timed holds through).0
 
     pub visits_then : {now : Client} {two : List Answered} {new : Log} (becomes : After) → Visits options base 1 between two now becomes c mid new → Visits options base 2 client (one ++ two) now becomes c old new
     visits_then {now} {two} {new} becomes second = record {
@@ -76,8 +76,8 @@ module _ (options : Options) (base c : ℕ) where
             | inl more ↦ let some = second.earns is (λ single waits. more) in omega (arith, all, before, some)
             | inr none ↦ let some = first.earns refl (λ single waits. absurd (none waits)) in omega (arith, all, after, some)
           ];
-      talks = λ lacking all holds through.
-          let s = second.talks lacking (all ++ all_to c one) (held_between lacking all holds through) (through_between lacking all holds through) in (
+      talks = λ lacking all timed holds through.
+          let s = second.talks lacking (all ++ all_to c one) (first.passes.timed timed) (held_between lacking all timed holds through) (through_between lacking all timed holds through) in (
             through_both two new lacking all s.0,
             subst (λ g. Becomes options base MOST_UNSENT c new g now becomes) (ap (λ g. g ++ two) (given_more c all one) ∙ append_assoc (given_to c all) one two) s.1,
           );
@@ -88,6 +88,6 @@ module _ (options : Options) (base c : ℕ) where
     visits_lack {two} {new} second = record {
       passes = passes_then first.passes second.passes;
       few_answers = few_both two second.few_answers;
-      talks = λ lacking all among holds through.
-          through_both two new lacking all (second.talks lacking (all ++ all_to c one) among (held_between lacking all holds through) (through_between lacking all holds through));
+      talks = λ lacking all timed among holds through.
+          through_both two new lacking all (second.talks lacking (all ++ all_to c one) (first.passes.timed timed) among (held_between lacking all timed holds through) (through_between lacking all timed holds through));
     }

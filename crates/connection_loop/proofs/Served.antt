@@ -5,7 +5,7 @@ use Rattle.std.proofs.lemmas.List.{append-nil, length-map}
 use Rattle.std.proofs.lemmas.Bool.{eqb-true}
 use Rattle.std.proofs.lemmas.Option.{none-some}
 use Rattle.partition_model.specs.declared.options.Options.{Options}
-use Rattle.connections.specs.declared.connections.Event.TheVariants.{Ready}
+use Rattle.connections.specs.declared.connections.Event.TheVariants.{TurnedAway, Ready}
 use Rattle.connections.specs.State.{asked, closed, held}
 use Rattle.connections.specs.Log.{Log, state_of, connections_of, received_of, sent_of, logged}
 use Rattle.connections.specs.Calls.{Asks, Closes}
@@ -29,10 +29,10 @@ use Rattle.connection_loop.proofs.Staying.{passes_under}
 use Rattle.connection_loop.proofs.Moving.{moves_then, moves_asked, asked_comes}
 use Rattle.connection_loop.proofs.Tending.{tends_served, tends_closed}
 use Rattle.connection_loop.proofs.Earning.{grows_moved}
-use Rattle.connection_loop.proofs.Moments.{given_more}
+use Rattle.connection_loop.proofs.Moments.{answers_all_to, given_more}
 use Rattle.connection_loop.proofs.Turning.{grows_none, grows_call}
 use Rattle.connection_loop.proofs.Visited.{held_sent}
-use Rattle.connection_loop.proofs.Standing.{answers_all_to, stays_asked, under_asked, holds_at, stands_lacking, stands_less, stands_put, stands_asked, stands_closed, stands_visited}
+use Rattle.connection_loop.proofs.Standing.{stays_asked, under_asked, holds_at, stands_lacking, stands_less, stands_put, stands_asked, stands_closed, stands_visited}
 
 -- To whom answers were given
 
@@ -75,6 +75,19 @@ earns_asked {reads} {c} {old} {new} passes answers more d = by (c == d) refl
 module _ (options : Options) (base : ℕ) where
   pub stands_none : (lacking : List ℕ) (log : Log) (all : List Given) (now : List (Option Client)) → Stands options base lacking log all now → StandsBut options base lacking 0 log (all ++ []) now
   stands_none lacking log all now stands = ([], refl, subst (λ l. Stands options base lacking log l now) (sym (append-nil all)) stands)
+
+  -- one was turned away
+  pub serves_turned : (clients : List (Option Client)) (log : Option Log) → OnLogs (StandsOn options base TurnedAway clients 0 [] clients) log log
+  serves_turned clients None = tt
+  serves_turned clients (Some log) = record {
+    schedule = refl;
+    piece = refl;
+    few_calls = grows_none 2 log.entries;
+    few_answers = omega arith;
+    earns = λ d. omega arith;
+    on = λ lacking all new stands. stands_none lacking log all clients stands;
+    tends = λ lacking all stands but. record { apart = but.apart; each = λ n c is. but.each n c tt is };
+  }
 
   module _ (number : ℕ) (clients taken : List (Option Client)) (others : (n : ℕ) → n ≢ number → at taken n ≡ at clients n) (gone : at taken number ≡ None) where
     -- There was nothing under it
@@ -123,8 +136,8 @@ module _ (options : Options) (base : ℕ) where
           few_answers = few_to c visit.few_answers;
           earns = λ d. earns_none visit.passes d (all_to c answers);
           on = λ lacking all is_new stands.
-              let t = visit.talks lacking all (holds_at options base c here (stands.holds number client is_held)) stands.through in
-              let s = stands_visited options base lacking {old = a} {new = b} all clients taken number c here others gone visit.passes.schedule (passes_under visit.passes) visit.passes.others answers t.0 stands in (
+              let t = visit.talks lacking all stands.timed (holds_at options base c here (stands.holds number client is_held)) stands.through in
+              let s = stands_visited options base lacking {old = a} {new = b} all clients taken number c here others gone visit.passes.schedule (passes_under visit.passes) visit.passes.others visit.passes.timed answers t.0 stands in (
                 [],
                 refl,
                 stands_put options base lacking number now others_put put (record {
@@ -134,7 +147,7 @@ module _ (options : Options) (base : ℕ) where
                 }) s,
               );
           tends = λ lacking all stands but.
-              let t = visit.talks lacking all (holds_at options base c here (stands.holds number client is_held)) stands.through in
+              let t = visit.talks lacking all stands.timed (holds_at options base c here (stands.holds number client is_held)) stands.through in
               tends_served a.script.piece number c clients new here visit.passes.moves others_new but.apart but.each
               (record { client = now; is_held = put; rests = subst (λ p. Rests now c p (state_of b)) visit.passes.piece t.1.1 });
         }
@@ -159,8 +172,8 @@ module _ (options : Options) (base : ℕ) where
             few_answers = few_to c visit.few_answers;
             earns = earns_asked visit.passes answers (visit.earns refl (λ single. absurd (omega (arith, single))));
             on = λ lacking all is_new stands.
-                let t = visit.talks lacking all (holds_at options base c here (stands.holds number client is_held)) stands.through in
-                let s = stands_visited options base lacking {old = a} {new = b} all clients taken number c here others gone visit.passes.schedule (passes_under visit.passes) visit.passes.others answers t.0 stands in
+                let t = visit.talks lacking all stands.timed (holds_at options base c here (stands.holds number client is_held)) stands.through in
+                let s = stands_visited options base lacking {old = a} {new = b} all clients taken number c here others gone visit.passes.schedule (passes_under visit.passes) visit.passes.others visit.passes.timed answers t.0 stands in
                 let stays = stays_asked c b c in
                 let held_last = held_sent options base MOST_UNSENT c {old = b} {new = logged (asked c) b} now last position leaving (let same = ap length unsent in omega (arith, same)) stays.came
                 (ap (λ u. sent_of c b.entries ++ u) unsent) stays.over t.1 in (
@@ -201,8 +214,8 @@ module _ (options : Options) (base : ℕ) where
         few_answers = few_to c visit.few_answers;
         earns = λ d. earns_none visit.passes d (all_to c answers);
         on = λ lacking all is_new stands.
-            let t = visit.talks lacking all (holds_at options base c here (stands.holds number client is_held)) stands.through in
-            let s = stands_visited options base lacking {old = a} {new = b} all clients taken number c here others gone visit.passes.schedule (passes_under visit.passes) visit.passes.others answers t.0 stands in
+            let t = visit.talks lacking all stands.timed (holds_at options base c here (stands.holds number client is_held)) stands.through in
+            let s = stands_visited options base lacking {old = a} {new = b} all clients taken number c here others gone visit.passes.schedule (passes_under visit.passes) visit.passes.others visit.passes.timed answers t.0 stands in
             let cause = subst (λ g. IfSome (slice_get (connections_of b) c) (λ x. MayClose options base x (received_of c b.entries) (sent_of c b.entries) g)) (sym (given_more c all answers)) t.1 in
             ([], refl, stands_closed options base lacking number c (passes_under visit.passes number c here) gone (inr cause) s);
         tends = λ lacking all stands but. tends_closed a.script.piece number c clients taken here visit.passes.moves others but.apart but.each;
@@ -218,8 +231,8 @@ module _ (options : Options) (base : ℕ) where
         earns = λ d. earns_none visit.passes d (all_to c answers);
         on = λ lacking all is_new before.
             let stands = stands_lacking options base c before in
-            let through = visit.talks (c ∷ lacking) all ([], lacking, refl) (holds_at options base c here (stands.holds number client is_held)) stands.through in
-            let s = stands_visited options base (c ∷ lacking) {old = a} {new = b} all clients taken number c here others gone visit.passes.schedule (passes_under visit.passes) visit.passes.others answers through stands in
+            let through = visit.talks (c ∷ lacking) all stands.timed ([], lacking, refl) (holds_at options base c here (stands.holds number client is_held)) stands.through in
+            let s = stands_visited options base (c ∷ lacking) {old = a} {new = b} all clients taken number c here others gone visit.passes.schedule (passes_under visit.passes) visit.passes.others visit.passes.timed answers through stands in
             (c ∷ [], refl, stands_closed options base (c ∷ lacking) number c (passes_under visit.passes number c here) gone (inl ([], lacking, refl)) s);
         tends = λ lacking all stands but. tends_closed a.script.piece number c clients taken here visit.passes.moves others but.apart but.each;
       }

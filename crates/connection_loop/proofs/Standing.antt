@@ -1,5 +1,5 @@
 -- What stands between a front and all its clients goes on from call to call.
-use Rattle.std.proofs.Common.{◌≡◌, ◌≢◌, ◌⊎◌, inl, inr, ℕ, ◌==◌, true, false, List, [], ◌∷◌, ◌++◌, refl, sym, ap, ◌∙◌, subst, arith}
+use Rattle.std.proofs.Common.{◌≡◌, ◌≢◌, ◌⊎◌, inl, inr, ℕ, ◌==◌, true, false, List, ◌∷◌, ◌++◌, refl, sym, ap, ◌∙◌, subst, arith}
 use Rattle.std.specs.Prelude.{slice_get, Option, None, Some}
 use Rattle.std.proofs.lemmas.Option.{none-some, same_Some}
 use Rattle.std.proofs.lemmas.Bool.{cases_eq, ne_eqb}
@@ -10,9 +10,9 @@ use Rattle.connections.specs.Log.{Log, connections_of, logged}
 use Rattle.fronts.specs.Answered.{Answered}
 use Rattle.connection_loop.specs.declared.client.Client.{Client}
 use Rattle.connection_loop.specs.declared.desk.TheConstants.{MOST_UNSENT}
-use Rattle.connection_loop.specs.Given.{Given, answers_in, given_to}
+use Rattle.connection_loop.specs.Given.{Given, given_to}
 use Rattle.connection_loop.specs.Clients.{at}
-use Rattle.connection_loop.specs.Moments.{TalksThrough, IsCaused}
+use Rattle.connection_loop.specs.Moments.{TalksThrough, IsCaused, is_timed}
 use Rattle.connection_loop.specs.Held.{Holds, StaysAs, all_to}
 use Rattle.connection_loop.specs.Standing.{IsUntouched, HoldsUnder, Stands}
 use Rattle.connection_loop.proofs.Places.{there, two_places, same_held, closed_other}
@@ -20,10 +20,6 @@ use Rattle.connection_loop.proofs.Moments.{given_others, last_moment, through_en
 use Rattle.connection_loop.proofs.Drying.{in_changed}
 use Rattle.connection_loop.proofs.Making.{made_changed}
 use Rattle.connection_loop.proofs.Visited.{held_sent}
-
-pub answers_all_to : (c : ℕ) (answers : List Answered) → answers_in (all_to c answers) ≡ answers
-answers_all_to c [] = refl
-answers_all_to c (a ∷ answers) = ap (λ l. a ∷ l) (answers_all_to c answers)
 
 -- Of one connection
 
@@ -82,19 +78,19 @@ module _ (options : Options) (base : ℕ) where
   pub stands_lacking : (c : ℕ) {lacking : List ℕ} {log : Log} {all : List Given} {clients : List (Option Client)} → Stands options base lacking log all clients
       → Stands options base (c ∷ lacking) log all clients
   stands_lacking c {lacking} {log} {all} stands =
-      record { through = through_lacking options base MOST_UNSENT log.schedule lacking c log.entries all stands.through; holds = stands.holds; to_come = stands.to_come }
+      record { timed = stands.timed; through = through_lacking options base MOST_UNSENT log.schedule lacking c log.entries all stands.through; holds = stands.holds; to_come = stands.to_come }
 
   module _ (lacking : List ℕ) where
     -- less is held
     pub stands_less : {log : Log} {all : List Given} {clients now : List (Option Client)} → ((n : ℕ) (client : Client) → at now n ≡ Some client → at clients n ≡ Some client)
         → Stands options base lacking log all clients → Stands options base lacking log all now
-    stands_less less stands = record { through = stands.through; holds = λ n client is. stands.holds n client (less n client is); to_come = stands.to_come }
+    stands_less less stands = record { timed = stands.timed; through = stands.through; holds = λ n client is. stands.holds n client (less n client is); to_come = stands.to_come }
 
     -- one was put in its place
     pub stands_put : {log : Log} {all : List Given} {clients now : List (Option Client)} (number : ℕ) (client : Client) → ((n : ℕ) → n ≢ number → at now n ≡ at clients n)
         → at now number ≡ Some client → HoldsUnder options base log all number client → Stands options base lacking log all clients → Stands options base lacking log all now
     stands_put {log} {all} {clients} {now} number client others here holds stands =
-        record { through = stands.through; holds = λ n x is. by n x is (cases_eq n number); to_come = stands.to_come }
+        record { timed = stands.timed; through = stands.through; holds = λ n x is. by n x is (cases_eq n number); to_come = stands.to_come }
       where
         by : (n : ℕ) (x : Client) → at now n ≡ Some x → ((n ≡ number) ⊎ (n ≡ number → ⊥)) → HoldsUnder options base log all n x
         by n x is (inl same) =
@@ -104,9 +100,10 @@ module _ (options : Options) (base : ℕ) where
 
     -- the log went on, and nothing was said
     pub stands_moved : {old new : Log} {all : List Given} {clients : List (Option Client)}
-        → ((n d : ℕ) (x : Client) → at clients n ≡ Some x → held n (connections_of old) ≡ Some d → held n (connections_of new) ≡ Some d) → ((d : ℕ) → StaysAs d old new)
+        → ((n d : ℕ) (x : Client) → at clients n ≡ Some x → held n (connections_of old) ≡ Some d → held n (connections_of new) ≡ Some d) → ((d : ℕ) → StaysAs d old new) → is_timed new.entries ≡ true
         → TalksThrough options base MOST_UNSENT new.schedule lacking new.entries all → Stands options base lacking old all clients → Stands options base lacking new all clients
-    stands_moved {old} {new} {all} {clients} under stays through stands = record {
+    stands_moved {old} {new} {all} {clients} under stays timed through stands = record {
+      timed = timed;
       through = through;
       holds = λ n x is. let k = stands.holds n x is in under_stays k (under n k.place x is k.under) (stays k.place) refl;
       to_come = λ d none. untouched_stays (stays d) refl (stands.to_come d ((stays d).made none));
@@ -116,7 +113,7 @@ module _ (options : Options) (base : ℕ) where
         → Stands options base lacking (logged (asked c) log) all clients
     stands_asked {log} {all} c stands =
         let talks = last_moment options base MOST_UNSENT log.schedule lacking log.entries all stands.through in
-        stands_moved {new = logged (asked c) log} (λ n d x is was. under_asked c n d log was) (stays_asked c log)
+        stands_moved {new = logged (asked c) log} (λ n d x is was. under_asked c n d log was) (stays_asked c log) refl
         (through_entry options base MOST_UNSENT log.schedule lacking (asked c) log.entries all talks tt stands.through) stands
 
     pub stands_closed : {log : Log} {all : List Given} {clients : List (Option Client)} (number c : ℕ) → held number (connections_of log) ≡ Some c → at clients number ≡ None
@@ -124,14 +121,14 @@ module _ (options : Options) (base : ℕ) where
     stands_closed {log} {all} {clients} number c here gone cause stands =
         let talks = last_moment options base MOST_UNSENT log.schedule lacking log.entries all stands.through in
         stands_moved {new = logged (closed c) log}
-        (λ n d x is was. under_closed number c n d log (λ same. none-some x (sym gone ∙ subst (λ m. at clients m ≡ Some x) same is)) here was) (stays_closed c log)
+        (λ n d x is was. under_closed number c n d log (λ same. none-some x (sym gone ∙ subst (λ m. at clients m ≡ Some x) same is)) here was) (stays_closed c log) refl
         (through_entry options base MOST_UNSENT log.schedule lacking (closed c) log.entries all talks cause stands.through) stands
 
     -- one was visited, which was taken out before
     module _ {old new : Log} (all : List Given) (clients taken : List (Option Client)) (number c : ℕ) (here : held number (connections_of old) ≡ Some c)
         (others : (n : ℕ) → n ≢ number → at taken n ≡ at clients n) (gone : at taken number ≡ None)
         (schedule : new.schedule ≡ old.schedule) (under : (n d : ℕ) → held n (connections_of old) ≡ Some d → held n (connections_of new) ≡ Some d)
-        (stays : (d : ℕ) → (c == d) ≡ false → StaysAs d old new) (answers : List Answered) where
+        (stays : (d : ℕ) → (c == d) ≡ false → StaysAs d old new) (timed : is_timed old.entries ≡ true → is_timed new.entries ≡ true) (answers : List Answered) where
       not_this : (n : ℕ) (x : Client) → at taken n ≡ Some x → n ≢ number
       not_this n x is same = none-some x (sym gone ∙ subst (λ m. at taken m ≡ Some x) same is)
 
@@ -143,6 +140,7 @@ module _ (options : Options) (base : ℕ) where
       pub stands_visited : TalksThrough options base MOST_UNSENT old.schedule lacking new.entries (all ++ all_to c answers) → Stands options base lacking old all clients
           → Stands options base lacking new (all ++ all_to c answers) taken
       stands_visited through stands = record {
+        timed = timed stands.timed;
         through = subst (λ s. TalksThrough options base MOST_UNSENT s lacking new.entries (all ++ all_to c answers)) (sym schedule) through;
         holds = λ n x is.
             let other = not_this n x is in

@@ -5,16 +5,17 @@ use Rattle.std.proofs.lemmas.Option.{none-some, same_Some}
 use Rattle.std.proofs.lemmas.Grind.{common_steps}
 use Rattle.connections.specs.declared.schedule.Change.{Change}
 use Rattle.connections.specs.declared.schedule.Step.{Step}
-use Rattle.connections.specs.declared.schedule.Step.TheVariants.{Opens, Reports, Happens}
+use Rattle.connections.specs.declared.schedule.Step.TheVariants.{Opens, TurnsAway, Reports, Happens}
 use Rattle.connections.specs.declared.connections.Event.{Event}
-use Rattle.connections.specs.declared.connections.Event.TheVariants.{Opened, Ready}
+use Rattle.connections.specs.declared.connections.Event.TheVariants.{Opened, TurnedAway, Ready}
 use Rattle.connections.specs.Connection.{Connection, new_connection, after_change}
 use Rattle.connections.specs.State.{State, changed, is_under, held, number_or, number_at, after_report}
 use Rattle.connections.specs.Calls.{IsNext}
 use Rattle.connection_loop.specs.declared.client.Client.{Client}
 use Rattle.connection_loop.specs.Traffic.{IsDrained, IsToCome}
-use Rattle.connection_loop.specs.Resting.{IsAtRest, Rests, is_there, AreApart, Tends, TendsBut, number_in}
+use Rattle.connection_loop.specs.Resting.{IsAtRest, Rests, is_there, AreApart, Tends, TendsBut}
 use Rattle.connection_loop.proofs.Places.{there, pushed, pushed_here, elsewhere, if_pushed}
+use Rattle.connection_loop.proofs.Opening.{number_in}
 use Rattle.connection_loop.proofs.Moving.{there_changed, held_changed, apart_as}
 
 -- One that is there is reported
@@ -32,6 +33,19 @@ module _ (piece : ℕ) (clients : List (Option Client)) (s : State) (tends : Ten
 
   still_to_come : (c d : ℕ) (later : List Step) → c ≢ d → (c ≡ d) ⊎ IsToCome d later → IsToCome d later
   still_to_come c d later other come = elim come as (λ _. IsToCome d later) [ inl same ↦ absurd (other same) | inr still ↦ still ]
+
+  -- one was turned away
+  tells_turned : (later : List Step) → ((d : ℕ) → IsToCome d s.later → IsToCome d later) → TendsBut TurnedAway piece (record { connections = s.connections; later = later }) clients
+  tells_turned later come = record {
+    apart = tends.apart;
+    each = λ n d other here.
+        let t = tends.each n d here in record {
+          client = t.client;
+          is_held = t.is_held;
+          rests = elim t.rests as (λ _. Rests t.client d piece (record { connections = s.connections; later = later })) [ inl coming ↦ inl (come d coming) | inr waits ↦ inr waits ];
+        };
+    told = tt;
+  }
 
   tells_ready : (number c : ℕ) (change : Change) (later : List Step) → ((d : ℕ) → IsToCome d s.later → (c ≡ d) ⊎ IsToCome d later) → number ≡ number_at c s.connections
       → TendsBut (Ready number) piece (record { connections = changed c (after_change change) s.connections; later = later }) clients
@@ -121,9 +135,16 @@ pub tells : (event : Event) (piece : ℕ) (clients : List (Option Client)) (s : 
     → TendsBut event piece (after_report (number_in event) s later) clients
 tells (Opened number) piece clients s [] is next tends = absurd next
 tells (Opened number) piece clients s (Opens window bytes ∷ later) is next tends = tells_opened piece clients s tends number window bytes later (λ d come. subst (IsToCome d) is come) next
+tells (Opened number) piece clients s (TurnsAway ∷ later) is next tends = absurd next
 tells (Opened number) piece clients s (Reports c change ∷ later) is next tends = absurd next
 tells (Opened number) piece clients s (Happens c change ∷ later) is next tends = absurd next
+tells TurnedAway piece clients s [] is next tends = absurd next
+tells TurnedAway piece clients s (Opens window bytes ∷ later) is next tends = absurd next
+tells TurnedAway piece clients s (TurnsAway ∷ later) is next tends = tells_turned piece clients s tends later (λ d come. subst (IsToCome d) is come)
+tells TurnedAway piece clients s (Reports c change ∷ later) is next tends = absurd next
+tells TurnedAway piece clients s (Happens c change ∷ later) is next tends = absurd next
 tells (Ready number) piece clients s [] is next tends = absurd next
 tells (Ready number) piece clients s (Opens window bytes ∷ later) is next tends = absurd next
+tells (Ready number) piece clients s (TurnsAway ∷ later) is next tends = absurd next
 tells (Ready number) piece clients s (Reports c change ∷ later) is next tends = tells_ready piece clients s tends number c change later (λ d come. subst (IsToCome d) is come) next
 tells (Ready number) piece clients s (Happens c change ∷ later) is next tends = tells_ready piece clients s tends number c change later (λ d come. subst (IsToCome d) is come) next

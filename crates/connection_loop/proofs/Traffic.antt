@@ -6,12 +6,13 @@ use Rattle.std.proofs.Math.Seq.{take-add}
 use Rattle.std.proofs.lemmas.List.{append-nil}
 use Rattle.std.proofs.lemmas.Bool.{eq-eqb}
 use Rattle.connections.specs.declared.schedule.Step.{Step}
-use Rattle.connections.specs.declared.schedule.Step.TheVariants.{Opens, Reports, Happens}
+use Rattle.connections.specs.declared.schedule.Step.TheVariants.{Opens, TurnsAway, Reports, Happens}
 use Rattle.connections.specs.declared.connections.Broken.{Broken}
 use Rattle.connections.specs.Connection.{Connection, after_change, after_write}
-use Rattle.connections.specs.State.{Entry, opened, reported, met, received, sent, asked, closed, State, held, state_after, after_meeting}
+use Rattle.connections.specs.State.{Entry, opened, reported, turned_away, met, second, received, sent, asked, closed, State, held, state_after, after_meeting}
 use Rattle.connections.specs.Log.{Log, connections_of, state_of, received_of, sent_of, with_entries, after_met, after_meeting_one}
 use Rattle.connections.specs.Calls.{WriteTakes, IsTaken, took, after_sending}
+use Rattle.command_answers.proofs.AskLaws.{all_append}
 use Rattle.connection_loop.specs.Open.{IsAt, IsOpen, OnLogs}
 use Rattle.connection_loop.specs.Traffic.{IsSend, Sends, IsIn, IsBroken, IsShut, IsShutIn, SendsOf, SendsSome, SendsFrom, OnHeld}
 use Rattle.connection_loop.proofs.Places.{changed_keeps, there}
@@ -27,6 +28,7 @@ sent_here c d bytes entries same = ap (λ t. cond t (sent_of c entries ++ bytes)
 pub met_entries : (later : List Step) (entries : List Entry) → (mets : List Entry) × AllByRecursion (λ e. e ≡ met) mets × (after_meeting_one later entries ≡ mets ++ entries)
 met_entries [] entries = ([], tt, refl)
 met_entries (Opens window bytes ∷ later) entries = ([], tt, refl)
+met_entries (TurnsAway ∷ later) entries = ([], tt, refl)
 met_entries (Reports c change ∷ later) entries = ([], tt, refl)
 met_entries (Happens c change ∷ later) entries = (met ∷ [], (refl, tt), refl)
 
@@ -49,6 +51,8 @@ sends_received c (met ∷ more) entries each d = sends_received c more entries e
 sends_received c (sent e bytes ∷ more) entries each d = sends_received c more entries each.1 d
 sends_received c (opened n ∷ more) entries each d = absurd each.0
 sends_received c (reported n ∷ more) entries each d = absurd each.0
+sends_received c (turned_away ∷ more) entries each d = absurd each.0
+sends_received c (second s ∷ more) entries each d = absurd each.0
 sends_received c (received e bytes ∷ more) entries each d = absurd each.0
 sends_received c (asked e ∷ more) entries each d = absurd each.0
 sends_received c (closed e ∷ more) entries each d = absurd each.0
@@ -58,18 +62,14 @@ sends_received c (closed e ∷ more) entries each d = absurd each.0
 pub sends_none : (c : ℕ) (log : Log) → Sends c [] log log
 sends_none c log = record { schedule = refl; piece = refl; more = []; each = tt; entries = refl; sent = sym (append-nil (sent_of c log.entries)) }
 
-all_append : {X : Type 0} (P : X → Type 0) (xs ys : List X) → AllByRecursion P xs → AllByRecursion P ys → AllByRecursion P (xs ++ ys)
-all_append P [] ys one two = two
-all_append P (x ∷ xs) ys one two = (one.0, all_append P xs ys one.1 two)
-
 pub sends_then : {c : ℕ} {one two : List ℕ} {old between new : Log} → Sends c one old between → Sends c two between new → Sends c (one ++ two) old new
-sends_then {c} {one} {two} {old} {between} {new} first second = record {
-  schedule = second.schedule ∙ first.schedule;
-  piece = second.piece ∙ first.piece;
-  more = second.more ++ first.more;
-  each = all_append (IsSend c) second.more first.more second.each first.each;
-  entries = second.entries ∙ ap (λ e. second.more ++ e) first.entries ∙ sym (append_assoc second.more first.more old.entries);
-  sent = second.sent ∙ ap (λ s. s ++ two) first.sent ∙ append_assoc (sent_of c old.entries) one two;
+sends_then {c} {one} {two} {old} {between} {new} first behind = record {
+  schedule = behind.schedule ∙ first.schedule;
+  piece = behind.piece ∙ first.piece;
+  more = behind.more ++ first.more;
+  each = all_append (IsSend c) behind.more first.more behind.each first.each;
+  entries = behind.entries ∙ ap (λ e. behind.more ++ e) first.entries ∙ sym (append_assoc behind.more first.more old.entries);
+  sent = behind.sent ∙ ap (λ s. s ++ two) first.sent ∙ append_assoc (sent_of c old.entries) one two;
 }
 
 -- a write is told by one entry, or none
@@ -136,6 +136,7 @@ module _ (n d a : ℕ) where
   met_stays : (state : State) (later : List Step) → IsAt n d a state.connections → IsAt n d a (after_meeting state later).connections
   met_stays state [] at = at
   met_stays state (Opens window bytes ∷ later) at = at
+  met_stays state (TurnsAway ∷ later) at = at
   met_stays state (Reports c change ∷ later) at = at
   met_stays state (Happens c change ∷ later) at = changed_keeps (after_change change) (change_keeps change) c state.connections n d a at
 
@@ -148,6 +149,8 @@ module _ (n d a : ℕ) where
       changed_keeps (after_write (length bytes)) (write_keeps (length bytes)) e (state_after schedule (more ++ entries)).connections n d a (sends_stay c schedule more entries each.1 at)
   sends_stay c schedule (opened m ∷ more) entries each at = absurd each.0
   sends_stay c schedule (reported m ∷ more) entries each at = absurd each.0
+  sends_stay c schedule (turned_away ∷ more) entries each at = absurd each.0
+  sends_stay c schedule (second s ∷ more) entries each at = absurd each.0
   sends_stay c schedule (received e bytes ∷ more) entries each at = absurd each.0
   sends_stay c schedule (asked e ∷ more) entries each at = absurd each.0
   sends_stay c schedule (closed e ∷ more) entries each at = absurd each.0
@@ -181,25 +184,36 @@ module _ (number : ℕ) where
       by None is = tt
       by (Some c) is = then c a b is
 
+  -- also by what is known of the log behind it
+  pub on_told : (P Q : ℕ → Log → Log → Type 0) (R : Log → Type 0) (old new : Option Log) → IfSome new R → ((c : ℕ) (a b : Log) → R b → P c a b → Q c a b) → OnLogs (OnHeld number P) old new
+      → OnLogs (OnHeld number Q) old new
+  on_told P Q R None new told then is = tt
+  on_told P Q R (Some a) None told then is = is
+  on_told P Q R (Some a) (Some b) told then is = by (held number (connections_of a)) is
+    where
+      by : (h : Option ℕ) → IfSome h (λ c. P c a b) → IfSome h (λ c. Q c a b)
+      by None is = tt
+      by (Some c) is = then c a b told is
+
   -- and of the same connection, one after another
   pub on_two : (P Q R : ℕ → Log → Log → Type 0) (old between new : Option Log) → KeepsHeld number P → ((c : ℕ) (a b d : Log) → P c a b → Q c b d → R c a d)
       → OnLogs (OnHeld number P) old between → OnLogs (OnHeld number Q) between new → OnLogs (OnHeld number R) old new
-  on_two P Q R None between new stays then first second = tt
-  on_two P Q R (Some a) None new stays then first second = absurd first
-  on_two P Q R (Some a) (Some b) None stays then first second = absurd second
-  on_two P Q R (Some a) (Some b) (Some d) stays then first second = by (held number (connections_of a)) refl first
+  on_two P Q R None between new stays then first behind = tt
+  on_two P Q R (Some a) None new stays then first behind = absurd first
+  on_two P Q R (Some a) (Some b) None stays then first behind = absurd behind
+  on_two P Q R (Some a) (Some b) (Some d) stays then first behind = by (held number (connections_of a)) refl first
     where
       by : (h : Option ℕ) → held number (connections_of a) ≡ h → IfSome h (λ c. P c a b) → IfSome h (λ c. R c a d)
       by None at is = tt
-      by (Some c) at is = then c a b d is (found (λ e. Q e b d) (held number (connections_of b)) c (stays c a b at is) second)
+      by (Some c) at is = then c a b d is (found (λ e. Q e b d) (held number (connections_of b)) c (stays c a b at is) behind)
 
   pub on_three : (P Q R S : ℕ → Log → Log → Type 0) (old between later new : Option Log) → KeepsHeld number P → KeepsHeld number Q
       → ((c : ℕ) (a b d e : Log) → P c a b → Q c b d → R c d e → S c a e)
       → OnLogs (OnHeld number P) old between → OnLogs (OnHeld number Q) between later → OnLogs (OnHeld number R) later new → OnLogs (OnHeld number S) old new
-  on_three P Q R S old between later new stays stays_then then first second third =
+  on_three P Q R S old between later new stays stays_then then first behind third =
       on_two (λ c a d. (b : Log) × P c a b × Q c b d) R S old later new (λ c a d at is. stays_then c is.0 d (stays c a is.0 at is.1) is.2)
       (λ c a d e is last. then c a is.0 d e is.1 is.2 last)
-      (on_two P Q (λ c a d. (b : Log) × P c a b × Q c b d) old between later stays (λ c a b d one two. (b, one, two)) first second) third
+      (on_two P Q (λ c a d. (b : Log) × P c a b × Q c b d) old between later stays (λ c a b d one two. (b, one, two)) first behind) third
 
 -- Writes, one after another
 

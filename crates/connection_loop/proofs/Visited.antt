@@ -9,8 +9,9 @@ use Rattle.connections.specs.declared.schedule.Step.{Step}
 use Rattle.connections.specs.declared.connections.Broken.{Broken}
 use Rattle.connections.specs.declared.connections.Input.{Input}
 use Rattle.connections.specs.declared.connections.Input.TheVariants.{Bytes, All, Later, Ended}
-use Rattle.connections.specs.Log.{Log, state_of, connections_of, received_of, sent_of}
+use Rattle.connections.specs.Log.{Log, state_of, connections_of, received_of, second_of, sent_of}
 use Rattle.fronts.specs.Answered.{Answered}
+use Rattle.command_answers.specs.Seconds.{AreAt}
 use Rattle.connection_loop.specs.declared.answer.Halt.{Halt}
 use Rattle.connection_loop.specs.declared.answer.Halt.TheVariants.{Needs, Enough, Leaves}
 use Rattle.connection_loop.specs.declared.client.Client.{Client}
@@ -20,7 +21,7 @@ use Rattle.connection_loop.specs.declared.visit.After.TheVariants.{Waits, Again,
 use Rattle.connection_loop.specs.Given.{Given, given_to}
 use Rattle.connection_loop.specs.Reached.{Position, Reaches, Ends, HaltsAs, Spoke, position_of}
 use Rattle.connection_loop.specs.Closing.{MayClose}
-use Rattle.connection_loop.specs.Moments.{TalksThrough}
+use Rattle.connection_loop.specs.Moments.{TalksThrough, is_timed}
 use Rattle.connection_loop.specs.Turns.{moved, most_answers}
 use Rattle.connection_loop.specs.Clients.{IsClient}
 use Rattle.connection_loop.specs.Traffic.{Sends, SendsFrom, Reads, IsIn, HasEnded, EndsBy, is_drained}
@@ -101,11 +102,11 @@ module _ (options : Options) (base : ℕ) where
 
     -- From moment to moment
 
-    module _ {schedule : List Step} (lacking : List ℕ) (all : List Given) {old mid : Log} (client : Client) (same : old.schedule ≡ schedule) (is : IsClient client)
+    module _ {schedule : List Step} (lacking : List ℕ) (all : List Given) {old mid : Log} (client : Client) (same : old.schedule ≡ schedule) (timed : is_timed old.entries ≡ true) (is : IsClient client)
         (holds : Holds options base most c old (given_to c all) client) (through : TalksThrough options base most schedule lacking old.entries all) {text : List ℕ} (rest : List ℕ)
         (sends : Sends c text old mid) (parts : client.unsent ≡ text ++ rest) where
       before : Stage options base most c schedule lacking old all client.unsent
-      before = stage_held options base most c same is holds through
+      before = stage_held options base most c same timed is holds through
 
       pub stage_unsent : Stage options base most c schedule lacking mid all rest
       stage_unsent = stage_sent options base most c rest before sends parts
@@ -146,18 +147,18 @@ module _ (options : Options) (base : ℕ) where
         due_now : {text : List ℕ} → replies ≡ [] ++ text → sent_of c log.entries ≡ sent_of c mid.entries → sent_of c log.entries ++ replies ≡ (sent_of c mid.entries ++ []) ++ text
         due_now {text} text_is sent = ap (λ s. s ++ replies) sent ∙ ap (λ t. sent_of c mid.entries ++ t) text_is ∙ ap (λ s. s ++ text) (sym (append-nil (sent_of c mid.entries)))
 
-        looked_by : (r : Halt × Option Input) → Stage options base most c schedule lacking log all [] → EndsBy r.1 c log
+        looked_by : (r : Halt × Option Input) → AreAt options (second_of log.entries) answers → Stage options base most c schedule lacking log all [] → EndsBy r.1 c log
             → HaltsAs options base MAX_WAITING_LEN r.0 (position_of now) (received_of c log.entries) (given_to c all ++ answers) (sent_of c log.entries ++ replies)
             → Looked schedule lacking log all answers replies now r
-        looked_by r here ends stands = record { stage = stage_answered options base most c r.0 answers here is_now few stands; stands = stands; ends = ends }
+        looked_by r told here ends stands = record { stage = stage_answered options base most c r.0 answers told here is_now few stands; stands = stands; ends = ends }
 
         pub looked : (r : Halt × Option Input) → Looks options base client answers replies now (Ok r) c mid log → Looked schedule lacking log all answers replies now r
         looked r looks = elim looks as (λ _. Looked schedule lacking log all answers replies now r) [
-          | inl further ↦ looked_by r (subst (λ (l : Log). Stage options base most c schedule lacking l all []) (sym further.same) stage) further.ends
+          | inl further ↦ looked_by r further.at (subst (λ (l : Log). Stage options base most c schedule lacking l all []) (sym further.same) stage) further.ends
               (halts_as r.0 (given_to c all ++ answers) refl (ap (λ (l : Log). received_of c l.entries) further.same)
               (due_now further.goes.appended (ap (λ (l : Log). sent_of c l.entries) further.same))
               (further.goes.on (received_of c mid.entries) (given_to c all) (sent_of c mid.entries ++ []) at))
-          | inr reads ↦ looked_by r (stage_read options base most c client stage reads.reads at reads.first reads.short) reads.ends
+          | inr reads ↦ looked_by r reads.at (stage_read options base most c client stage reads.reads at reads.first reads.short) reads.ends
               (halts_as r.0 (given_to c all ++ answers) refl (received_now options base most c client stage reads.reads at reads.first reads.short)
               (due_now reads.goes.appended (sent_now options base most c client stage reads.reads at reads.first reads.short))
               (reads.goes.on (received_of c mid.entries) (given_to c all) (sent_of c mid.entries ++ []) at))
@@ -183,31 +184,31 @@ module _ (options : Options) (base : ℕ) where
         passes = passes_sends 1 sends.0.1;
         few_answers = omega arith;
         earns = λ is. absurd (over_not_again is);
-        talks = λ lacking all holds through.
+        talks = λ lacking all timed holds through.
             let most = MOST_UNSENT in
-            let stage = stage_unsent most c lacking all client refl is holds through (drop sends.0.0 client.unsent) sends.0.1 (sym (take-append-drop sends.0.0 client.unsent)) in
+            let stage = stage_unsent most c lacking all client refl timed is holds through (drop sends.0.0 client.unsent) sends.0.1 (sym (take-append-drop sends.0.0 client.unsent)) in
             (still_through most mid old.schedule lacking all stage.through, still_becomes most mid (given_to c all) now Over (stage_breaks options base most c stage sends.1));
       }
 
       module _ (now : Client) (position : position_of now ≡ position_of client) (leaving : now.leaving ≡ client.leaving) (all_sent : Bool)
           (sends : SendsFrom client.unsent now.unsent (Ok all_sent) c old mid) where
-        module _ (most : ℕ) (lacking : List ℕ) (all : List Given) (holds : Holds options base most c old (given_to c all) client)
+        module _ (most : ℕ) (lacking : List ℕ) (all : List Given) (timed : is_timed old.entries ≡ true) (holds : Holds options base most c old (given_to c all) client)
             (through : TalksThrough options base most old.schedule lacking old.entries all) where
           held_then : Holds options base most c mid (given_to c all) now
-          held_then = holds_unsent most c lacking all client refl is holds through now.unsent sends.1 sends.2 now position leaving refl
+          held_then = holds_unsent most c lacking all client refl timed is holds through now.unsent sends.1 sends.2 now position leaving refl
 
           stage_then : Stage options base most c old.schedule lacking mid all now.unsent
-          stage_then = stage_unsent most c lacking all client refl is holds through now.unsent sends.1 sends.2
+          stage_then = stage_unsent most c lacking all client refl timed is holds through now.unsent sends.1 sends.2
 
         pub visit_waits : now.unsent ≢ [] → Visits options base 1 client [] now Waits c old mid
         visit_waits some = record {
           passes = passes_sends 1 sends.1;
           few_answers = omega arith;
           earns = λ is. absurd (waits_not_again is);
-          talks = λ lacking all holds through.
+          talks = λ lacking all timed holds through.
               let most = MOST_UNSENT in
-              let stage = stage_then most lacking all holds through in
-              (still_through most mid old.schedule lacking all stage.through, still_becomes most mid (given_to c all) now Waits (held_then most lacking all holds through, rests_shut now c mid some (sends.3 some)));
+              let stage = stage_then most lacking all timed holds through in
+              (still_through most mid old.schedule lacking all stage.through, still_becomes most mid (given_to c all) now Waits (held_then most lacking all timed holds through, rests_shut now c mid some (sends.3 some)));
         }
 
         pub visit_leaves : IsClient now → now.leaving ≡ true → now.unsent ≡ [] → Visits options base 1 client [] now Over c old mid
@@ -215,11 +216,11 @@ module _ (options : Options) (base : ℕ) where
           passes = passes_sends 1 sends.1;
           few_answers = omega arith;
           earns = λ is. absurd (over_not_again is);
-          talks = λ lacking all holds through.
+          talks = λ lacking all timed holds through.
               let most = MOST_UNSENT in
-              let stage = stage_then most lacking all holds through in (
+              let stage = stage_then most lacking all timed holds through in (
                 still_through most mid old.schedule lacking all stage.through,
-                still_becomes most mid (given_to c all) now Over (held_over most c now is_now mid (given_to c all) ends none (held_then most lacking all holds through)),
+                still_becomes most mid (given_to c all) now Over (held_over most c now is_now mid (given_to c all) ends none (held_then most lacking all timed holds through)),
               );
         }
 
@@ -231,10 +232,10 @@ module _ (options : Options) (base : ℕ) where
                 passes = passes_then (passes_sends 0 sends.1) (passes_reads looks.2);
                 few_answers = omega arith;
                 earns = λ is. absurd (over_not_again is);
-                talks = λ lacking all holds through.
+                talks = λ lacking all timed holds through.
                     let most = MOST_UNSENT in
-                    let before = subst (λ r. Stage options base most c old.schedule lacking mid all r) none (stage_then most lacking all holds through) in
-                    let stage = stage_unread most c now before (held_then most lacking all holds through) reading none looks.1 looks.2 is_now in
+                    let before = subst (λ r. Stage options base most c old.schedule lacking mid all r) none (stage_then most lacking all timed holds through) in
+                    let stage = stage_unread most c now before (held_then most lacking all timed holds through) reading none looks.1 looks.2 is_now in
                     (still_through most log old.schedule lacking all stage.through, still_becomes most log (given_to c all) then Over (stage_breaks options base most c stage looks.3));
               } in
               subst (λ a. Visits options base 1 client a then Over c old log) (sym looks.0) still
@@ -245,23 +246,23 @@ module _ (options : Options) (base : ℕ) where
             | inl further ↦ record {
               passes = subst (λ (l : Log). Passes 1 c old l) (sym further.same) (passes_sends 1 sends.1);
               few_answers = let few = further.few_answers in omega (arith, few);
-              talks = λ lacking all among holds through.
+              talks = λ lacking all timed among holds through.
                   let most = MOST_UNSENT in
-                  let before = subst (λ s. Stage options base most c old.schedule lacking mid all s) none (stage_then most lacking all holds through) in
-                  let at = held_reaches most c (held_then most lacking all holds through) reading none in
-                  let all_through = stage_lacking options base most c answers among before (further.spoke (received_of c mid.entries) (given_to c all) (sent_of c mid.entries ++ []) at) in
+                  let before = subst (λ s. Stage options base most c old.schedule lacking mid all s) none (stage_then most lacking all timed holds through) in
+                  let at = held_reaches most c (held_then most lacking all timed holds through) reading none in
+                  let all_through = stage_lacking options base most c answers (subst (λ (l : Log). AreAt options (second_of l.entries) answers) further.same further.at) among before (further.spoke (received_of c mid.entries) (given_to c all) (sent_of c mid.entries ++ []) at) in
                   subst (λ (l : Log). TalksThrough options base most old.schedule lacking l.entries (all ++ all_to c answers)) (sym further.same) all_through;
             }
             | inr read ↦ record {
               passes = passes_then (passes_sends 0 sends.1) (passes_reads read.reads);
               few_answers = let few = read.few_answers in omega (arith, few);
-              talks = λ lacking all among holds through.
+              talks = λ lacking all timed among holds through.
                   let most = MOST_UNSENT in
-                  let before = subst (λ s. Stage options base most c old.schedule lacking mid all s) none (stage_then most lacking all holds through) in
-                  let at = held_reaches most c (held_then most lacking all holds through) reading none in
+                  let before = subst (λ s. Stage options base most c old.schedule lacking mid all s) none (stage_then most lacking all timed holds through) in
+                  let at = held_reaches most c (held_then most lacking all timed holds through) reading none in
                   let here = stage_read options base most c now before read.reads at read.first read.short in
                   let spoke = read.spoke (received_of c mid.entries) (given_to c all) (sent_of c mid.entries ++ []) at in
-                  stage_lacking options base most c answers among here (subst (λ r. Spoke options base MAX_WAITING_LEN r (given_to c all ++ answers) (sent_of c log.entries ++ []))
+                  stage_lacking options base most c answers read.at among here (subst (λ r. Spoke options base MAX_WAITING_LEN r (given_to c all ++ answers) (sent_of c log.entries ++ []))
                   (sym (received_now options base most c now before read.reads at read.first read.short))
                   (subst (λ s. Spoke options base MAX_WAITING_LEN (received_of c mid.entries ++ read.bytes) (given_to c all ++ answers) (s ++ []))
                   (sym (sent_now options base most c now before read.reads at read.first read.short)) spoke));
@@ -271,12 +272,12 @@ module _ (options : Options) (base : ℕ) where
           -- it was looked at, and the replies were sent
 
           module _ (r : Halt × Option Input) (looks : Looks options base now answers replies then (Ok r) c mid log) (is_then : IsClient then) where
-            module _ (most : ℕ) (lacking : List ℕ) (all : List Given) (few : length replies ≤ most) (holds : Holds options base most c old (given_to c all) client)
+            module _ (most : ℕ) (lacking : List ℕ) (all : List Given) (few : length replies ≤ most) (timed : is_timed old.entries ≡ true) (holds : Holds options base most c old (given_to c all) client)
                 (through : TalksThrough options base most old.schedule lacking old.entries all) where
               found : Looked most c old.schedule lacking log all answers replies then r
               found =
-                  let before = subst (λ s. Stage options base most c old.schedule lacking mid all s) none (stage_then most lacking all holds through) in
-                  looked most c now before (held_then most lacking all holds through) reading none log answers replies is_then few r looks
+                  let before = subst (λ s. Stage options base most c old.schedule lacking mid all s) none (stage_then most lacking all timed holds through) in
+                  looked most c now before (held_then most lacking all timed holds through) reading none log answers replies is_then few r looks
 
             looks_few : length replies ≤ MOST_UNSENT
             looks_few = elim looks as (λ _. length replies ≤ MOST_UNSENT) [ inl further ↦ further.few | inr reads ↦ reads.few ]
@@ -296,9 +297,9 @@ module _ (options : Options) (base : ℕ) where
               visit_keeps_none n then_sends = record {
                 passes = passes_then looked_passes (passes_sends 0 then_sends);
                 few_answers = answers_few;
-                talks = λ lacking all among holds through.
+                talks = λ lacking all timed among holds through.
                     let most = MOST_UNSENT in
-                    let f = found most lacking all looks_few holds through in
+                    let f = found most lacking all looks_few timed holds through in
                     (stage_sent options base most c (drop n replies) f.stage then_sends (sym (take-append-drop n replies))).through;
               }
 
@@ -307,19 +308,19 @@ module _ (options : Options) (base : ℕ) where
                 passes = passes_then looked_passes (passes_sends 0 then_sends.0.1);
                 few_answers = answers_few;
                 earns = λ is. absurd (over_not_again is);
-                talks = λ lacking all holds through.
+                talks = λ lacking all timed holds through.
                     let most = MOST_UNSENT in
-                    let f = found most lacking all looks_few holds through in
+                    let f = found most lacking all looks_few timed holds through in
                     let stage = stage_sent options base most c (drop then_sends.0.0 replies) f.stage then_sends.0.1 (sym (take-append-drop then_sends.0.0 replies)) in
                     (stage.through, subst (λ g. Becomes options base most c new g last Over) (given_more c all answers) (stage_breaks options base most c stage then_sends.1));
               }
 
               module _ (position_is : position_of last ≡ position_of then) (leaves : last.leaving ≡ leaves_by r.0 r.1) (all_taken : Bool)
                   (then_sends : SendsFrom replies last.unsent (Ok all_taken) c log new) where
-                module _ (most : ℕ) (lacking : List ℕ) (all : List Given) (few : length replies ≤ most) (holds : Holds options base most c old (given_to c all) client)
+                module _ (most : ℕ) (lacking : List ℕ) (all : List Given) (few : length replies ≤ most) (timed : is_timed old.entries ≡ true) (holds : Holds options base most c old (given_to c all) client)
                     (through : TalksThrough options base most old.schedule lacking old.entries all) where
                   end : Looked most c old.schedule lacking log all answers replies then r
-                  end = found most lacking all few holds through
+                  end = found most lacking all few timed holds through
 
                   stage_end : Stage options base most c old.schedule lacking new (all ++ all_to c answers) last.unsent
                   stage_end = stage_sent options base most c last.unsent end.stage then_sends.1 then_sends.2
@@ -361,18 +362,18 @@ module _ (options : Options) (base : ℕ) where
                   passes = passes_then looked_passes (passes_sends 0 then_sends.1);
                   few_answers = answers_few;
                   earns = λ is. absurd (waits_not_again is);
-                  talks = λ lacking all holds through.
+                  talks = λ lacking all timed holds through.
                       let most = MOST_UNSENT in
-                      let stage = stage_end most lacking all looks_few holds through in
-                      (stage.through, (held_end most lacking all looks_few holds through, rests refl lacking all (end most lacking all looks_few holds through)));
+                      let stage = stage_end most lacking all looks_few timed holds through in
+                      (stage.through, (held_end most lacking all looks_few timed holds through, rests refl lacking all (end most lacking all looks_few timed holds through)));
                 }
                 visit_goes_on Again other rests earned = record {
                   passes = passes_then looked_passes (passes_sends 0 then_sends.1);
                   few_answers = answers_few;
                   earns = λ is whole. earned is (whole refl);
-                  talks = λ lacking all holds through.
+                  talks = λ lacking all timed holds through.
                       let most = MOST_UNSENT in
-                      let stage = stage_end most lacking all looks_few holds through in (stage.through, held_end most lacking all looks_few holds through);
+                      let stage = stage_end most lacking all looks_few timed holds through in (stage.through, held_end most lacking all looks_few timed holds through);
                 }
 
                 pub visit_shut : last.unsent ≢ [] → Visits options base 1 client answers last Waits c old new
@@ -383,10 +384,10 @@ module _ (options : Options) (base : ℕ) where
                   passes = passes_then looked_passes (passes_sends 0 then_sends.1);
                   few_answers = answers_few;
                   earns = λ is. absurd (over_not_again is);
-                  talks = λ lacking all holds through.
+                  talks = λ lacking all timed holds through.
                       let most = MOST_UNSENT in
-                      let stage = stage_end most lacking all looks_few holds through in
-                      (stage.through, held_over most c last is_last new (given_to c all ++ answers) over none_left (held_end most lacking all looks_few holds through));
+                      let stage = stage_end most lacking all looks_few timed holds through in
+                      (stage.through, held_over most c last is_last new (given_to c all ++ answers) over none_left (held_end most lacking all looks_few timed holds through));
                 }
 
                 pub visit_after : (becomes : After) → (last.leaving ≡ true → becomes ≡ Over) → (last.leaving ≡ false → becomes ≢ Over) → (becomes ≡ Waits → (r.0 ≡ Needs) × (is_drained r.1 ≡ true))

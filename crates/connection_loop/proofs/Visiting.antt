@@ -10,8 +10,9 @@ use Rattle.connections.specs.declared.connections.Input.{Input}
 use Rattle.connections.specs.declared.connections.Input.TheVariants.{Bytes, All, Later, Ended}
 use Rattle.connections.specs.State.{Entry}
 use Rattle.connections.specs.State as entry
-use Rattle.connections.specs.Log.{Log, state_of, connections_of, received_of, sent_of}
+use Rattle.connections.specs.Log.{Log, state_of, connections_of, received_of, second_of, sent_of}
 use Rattle.fronts.specs.Answered.{Answered}
+use Rattle.command_answers.specs.Seconds.{AreAt}
 use Rattle.connection_loop.specs.declared.answer.Halt.{Halt}
 use Rattle.connection_loop.specs.declared.answer.Halt.TheVariants.{Needs, Enough, Leaves}
 use Rattle.connection_loop.specs.declared.client.Client.{Client}
@@ -19,7 +20,7 @@ use Rattle.connection_loop.specs.Given.{Given, given_to}
 use Rattle.connection_loop.specs.Talk.{IsBeginning, TalksKept, TalksWith}
 use Rattle.connection_loop.specs.Reached.{Reaches, HaltsAs, Spoke, position_of}
 use Rattle.connection_loop.specs.Closing.{MayClose}
-use Rattle.connection_loop.specs.Moments.{IsAmong, TalksThrough}
+use Rattle.connection_loop.specs.Moments.{IsAmong, TalksThrough, is_timed}
 use Rattle.connection_loop.specs.Clients.{IsClient}
 use Rattle.connection_loop.specs.Traffic.{Sends, Reads, IsIn, IsBroken, IsShutIn, IsDrainedIn, EndsBy, is_drained, after_receiving}
 use Rattle.connection_loop.specs.Resting.{shut, Rests}
@@ -30,7 +31,7 @@ use Rattle.connection_loop.proofs.Moving.{moves_sends}
 use Rattle.connection_loop.proofs.Drying.{sends_ended}
 use Rattle.connection_loop.proofs.Staying.{receiving_others, receiving_sent}
 use Rattle.connection_loop.proofs.Traffic.{sends_received, mets_received, mets_sent, mets_send}
-use Rattle.connection_loop.proofs.Moments.{with_all, last_moment, through_entry, through_answers, through_sends, given_more, given_others}
+use Rattle.connection_loop.proofs.Moments.{with_all, last_moment, since_told, sends_timed, reads_timed, through_entry, through_second, through_answers, through_sends, given_more, given_others}
 
 pub if_some : {X : Type 0} {P Q : X → Type 0} (o : Option X) → ((x : X) → P x → Q x) → IfSome o P → IfSome o Q
 if_some None then is = tt
@@ -108,16 +109,18 @@ module _ (options : Options) (base most c : ℕ) where
   -- At a moment, these answers were given, and this is due that was not sent.
   pub record Stage (schedule : List Step) (lacking : List ℕ) (log : Log) (all : List Given) (rest : List ℕ) : Type 0 where
     pub same : log.schedule ≡ schedule
+    pub timed : is_timed log.entries ≡ true
     pub told : (sent : List ℕ) → IsBeginning sent (sent_of c log.entries ++ rest)
         → Told options base (received_of c log.entries) sent (given_to c all) (sent_of c log.entries ++ rest) MAX_WAITING_LEN
     pub few : length rest ≤ most
     pub through : TalksThrough options base most schedule lacking log.entries all
 
   module _ {schedule : List Step} {lacking : List ℕ} {all : List Given} where
-    pub stage_held : {client : Client} {log : Log} → log.schedule ≡ schedule → IsClient client → Holds options base most c log (given_to c all) client
+    pub stage_held : {client : Client} {log : Log} → log.schedule ≡ schedule → is_timed log.entries ≡ true → IsClient client → Holds options base most c log (given_to c all) client
         → TalksThrough options base most schedule lacking log.entries all → Stage schedule lacking log all client.unsent
-    stage_held {client} {log} same is holds through = record {
+    stage_held {client} {log} same timed is holds through = record {
       same = same;
+      timed = timed;
       told = told_held client is log (given_to c all) holds;
       few = held_few client log (given_to c all) holds;
       through = through;
@@ -138,6 +141,7 @@ module _ (options : Options) (base most c : ℕ) where
       pub stage_sent : Stage schedule lacking new all after
       stage_sent = record {
         same = sends.schedule ∙ stage.same;
+        timed = sends_timed sends stage.timed;
         told = λ sent begins. subst (λ r. Told options base r sent (given_to c all) (sent_of c new.entries ++ after) MAX_WAITING_LEN) (sym received_same)
             (subst (λ d. Told options base (received_of c old.entries) sent (given_to c all) d MAX_WAITING_LEN) (sym due_same)
             (stage.told sent (begins.0, sym due_same ∙ begins.1)));
@@ -158,7 +162,7 @@ module _ (options : Options) (base most c : ℕ) where
     module _ (client : Client) {old new : Log} {bytes : List ℕ} (stage : Stage schedule lacking old all []) (reads : Reads c bytes old new)
         (at : Reaches options base (position_of client) (received_of c old.entries) (given_to c all) (sent_of c old.entries ++ []))
         (first : client.done ≡ 0) (short : length (client.kept ++ bytes) ≤ MAX_WAITING_LEN) where
-      entries_received : (b : List ℕ) (entries : List Entry) → received_of c (after_receiving c b entries) ≡ received_of c entries ++ b
+      entries_received : (b : List ℕ) (entries : List Entry) → received_of c (after_receiving reads.at c b entries) ≡ received_of c entries ++ b
       entries_received [] entries = sym (append-nil (received_of c entries))
       entries_received (byte ∷ b) entries = own_received c (byte ∷ b) entries
 
@@ -167,7 +171,7 @@ module _ (options : Options) (base most c : ℕ) where
           ap (received_of c) reads.entries ∙ entries_received bytes (reads.mets ++ old.entries) ∙ ap (λ r. r ++ bytes) (mets_received c reads.mets old.entries reads.each)
 
       pub sent_now : sent_of c new.entries ≡ sent_of c old.entries
-      sent_now = ap (sent_of c) reads.entries ∙ receiving_sent c c bytes (reads.mets ++ old.entries) ∙ mets_sent c reads.mets old.entries reads.each
+      sent_now = ap (sent_of c) reads.entries ∙ receiving_sent reads.at c c bytes (reads.mets ++ old.entries) ∙ mets_sent c reads.mets old.entries reads.each
 
       reached : Reaches options base (record { bytes = drop client.dropping (client.kept ++ bytes); done = 0; dropping = client.dropping - length (client.kept ++ bytes) })
           (received_of c old.entries ++ bytes) (given_to c all) (sent_of c old.entries ++ [])
@@ -182,7 +186,7 @@ module _ (options : Options) (base most c : ℕ) where
           through_sends options base most schedule lacking c old.entries all stage.through reads.mets (mets_send c reads.mets reads.each) (sent_of c old.entries ++ [])
           (few_due old [] stage.few) stage.told ([], ap (λ s. s ++ []) (sym (mets_sent c reads.mets old.entries reads.each)))
 
-      read_through : (b : List ℕ) → b ≡ bytes → TalksThrough options base most schedule lacking (after_receiving c b (reads.mets ++ old.entries)) all
+      read_through : (b : List ℕ) → b ≡ bytes → TalksThrough options base most schedule lacking (after_receiving reads.at c b (reads.mets ++ old.entries)) all
       read_through [] is = met_through
       read_through (byte ∷ b) is =
           let entries = reads.mets ++ old.entries in
@@ -192,15 +196,17 @@ module _ (options : Options) (base most c : ℕ) where
           own_received c (byte ∷ b) entries ∙ ap (λ x. received_of c entries ++ x) is ∙ ap (λ r. r ++ bytes) (mets_received c reads.mets old.entries reads.each) in
           let here : TalksWith options base most (received_of c old.entries ++ bytes) (sent_of c entries) (given_to c all) =
           (t.talk, record { kept = t.few; unsent = let all_due = ap length (t.due_is ∙ append-nil (sent_of c old.entries) ∙ sym sent_same) in omega (arith, all_due) }) in
-          through_entry options base most schedule lacking (entry.received c (byte ∷ b)) entries all
+          through_second options base most schedule lacking reads.at (entry.received c (byte ∷ b) ∷ entries) all
+          (through_entry options base most schedule lacking (entry.received c (byte ∷ b)) entries all
           (with_all options base most lacking c entries (entry.received c (byte ∷ b) ∷ entries) all all
-          (λ d other. record { came = receiving_others c d other (byte ∷ b) entries; went = refl; given = refl })
+          (λ d other. record { came = receiving_others reads.at c d other (byte ∷ b) entries; went = refl; given = refl })
           (inl (subst (λ r. TalksWith options base most r (sent_of c entries) (given_to c all)) (sym received_is) here)) (last_moment options base most schedule lacking entries all met_through))
-          tt met_through
+          tt met_through)
 
       pub stage_read : Stage schedule lacking new all []
       stage_read = record {
         same = reads.schedule ∙ stage.same;
+        timed = reads_timed reads stage.timed;
         told = λ sent begins. subst (λ r. Told options base r sent (given_to c all) (sent_of c new.entries ++ []) MAX_WAITING_LEN) (sym received_now)
             (subst (λ s. Told options base (received_of c old.entries ++ bytes) sent (given_to c all) (s ++ []) MAX_WAITING_LEN) (sym sent_now)
             (told_now sent (begins.0, ap (λ s. s ++ []) (sym sent_now) ∙ begins.1)));
@@ -210,10 +216,10 @@ module _ (options : Options) (base most c : ℕ) where
 
     -- More is answered
 
-    pub stage_answered : (halt : Halt) (answers : List Answered) {log : Log} {replies : List ℕ} {client : Client} → Stage schedule lacking log all [] → IsClient client → length replies ≤ most
+    pub stage_answered : (halt : Halt) (answers : List Answered) {log : Log} {replies : List ℕ} {client : Client} → AreAt options (second_of log.entries) answers → Stage schedule lacking log all [] → IsClient client → length replies ≤ most
         → HaltsAs options base MAX_WAITING_LEN halt (position_of client) (received_of c log.entries) (given_to c all ++ answers) (sent_of c log.entries ++ replies)
         → Stage schedule lacking log (all ++ all_to c answers) replies
-    stage_answered halt answers {log} {replies} {client} stage is few stands =
+    stage_answered halt answers {log} {replies} {client} at stage is few stands =
         let told : (sent : List ℕ) → IsBeginning sent (sent_of c log.entries ++ replies)
         → Told options base (received_of c log.entries) sent (given_to c (all ++ all_to c answers)) (sent_of c log.entries ++ replies) MAX_WAITING_LEN =
         λ sent begins. subst (λ g. Told options base (received_of c log.entries) sent g (sent_of c log.entries ++ replies) MAX_WAITING_LEN) (sym (given_more c all answers))
@@ -221,9 +227,10 @@ module _ (options : Options) (base most c : ℕ) where
         let t = told (sent_of c log.entries) (replies, refl) in
         record {
           same = stage.same;
+          timed = stage.timed;
           told = told;
           few = few;
-          through = through_answers options base most schedule lacking log.entries all (all_to c answers)
+          through = through_answers options base most schedule lacking log.entries all (all_to c answers) (since_told options c log.entries answers stage.timed at)
               (with_all options base most lacking c log.entries log.entries all (all ++ all_to c answers)
               (λ d other. record { came = refl; went = refl; given = given_others c d all answers other })
               (inl (t.talk, record { kept = t.few; unsent = let all_due = ap length t.due_is in let len = length-append (sent_of c log.entries) replies in omega (arith, all_due, len, few) }))
@@ -232,13 +239,13 @@ module _ (options : Options) (base most c : ℕ) where
 
     -- Memory lacked
 
-    pub stage_lacking : (answers : List Answered) {log : Log} → IsAmong c lacking → Stage schedule lacking log all []
+    pub stage_lacking : (answers : List Answered) {log : Log} → AreAt options (second_of log.entries) answers → IsAmong c lacking → Stage schedule lacking log all []
         → Spoke options base MAX_WAITING_LEN (received_of c log.entries) (given_to c all ++ answers) (sent_of c log.entries ++ [])
         → TalksThrough options base most schedule lacking log.entries (all ++ all_to c answers)
-    stage_lacking answers {log} among stage spoke =
+    stage_lacking answers {log} at among stage spoke =
         let talk = subst (λ s. TalksKept options base (received_of c log.entries) s (given_to c all ++ answers)) (append-nil (sent_of c log.entries)) (spoke.talk, spoke.few) in
         let here = subst (λ g. TalksKept options base (received_of c log.entries) (sent_of c log.entries) g) (sym (given_more c all answers)) talk in
-        through_answers options base most schedule lacking log.entries all (all_to c answers)
+        through_answers options base most schedule lacking log.entries all (all_to c answers) (since_told options c log.entries answers stage.timed at)
         (with_all options base most lacking c log.entries log.entries all (all ++ all_to c answers)
         (λ d other. record { came = refl; went = refl; given = given_others c d all answers other }) (inr (among, here))
         (last_moment options base most schedule lacking log.entries all stage.through)) stage.through

@@ -1,5 +1,5 @@
 -- What a front answered, and which connection each answer was given to.
-use Rattle.std.specs.Prelude.{◌≡◌, ℕ, ◌==◌, List, ◌++◌, map, filter}
+use Rattle.std.specs.Prelude.{ℕ, ◌==◌, List, map, filter}
 use Rattle.fronts.specs.Answered.{Answered}
 
 -- an answer to what the client of a connection said, by the place of that among all that were made
@@ -13,7 +13,3 @@ answers_in all = map (λ g. g.answered) all
 -- the answers that were given to one connection, in order
 abbrev pub given_to : ℕ → List Given → List Answered
 given_to c all = answers_in (filter (λ g. g.to == c) all)
-
--- these had been given at a moment, where all were given in the end
-abbrev pub ByThen : List Given → List Given → Type 0
-ByThen first all = (later : List Given) × (all ≡ first ++ later)

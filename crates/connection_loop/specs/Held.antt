@@ -7,8 +7,9 @@ use Rattle.memcached_text.specs.Next.{next_of}
 use Rattle.connections.specs.declared.connections.Broken.{Broken}
 use Rattle.connections.specs.declared.connections.Input.{Input}
 use Rattle.connections.specs.declared.connections.Input.TheVariants.{Ended}
-use Rattle.connections.specs.Log.{Log, state_of, connections_of, received_of, sent_of}
+use Rattle.connections.specs.Log.{Log, state_of, connections_of, received_of, second_of, sent_of}
 use Rattle.fronts.specs.Answered.{Answered}
+use Rattle.command_answers.specs.Seconds.{AreAt}
 use Rattle.connection_loop.specs.declared.answer.Halt.{Halt}
 use Rattle.connection_loop.specs.declared.answer.Halt.TheVariants.{Needs, Leaves}
 use Rattle.connection_loop.specs.declared.client.Client.{Client}
@@ -18,7 +19,7 @@ use Rattle.connection_loop.specs.declared.visit.After.TheVariants.{Waits, Again,
 use Rattle.connection_loop.specs.Given.{Given, given_to}
 use Rattle.connection_loop.specs.Reached.{Reaches, Ends, GoesOnTo, SpokeFrom, SpokeBehind, HaltsAs, position_of}
 use Rattle.connection_loop.specs.Closing.{MayClose}
-use Rattle.connection_loop.specs.Moments.{IsAmong, TalksThrough}
+use Rattle.connection_loop.specs.Moments.{IsAmong, TalksThrough, is_timed}
 use Rattle.connection_loop.specs.Turns.{GrowsBy, asks_of, moved, most_answers}
 use Rattle.connection_loop.specs.Traffic.{Reads, IsIn, IsBroken, HasEnded, EndsBy, is_drained}
 use Rattle.connection_loop.specs.Resting.{Moves, Rests}
@@ -60,6 +61,7 @@ pub record Passes (reads c : ℕ) (old new : Log) : Type 0 where
   pub moves : Moves c (state_of old) (state_of new)
   pub others : (d : ℕ) → (c == d) ≡ false → StaysAs d old new
   pub unasked : (d : ℕ) → asks_of d new.entries ≡ asks_of d old.entries
+  pub timed : is_timed old.entries ≡ true → is_timed new.entries ≡ true
 
 -- what is kept begins with a whole command still, where it did
 abbrev pub KeepsWhole : Client → Client → Type 0
@@ -72,7 +74,7 @@ pub record Visits (options : Options) (base looks : ℕ) (client : Client) (answ
   pub passes : Passes looks c old new
   pub few_answers : length answers ≤ looks * most_answers options
   pub earns : becomes ≡ Again → (looks ≡ 1 → KeepsWhole client now) → moved c old.entries < moved c new.entries + length answers
-  pub talks : (lacking : List ℕ) (all : List Given) → Holds options base MOST_UNSENT c old (given_to c all) client
+  pub talks : (lacking : List ℕ) (all : List Given) → is_timed old.entries ≡ true → Holds options base MOST_UNSENT c old (given_to c all) client
       → TalksThrough options base MOST_UNSENT old.schedule lacking old.entries all
       → TalksThrough options base MOST_UNSENT old.schedule lacking new.entries (all ++ all_to c answers)
       × Becomes options base MOST_UNSENT c new (given_to c all ++ answers) now becomes
@@ -96,10 +98,11 @@ pub record GoesFurther (options : Options) (base : ℕ) (client : Client) (answe
   pub goes : GoesOnTo options base (position_of client) answers [] replies (HaltsAs options base MAX_WAITING_LEN r.0 (position_of now))
   pub few : length replies ≤ MOST_UNSENT
   pub few_answers : length answers ≤ most_answers options
+  pub at : AreAt options (second_of new.entries) answers
   pub ends : EndsBy r.1 c new
   pub earns : KeepsWhole client now → IsAtRest r.0 r.1 ⊎ (0 < length answers + length replies)
 
--- The connection was read once, and what had come was answered.
+-- The connection was read once, and what had come was answered, at the second that was told last then.
 pub record ReadsOn (options : Options) (base : ℕ) (client : Client) (answers : List Answered) (replies : List ℕ) (now : Client) (r : Halt × Option Input) (c : ℕ) (old new : Log)
     : Type 0 where
   pub first : client.done ≡ 0
@@ -110,6 +113,7 @@ pub record ReadsOn (options : Options) (base : ℕ) (client : Client) (answers :
       (λ received given due. HaltsAs options base MAX_WAITING_LEN r.0 (position_of now) (received ++ bytes) given due)
   pub few : length replies ≤ MOST_UNSENT
   pub few_answers : length answers ≤ most_answers options
+  pub at : AreAt options (second_of new.entries) answers
   pub ends : EndsBy r.1 c new
   pub earns : KeepsWhole client now → IsAtRest r.0 r.1 ⊎ (0 < length bytes + length answers + length replies)
 
@@ -127,6 +131,7 @@ pub record LacksFurther (options : Options) (base : ℕ) (client : Client) (answ
   pub same : new ≡ old
   pub spoke : SpokeFrom options base MAX_WAITING_LEN (position_of client) answers
   pub few_answers : length answers ≤ most_answers options
+  pub at : AreAt options (second_of new.entries) answers
 
 -- The connection was read once, and what had come may have been answered.
 pub record LacksRead (options : Options) (base : ℕ) (client : Client) (answers : List Answered) (c : ℕ) (old new : Log) : Type 0 where
@@ -136,6 +141,7 @@ pub record LacksRead (options : Options) (base : ℕ) (client : Client) (answers
   pub reads : Reads c bytes old new
   pub spoke : SpokeBehind options base MAX_WAITING_LEN (position_of client) bytes answers
   pub few_answers : length answers ≤ most_answers options
+  pub at : AreAt options (second_of new.entries) answers
 
 abbrev pub Lacks : Options → ℕ → Client → List Answered → ℕ → Log → Log → Type 0
 Lacks options base client answers c old new = LacksFurther options base client answers old new ⊎ LacksRead options base client answers c old new
@@ -144,7 +150,7 @@ Lacks options base client answers c old new = LacksFurther options base client a
 pub record VisitLacks (options : Options) (base looks : ℕ) (client : Client) (answers : List Answered) (c : ℕ) (old new : Log) : Type 0 where
   pub passes : Passes looks c old new
   pub few_answers : length answers ≤ looks * most_answers options
-  pub talks : (lacking : List ℕ) (all : List Given) → IsAmong c lacking → Holds options base MOST_UNSENT c old (given_to c all) client
+  pub talks : (lacking : List ℕ) (all : List Given) → is_timed old.entries ≡ true → IsAmong c lacking → Holds options base MOST_UNSENT c old (given_to c all) client
       → TalksThrough options base MOST_UNSENT old.schedule lacking old.entries all
       → TalksThrough options base MOST_UNSENT old.schedule lacking new.entries (all ++ all_to c answers)
 

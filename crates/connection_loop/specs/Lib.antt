@@ -15,3 +15,4 @@ pub mod Clients
 pub mod Resting
 pub mod Held
 pub mod Standing
+pub mod Counting

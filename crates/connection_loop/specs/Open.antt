@@ -1,7 +1,7 @@
 -- Which numbers connections are open under, and how often each may be asked for again.
 use Rattle.std.specs.Prelude.{◌≡◌, ◌≢◌, ⊤, ℕ, ◌≤◌, ◌-◌, ◌*◌, List, slice_get, Option, Some, None, Result, Ok}
 use Rattle.connections.specs.declared.connections.Event.{Event}
-use Rattle.connections.specs.declared.connections.Event.TheVariants.{Opened, Ready}
+use Rattle.connections.specs.declared.connections.Event.TheVariants.{Opened, TurnedAway, Ready}
 use Rattle.connections.specs.declared.connections.Input.{Input}
 use Rattle.connections.specs.declared.connections.Input.TheVariants.{Bytes, All}
 use Rattle.connections.specs.declared.connections.Broken.{Broken}
@@ -51,4 +51,5 @@ OnLogs P (Some old) (Some new) = P old new
 -- a connection that is reported as new is open
 abbrev pub IsOpened : Event → Log → Type 0
 IsOpened (Opened number) log = IsOpen number 0 log
+IsOpened TurnedAway log = ⊤
 IsOpened (Ready number) log = ⊤

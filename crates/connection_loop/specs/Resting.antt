@@ -1,9 +1,9 @@
 -- Which connections wait for their peers, and how they go on doing so.
-use Rattle.std.specs.Prelude.{◌≡◌, ◌≢◌, ◌⊎◌, ◌<◌, ℕ, ◌==◌, Bool, true, false, List, [], slice_get, Option, None, Some, is_some, IfSome}
+use Rattle.std.specs.Prelude.{◌≡◌, ◌≢◌, ◌⊎◌, ◌<◌, ⊤, ℕ, ◌==◌, Bool, true, false, List, [], slice_get, Option, None, Some, is_some, IfSome}
 use Rattle.memcached_text.specs.declared.next.Next.TheVariants.{More}
 use Rattle.memcached_text.specs.Next.{next_of}
 use Rattle.connections.specs.declared.connections.Event.{Event}
-use Rattle.connections.specs.declared.connections.Event.TheVariants.{Opened, Ready}
+use Rattle.connections.specs.declared.connections.Event.TheVariants.{Opened, TurnedAway, Ready}
 use Rattle.connections.specs.Connection.{Connection}
 use Rattle.connections.specs.State.{State, is_under, held}
 use Rattle.connection_loop.specs.declared.client.Client.{Client}
@@ -40,19 +40,22 @@ pub record Tends (piece : ℕ) (state : State) (clients : List (Option Client)) 
   pub apart : AreApart state.connections
   pub each : (n c : ℕ) → held n state.connections ≡ Some c → Tended piece n c state clients
 
-abbrev pub number_in : Event → ℕ
-number_in (Opened number) = number
-number_in (Ready number) = number
+-- what is reported is under no such number
+abbrev pub IsOther : ℕ → Event → Type 0
+IsOther n (Opened number) = n ≢ number
+IsOther n TurnedAway = ⊤
+IsOther n (Ready number) = n ≢ number
 
 -- of what is reported: a new connection sent nothing yet, and another is held
 abbrev pub IsTold : Event → State → List (Option Client) → Type 0
 IsTold (Opened number) state clients = (c : ℕ) → held number state.connections ≡ Some c → IfSome (slice_get state.connections c) IsDrained
+IsTold TurnedAway state clients = ⊤
 IsTold (Ready number) state clients = (c : ℕ) → held number state.connections ≡ Some c → is_some (at clients number) ≡ true
 
 -- each but the one that is reported
 pub record TendsBut (event : Event) (piece : ℕ) (state : State) (clients : List (Option Client)) : Type 0 where
   pub apart : AreApart state.connections
-  pub each : (n c : ℕ) → n ≢ number_in event → held n state.connections ≡ Some c → Tended piece n c state clients
+  pub each : (n c : ℕ) → IsOther n event → held n state.connections ≡ Some c → Tended piece n c state clients
   pub told : IsTold event state clients
 
 -- Calls were made for the c-th connection. Numbers stay, and reports that were to come are. Of each other, a report is to come, or nothing happened. Where

@@ -1,23 +1,21 @@
 -- What a front made of the connections at its port.
 use Rattle.std.specs.Prelude.{◌≡◌, ◌⊎◌, ℕ, ◌+◌, ◌<◌, ◌≤◌, Bool, true, List, [], length, min}
-use Rattle.outside.specs.Seconds.{ClockView}
 use Rattle.partition_model.specs.declared.options.Options.{Options}
 use Rattle.outside.specs.Faults.{LAST_COUNT}
 use Rattle.connections.specs.Log.{Log, state_of}
 use Rattle.fronts.specs.Answered.{Answered, count_of_writes}
 use Rattle.fronts.specs.Session.{Sessions, AnswersInOrder}
-use Rattle.command_answers.specs.Seconds.{seconds_of, ToldFrom}
 use Rattle.connection_loop.specs.declared.answer.TheConstants.{LIMITS}
 use Rattle.connection_loop.specs.Given.{Given}
+use Rattle.connection_loop.specs.Going.{NeverFall, seconds_of}
 use Rattle.connection_loop.specs.Moments.{TalksThrough, IsCaughtUp}
 use Rattle.connection_loop.specs.Turns.{TakesTurns}
 
--- What contracts see of a front, its clock and its port at one moment: among them how many writes it may still be given; and a count of connections that there
+-- What contracts see of a front and its port at one moment: among them how many writes it may still be given; and a count of connections that there
 -- was no memory for.
 pub record FrontAt : Type 0 where
   pub sessions : Sessions
   pub left : ℕ
-  pub clock : ClockView
   pub lacked : ℕ
   pub has_ended : Bool
 
@@ -29,14 +27,14 @@ IsSpent options left = left < LIMITS.asks + options.partitions
 abbrev pub IsFinished : Options → Bool → ℕ → Type 0
 IsFinished options has_ended left = (has_ended ≡ true) ⊎ IsSpent options left
 
--- All answers of the front are one list: its sessions went on by them in this order, and the clock told their seconds; it was given no writes but those among
--- them. They were given in short turns, one for each report: in each those to clients, then few sweeps, and nothing else. At each moment of the log those to
--- clients are what it talked with them. For some connections there was no memory, as many as were counted. Behind all turns the front has caught up, as before
--- each. Where the end came, nothing is to come any more: so each connection is settled.
+-- All answers of the front are one list: its sessions went on by them in this order; it was given no writes but those among them; their seconds never fall. They
+-- were given in short turns, one for each report: in each those to clients, then few sweeps, and nothing else. At each moment of the log those to clients are what
+-- it talked with them, at the second that the log had told last. For some connections there was no memory, as many as were counted. Behind all turns the front has
+-- caught up, as before each. Where the end came, nothing is to come any more: so each connection is settled.
 pub record AnswersClients (options : Options) (is_alone : Bool) (base most : ℕ) (old new : FrontAt) (log : Log) (all : List Given) : Type 0 where
   pub answers : List Answered
   pub in_order : AnswersInOrder options is_alone old.sessions answers new.sessions
-  pub seconds : ToldFrom old.clock (seconds_of options answers) new.clock
+  pub seconds : NeverFall (seconds_of options answers)
   pub few : old.left ≤ new.left + count_of_writes answers
   pub lacking : List ℕ
   pub counted : min new.lacked LAST_COUNT ≡ min (old.lacked + length lacking) LAST_COUNT

@@ -1,9 +1,8 @@
 -- What stands between a front and all its clients at one moment, and what a report makes of that.
-use Rattle.std.specs.Prelude.{◌≡◌, ⊤, ℕ, ◌+◌, ◌*◌, ◌≤◌, Bool, List, [], ◌++◌, length, slice_get, Option, None, Some}
-use Rattle.outside.specs.Seconds.{ClockView}
+use Rattle.std.specs.Prelude.{◌≡◌, ⊤, ℕ, ◌+◌, ◌*◌, ◌≤◌, Bool, true, List, [], ◌++◌, length, slice_get, Option, None, Some}
 use Rattle.partition_model.specs.declared.options.Options.{Options}
 use Rattle.connections.specs.declared.connections.Event.{Event}
-use Rattle.connections.specs.declared.connections.Event.TheVariants.{Opened, Ready}
+use Rattle.connections.specs.declared.connections.Event.TheVariants.{Opened, TurnedAway, Ready}
 use Rattle.connections.specs.State.{Entry, held}
 use Rattle.connections.specs.Log.{Log, state_of, connections_of, received_of, sent_of}
 use Rattle.fronts.specs.Session.{Sessions}
@@ -12,7 +11,7 @@ use Rattle.connection_loop.specs.declared.desk.TheConstants.{MOST_UNSENT}
 use Rattle.connection_loop.specs.Given.{Given, answers_in, given_to}
 use Rattle.connection_loop.specs.Clients.{at}
 use Rattle.connection_loop.specs.Going.{GoesByThese}
-use Rattle.connection_loop.specs.Moments.{TalksThrough}
+use Rattle.connection_loop.specs.Moments.{TalksThrough, is_timed}
 use Rattle.connection_loop.specs.Turns.{GrowsBy, asks_of, moved, most_answers}
 use Rattle.connection_loop.specs.Held.{Holds}
 use Rattle.connection_loop.specs.Resting.{Tends, TendsBut}
@@ -29,9 +28,10 @@ pub record HoldsUnder (options : Options) (base : ℕ) (log : Log) (all : List G
   pub under : held number (connections_of log) ≡ Some place
   pub holds : Holds options base MOST_UNSENT place log (given_to place all) client
 
--- The front had talked with all clients, at each moment of the log, by these answers; what is held of each goes with its talk; and nothing was done with
--- connections that are not made yet.
+-- The front had talked with all clients, at each moment of the log, by these answers; it was told which second it is; what is held of each goes with its talk;
+-- and nothing was done with connections that are not made yet.
 pub record Stands (options : Options) (base : ℕ) (lacking : List ℕ) (log : Log) (all : List Given) (clients : List (Option Client)) : Type 0 where
+  pub timed : is_timed log.entries ≡ true
   pub through : TalksThrough options base MOST_UNSENT log.schedule lacking log.entries all
   pub holds : (n : ℕ) (client : Client) → at clients n ≡ Some client → HoldsUnder options base log all n client
   pub to_come : (c : ℕ) → slice_get (connections_of log) c ≡ None → IsUntouched c log.entries all
@@ -43,6 +43,7 @@ StandsBut options base lacking count log all clients = (more : List ℕ) × (len
 -- nothing was done yet with a connection that is reported as new
 abbrev pub IsNew : Event → Log → List Given → Type 0
 IsNew (Opened number) log all = (c : ℕ) → held number (connections_of log) ≡ Some c → IsUntouched c log.entries all
+IsNew TurnedAway log all = ⊤
 IsNew (Ready number) log all = ⊤
 
 -- Whatever stood as this was reported, stands after it was served, with these answers more, where memory lacked for so many connections. Few calls were made,
@@ -60,6 +61,6 @@ pub record StandsOn (options : Options) (base : ℕ) (event : Event) (clients : 
       → TendsBut event old.script.piece (state_of old) clients → Tends old.script.piece (state_of new) now
 
 -- They went on by some answers, of which it is told to whom they were given, and of these P holds.
-abbrev pub GoesByGiven : Options → Bool → Sessions → ℕ → ClockView → Sessions → ℕ → ClockView → (List Given → Type 0) → Type 0
+abbrev pub GoesByGiven : Options → Bool → Sessions → ℕ → ℕ → Sessions → ℕ → ℕ → (List Given → Type 0) → Type 0
 GoesByGiven options is_alone old left told new left_after tells P =
     (given : List Given) × GoesByThese options is_alone old left told (answers_in given) new left_after tells × P given

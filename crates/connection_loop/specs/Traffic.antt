@@ -2,12 +2,12 @@
 use Rattle.std.specs.Prelude.{◌≡◌, ◌≢◌, ◌⊎◌, ◌<◌, ⊤, ℕ, Bool, true, false, List, [], ◌∷◌, ◌++◌, length, take, slice_get, Option, Some, IfSome, Result, Ok, Err}
 use Rattle.std.specs.List.{AllByRecursion}
 use Rattle.connections.specs.declared.schedule.Step.{Step}
-use Rattle.connections.specs.declared.schedule.Step.TheVariants.{Opens, Reports, Happens}
+use Rattle.connections.specs.declared.schedule.Step.TheVariants.{Opens, TurnsAway, Reports, Happens}
 use Rattle.connections.specs.declared.connections.Broken.{Broken}
 use Rattle.connections.specs.declared.connections.Input.{Input}
 use Rattle.connections.specs.declared.connections.Input.TheVariants.{Bytes, All, Later, Ended}
 use Rattle.connections.specs.Connection.{Connection}
-use Rattle.connections.specs.State.{Entry, met, received, sent}
+use Rattle.connections.specs.State.{Entry, met, second, received, sent}
 use Rattle.connections.specs.Log.{Log, state_of, connections_of, sent_of}
 use Rattle.connections.specs.Calls.{OfHeld}
 
@@ -26,10 +26,10 @@ pub record Sends (c : ℕ) (text : List ℕ) (old new : Log) : Type 0 where
   pub entries : new.entries ≡ more ++ old.entries
   pub sent : sent_of c new.entries ≡ sent_of c old.entries ++ text
 
--- a read of the c-th connection that gave bytes is told
-abbrev pub after_receiving : ℕ → List ℕ → List Entry → List Entry
-after_receiving c [] entries = entries
-after_receiving c (byte ∷ bytes) entries = received c (byte ∷ bytes) ∷ entries
+-- a read of the c-th connection that gave bytes is told, and which second it is then
+abbrev pub after_receiving : ℕ → ℕ → List ℕ → List Entry → List Entry
+after_receiving s c [] entries = entries
+after_receiving s c (byte ∷ bytes) entries = second s ∷ received c (byte ∷ bytes) ∷ entries
 
 -- The c-th connection was read once at most, which gave these bytes. Steps may have been met before.
 pub record Reads (c : ℕ) (bytes : List ℕ) (old new : Log) : Type 0 where
@@ -37,7 +37,8 @@ pub record Reads (c : ℕ) (bytes : List ℕ) (old new : Log) : Type 0 where
   pub piece : new.script.piece ≡ old.script.piece
   pub mets : List Entry
   pub each : AllByRecursion (λ e. e ≡ met) mets
-  pub entries : new.entries ≡ after_receiving c bytes (mets ++ old.entries)
+  pub at : ℕ
+  pub entries : new.entries ≡ after_receiving at c bytes (mets ++ old.entries)
 
 -- of the c-th connection of a log
 abbrev pub IsIn : (Connection → Type 0) → ℕ → Log → Type 0
@@ -71,6 +72,7 @@ IsShutIn c log = 0 < log.script.piece → IsIn IsShut c log
 abbrev pub IsToCome : ℕ → List Step → Type 0
 IsToCome c [] = ⊥
 IsToCome c (Opens window bytes ∷ later) = IsToCome c later
+IsToCome c (TurnsAway ∷ later) = IsToCome c later
 IsToCome c (Reports d change ∷ later) = (d ≡ c) ⊎ IsToCome c later
 IsToCome c (Happens d change ∷ later) = (d ≡ c) ⊎ IsToCome c later
 

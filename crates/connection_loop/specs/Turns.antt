@@ -3,10 +3,11 @@ use Rattle.std.specs.Prelude.{◌≡◌, ⊤, ℕ, suc, ◌==◌, ◌+◌, ◌*�
 use Rattle.std.specs.List.{AllByRecursion}
 use Rattle.partition_model.specs.declared.options.Options.{Options}
 use Rattle.connections.specs.declared.schedule.Step.{Step}
-use Rattle.connections.specs.State.{Entry, opened, reported, received, asked}
-use Rattle.connections.specs.Log.{received_of, sent_of}
+use Rattle.connections.specs.State.{Entry, opened, reported, turned_away, received, asked}
+use Rattle.connections.specs.Log.{received_of, second_of, sent_of}
 use Rattle.fronts.specs.Answered.{Answered}
 use Rattle.command_answers.specs.declared.sweeper.TheConstants.{MOST_SWEPT}
+use Rattle.command_answers.specs.Seconds.{AreAt}
 use Rattle.command_answers.specs.Sweeps.{IsSweep}
 use Rattle.connection_loop.specs.declared.answer.TheConstants.{LIMITS, MOST_COMMANDS}
 use Rattle.connection_loop.specs.Given.{Given, answers_in, given_to}
@@ -16,6 +17,7 @@ use Rattle.connection_loop.specs.Moments.{TalksWithAll, IsCaughtUp}
 abbrev pub is_report : Entry → Bool
 is_report (opened number) = true
 is_report (reported number) = true
+is_report turned_away = true
 is_report _ = false
 
 -- a read gave bytes
@@ -61,7 +63,7 @@ pub record Turn : Type 0 where
   pub given : List Given
   pub swept : List Answered
 
--- It reads bytes at most twice, gives clients no more answers than two looks do, and sweeps little. None is asked for again for nothing: bytes of it were
+-- It reads bytes at most twice, gives clients no more answers than two looks do, and sweeps little, at the second that was told last in it. None is asked for again for nothing: bytes of it were
 -- received or sent in this turn, or its client was answered.
 pub record IsShort (options : Options) (base : ℕ) (turn : Turn) : Type 0 where
   pub begins : is_report turn.report ≡ true
@@ -69,6 +71,7 @@ pub record IsShort (options : Options) (base : ℕ) (turn : Turn) : Type 0 where
   pub few_answers : length turn.given ≤ 2 * most_answers options
   pub earns : (c : ℕ) → EarnsAsks c turn.calls turn.given
   pub sweeps : AllByRecursion (IsSweep options base) turn.swept
+  pub at : AreAt options (second_of (turn.calls ++ turn.report ∷ [])) turn.swept
   pub few_sweeps : length turn.swept ≤ MOST_SWEPT
 
 -- what calls did in these turns, the last of which is first

@@ -4,17 +4,19 @@ ghost use Rattle.memcached_text.specs.declared.limits.TheConstants.{MAX_REPLY_LE
 ghost use Rattle.memcached_text.specs.declared.next.Next.TheVariants.{More};
 ghost use Rattle.memcached_text.specs.Next.{next_of};
 ghost use Rattle.command_answers.specs.Exchange.{IsOpenAt};
+ghost use Rattle.connection_loop.specs.Calls.{KeepsHand};
 ghost use Rattle.connection_loop.specs.declared.answer.TheConstants.{LIMITS};
 ghost use Rattle.connection_loop.specs.Paid.{Advances, AnswersOn, MayAnswer, SpeaksAs, SpeaksWhere};
 ghost use Rattle.connection_loop.specs.Turns.{most_answers, most_to_one};
 ghost use Rattle.connection_loop.specs.Going.{GoesBySome};
 ghost use Rattle.connection_loop.specs.Reached.{GoesOnTo, ReachesAfter, SpokeFrom, HaltsAs, position_at, position_in};
 
+use crate::hand::Hand;
 use crate::next::{is_last, len_of, said_next};
 use command_answers::{Buffers, Limits, Numbering, answer_next};
 use fronts::CountsWrites;
 use memcached_text::Next;
-use outside::{Clock, NoMemory};
+use outside::NoMemory;
 
 /// The most commands that are answered at one look, so that no connection holds up the others. One that gets no answer and no reply is not counted.
 pub const MOST_COMMANDS: u32 = 256;
@@ -90,29 +92,26 @@ fn speaks(done: usize, answers: usize, before: usize, len: usize) -> bool
 }
 
 /// Answers the command that the bytes begin with, to which so many answers were given, and appends its replies.
-fn answer_one<F: CountsWrites, K: Clock>(
-    front: &mut F,
-    clock: &mut K,
-    numbering: Numbering,
+fn answer_one<F: CountsWrites>(
+    hand: &mut Hand<F>,
     buffers: &mut Buffers,
     bytes: &[u8],
     done: usize,
     out: &mut Vec<u8>,
 ) -> Result<Said, NoMemory>
     requires open { IsOpenAt (next_of bytes.now) done }
-    requires partitions { numbering.partitions ≡ (F.options front.old).partitions }
-    requires left { MayAnswer numbering.partitions (F.left front.old) }
+    requires partitions { hand.old.numbering.partitions ≡ (F.options hand.old.front).partitions }
+    requires left { MayAnswer hand.old.numbering.partitions (F.left hand.old.front) }
     requires room { length out.old.items < LIMITS.bytes }
     ensures on { IfOk result (AnswersOn bytes.now done) }
     ensures short { length out.new.items ≤ max (length out.old.items) LIMITS.bytes + MAX_REPLY_LEN }
-    ensures talk { GoesBySome (F.options front.old) F.is_alone (F.sessions front.old) (F.left front.old) (K.view clock.old) (F.sessions front.new) (F.left front.new) (K.view clock.new)
-        (λ answers. (length answers ≤ most_to_one (F.options front.old)) × MatchResult result (λ said. GoesOnTo (F.options front.old) numbering.base (position_at bytes.now done) answers out.old.items out.new.items
-        (ReachesAfter (F.options front.old) numbering.base bytes.now done said) × SpeaksAs said answers out.old.items out.new.items)
-        (λ _. SpokeFrom (F.options front.old) numbering.base (length bytes.now) (position_at bytes.now done) answers)) }
-    ensures left { F.left front.old ≤ F.left front.new + LIMITS.asks + numbering.partitions }
-    ensures options { F.options front.new ≡ F.options front.old }
-    ensures number { F.number front.new ≡ F.number front.old }
-    ensures stands { F.stands front.new ≡ F.stands front.old }
+    ensures talk { GoesBySome (F.options hand.old.front) F.is_alone (F.sessions hand.old.front) (F.left hand.old.front) hand.old.second (F.sessions hand.new.front) (F.left hand.new.front) hand.new.second
+        (λ answers. (length answers ≤ most_to_one (F.options hand.old.front)) × MatchResult result (λ said. GoesOnTo (F.options hand.old.front) hand.old.numbering.base (position_at bytes.now done) answers out.old.items out.new.items
+        (ReachesAfter (F.options hand.old.front) hand.old.numbering.base bytes.now done said) × SpeaksAs said answers out.old.items out.new.items)
+        (λ _. SpokeFrom (F.options hand.old.front) hand.old.numbering.base (length bytes.now) (position_at bytes.now done) answers)) }
+    ensures left { F.left hand.old.front ≤ F.left hand.new.front + LIMITS.asks + hand.old.numbering.partitions }
+    ensures second { hand.new.second ≡ hand.old.second }
+    ensures same { KeepsHand F.options F.number F.stands hand.old hand.new }
 {
     let next = said_next(bytes);
     if let Next::More = next {
@@ -120,7 +119,16 @@ fn answer_one<F: CountsWrites, K: Clock>(
     }
     let (len, last) = (len_of(&next), is_last(&next));
     let before = out.len();
-    let progress = answer_next(front, clock, numbering, buffers, next, done, LIMITS, out)?;
+    let progress = answer_next(
+        &mut hand.front,
+        hand.second,
+        hand.numbering,
+        buffers,
+        next,
+        done,
+        LIMITS,
+        out,
+    )?;
     if !progress.is_whole {
         return Ok(Said::Part(progress.done));
     }
@@ -133,43 +141,40 @@ fn answer_one<F: CountsWrites, K: Clock>(
 }
 
 /// Answers what the bytes spell, in order, to whose first command so many answers were given, and appends the replies.
-pub fn answer_bytes<F: CountsWrites, K: Clock>(
-    front: &mut F,
-    clock: &mut K,
-    numbering: Numbering,
+pub fn answer_bytes<F: CountsWrites>(
+    hand: &mut Hand<F>,
     buffers: &mut Buffers,
     bytes: &[u8],
     done: usize,
     out: &mut Vec<u8>,
 ) -> Result<HowFar, NoMemory>
     requires open { IsOpenAt (next_of bytes.now) done }
-    requires partitions { numbering.partitions ≡ (F.options front.old).partitions }
+    requires partitions { hand.old.numbering.partitions ≡ (F.options hand.old.front).partitions }
     ensures within { IfOk result (λ a. a.taken ≤ length bytes.now) }
     ensures open { IfOk result (λ a. IsOpenAt (next_of (drop a.taken bytes.now)) a.done) }
     ensures waits { IfOk result (λ a. a.halt ≡ Halt.Needs → next_of (drop a.taken bytes.now) ≡ More) }
-    ensures advances { IfOk result (λ a. Advances (MayAnswer numbering.partitions (F.left front.old) × (length out.old.items < LIMITS.bytes))
+    ensures advances { IfOk result (λ a. Advances (MayAnswer hand.old.numbering.partitions (F.left hand.old.front) × (length out.old.items < LIMITS.bytes))
         ((a.halt ≡ Halt.Needs) × (next_of bytes.now ≡ More)) (position_at bytes.now done) (position_in bytes.now a)) }
     ensures short { length out.new.items ≤ max (length out.old.items) LIMITS.bytes + MAX_REPLY_LEN }
-    ensures talk { GoesBySome (F.options front.old) F.is_alone (F.sessions front.old) (F.left front.old) (K.view clock.old) (F.sessions front.new) (F.left front.new) (K.view clock.new)
-        (λ answers. (length answers ≤ most_answers (F.options front.old)) × MatchResult result (λ a. GoesOnTo (F.options front.old) numbering.base (position_at bytes.now done) answers out.old.items out.new.items
-        (HaltsAs (F.options front.old) numbering.base (length bytes.now) a.halt (position_in bytes.now a))
-        × SpeaksWhere (MayAnswer numbering.partitions (F.left front.old) × (length out.old.items < LIMITS.bytes)) a.halt answers out.old.items out.new.items)
-        (λ _. SpokeFrom (F.options front.old) numbering.base (length bytes.now) (position_at bytes.now done) answers)) }
-    ensures options { F.options front.new ≡ F.options front.old }
-    ensures number { F.number front.new ≡ F.number front.old }
-    ensures stands { F.stands front.new ≡ F.stands front.old }
+    ensures talk { GoesBySome (F.options hand.old.front) F.is_alone (F.sessions hand.old.front) (F.left hand.old.front) hand.old.second (F.sessions hand.new.front) (F.left hand.new.front) hand.new.second
+        (λ answers. (length answers ≤ most_answers (F.options hand.old.front)) × MatchResult result (λ a. GoesOnTo (F.options hand.old.front) hand.old.numbering.base (position_at bytes.now done) answers out.old.items out.new.items
+        (HaltsAs (F.options hand.old.front) hand.old.numbering.base (length bytes.now) a.halt (position_in bytes.now a))
+        × SpeaksWhere (MayAnswer hand.old.numbering.partitions (F.left hand.old.front) × (length out.old.items < LIMITS.bytes)) a.halt answers out.old.items out.new.items)
+        (λ _. SpokeFrom (F.options hand.old.front) hand.old.numbering.base (length bytes.now) (position_at bytes.now done) answers)) }
+    ensures second { hand.new.second ≡ hand.old.second }
+    ensures same { KeepsHand F.options F.number F.stands hand.old hand.new }
 {
-    let cost = most_writes(numbering);
+    let cost = most_writes(hand.numbering);
     let (mut taken, mut done, mut spoken) = (0, done, 0);
     while spoken < MOST_COMMANDS {
-        if front.writes_left() < cost || out.len() >= LIMITS.bytes {
+        if hand.front.writes_left() < cost || out.len() >= LIMITS.bytes {
             break;
         }
         let rest = &bytes[taken..];
         if rest.is_empty() {
             return Ok(HowFar::at(taken, done, Halt::Needs));
         }
-        let said = answer_one(front, clock, numbering, buffers, rest, done, out)?;
+        let said = answer_one(hand, buffers, rest, done, out)?;
         match said {
             Said::Nothing => return Ok(HowFar::at(taken, done, Halt::Needs)),
             Said::Part(done) => return Ok(HowFar::at(taken, done, Halt::Enough)),

@@ -1,7 +1,6 @@
 //! Calls of connections, by numbers under which they are open.
 ghost use Rattle.std.specs.Prelude.{◌<◌, ◌≤◌, ◌+◌, ◌-◌, length, IfOk, IfSome};
-ghost use Rattle.connections.specs.Calls.{FitsRoom, ReadGives, Asks, Closes};
-ghost use Rattle.connection_loop.specs.Calls.{LeavesPort};
+ghost use Rattle.connections.specs.Calls.{FitsRoom, ReadGives, Asks, Closes, Leaves};
 ghost use Rattle.connection_loop.specs.Open.{IsOpen, Keeps, KeepsOthers, AsksOnce, OnLogs, gained};
 ghost use Rattle.connection_loop.specs.Traffic.{OnHeld, ReadsTo, SendsOf, bytes_read, why};
 
@@ -22,7 +21,8 @@ pub fn receive<C: Connections>(
     ensures reads { OnLogs (OnHeld number (ReadsTo why (bytes_read out.new result) result)) (C.log connections.old) (C.log connections.new) }
     ensures keeps { OnLogs Keeps (C.log connections.old) (C.log connections.new) }
     ensures open { IfSome (C.log connections.new) (IsOpen number (asks + gained result)) }
-    ensures port { LeavesPort C.log C.has_ended C.faults C.port C.reports connections.old connections.new }
+    ensures port { Leaves C.log C.has_ended C.faults C.share C.reports connections.old connections.new }
+    ensures rises { C.last connections.old ≤ C.last connections.new }
 {
     connections.read(number, out)
 }
@@ -40,7 +40,8 @@ pub fn send<C: Connections>(
     ensures sends { OnLogs (OnHeld number (SendsOf text.now result)) (C.log connections.old) (C.log connections.new) }
     ensures keeps { OnLogs Keeps (C.log connections.old) (C.log connections.new) }
     ensures open { IfSome (C.log connections.new) (IsOpen number asks) }
-    ensures port { LeavesPort C.log C.has_ended C.faults C.port C.reports connections.old connections.new }
+    ensures port { Leaves C.log C.has_ended C.faults C.share C.reports connections.old connections.new }
+    ensures rises { C.last connections.old ≤ C.last connections.new }
 {
     let mut sent = 0;
     while sent < text.len() {
@@ -60,7 +61,8 @@ pub fn ask_again<C: Connections>(connections: &mut C, number: u32, asks: u64)
     requires open { IfSome (C.log connections.old) (IsOpen number asks) }
     ensures asks { IfSome (C.log connections.old) (λ l. Asks number l (C.log connections.new)) }
     ensures asked { OnLogs (AsksOnce number asks) (C.log connections.old) (C.log connections.new) }
-    ensures port { LeavesPort C.log C.has_ended C.faults C.port C.reports connections.old connections.new }
+    ensures port { Leaves C.log C.has_ended C.faults C.share C.reports connections.old connections.new }
+    ensures rises { C.last connections.old ≤ C.last connections.new }
 {
     connections.again(number);
 }
@@ -71,7 +73,8 @@ pub fn close<C: Connections>(connections: &mut C, number: u32, asks: u64)
     requires open { IfSome (C.log connections.old) (IsOpen number asks) }
     ensures closed { IfSome (C.log connections.old) (λ l. Closes number l (C.log connections.new)) }
     ensures others { OnLogs (KeepsOthers number) (C.log connections.old) (C.log connections.new) }
-    ensures port { LeavesPort C.log C.has_ended C.faults C.port C.reports connections.old connections.new }
+    ensures port { Leaves C.log C.has_ended C.faults C.share C.reports connections.old connections.new }
+    ensures rises { C.last connections.old ≤ C.last connections.new }
 {
     connections.close(number);
 }

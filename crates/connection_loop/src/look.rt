@@ -4,6 +4,7 @@ ghost use Rattle.memcached_text.specs.declared.limits.TheConstants.{MAX_WAITING_
 ghost use Rattle.memcached_text.specs.declared.next.Next.TheVariants.{More};
 ghost use Rattle.memcached_text.specs.Next.{next_of};
 ghost use Rattle.command_answers.specs.Exchange.{IsOpenAt};
+ghost use Rattle.connection_loop.specs.Calls.{KeepsHand};
 ghost use Rattle.connection_loop.specs.declared.desk.TheConstants.{MOST_UNSENT};
 ghost use Rattle.connection_loop.specs.Clients.{IsClient};
 ghost use Rattle.connection_loop.specs.Going.{GoesBySome};
@@ -13,10 +14,11 @@ ghost use Rattle.connection_loop.specs.Reached.{GoesOnTo, SpokeFrom, HaltsAs, le
 
 use crate::answer::{Halt, answer_bytes};
 use crate::client::Client;
+use crate::hand::Hand;
 use crate::kept::KeptBytes;
-use command_answers::{Buffers, Numbering, load_ahead};
+use command_answers::{Buffers, load_ahead};
 use fronts::CountsWrites;
-use outside::{Clock, NoMemory};
+use outside::NoMemory;
 use std::alloc::Global;
 
 impl Client {
@@ -41,11 +43,8 @@ impl Client {
 
 /// Answers what the bytes spell, where so many answers were given to their first command, and keeps what is left of them. The replies are no more than may be
 /// kept.
-pub(crate) fn look_at<F: CountsWrites, K: Clock>(
-    alloc: Global,
-    front: &mut F,
-    clock: &mut K,
-    numbering: Numbering,
+pub(crate) fn look_at<F: CountsWrites>(
+    hand: &mut Hand<F>,
     client: &mut Client,
     bytes: &[u8],
     done: usize,
@@ -55,29 +54,28 @@ pub(crate) fn look_at<F: CountsWrites, K: Clock>(
     requires short { length bytes.now ≤ MAX_WAITING_LEN }
     requires open { IsOpenAt (next_of bytes.now) done }
     requires paid { unanswered (position_at bytes.now done) ≤ client.old.asks }
-    requires partitions { numbering.partitions ≡ (F.options front.old).partitions }
+    requires partitions { hand.old.numbering.partitions ≡ (F.options hand.old.front).partitions }
     ensures client { IfOk result (λ _. IsClient client.new) }
     ensures leaving { IfOk result (λ halt. client.new.leaving ≡ leaves halt) }
     ensures few { IfOk result (λ _. length replies.new.items ≤ MOST_UNSENT) }
     ensures unsent { client.new.unsent ≡ client.old.unsent }
     ensures asks { client.new.asks ≡ client.old.asks }
     ensures waits { IfOk result (λ halt. halt ≡ Halt.Needs → next_of client.new.kept ≡ More) }
-    ensures advances { IfOk result (λ halt. Advances (MayAnswer numbering.partitions (F.left front.old)) ((halt ≡ Halt.Needs) × (next_of bytes.now ≡ More))
+    ensures advances { IfOk result (λ halt. Advances (MayAnswer hand.old.numbering.partitions (F.left hand.old.front)) ((halt ≡ Halt.Needs) × (next_of bytes.now ≡ More))
         (position_at bytes.now done) (position_of client.new)) }
-    ensures talk { GoesBySome (F.options front.old) F.is_alone (F.sessions front.old) (F.left front.old) (K.view clock.old) (F.sessions front.new) (F.left front.new) (K.view clock.new)
-        (λ answers. (length answers ≤ most_answers (F.options front.old)) × MatchResult result (λ halt. GoesOnTo (F.options front.old) numbering.base (position_at bytes.now done) answers [] replies.new.items
-        (HaltsAs (F.options front.old) numbering.base (length bytes.now) halt (position_of client.new))
-        × SpeaksWhere (MayAnswer numbering.partitions (F.left front.old)) halt answers [] replies.new.items)
-        (λ _. SpokeFrom (F.options front.old) numbering.base (length bytes.now) (position_at bytes.now done) answers)) }
-    ensures options { F.options front.new ≡ F.options front.old }
-    ensures number { F.number front.new ≡ F.number front.old }
-    ensures stands { F.stands front.new ≡ F.stands front.old }
+    ensures talk { GoesBySome (F.options hand.old.front) F.is_alone (F.sessions hand.old.front) (F.left hand.old.front) hand.old.second (F.sessions hand.new.front) (F.left hand.new.front) hand.new.second
+        (λ answers. (length answers ≤ most_answers (F.options hand.old.front)) × MatchResult result (λ halt. GoesOnTo (F.options hand.old.front) hand.old.numbering.base (position_at bytes.now done) answers [] replies.new.items
+        (HaltsAs (F.options hand.old.front) hand.old.numbering.base (length bytes.now) halt (position_of client.new))
+        × SpeaksWhere (MayAnswer hand.old.numbering.partitions (F.left hand.old.front)) halt answers [] replies.new.items)
+        (λ _. SpokeFrom (F.options hand.old.front) hand.old.numbering.base (length bytes.now) (position_at bytes.now done) answers)) }
+    ensures second { hand.new.second ≡ hand.old.second }
+    ensures same { KeepsHand F.options F.number F.stands hand.old hand.new }
 {
     replies.clear();
-    load_ahead(front, bytes);
-    let answered = answer_bytes(front, clock, numbering, buffers, bytes, done, replies)?;
+    load_ahead(&hand.front, bytes);
+    let answered = answer_bytes(hand, buffers, bytes, done, replies)?;
     client.dropping = answered.dropping;
     client.leaving = answered.halt == Halt::Leaves;
-    client.keep(alloc, &bytes[answered.taken..], answered.done)?;
+    client.keep(hand.alloc, &bytes[answered.taken..], answered.done)?;
     Ok(answered.halt)
 }

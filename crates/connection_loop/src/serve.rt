@@ -5,8 +5,10 @@ ghost use Rattle.outside.specs.Faults.{Rose};
 ghost use Rattle.connections.specs.Log.{LastFailed};
 ghost use Rattle.memcached_text.specs.declared.limits.TheConstants.{MAX_WAITING_LEN};
 ghost use Rattle.connection_loop.specs.declared.desk.TheConstants.{MOST_UNSENT};
-ghost use Rattle.connection_loop.specs.Calls.{LeavesPort, MovesFront};
+ghost use Rattle.connections.specs.Calls.{Leaves};
+ghost use Rattle.connection_loop.specs.Calls.{KeepsHand};
 ghost use Rattle.connection_loop.specs.Clients.{AreOpen};
+ghost use Rattle.connection_loop.specs.Counting.{tally_after_report};
 ghost use Rattle.connection_loop.specs.Going.{GoesBy};
 ghost use Rattle.connection_loop.specs.Open.{IsOpen, IsOpened, OnLogs};
 ghost use Rattle.connection_loop.specs.Paid.{MayAnswer};
@@ -18,22 +20,19 @@ use crate::calls::{ask_again, close};
 use crate::client::Client;
 use crate::clients::Clients;
 use crate::desk::Desk;
+use crate::hand::Hand;
 use crate::visit::After;
 use crate::visits::visit_on;
-use command_answers::{Numbering, Sweeper, sweep};
+use command_answers::{Sweeper, sweep};
 use connections::{Connections, Event};
 use fronts::{CountsWrites, Glances, ServeFault};
 use memcached_stats::{Board, Counter, Tally};
-use outside::{Clock, NoMemory};
-use std::alloc::Global;
+use outside::NoMemory;
 
 /// Visits the connection under a number, where one is held. Says for how many there was no memory, one at most.
 #[tactic(auto, using(crate::proofs::Going::by_none))]
-fn visit_held<F: CountsWrites, K: Clock, C: Connections>(
-    alloc: Global,
-    front: &mut F,
-    clock: &mut K,
-    numbering: Numbering,
+fn visit_held<F: CountsWrites, C: Connections>(
+    hand: &mut Hand<F>,
     connections: &mut C,
     number: u32,
     clients: &mut Clients,
@@ -41,29 +40,20 @@ fn visit_held<F: CountsWrites, K: Clock, C: Connections>(
 ) -> u64
     requires room { vec_len desk.old.room ≡ MAX_WAITING_LEN }
     requires clients { AreOpen clients.old.held.items (C.log connections.old) }
-    requires partitions { numbering.partitions ≡ (F.options front.old).partitions }
-    requires left { MayAnswer numbering.partitions (F.left front.old) }
+    requires partitions { hand.old.numbering.partitions ≡ (F.options hand.old.front).partitions }
+    requires left { MayAnswer hand.old.numbering.partitions (F.left hand.old.front) }
     ensures room { vec_len desk.new.room ≡ MAX_WAITING_LEN }
     ensures clients { AreOpen clients.new.held.items (C.log connections.new) }
-    ensures port { LeavesPort C.log C.has_ended C.faults C.port C.reports connections.old connections.new }
-    ensures front { MovesFront F.options F.number F.stands F.is_alone F.sessions F.left K.view front.old clock.old front.new clock.new }
-    ensures serves { GoesByGiven (F.options front.old) F.is_alone (F.sessions front.old) (F.left front.old) (K.view clock.old) (F.sessions front.new) (F.left front.new) (K.view clock.new)
-        (λ given. OnLogs (StandsOn (F.options front.old) numbering.base (Event.Ready number) clients.old.held.items result given clients.new.held.items) (C.log connections.old) (C.log connections.new)) }
+    ensures port { Leaves C.log C.has_ended C.faults C.share C.reports connections.old connections.new }
+    ensures same { KeepsHand F.options F.number F.stands hand.old hand.new }
+    ensures serves { GoesByGiven (F.options hand.old.front) F.is_alone (F.sessions hand.old.front) (F.left hand.old.front) (C.last connections.old) (F.sessions hand.new.front) (F.left hand.new.front) (C.last connections.new)
+        (λ given. OnLogs (StandsOn (F.options hand.old.front) hand.old.numbering.base (Event.Ready number) clients.old.held.items result given clients.new.held.items) (C.log connections.old) (C.log connections.new)) }
 {
     let Some(mut client) = clients.take(number) else {
         return 0;
     };
     let asks = client.asks;
-    let visited = visit_on(
-        alloc,
-        front,
-        clock,
-        numbering,
-        connections,
-        number,
-        &mut client,
-        desk,
-    );
+    let visited = visit_on(hand, connections, number, &mut client, desk);
     let after = match visited {
         Ok(after) => after,
         Err(NoMemory) => {
@@ -91,12 +81,15 @@ fn visit_held<F: CountsWrites, K: Clock, C: Connections>(
 }
 
 /// Counts what was reported, and for how many connections there was no memory, which are closed.
-fn count_event(event: Event, lacked: u64, tally: &mut Tally) {
+fn count_event(event: Event, lacked: u64, tally: &mut Tally)
+    ensures { tally.new ≡ tally_after_report event lacked tally.old }
+{
     match event {
         Event::Opened(_) => {
             tally.raise(Counter::Opened, 1);
             tally.raise(Counter::Rejected, lacked);
         }
+        Event::TurnedAway => tally.raise(Counter::Rejected, 1),
         Event::Ready(_) => tally.raise(Counter::Lacked, lacked),
     }
     tally.raise(Counter::Closed, lacked);
@@ -107,7 +100,8 @@ fn take_in<C: Connections>(connections: &mut C, number: u32, clients: &mut Clien
     requires clients { AreOpen clients.old.held.items (C.log connections.old) }
     requires open { IfSome (C.log connections.old) (IsOpen number 0) }
     ensures clients { AreOpen clients.new.held.items (C.log connections.new) }
-    ensures port { LeavesPort C.log C.has_ended C.faults C.port C.reports connections.old connections.new }
+    ensures port { Leaves C.log C.has_ended C.faults C.share C.reports connections.old connections.new }
+    ensures rises { C.last connections.old ≤ C.last connections.new }
     ensures serves { (options : Options) (base : ℕ)
         → OnLogs (StandsOn options base (Event.Opened number) clients.old.held.items result [] clients.new.held.items) (C.log connections.old) (C.log connections.new) }
 {
@@ -126,11 +120,8 @@ fn take_in<C: Connections>(connections: &mut C, number: u32, clients: &mut Clien
 
 /// Serves what is reported. Says for how many connections there was no memory.
 #[tactic(auto, using(crate::proofs::Going::by_none))]
-fn serve_event<F: CountsWrites, K: Clock, C: Connections>(
-    alloc: Global,
-    front: &mut F,
-    clock: &mut K,
-    numbering: Numbering,
+fn serve_event<F: CountsWrites, C: Connections>(
+    hand: &mut Hand<F>,
     connections: &mut C,
     event: Event,
     clients: &mut Clients,
@@ -139,87 +130,73 @@ fn serve_event<F: CountsWrites, K: Clock, C: Connections>(
     requires room { vec_len desk.old.room ≡ MAX_WAITING_LEN }
     requires clients { AreOpen clients.old.held.items (C.log connections.old) }
     requires event { IfSome (C.log connections.old) (IsOpened event) }
-    requires partitions { numbering.partitions ≡ (F.options front.old).partitions }
-    requires left { MayAnswer numbering.partitions (F.left front.old) }
+    requires partitions { hand.old.numbering.partitions ≡ (F.options hand.old.front).partitions }
+    requires left { MayAnswer hand.old.numbering.partitions (F.left hand.old.front) }
     ensures room { vec_len desk.new.room ≡ MAX_WAITING_LEN }
     ensures clients { AreOpen clients.new.held.items (C.log connections.new) }
-    ensures port { LeavesPort C.log C.has_ended C.faults C.port C.reports connections.old connections.new }
-    ensures front { MovesFront F.options F.number F.stands F.is_alone F.sessions F.left K.view front.old clock.old front.new clock.new }
-    ensures serves { GoesByGiven (F.options front.old) F.is_alone (F.sessions front.old) (F.left front.old) (K.view clock.old) (F.sessions front.new) (F.left front.new) (K.view clock.new)
-        (λ given. OnLogs (StandsOn (F.options front.old) numbering.base event clients.old.held.items result given clients.new.held.items) (C.log connections.old) (C.log connections.new)) }
+    ensures port { Leaves C.log C.has_ended C.faults C.share C.reports connections.old connections.new }
+    ensures same { KeepsHand F.options F.number F.stands hand.old hand.new }
+    ensures serves { GoesByGiven (F.options hand.old.front) F.is_alone (F.sessions hand.old.front) (F.left hand.old.front) (C.last connections.old) (F.sessions hand.new.front) (F.left hand.new.front) (C.last connections.new)
+        (λ given. OnLogs (StandsOn (F.options hand.old.front) hand.old.numbering.base event clients.old.held.items result given clients.new.held.items) (C.log connections.old) (C.log connections.new)) }
 {
     match event {
         Event::Opened(number) => take_in(connections, number, clients),
-        Event::Ready(number) => visit_held(
-            alloc,
-            front,
-            clock,
-            numbering,
-            connections,
-            number,
-            clients,
-            desk,
-        ),
+        Event::TurnedAway => 0,
+        Event::Ready(number) => visit_held(hand, connections, number, clients, desk),
     }
 }
 
 /// Serves the connections of a port, to its end, or until the front may be given fewer writes than one command may need. A connection that there is no memory for is closed,
 /// and `lacked` counts it. For one report a connection is read twice at most, and few of its commands are answered. What the front counts is shown in this place of the board. After each report it sweeps a few places of the partitions, and touches old items that were used.
 #[tactic(auto, using(crate::proofs::Going::by_none))]
-pub fn serve_connections<F: Glances, K: Clock, C: Connections>(
-    alloc: Global,
-    front: &mut F,
-    clock: &mut K,
-    numbering: Numbering,
+pub fn serve_connections<F: Glances, C: Connections>(
+    hand: &mut Hand<F>,
     board: &Board,
     place: u32,
     connections: &mut C,
     lacked: &mut u64,
 ) -> Result<(), ServeFault>
     requires open { C.has_ended connections.old ≡ false }
-    requires partitions { numbering.partitions ≡ (F.options front.old).partitions }
-    ensures goes { GoesBy (F.options front.old) F.is_alone (F.sessions front.old) (F.left front.old) (K.view clock.old) (F.sessions front.new) (F.left front.new) (K.view clock.new) }
-    ensures serves { OnLogs (ServesFromNone (F.options front.old) F.is_alone numbering.base MOST_UNSENT
-        (record { sessions = F.sessions front.old; left = F.left front.old; clock = K.view clock.old; lacked = lacked.old; has_ended = C.has_ended connections.old })
-        (record { sessions = F.sessions front.new; left = F.left front.new; clock = K.view clock.new; lacked = lacked.new; has_ended = C.has_ended connections.new }))
+    requires partitions { hand.old.numbering.partitions ≡ (F.options hand.old.front).partitions }
+    ensures goes { GoesBy (F.options hand.old.front) F.is_alone (F.sessions hand.old.front) (F.left hand.old.front) (F.sessions hand.new.front) (F.left hand.new.front) }
+    ensures serves { OnLogs (ServesFromNone (F.options hand.old.front) F.is_alone hand.old.numbering.base MOST_UNSENT
+        (record { sessions = F.sessions hand.old.front; left = F.left hand.old.front; lacked = lacked.old; has_ended = C.has_ended connections.old })
+        (record { sessions = F.sessions hand.new.front; left = F.left hand.new.front; lacked = lacked.new; has_ended = C.has_ended connections.new }))
         (C.log connections.old) (C.log connections.new) }
-    ensures ends { OnOk result (IsFinished (F.options front.new) (C.has_ended connections.new) (F.left front.new)) }
+    ensures ends { OnOk result (IsFinished (F.options hand.new.front) (C.has_ended connections.new) (F.left hand.new.front)) }
     ensures cause { IsErrOf result ServeFault.Net → Rose (C.faults connections.old) (C.faults connections.new) }
     ensures last_failed { IsErrOf result ServeFault.Net → IfSome (C.log connections.new) LastFailed }
-    ensures none_served { IsErrOf result ServeFault.NoMemory → (front.new ≡ front.old) × (connections.new ≡ connections.old) }
+    ensures none_served { IsErrOf result ServeFault.NoMemory → (hand.new ≡ hand.old) × (connections.new ≡ connections.old) }
     ensures never_fall { C.faults connections.old ≤ C.faults connections.new }
     ensures told { is_some (C.log connections.new) ≡ is_some (C.log connections.old) }
-    ensures port { C.port connections.new ≡ C.port connections.old }
-    ensures options { F.options front.new ≡ F.options front.old }
-    ensures number { F.number front.new ≡ F.number front.old }
-    ensures stands { F.stands front.new ≡ F.stands front.old }
+    ensures share { C.share connections.new ≡ C.share connections.old }
+    ensures same { KeepsHand F.options F.number F.stands hand.old hand.new }
 {
-    let mut desk = Desk::new(alloc, board, place)?;
-    let mut sweeper = Sweeper::new(alloc, numbering.partitions)?;
-    let mut clients = Clients::new(alloc);
-    let least = most_writes(numbering);
+    let mut desk = Desk::new(hand.alloc, board, place)?;
+    let mut sweeper = Sweeper::new(hand.alloc, hand.numbering.partitions)?;
+    let mut clients = Clients::new(hand.alloc);
+    let least = most_writes(hand.numbering);
     loop {
-        if front.writes_left() < least {
+        if hand.front.writes_left() < least {
             return Ok(());
         }
         let Some(event) = connections.next()? else {
             return Ok(());
         };
-        let count = serve_event(
-            alloc,
-            front,
-            clock,
-            numbering,
-            connections,
-            event,
-            &mut clients,
-            &mut desk,
-        );
+        let count = serve_event(hand, connections, event, &mut clients, &mut desk);
         *lacked = lacked.saturating_add(count);
         count_event(event, count, &mut desk.buffers.tally);
         desk.buffers.show();
-        let most = front.writes_left();
+        let most = hand.front.writes_left();
         let noted = &mut desk.buffers.noted;
-        sweep(front, clock, numbering, most, noted, &mut sweeper);
+        hand.second = connections.second();
+        sweep(
+            &mut hand.front,
+            hand.second,
+            hand.numbering,
+            most,
+            noted,
+            &mut sweeper,
+        );
     }
 }

@@ -2,7 +2,8 @@
 ghost use Rattle.std.specs.Prelude.{◌≡◌, ◌≢◌, ◌⊎◌, ◌<◌, ◌≤◌, ◌+◌, ◌++◌, true, false, [], length, take, drop, Some, IfOk, IfSome, MatchResult, vec_len};
 ghost use Rattle.memcached_text.specs.declared.limits.TheConstants.{MAX_WAITING_LEN};
 ghost use Rattle.connection_loop.specs.declared.desk.TheConstants.{MOST_UNSENT};
-ghost use Rattle.connection_loop.specs.Calls.{LeavesPort};
+ghost use Rattle.connections.specs.Calls.{Leaves};
+ghost use Rattle.connection_loop.specs.Calls.{KeepsHand};
 ghost use Rattle.connection_loop.specs.Clients.{IsClient};
 ghost use Rattle.connection_loop.specs.Going.{GoesBySome};
 ghost use Rattle.memcached_text.specs.declared.next.Next.TheVariants.{More};
@@ -18,13 +19,14 @@ use crate::answer::Halt;
 use crate::calls::{receive, send};
 use crate::client::Client;
 use crate::desk::Desk;
+use crate::hand::Hand;
 use crate::kept::KeptBytes;
 use crate::look::look_at;
-use command_answers::{Buffers, Numbering};
+use command_answers::Buffers;
 use connections::{Broken, Connections, Input};
 use fronts::CountsWrites;
 use memcached_stats::{Counter, Tally};
-use outside::{Clock, NoMemory};
+use outside::NoMemory;
 use std::alloc::Global;
 use std::mem;
 
@@ -57,7 +59,8 @@ fn send_unsent<C: Connections>(
     ensures some { IfOk result (λ all. all ≡ false → client.new.unsent ≢ []) }
     ensures sends { OnLogs (OnHeld number (SendsFrom client.old.unsent client.new.unsent result)) (C.log connections.old) (C.log connections.new) }
     ensures keeps { OnLogs Keeps (C.log connections.old) (C.log connections.new) }
-    ensures port { LeavesPort C.log C.has_ended C.faults C.port C.reports connections.old connections.new }
+    ensures port { Leaves C.log C.has_ended C.faults C.share C.reports connections.old connections.new }
+    ensures rises { C.last connections.old ≤ C.last connections.new }
 {
     let sent = send(connections, number, client.asks, client.unsent.bytes())?;
     tally.raise(Counter::Sent, sent as u64);
@@ -87,7 +90,8 @@ fn send_new<C: Connections>(
     ensures sends { MatchResult result (λ sent. OnLogs (OnHeld number (SendsFrom replies.now client.new.unsent sent)) (C.log connections.old) (C.log connections.new))
         (λ _. OnLogs (OnHeld number (SendsSome replies.now)) (C.log connections.old) (C.log connections.new)) }
     ensures keeps { OnLogs Keeps (C.log connections.old) (C.log connections.new) }
-    ensures port { LeavesPort C.log C.has_ended C.faults C.port C.reports connections.old connections.new }
+    ensures port { Leaves C.log C.has_ended C.faults C.share C.reports connections.old connections.new }
+    ensures rises { C.last connections.old ≤ C.last connections.new }
 {
     let sent = match send(connections, number, client.asks, replies) {
         Ok(sent) => sent,
@@ -132,7 +136,8 @@ fn fill<C: Connections>(
     ensures unsent { client.new.unsent ≡ client.old.unsent }
     ensures open { IfSome (C.log connections.new) (IsOpen number client.new.asks) }
     ensures keeps { OnLogs Keeps (C.log connections.old) (C.log connections.new) }
-    ensures port { LeavesPort C.log C.has_ended C.faults C.port C.reports connections.old connections.new }
+    ensures port { Leaves C.log C.has_ended C.faults C.share C.reports connections.old connections.new }
+    ensures rises { C.last connections.old ≤ C.last connections.new }
 {
     let kept = client.kept.bytes();
     let had = kept.len();
@@ -149,11 +154,8 @@ fn fill<C: Connections>(
 }
 
 /// Answers what lies in the room, but for what is to be dropped.
-fn look_at_room<F: CountsWrites, K: Clock>(
-    alloc: Global,
-    front: &mut F,
-    clock: &mut K,
-    numbering: Numbering,
+fn look_at_room<F: CountsWrites>(
+    hand: &mut Hand<F>,
     client: &mut Client,
     bytes: &[u8],
     buffers: &mut Buffers,
@@ -165,24 +167,23 @@ fn look_at_room<F: CountsWrites, K: Clock>(
     requires short { length bytes.now ≤ MAX_WAITING_LEN }
     requires paid { length bytes.now ≤ client.old.asks }
     requires kept { bytes.now ≡ client.old.kept ++ drop (length client.old.kept) bytes.now }
-    requires partitions { numbering.partitions ≡ (F.options front.old).partitions }
+    requires partitions { hand.old.numbering.partitions ≡ (F.options hand.old.front).partitions }
     ensures client { IfOk result (λ _. IsClient client.new) }
     ensures leaving { IfOk result (λ halt. client.new.leaving ≡ leaves halt) }
     ensures few { IfOk result (λ _. length replies.new.items ≤ MOST_UNSENT) }
     ensures unsent { client.new.unsent ≡ client.old.unsent }
     ensures asks { client.new.asks ≡ client.old.asks }
     ensures waits { IfOk result (λ halt. halt ≡ Halt.Needs → next_of client.new.kept ≡ More) }
-    ensures advances { IfOk result (λ halt. Advances (MayAnswer numbering.partitions (F.left front.old)) ((halt ≡ Halt.Needs) × (length client.old.kept < MAX_WAITING_LEN))
+    ensures advances { IfOk result (λ halt. Advances (MayAnswer hand.old.numbering.partitions (F.left hand.old.front)) ((halt ≡ Halt.Needs) × (length client.old.kept < MAX_WAITING_LEN))
         (position_at bytes.now 0) (position_of client.new)) }
-    ensures talk { GoesBySome (F.options front.old) F.is_alone (F.sessions front.old) (F.left front.old) (K.view clock.old) (F.sessions front.new) (F.left front.new) (K.view clock.new)
-        (λ answers. (length answers ≤ most_answers (F.options front.old)) × MatchResult result (λ halt. GoesOnTo (F.options front.old) numbering.base (position_of client.old) answers [] replies.new.items
-        (λ received given due. HaltsAs (F.options front.old) numbering.base MAX_WAITING_LEN halt (position_of client.new)
+    ensures talk { GoesBySome (F.options hand.old.front) F.is_alone (F.sessions hand.old.front) (F.left hand.old.front) hand.old.second (F.sessions hand.new.front) (F.left hand.new.front) hand.new.second
+        (λ answers. (length answers ≤ most_answers (F.options hand.old.front)) × MatchResult result (λ halt. GoesOnTo (F.options hand.old.front) hand.old.numbering.base (position_of client.old) answers [] replies.new.items
+        (λ received given due. HaltsAs (F.options hand.old.front) hand.old.numbering.base MAX_WAITING_LEN halt (position_of client.new)
         (received ++ drop (length client.old.kept) bytes.now) given due)
-        × SpeaksWhere (MayAnswer numbering.partitions (F.left front.old)) halt answers [] replies.new.items)
-        (λ _. SpokeBehind (F.options front.old) numbering.base MAX_WAITING_LEN (position_of client.old) (drop (length client.old.kept) bytes.now) answers)) }
-    ensures options { F.options front.new ≡ F.options front.old }
-    ensures number { F.number front.new ≡ F.number front.old }
-    ensures stands { F.stands front.new ≡ F.stands front.old }
+        × SpeaksWhere (MayAnswer hand.old.numbering.partitions (F.left hand.old.front)) halt answers [] replies.new.items)
+        (λ _. SpokeBehind (F.options hand.old.front) hand.old.numbering.base MAX_WAITING_LEN (position_of client.old) (drop (length client.old.kept) bytes.now) answers)) }
+    ensures second { hand.new.second ≡ hand.old.second }
+    ensures same { KeepsHand F.options F.number F.stands hand.old hand.new }
 {
     if client.dropping > bytes.len() {
         client.dropping -= bytes.len();
@@ -190,18 +191,13 @@ fn look_at_room<F: CountsWrites, K: Clock>(
         return Ok(Halt::Needs);
     }
     let bytes = &bytes[client.dropping..];
-    look_at(
-        alloc, front, clock, numbering, client, bytes, 0, buffers, replies,
-    )
+    look_at(hand, client, bytes, 0, buffers, replies)
 }
 
 /// Goes on with a command that was answered in part, or reads once and answers. Says why no more was answered, and what the read gave.
 #[tactic(auto, using(crate::proofs::Opening::still_open, crate::proofs::Opening::same_keeps))]
-fn answer_more<F: CountsWrites, K: Clock, C: Connections>(
-    alloc: Global,
-    front: &mut F,
-    clock: &mut K,
-    numbering: Numbering,
+fn answer_more<F: CountsWrites, C: Connections>(
+    hand: &mut Hand<F>,
     connections: &mut C,
     number: u32,
     client: &mut Client,
@@ -211,23 +207,21 @@ fn answer_more<F: CountsWrites, K: Clock, C: Connections>(
     requires client { IsClient client.old }
     requires reading { client.old.leaving ≡ false }
     requires open { IfSome (C.log connections.old) (IsOpen number client.old.asks) }
-    requires partitions { numbering.partitions ≡ (F.options front.old).partitions }
-    requires left { MayAnswer numbering.partitions (F.left front.old) }
+    requires partitions { hand.old.numbering.partitions ≡ (F.options hand.old.front).partitions }
+    requires left { MayAnswer hand.old.numbering.partitions (F.left hand.old.front) }
     ensures room { vec_len desk.new.room ≡ MAX_WAITING_LEN }
     ensures client { IfOk result (λ _. IsClient client.new) }
     ensures leaving { IfOk result (λ r. IfOk r (λ stood. client.new.leaving ≡ leaves stood.0)) }
     ensures unsent { IfOk result (λ _. client.new.unsent ≡ client.old.unsent) }
     ensures again { IfOk result (λ r. IfOk r (λ stood. IsAtRest stood.0 stood.1 ⊎ IsPaid 1 client.new)) }
-    ensures talk { GoesBySome (F.options front.old) F.is_alone (F.sessions front.old) (F.left front.old) (K.view clock.old) (F.sessions front.new) (F.left front.new) (K.view clock.new)
+    ensures talk { GoesBySome (F.options hand.old.front) F.is_alone (F.sessions hand.old.front) (F.left hand.old.front) (C.last connections.old) (F.sessions hand.new.front) (F.left hand.new.front) (C.last connections.new)
         (λ answers. MatchResult result
-        (λ r. OnLogs (OnHeld number (Looks (F.options front.old) numbering.base client.old answers desk.new.replies.items client.new r)) (C.log connections.old) (C.log connections.new))
-        (λ _. OnLogs (OnHeld number (Lacks (F.options front.old) numbering.base client.old answers)) (C.log connections.old) (C.log connections.new))) }
+        (λ r. OnLogs (OnHeld number (Looks (F.options hand.old.front) hand.old.numbering.base client.old answers desk.new.replies.items client.new r)) (C.log connections.old) (C.log connections.new))
+        (λ _. OnLogs (OnHeld number (Lacks (F.options hand.old.front) hand.old.numbering.base client.old answers)) (C.log connections.old) (C.log connections.new))) }
     ensures open { IfSome (C.log connections.new) (IsOpen number client.new.asks) }
     ensures keeps { OnLogs Keeps (C.log connections.old) (C.log connections.new) }
-    ensures port { LeavesPort C.log C.has_ended C.faults C.port C.reports connections.old connections.new }
-    ensures options { F.options front.new ≡ F.options front.old }
-    ensures number { F.number front.new ≡ F.number front.old }
-    ensures stands { F.stands front.new ≡ F.stands front.old }
+    ensures port { Leaves C.log C.has_ended C.faults C.share C.reports connections.old connections.new }
+    ensures same { KeepsHand F.options F.number F.stands hand.old hand.new }
 {
     let Desk {
         room,
@@ -238,9 +232,8 @@ fn answer_more<F: CountsWrites, K: Clock, C: Connections>(
         let kept = mem::replace(&mut client.kept, KeptBytes::nothing());
         let done = client.done;
         let bytes = kept.bytes();
-        let halt = look_at(
-            alloc, front, clock, numbering, client, bytes, done, buffers, replies,
-        )?;
+        hand.second = connections.second();
+        let halt = look_at(hand, client, bytes, done, buffers, replies)?;
         return Ok(Ok((halt, None)));
     }
     let (len, input) = match fill(connections, number, client, room.as_mut_slice()) {
@@ -248,10 +241,9 @@ fn answer_more<F: CountsWrites, K: Clock, C: Connections>(
         Err(Broken) => return Ok(Err(Broken)),
     };
     count_input(input, &mut buffers.tally);
+    hand.second = connections.second();
     let bytes = &room[..len];
-    let halt = look_at_room(
-        alloc, front, clock, numbering, client, bytes, buffers, replies,
-    )?;
+    let halt = look_at_room(hand, client, bytes, buffers, replies)?;
     Ok(Ok((halt, input)))
 }
 
@@ -284,11 +276,8 @@ fn after_all(leaving: bool, halt: Halt, input: Option<Input>) -> After
 
 /// Sends what waits; where all of it was taken, answers more, and sends the replies.
 #[tactic(auto, using(crate::proofs::Opening::still_open, crate::proofs::Opening::keeps_on))]
-pub(crate) fn visit_once<F: CountsWrites, K: Clock, C: Connections>(
-    alloc: Global,
-    front: &mut F,
-    clock: &mut K,
-    numbering: Numbering,
+pub(crate) fn visit_once<F: CountsWrites, C: Connections>(
+    hand: &mut Hand<F>,
     connections: &mut C,
     number: u32,
     client: &mut Client,
@@ -297,21 +286,19 @@ pub(crate) fn visit_once<F: CountsWrites, K: Clock, C: Connections>(
     requires room { vec_len desk.old.room ≡ MAX_WAITING_LEN }
     requires client { IsClient client.old }
     requires open { IfSome (C.log connections.old) (IsOpen number client.old.asks) }
-    requires partitions { numbering.partitions ≡ (F.options front.old).partitions }
-    requires left { MayAnswer numbering.partitions (F.left front.old) }
+    requires partitions { hand.old.numbering.partitions ≡ (F.options hand.old.front).partitions }
+    requires left { MayAnswer hand.old.numbering.partitions (F.left hand.old.front) }
     ensures room { vec_len desk.new.room ≡ MAX_WAITING_LEN }
     ensures client { IfOk result (λ _. IsClient client.new) }
     ensures again { IfOk result (λ after. after ≡ After.Again → IsPaid 1 client.new) }
-    ensures talks { GoesBySome (F.options front.old) F.is_alone (F.sessions front.old) (F.left front.old) (K.view clock.old) (F.sessions front.new) (F.left front.new) (K.view clock.new)
+    ensures talks { GoesBySome (F.options hand.old.front) F.is_alone (F.sessions hand.old.front) (F.left hand.old.front) (C.last connections.old) (F.sessions hand.new.front) (F.left hand.new.front) (C.last connections.new)
         (λ answers. MatchResult result
-        (λ after. OnLogs (OnHeld number (Visits (F.options front.old) numbering.base 1 client.old answers client.new after)) (C.log connections.old) (C.log connections.new))
-        (λ _. OnLogs (OnHeld number (VisitLacks (F.options front.old) numbering.base 1 client.old answers)) (C.log connections.old) (C.log connections.new))) }
+        (λ after. OnLogs (OnHeld number (Visits (F.options hand.old.front) hand.old.numbering.base 1 client.old answers client.new after)) (C.log connections.old) (C.log connections.new))
+        (λ _. OnLogs (OnHeld number (VisitLacks (F.options hand.old.front) hand.old.numbering.base 1 client.old answers)) (C.log connections.old) (C.log connections.new))) }
     ensures open { IfSome (C.log connections.new) (IsOpen number client.new.asks) }
     ensures keeps { OnLogs Keeps (C.log connections.old) (C.log connections.new) }
-    ensures port { LeavesPort C.log C.has_ended C.faults C.port C.reports connections.old connections.new }
-    ensures options { F.options front.new ≡ F.options front.old }
-    ensures number { F.number front.new ≡ F.number front.old }
-    ensures stands { F.stands front.new ≡ F.stands front.old }
+    ensures port { Leaves C.log C.has_ended C.faults C.share C.reports connections.old connections.new }
+    ensures same { KeepsHand F.options F.number F.stands hand.old hand.new }
 {
     match send_unsent(connections, number, client, &mut desk.buffers.tally) {
         Ok(true) => {}
@@ -321,16 +308,7 @@ pub(crate) fn visit_once<F: CountsWrites, K: Clock, C: Connections>(
     if client.leaving {
         return Ok(After::Over);
     }
-    let answered = answer_more(
-        alloc,
-        front,
-        clock,
-        numbering,
-        connections,
-        number,
-        client,
-        desk,
-    )?;
+    let answered = answer_more(hand, connections, number, client, desk)?;
     let (halt, input) = match answered {
         Ok(answered) => answered,
         Err(Broken) => return Ok(After::Over),
@@ -338,7 +316,7 @@ pub(crate) fn visit_once<F: CountsWrites, K: Clock, C: Connections>(
     client.leaving = leaves_by(halt, input);
     let tally = &mut desk.buffers.tally;
     match send_new(
-        alloc,
+        hand.alloc,
         connections,
         number,
         client,

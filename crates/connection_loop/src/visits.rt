@@ -1,7 +1,8 @@
 //! What is done for a connection that was reported.
 ghost use Rattle.std.specs.Prelude.{◌≡◌, IfOk, IfSome, MatchResult, vec_len};
 ghost use Rattle.memcached_text.specs.declared.limits.TheConstants.{MAX_WAITING_LEN};
-ghost use Rattle.connection_loop.specs.Calls.{LeavesPort, MovesFront};
+ghost use Rattle.connections.specs.Calls.{Leaves};
+ghost use Rattle.connection_loop.specs.Calls.{KeepsHand};
 ghost use Rattle.connection_loop.specs.Clients.{IsClient};
 ghost use Rattle.connection_loop.specs.Going.{GoesBySome};
 ghost use Rattle.connection_loop.specs.Held.{VisitLacks, Visits};
@@ -12,21 +13,17 @@ ghost use Rattle.connection_loop.specs.Traffic.{OnHeld};
 use crate::answer::most_writes;
 use crate::client::Client;
 use crate::desk::Desk;
+use crate::hand::Hand;
 use crate::visit::{After, visit_once};
-use command_answers::Numbering;
 use connections::Connections;
 use fronts::CountsWrites;
-use outside::{Clock, NoMemory};
-use std::alloc::Global;
+use outside::NoMemory;
 
 /// Visits a connection once, and once more where there may be more to do at once. Mostly the first visit reads all that came and answers it: then it waits for
 /// its peer. Where there is more to do still, it is to be asked for again, and it may be: whoever is left so has sent bytes that pay for it. Where the front
 /// may be given too few writes for one command, it is visited once.
-pub(crate) fn visit_on<F: CountsWrites, K: Clock, C: Connections>(
-    alloc: Global,
-    front: &mut F,
-    clock: &mut K,
-    numbering: Numbering,
+pub(crate) fn visit_on<F: CountsWrites, C: Connections>(
+    hand: &mut Hand<F>,
     connections: &mut C,
     number: u32,
     client: &mut Client,
@@ -35,44 +32,26 @@ pub(crate) fn visit_on<F: CountsWrites, K: Clock, C: Connections>(
     requires room { vec_len desk.old.room ≡ MAX_WAITING_LEN }
     requires client { IsClient client.old }
     requires open { IfSome (C.log connections.old) (IsOpen number client.old.asks) }
-    requires partitions { numbering.partitions ≡ (F.options front.old).partitions }
-    requires left { MayAnswer numbering.partitions (F.left front.old) }
+    requires partitions { hand.old.numbering.partitions ≡ (F.options hand.old.front).partitions }
+    requires left { MayAnswer hand.old.numbering.partitions (F.left hand.old.front) }
     ensures again { IfOk result (λ after. after ≡ After.Again → IsPaid 1 client.new) }
     ensures room { vec_len desk.new.room ≡ MAX_WAITING_LEN }
     ensures client { IfOk result (λ _. IsClient client.new) }
-    ensures talks { GoesBySome (F.options front.old) F.is_alone (F.sessions front.old) (F.left front.old) (K.view clock.old) (F.sessions front.new) (F.left front.new) (K.view clock.new)
+    ensures talks { GoesBySome (F.options hand.old.front) F.is_alone (F.sessions hand.old.front) (F.left hand.old.front) (C.last connections.old) (F.sessions hand.new.front) (F.left hand.new.front) (C.last connections.new)
         (λ answers. MatchResult result
-        (λ after. OnLogs (OnHeld number (Visits (F.options front.old) numbering.base 2 client.old answers client.new after)) (C.log connections.old) (C.log connections.new))
-        (λ _. OnLogs (OnHeld number (VisitLacks (F.options front.old) numbering.base 2 client.old answers)) (C.log connections.old) (C.log connections.new))) }
+        (λ after. OnLogs (OnHeld number (Visits (F.options hand.old.front) hand.old.numbering.base 2 client.old answers client.new after)) (C.log connections.old) (C.log connections.new))
+        (λ _. OnLogs (OnHeld number (VisitLacks (F.options hand.old.front) hand.old.numbering.base 2 client.old answers)) (C.log connections.old) (C.log connections.new))) }
     ensures open { IfSome (C.log connections.new) (IsOpen number client.new.asks) }
     ensures keeps { OnLogs Keeps (C.log connections.old) (C.log connections.new) }
-    ensures port { LeavesPort C.log C.has_ended C.faults C.port C.reports connections.old connections.new }
-    ensures front { MovesFront F.options F.number F.stands F.is_alone F.sessions F.left K.view front.old clock.old front.new clock.new }
+    ensures port { Leaves C.log C.has_ended C.faults C.share C.reports connections.old connections.new }
+    ensures same { KeepsHand F.options F.number F.stands hand.old hand.new }
 {
-    match visit_once(
-        alloc,
-        front,
-        clock,
-        numbering,
-        connections,
-        number,
-        client,
-        desk,
-    )? {
+    match visit_once(hand, connections, number, client, desk)? {
         After::Again => {}
         after => return Ok(after),
     }
-    if front.writes_left() < most_writes(numbering) {
+    if hand.front.writes_left() < most_writes(hand.numbering) {
         return Ok(After::Again);
     }
-    visit_once(
-        alloc,
-        front,
-        clock,
-        numbering,
-        connections,
-        number,
-        client,
-        desk,
-    )
+    visit_once(hand, connections, number, client, desk)
 }

@@ -1,12 +1,12 @@
 -- What each call answers, and what it adds to the log.
-use Rattle.std.specs.Prelude.{◌≡◌, ◌<◌, ◌≤◌, ℕ, true, false, List, [], ◌∷◌, length, take, min, slice_get, Option, Some, None, Result, Ok, Err, IfSome, ⊤}
+use Rattle.std.specs.Prelude.{◌≡◌, ◌<◌, ◌≤◌, ℕ, Bool, true, false, is_some, List, [], ◌∷◌, length, take, min, slice_get, Option, Some, None, Result, Ok, Err, IfSome, ⊤}
 use Rattle.connections.specs.declared.schedule.Step.{Step}
-use Rattle.connections.specs.declared.schedule.Step.TheVariants.{Opens, Reports, Happens}
+use Rattle.connections.specs.declared.schedule.Step.TheVariants.{Opens, TurnsAway, Reports, Happens}
 use Rattle.connections.specs.Connection.{Connection}
-use Rattle.connections.specs.State.{Entry, held, number_at, opened, reported, received, sent, asked, closed}
-use Rattle.connections.specs.Log.{Log, state_of, connections_of, with_entries, logged, called, after_met}
+use Rattle.connections.specs.State.{Entry, held, number_at, opened, reported, turned_away, second, received, sent, asked, closed}
+use Rattle.connections.specs.Log.{Log, state_of, now_of, connections_of, with_entries, logged, called, timed, after_met}
 use Rattle.connections.specs.declared.connections.Event.{Event}
-use Rattle.connections.specs.declared.connections.Event.TheVariants.{Opened, Ready}
+use Rattle.connections.specs.declared.connections.Event.TheVariants.{Opened, TurnedAway, Ready}
 use Rattle.connections.specs.declared.connections.Input.{Input}
 use Rattle.connections.specs.declared.connections.Input.TheVariants.{Bytes, All, Later, Ended}
 use Rattle.connections.specs.declared.connections.Broken.{Broken}
@@ -14,18 +14,20 @@ use Rattle.connections.specs.declared.connections.Broken.{Broken}
 -- Whether the next step is told by this event. A new connection gets any number that is free.
 abbrev pub IsNext : Event → List Connection → List Step → Type 0
 IsNext (Opened number) all (Opens window bytes ∷ later) = held number all ≡ None
+IsNext TurnedAway all (TurnsAway ∷ later) = ⊤
 IsNext (Ready number) all (Reports c change ∷ later) = number ≡ number_at c all
 IsNext (Ready number) all (Happens c change ∷ later) = number ≡ number_at c all
 IsNext _ all _ = ⊥
 
 abbrev pub entry_of : Event → Entry
 entry_of (Opened number) = opened number
+entry_of TurnedAway = turned_away
 entry_of (Ready number) = reported number
 
 -- the next step was reported
 pub record ReportsNext (old : Log) (event : Event) (new : Option Log) : Type 0 where
   pub next : IsNext event (connections_of old) (state_of old).later
-  pub result : new ≡ Some (logged (entry_of event) (called old))
+  pub result : new ≡ Some (timed (logged (entry_of event) (called old)))
 
 -- no step is left
 pub record IsOver (old : Log) (new : Option Log) : Type 0 where
@@ -59,11 +61,11 @@ FitsRoom room (Bytes count) = (0 < count) × (count ≤ room)
 FitsRoom room (All count) = (0 < count) × (count ≤ room)
 FitsRoom room _ = ⊤
 
--- after such a read of the c-th connection
-abbrev pub gave : ℕ → Connection → Result Input Broken → List Entry → List Entry
-gave c connection (Ok (Bytes count)) entries = received c (take count connection.waiting) ∷ entries
-gave c connection (Ok (All count)) entries = received c (take count connection.waiting) ∷ entries
-gave c connection _ entries = entries
+-- after such a read of the c-th connection, in this second
+abbrev pub gave : ℕ → ℕ → Connection → Result Input Broken → List Entry → List Entry
+gave now c connection (Ok (Bytes count)) entries = second now ∷ received c (take count connection.waiting) ∷ entries
+gave now c connection (Ok (All count)) entries = second now ∷ received c (take count connection.waiting) ∷ entries
+gave now c connection _ entries = entries
 
 -- Whether a write to a connection takes so much of a piece: all of it, up to the window and the most that one call moves.
 abbrev pub IsTaken : Connection → ℕ → List ℕ → Result ℕ Broken → Type 0
@@ -87,7 +89,7 @@ AfterMeeting number log P = OfHeld number log (λ c. IfSome (slice_get (connecti
 -- what a read of so much room answers and gives, and the entry that it leaves in the log
 abbrev pub ReadGives : ℕ → ℕ → List ℕ → Result Input Broken → Log → Option Log → Type 0
 ReadGives number room out answer old new = AfterMeeting number old (λ c connection.
-    IsGiven connection (min room old.script.piece) out answer × (new ≡ Some (with_entries (gave c connection answer) (after_met old))))
+    IsGiven connection (min room old.script.piece) out answer × (new ≡ Some (with_entries (gave (now_of (after_met old)) c connection answer) (after_met old))))
 
 -- what a write of these bytes answers, and the entry that it leaves in the log
 abbrev pub WriteTakes : ℕ → List ℕ → Result ℕ Broken → Log → Option Log → Type 0
@@ -106,3 +108,12 @@ Asks number old new = OfHeld number old (λ c. new ≡ Some (logged (asked c) ol
 -- the log goes on by a close
 abbrev pub Closes : ℕ → Log → Option Log → Type 0
 Closes number old new = OfHeld number old (λ c. new ≡ Some (logged (closed c) old))
+
+-- What a call leaves of a port that is no report of it: it is told where it was, and has not ended; no fault was counted, it is the same share; and no more
+-- reports are to come than before.
+pub record Leaves {Port : Type 0} (log : Port → Option Log) (has_ended : Port → Bool) (faults share reports : Port → ℕ) (old new : Port) : Type 0 where
+  pub told : is_some (log new) ≡ is_some (log old)
+  pub ended : has_ended new ≡ has_ended old
+  pub no_fault : faults new ≡ faults old
+  pub same_share : share new ≡ share old
+  pub no_more : reports new ≤ reports old

@@ -4,7 +4,7 @@ use Rattle.connections.specs.declared.schedule.Change.{Change}
 
 -- nothing happens
 abbrev pub nothing : Change
-nothing = record { comes = 0; takes = 0; ends = false; breaks = None }
+nothing = record { passes = 0; comes = 0; takes = 0; ends = false; breaks = None }
 
 -- The number under which it is asked for, until it is closed here; what its peer sends and has not come; what has come and no read gave; how many
 -- bytes writes take before the peer takes more; how often it may be had reported again, which is twice for each byte that was read; and how it stands.

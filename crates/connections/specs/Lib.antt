@@ -2,4 +2,4 @@ pub mod Connection
 pub mod State
 pub mod Log
 pub mod Calls
-pub mod PortLogs
+pub mod Shares

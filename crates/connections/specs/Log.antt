@@ -4,7 +4,7 @@ use Rattle.outside.specs.Script.{Script, after_call, is_listed}
 use Rattle.connections.specs.declared.schedule.Step.{Step}
 use Rattle.connections.specs.declared.schedule.Step.TheVariants.{Happens}
 use Rattle.connections.specs.Connection.{Connection}
-use Rattle.connections.specs.State.{State, Entry, held, state_after, met, received, sent}
+use Rattle.connections.specs.State.{State, Entry, held, state_after, now_after, met, second, received, sent}
 
 -- The schedule, which calls of `next` fail and how many bytes a read or a write moves at most, and what calls did, the last of them first. A call adds
 -- to the entries, and changes nothing else but the count of `next`.
@@ -37,6 +37,10 @@ LastFailed log = (0 < log.script.calls) × (is_listed log.script.fails log.scrip
 abbrev pub state_of : Log → State
 state_of log = state_after log.schedule log.entries
 
+-- which second it is
+abbrev pub now_of : Log → ℕ
+now_of log = now_after log.schedule log.entries
+
 -- all connections that were made, in order
 abbrev pub connections_of : Log → List Connection
 connections_of log = (state_of log).connections
@@ -44,6 +48,19 @@ connections_of log = (state_of log).connections
 -- a connection is under this number
 abbrev pub IsHeld : ℕ → Log → Type 0
 IsHeld number log = is_some (held number (connections_of log)) ≡ true
+
+-- Which second it was when it was told last. What is answered is answered at it.
+abbrev pub second_of : List Entry → ℕ
+second_of [] = 0
+second_of (second s ∷ entries) = s
+second_of (_ ∷ entries) = second_of entries
+
+-- it is told which second it is
+abbrev pub timed_entries : List Step → List Entry → List Entry
+timed_entries schedule entries = second (now_after schedule entries) ∷ entries
+
+abbrev pub timed : Log → Log
+timed log = with_entries (timed_entries log.schedule) log
 
 -- what reads gave of the c-th connection
 abbrev pub received_of : ℕ → List Entry → List ℕ

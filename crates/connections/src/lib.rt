@@ -10,5 +10,5 @@ mod listeners;
 mod schedule;
 
 pub use connections::{Broken, Connections, Event, Input};
-pub use listeners::{Heard, Listeners, PortPlace};
+pub use listeners::{Listeners, Place};
 pub use schedule::{Change, Step};

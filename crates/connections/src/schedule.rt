@@ -4,6 +4,8 @@ use outside::Bytes;
 /// What happens at the peer of a connection.
 #[derive(Clone, Copy)]
 pub struct Change {
+    /// So many seconds pass before it.
+    pub passes: u32,
     /// So many bytes more of what it sends come.
     pub comes: u32,
     /// It takes so many bytes more.
@@ -17,6 +19,7 @@ pub struct Change {
 impl Change {
     /// A change of nothing.
     pub const NOTHING: Change = Change {
+        passes: 0,
         comes: 0,
         takes: 0,
         ends: false,
@@ -29,6 +32,8 @@ impl Change {
 pub enum Step {
     /// A connection is made: how many bytes writes take at first, and all that its peer sends.
     Opens(u32, Bytes),
+    /// A connection comes beyond what the port may have at a time, and is turned away.
+    TurnsAway,
     /// Something happens at the connection that was made as this one, from 0, and it is reported.
     Reports(u32, Change),
     /// Something happens at that connection, maybe in the midst of other calls: then it is reported later.

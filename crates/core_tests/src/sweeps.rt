@@ -14,7 +14,6 @@ use locked_front::ServerPlan;
 use locked_server::{FilledPart, lend_hand, lock_parts, open_parts};
 use memcached_commands::Ask;
 use memcached_text::Lifetime;
-use memory_outside::MemClock;
 use mica_words::{key_fits, key_hash, tail_of, value_fits};
 use partition_model::{Answer, ItemBuf, Mode, Op, Options, Outcome};
 use partition_table::{Note, OwnerSeat, ReaderSeat};
@@ -59,8 +58,6 @@ fn sweep_all<R: Abort + AllocGlobal, F: Glances>(
     ensures left { F.left front.old ≤ F.left front.new + 6400 }
     ensures options { F.options front.new ≡ F.options front.old }
 {
-    let script = [Some(second)];
-    let mut clock = MemClock::new(&script);
     let mut sweeper = Sweeper::new(rt.alloc(), 1)?;
     let mut noted = Noted::new();
     let numbering = Numbering {
@@ -68,7 +65,7 @@ fn sweep_all<R: Abort + AllocGlobal, F: Glances>(
         base: 0,
     };
     for _ in 0..100u32 {
-        sweep(front, &mut clock, numbering, 64, &mut noted, &mut sweeper);
+        sweep(front, second, numbering, 64, &mut noted, &mut sweeper);
     }
     Ok(())
 }
@@ -103,7 +100,6 @@ fn what_is_used_stays<R: Abort + AllocGlobal, F: Glances>(rt: &R, front: &mut F)
     requires partitions { (F.options front.old).partitions ≡ 1 }
 {
     let value = [0u8; 416];
-    let mut clock = MemClock::new(&[]);
     let mut sweeper = Sweeper::new(rt.alloc(), 1)?;
     let mut noted = Noted::new();
     let numbering = Numbering {
@@ -123,7 +119,7 @@ fn what_is_used_stays<R: Abort + AllocGlobal, F: Glances>(rt: &R, front: &mut F)
             0,
             Outcome::Stored,
         );
-        sweep(front, &mut clock, numbering, 64, &mut noted, &mut sweeper);
+        sweep(front, 0, numbering, 64, &mut noted, &mut sweeper);
     }
     assert!(rt; tail == 68 * 55);
     let mut out = ItemBuf::new(rt.alloc())?;

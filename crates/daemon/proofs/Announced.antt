@@ -1,26 +1,27 @@
 -- What a server that stays up has written, by what it came to.
-use Rattle.std.proofs.Common.{◌≡◌, ℕ, ◌⊎◌, inl, inr, List, take, Option, Some, None, refl, sym, ap, subst, arith}
+use Rattle.std.proofs.Common.{◌≡◌, ℕ, ◌<◌, ◌⊎◌, inl, inr, List, Option, Some, None, refl, sym, ap, subst, arith}
 use Rattle.std.specs.Prelude.{Result, Ok, Err}
-use Rattle.outside.specs.Seconds.{ClockView}
 use Rattle.partition_model.specs.declared.options.Options.{Options}
 use Rattle.partition_model.specs.declared.write.Write.{Write}
+use Rattle.partition_table.specs.declared.tables.KeptSeat.{KeptSeat}
 use Rattle.fronts.specs.declared.totals.Totals.{Totals}
 use Rattle.fronts.specs.declared.totals.ServeFault.TheVariants as faults
 use Rattle.server_words.specs.declared.ports.PortOptions.{PortOptions}
+use Rattle.server_words.specs.declared.stream_ports.StreamPorts.{StreamPorts}
 use Rattle.locked_server.specs.declared.service.Service.{Service as LockedService}
 use Rattle.locked_server.specs.declared.stop.Stop.{Stop}
-use Rattle.locked_server.specs.declared.stop.Stop.TheVariants.{Refused, Unbound, Unannounced, Fault}
-use Rattle.locked_server.specs.Causes.{HasAnnounced, Leaves, PortFacts}
+use Rattle.locked_server.specs.declared.stop.Stop.TheVariants.{Refused, Unbound, Unheard, Unannounced, Fault}
+use Rattle.locked_server.specs.Causes.{HasAnnounced, IsCauseOfStop, Leaves, PortFacts}
 use Rattle.daemon.specs.declared.status.DaemonStatus.{DaemonStatus}
-use Rattle.daemon.specs.declared.status.DaemonStatus.TheVariants.{Usage}
+use Rattle.daemon.specs.declared.status.DaemonStatus.TheVariants.{Usage, UsedUp, Stopped, NetFault}
 use Rattle.option_words.specs.Words.{Text}
 use Rattle.daemon_words.specs.declared.streams.StreamOptions.{StreamOptions}
 use Rattle.daemon_words.specs.DaemonWords.{Service}
 use Rattle.server_words.specs.Output.{SinkFacts}
-use Rattle.daemon.specs.Written.{IsUnwritten}
+use Rattle.daemon.specs.Written.{IsUnwritten, IsTold}
 use Rattle.daemon.specs.Files.{FilesFacts}
 use Rattle.daemon.specs.Filling.{KeepsFiles}
-use Rattle.daemon.specs.Daemon.{DaemonOutside, Says, FailsToSay, ready_text, WritesLast, ServesAloud, ServesPlaced, BindsNothing, KeepsUp, place_of, placed}
+use Rattle.daemon.specs.Daemon.{DaemonOutside, Says, FailsToSay, ready_text, unbound_text, WritesLast, ServesAloud, ServesPlaced, BindsNothing, KeepsUp, places_of, placed}
 
 -- what was announced by a sink with a line at hand was announced by the sink
 module _ {A : Type 0} (line_of : A → List ℕ) (sink_of : A → SinkFacts) (line : List ℕ) (old new : A) (same : line_of old ≡ line) where
@@ -34,6 +35,7 @@ module _ {A : Type 0} (line_of : A → List ℕ) (sink_of : A → SinkFacts) (li
   announced_by (Err Refused) before after is = ap sink_of is
   announced_by (Err Unannounced) before after is = subst (λ l. FailsToSay l (sink_of old) (sink_of new)) same is
   announced_by (Err (Unbound port)) before after is = (is.0, ap sink_of is.1)
+  announced_by (Err (Unheard place)) before after is = (is.0, ap sink_of is.1)
   announced_by (Err (Fault faults.Net)) before after is = (is.0, said is.1)
   announced_by (Err (Fault faults.NoMemory)) before after is =
       elim is as (λ _. (sink_of new ≡ sink_of old) ⊎ Says line (sink_of old) (sink_of new)) [
@@ -42,42 +44,57 @@ module _ {A : Type 0} (line_of : A → List ℕ) (sink_of : A → SinkFacts) (li
       ]
 
 -- so is what is left beside it
-pub leaves_by : {A : Type 0} (line_of : A → List ℕ) (sink_of : A → SinkFacts) {answer : Result Totals Stop} {service : LockedService} {before after : PortFacts} {old new : A}
-    → line_of old ≡ ready_text service.ports service.streams
+pub leaves_by : {A : Type 0} (line_of : A → List ℕ) (sink_of : A → SinkFacts) {answer : Result Totals Stop} {service : LockedService} (streams : StreamPorts) {before after : PortFacts} {old new : A}
+    → line_of old ≡ ready_text service.ports streams
     → Leaves (λ _ _ a b. Says (line_of a) (sink_of a) (sink_of b)) (λ _ _ a b. FailsToSay (line_of a) (sink_of a) (sink_of b)) answer service before after old new
-    → Leaves (λ ports streams. Says (ready_text ports streams)) (λ ports streams. FailsToSay (ready_text ports streams)) answer service before after (sink_of old) (sink_of new)
-leaves_by line_of sink_of {answer} {service} {before} {after} {old} {new} same it = record {
+    → Leaves (λ ports _. Says (ready_text ports streams)) (λ ports _. FailsToSay (ready_text ports streams)) answer service before after (sink_of old) (sink_of new)
+leaves_by line_of sink_of {answer} {service} streams {before} {after} {old} {new} same it = record {
   kept = it.kept;
   count = it.count;
   heard = it.heard;
   all = it.all;
-  announced = announced_by line_of sink_of (ready_text service.ports service.streams) old new same answer before after it.announced;
+  announced = announced_by line_of sink_of (ready_text service.ports streams) old new same answer before after it.announced;
 }
 
--- what is written last, by why it stopped short
-pub written_last : (stop cause : Stop) (old new : SinkFacts) (status : DaemonStatus) → stop ≡ cause → WritesLast (Err cause) old new status → WritesLast (Err stop) old new status
-written_last stop cause old new status is last = subst (λ (s : Stop). WritesLast (Err s) old new status) (sym is) last
+-- the totals are due with the status that they come with
+pub totals_last : (text : List ℕ) {due status : DaemonStatus} (old new : SinkFacts) → (due ≡ UsedUp) ⊎ (due ≡ Stopped) → IsTold due text old new status
+    → IsTold UsedUp text old new status ⊎ IsTold Stopped text old new status
+totals_last text {due} {status} old new (inl is) told = inl (subst (λ (d : DaemonStatus). IsTold d text old new status) is told)
+totals_last text {due} {status} old new (inr is) told = inr (subst (λ (d : DaemonStatus). IsTold d text old new status) is told)
 
--- a server whose listeners had been told where to listen, with the clocks that it took
-pub serves_placed : {options : Options} {ports : PortOptions} {streams : StreamOptions} (all : List ClockView) {taken : List ClockView} {base : ℕ} {writes : List Write} (old : DaemonOutside) {told new : DaemonOutside}
-    {status : DaemonStatus} → take streams.ports.fronts all ≡ taken → told ≡ placed (place_of streams) old
-    → ServesAloud (record { options = options; ports = ports; streams = streams.ports; base = base }) taken writes told new status
-    → ServesPlaced options ports streams all base writes old new status
-serves_placed {options} {ports} {streams} all {base = base} {writes = writes} old {new = new} {status = status} same is served =
-    subst (λ (y : List ClockView × DaemonOutside). ServesAloud (record { options = options; ports = ports; streams = streams.ports; base = base }) y.0 writes y.1 new status)
-    (λ i. (sym same i, is i)) served
+-- a line that names a port names it by any number that is its own
+pub told_of : (n port : ℕ) (old new : SinkFacts) (status : DaemonStatus) → IsTold NetFault (unbound_text n) old new status → n ≡ port → IsTold NetFault (unbound_text port) old new status
+told_of n port old new status told same = subst (λ (k : ℕ). IsTold NetFault (unbound_text k) old new status) same told
+
+-- a place that was not had is one of them
+pub place_within : (stop : Stop) (place : ℕ) (service : LockedService) (writes : List Write) (kept : List KeptSeat) (lacked : ℕ) (before after : PortFacts) → stop ≡ Unheard place
+    → IsCauseOfStop (Err stop) service writes kept lacked before after → place < service.places
+place_within stop place service writes kept lacked before after is cause =
+    (subst (λ (s : Stop). IsCauseOfStop (Err s) service writes kept lacked before after) is cause).came_is.3
+
+-- what is written last, by why it stopped short
+pub written_last : (first : ℕ) (stop cause : Stop) (old new : SinkFacts) (status : DaemonStatus) → stop ≡ cause → WritesLast first (Err cause) old new status → WritesLast first (Err stop) old new status
+written_last first stop cause old new status is last = subst (λ (s : Stop). WritesLast first (Err s) old new status) (sym is) last
+
+-- a server whose listeners had been told its places
+pub serves_placed : {options : Options} {ports : PortOptions} (streams : StreamOptions) {base : ℕ} {writes : List Write} (old : DaemonOutside) {told new : DaemonOutside} {status : DaemonStatus}
+    → told ≡ placed (places_of streams) streams.connections old
+    → ServesAloud (record { options = options; ports = ports; places = streams.ports.fronts; base = base }) streams.ports writes told new status
+    → ServesPlaced options ports streams base writes old new status
+serves_placed {options} {ports} streams {base} {writes} old {new = new} {status = status} is served =
+    subst (λ (o : DaemonOutside). ServesAloud (record { options = options; ports = ports; places = streams.ports.fronts; base = base }) streams.ports writes o new status) is served
 
 kept_files : (image : Option Text) (files : FilesFacts) → KeepsFiles image files files
 kept_files None files = refl
 kept_files (Some name) files = omega arith
 
 -- where there was no memory before it began, the words do not matter
-pub unwritten : (given : Option Service) (clocks : List ClockView) (base : ℕ) (files : FilesFacts) (old new : DaemonOutside) (status : DaemonStatus) → IsUnwritten old.sink new.sink status → BindsNothing old new
-    → KeepsUp given clocks base files files old new status
-unwritten None clocks base files old new status none same = (inl none, same, refl)
-unwritten (Some service) clocks base files old new status none same = (inr (inl none, same), kept_files service.image files)
+pub unwritten : (given : Option Service) (base : ℕ) (files : FilesFacts) (old new : DaemonOutside) (status : DaemonStatus) → IsUnwritten old.sink new.sink status → BindsNothing old new
+    → KeepsUp given base files files old new status
+unwritten None base files old new status none same = (inl none, same, refl)
+unwritten (Some service) base files old new status none same = (inr (inl none, same), kept_files service.image files)
 
 -- where words are refused, nothing is touched
-pub refused : (given : Option Service) (clocks : List ClockView) (base : ℕ) (files : FilesFacts) (outside : DaemonOutside) → given ≡ None → KeepsUp given clocks base files files outside outside Usage
-refused given clocks base files outside none =
-    subst (λ (g : Option Service). KeepsUp g clocks base files files outside outside Usage) (sym none) (inr (refl, refl), record { ports = refl; tables = refl; lacked = refl }, refl)
+pub refused : (given : Option Service) (base : ℕ) (files : FilesFacts) (outside : DaemonOutside) → given ≡ None → KeepsUp given base files files outside outside Usage
+refused given base files outside none =
+    subst (λ (g : Option Service). KeepsUp g base files files outside outside Usage) (sym none) (inr (refl, refl), record { ports = refl; tables = refl; lacked = refl }, refl)

@@ -11,86 +11,84 @@ use Rattle.daemon_words.specs.Questions.{question_of}
 use Rattle.daemon_words.specs.ShortWords.{long_words}
 use Rattle.daemon_words.specs.DaemonWords.{daemon_of}
 use Rattle.daemon.specs.declared.status.DaemonStatus.{DaemonStatus}
-use Rattle.daemon.specs.declared.status.DaemonStatus.TheVariants.{Usage, NoMemory, TraceLong, ReadFault, WriteFault, NetFault, ImageRefused, UsedUp}
+use Rattle.daemon.specs.declared.status.DaemonStatus.TheVariants.{NoMemory}
 use Rattle.daemon.specs.declared.status.Ending.{Ending}
 use Rattle.daemon.specs.declared.status.Ending.TheVariants.{Answered, Ended}
-use Rattle.daemon.specs.Numbers.{exit_number, ending_number}
+use Rattle.daemon.specs.Numbers.{ending_number}
 use Rattle.daemon.specs.Files.{FilesFacts}
 use Rattle.daemon.specs.Daemon.{DaemonOutside, BindsNothing, KeepsUp}
-use Rattle.daemon.specs.Exit.{first_number, AnswersAlone, ComesTo, ComesToFor, DaemonExits, IsAsked}
+use Rattle.daemon.specs.Exit.{first_number, AnswersAlone, ComesTo, ComesToFor, DaemonExits, EndsBy, IsAsked}
 use Rattle.daemon.proofs.Announced.{unwritten}
 
 -- a question of the words was answered
-pub asked_comes : (asked : Option Question) (question : Question) (words : List Text) (clocks : List ClockView) (base : ℕ) (files : FilesFacts) (old new : DaemonOutside) (ending : Ending)
-    → asked ≡ Some question → AnswersAlone old.sink new.sink ending → BindsNothing old new → ComesTo asked words clocks base files files old new ending
-asked_comes asked question words clocks base files old new ending is answers same =
-    subst (λ (o : Option Question). ComesTo o words clocks base files files old new ending) (sym is) (answers, same, refl)
+pub asked_comes : (asked : Option Question) (question : Question) (words : List Text) (base : ℕ) (files : FilesFacts) (old new : DaemonOutside) (ending : Ending)
+    → asked ≡ Some question → AnswersAlone old.sink new.sink ending → BindsNothing old new → ComesTo asked words base files files old new ending
+asked_comes asked question words base files old new ending is answers same =
+    subst (λ (o : Option Question). ComesTo o words base files files old new ending) (sym is) (answers, same, refl)
 
 -- they ask none
-pub unasked_comes : (asked : Option Question) (words : List Text) (clocks : List ClockView) (base : ℕ) (before after : FilesFacts) (old new : DaemonOutside) (ending : Ending)
-    → None ≡ asked → ComesTo None words clocks base before after old new ending → ComesTo asked words clocks base before after old new ending
-unasked_comes asked words clocks base before after old new ending none comes =
-    subst (λ (o : Option Question). ComesTo o words clocks base before after old new ending) none comes
+pub unasked_comes : (asked : Option Question) (words : List Text) (base : ℕ) (before after : FilesFacts) (old new : DaemonOutside) (ending : Ending)
+    → None ≡ asked → ComesTo None words base before after old new ending → ComesTo asked words base before after old new ending
+unasked_comes asked words base before after old new ending none comes =
+    subst (λ (o : Option Question). ComesTo o words base before after old new ending) none comes
 
 -- their server ran, whose words are these long ones
-pub served_comes : (words long : List Text) (clocks : List ClockView) (base : ℕ) (before after : FilesFacts) (old new : DaemonOutside) (status : DaemonStatus)
-    → long ≡ long_words words → KeepsUp (daemon_of long) clocks base before after old new status → ComesTo None words clocks base before after old new (Ended status)
-served_comes words long clocks base before after old new status is kept =
-    subst (λ (ws : List Text). KeepsUp (daemon_of ws) clocks base before after old new status) is kept
+pub served_comes : (words long : List Text) (base : ℕ) (before after : FilesFacts) (old new : DaemonOutside) (status : DaemonStatus)
+    → long ≡ long_words words → KeepsUp (daemon_of long) base before after old new status → ComesTo None words base before after old new (Ended status)
+served_comes words long base before after old new status is kept =
+    subst (λ (ws : List Text). KeepsUp (daemon_of ws) base before after old new status) is kept
 
-pub comes_without_memory : (asked : Option Question) (words : List Text) (clocks : List ClockView) (base : ℕ) (files : FilesFacts) (outside : DaemonOutside)
-    → ComesTo asked words clocks base files files outside outside (Ended NoMemory)
-comes_without_memory (Some question) words clocks base files outside = (inl (refl, Keeps-refl outside.sink.taken), record { ports = refl; tables = refl; lacked = refl }, refl)
-comes_without_memory None words clocks base files outside =
-    unwritten (daemon_of (long_words words)) clocks base files outside outside NoMemory (refl, Keeps-refl outside.sink.taken) (record { ports = refl; tables = refl; lacked = refl })
+pub comes_without_memory : (asked : Option Question) (words : List Text) (base : ℕ) (files : FilesFacts) (outside : DaemonOutside)
+    → ComesTo asked words base files files outside outside (Ended NoMemory)
+comes_without_memory (Some question) words base files outside = (inl (refl, Keeps-refl outside.sink.taken), record { ports = refl; tables = refl; lacked = refl }, refl)
+comes_without_memory None words base files outside =
+    unwritten (daemon_of (long_words words)) base files outside outside NoMemory (refl, Keeps-refl outside.sink.taken) (record { ports = refl; tables = refl; lacked = refl })
 
 -- the words behind the first of all words are those that it came from, and the base is that of the second
-pub comes_behind : {S : Type 0} (text : S → Text) (all : Option (List Text)) (words behind : List S) (clocks : List ClockView) (base second : ℕ) (before after : FilesFacts)
+pub comes_behind : {S : Type 0} (text : S → Text) (all : Option (List Text)) (words behind : List S) (base second : ℕ) (before after : FilesFacts)
     (old new : DaemonOutside) (ending : Ending) → all ≡ Some (map text words) → behind ≡ drop 1 words → base ≡ first_number second
-    → ComesTo (question_of (map text behind)) (map text behind) clocks base before after old new ending
-    → ComesToFor (option_map (λ ws. drop 1 ws) all) clocks (first_number second) before after old new ending
-comes_behind text all words behind clocks base second before after old new ending are is from comes =
-    subst (λ (y : Option (List Text) × ℕ). ComesToFor y.0 clocks y.1 before after old new ending) (λ i. (sym (words_behind text all words behind are is) i, from i)) comes
+    → ComesTo (question_of (map text behind)) (map text behind) base before after old new ending
+    → ComesToFor (option_map (λ ws. drop 1 ws) all) (first_number second) before after old new ending
+comes_behind text all words behind base second before after old new ending are is from comes =
+    subst (λ (y : Option (List Text) × ℕ). ComesToFor y.0 y.1 before after old new ending) (λ i. (sym (words_behind text all words behind are is) i, from i)) comes
 
-pub no_memory_comes : (words : Option (List Text)) (clocks : List ClockView) (base : ℕ) (files : FilesFacts) (outside : DaemonOutside) → ComesToFor words clocks base files files outside outside (Ended NoMemory)
-no_memory_comes None clocks base files outside = (refl, refl, refl)
-no_memory_comes (Some words) clocks base files outside = comes_without_memory (question_of words) words clocks base files outside
+pub no_memory_comes : (words : Option (List Text)) (base : ℕ) (files : FilesFacts) (outside : DaemonOutside) → ComesToFor words base files files outside outside (Ended NoMemory)
+no_memory_comes None base files outside = (refl, refl, refl)
+no_memory_comes (Some words) base files outside = comes_without_memory (question_of words) words base files outside
 
--- no status has the number 0
-pub not_zero : (status : DaemonStatus) (number : ℕ) → number ≡ exit_number status → number ≢ 0
-not_zero Usage number is none = let same : number ≡ 1 = is in omega (arith, same, none)
-not_zero NoMemory number is none = let same : number ≡ 2 = is in omega (arith, same, none)
-not_zero TraceLong number is none = let same : number ≡ 4 = is in omega (arith, same, none)
-not_zero ReadFault number is none = let same : number ≡ 5 = is in omega (arith, same, none)
-not_zero WriteFault number is none = let same : number ≡ 6 = is in omega (arith, same, none)
-not_zero NetFault number is none = let same : number ≡ 7 = is in omega (arith, same, none)
-not_zero ImageRefused number is none = let same : number ≡ 12 = is in omega (arith, same, none)
-not_zero UsedUp number is none = let same : number ≡ 13 = is in omega (arith, same, none)
-
--- the number is 0 only where words ask a question
-zero_by : (words : Option (List Text)) (clocks : List ClockView) (base : ℕ) (before after : FilesFacts) (old new : DaemonOutside) (ending : Ending)
-    → ending_number ending ≡ 0 → ComesToFor words clocks base before after old new ending → IsAsked words
-zero_by words clocks base before after old new (Ended status) zero comes = absurd (not_zero status (exit_number status) refl zero)
-zero_by None clocks base before after old new Answered zero comes = absurd (answered (ap is_answered comes.0))
+-- only a question of the words is answered
+asked_by : (words : Option (List Text)) (base : ℕ) (before after : FilesFacts) (old new : DaemonOutside) (ending : Ending) → ending ≡ Answered
+    → ComesToFor words base before after old new ending → IsAsked words
+asked_by None base before after old new ending is comes = absurd (apart (ap is_answered (sym comes.0 ∙ is)))
   where
     is_answered : Ending → ℕ
     is_answered Answered = 1
     is_answered (Ended status) = 0
 
-    answered : ◌≡◌ {A = ℕ} 1 0 → ⊥
-    answered same = omega (arith, same)
-zero_by (Some words) clocks base before after old new Answered zero comes = asks (question_of words) refl comes
+    apart : ◌≡◌ {A = ℕ} 0 1 → ⊥
+    apart same = omega (arith, same)
+asked_by (Some words) base before after old new ending is comes = asks (question_of words) refl (subst (ComesTo (question_of words) words base before after old new) is comes)
   where
-    asks : (asked : Option Question) → question_of words ≡ asked → ComesTo asked words clocks base before after old new Answered → question_of words ≢ None
+    asks : (asked : Option Question) → question_of words ≡ asked → ComesTo asked words base before after old new Answered → question_of words ≢ None
     asks None is comes = absurd comes
     asks (Some question) is comes = λ none. none-some question (sym none ∙ is)
 
-pub zero_asked : (words : Option (List Text)) (told tells : ClockView) (clocks : List ClockView) (before after : FilesFacts) (old new : DaemonOutside) (number : ℕ)
-    → DaemonExits words told tells clocks before after old new number → number ≡ 0 → IsAsked words
-zero_asked words told tells clocks before after old new number exits zero =
-    zero_by words clocks (first_number exits.second) before after old new exits.ending (sym exits.ends ∙ zero) exits.comes
+-- so the process ends by them
+pub ends_by : (words : Option (List Text)) (told tells : ClockView) (before after : FilesFacts) (old new : DaemonOutside) (number : ℕ)
+    → DaemonExits words told tells before after old new number → EndsBy words number
+ends_by words told tells before after old new number exits = record {
+  ending = exits.ending;
+  ends = exits.ends;
+  asked = λ is. asked_by words (first_number exits.second) before after old new exits.ending is exits.comes;
+}
 
--- whatever is known of the words, the number is that of what they come to
-pub ends_so : (words : Option (List Text)) (told tells : ClockView) (clocks : List ClockView) (before after : FilesFacts) (old new : DaemonOutside) (number : ℕ)
-    → DaemonExits words told tells clocks before after old new number → (ending : Ending) × (number ≡ ending_number ending)
-ends_so words told tells clocks before after old new number exits = (exits.ending, exits.ends)
+-- or by a status before they were read
+pub ends_with : (words : Option (List Text)) (status : DaemonStatus) (number : ℕ) → number ≡ ending_number (Ended status) → EndsBy words number
+ends_with words status number is = record { ending = Ended status; ends = is; asked = λ asked. absurd (apart (ap is_answered asked)) }
+  where
+    is_answered : Ending → ℕ
+    is_answered Answered = 1
+    is_answered (Ended status) = 0
+
+    apart : ◌≡◌ {A = ℕ} 0 1 → ⊥
+    apart same = omega (arith, same)

@@ -1,4 +1,5 @@
 pub mod Exiting
 pub mod Announced
+pub mod Placed
 pub mod LeftLogs
 pub mod Headlines

@@ -38,26 +38,32 @@ AnswersAlone old new Answered = (text : List ℕ) × Appends old.taken new.taken
 AnswersAlone old new (Ended status) = IsUnwritten old new status ⊎ ((status ≡ WriteFault) × Rose old.faults new.faults)
 
 -- What words came to. A question of theirs was answered, and nothing was served; or their server ran, with each short word as the long one that it stands for.
-abbrev pub ComesTo : Option Question → List Text → List ClockView → ℕ → FilesFacts → FilesFacts → DaemonOutside → DaemonOutside → Ending → Type 0
-ComesTo (Some question) words clocks base before after old new ending = AnswersAlone old.sink new.sink ending × BindsNothing old new × (after ≡ before)
-ComesTo None words clocks base before after old new Answered = ⊥
-ComesTo None words clocks base before after old new (Ended status) = KeepsUp (daemon_of (long_words words)) clocks base before after old new status
+abbrev pub ComesTo : Option Question → List Text → ℕ → FilesFacts → FilesFacts → DaemonOutside → DaemonOutside → Ending → Type 0
+ComesTo (Some question) words base before after old new ending = AnswersAlone old.sink new.sink ending × BindsNothing old new × (after ≡ before)
+ComesTo None words base before after old new Answered = ⊥
+ComesTo None words base before after old new (Ended status) = KeepsUp (daemon_of (long_words words)) base before after old new status
 
 -- A run comes to what these words ask for; or there was no memory for words, and it touched nothing.
-abbrev pub ComesToFor : Option (List Text) → List ClockView → ℕ → FilesFacts → FilesFacts → DaemonOutside → DaemonOutside → Ending → Type 0
-ComesToFor None clocks base before after old new ending = (ending ≡ Ended NoMemory) × (new ≡ old) × (after ≡ before)
-ComesToFor (Some words) clocks base before after old new ending = ComesTo (question_of words) words clocks base before after old new ending
+abbrev pub ComesToFor : Option (List Text) → ℕ → FilesFacts → FilesFacts → DaemonOutside → DaemonOutside → Ending → Type 0
+ComesToFor None base before after old new ending = (ending ≡ Ended NoMemory) × (new ≡ old) × (after ≡ before)
+ComesToFor (Some words) base before after old new ending = ComesTo (question_of words) words base before after old new ending
 
 -- The process ends with the number of what these words come to. Its clock was read once, and unique numbers begin at those of the second that it gave.
-pub record DaemonExits (words : Option (List Text)) (told tells : ClockView) (clocks : List ClockView) (before after : FilesFacts) (old new : DaemonOutside) (number : ℕ) : Type 0 where
+pub record DaemonExits (words : Option (List Text)) (told tells : ClockView) (before after : FilesFacts) (old new : DaemonOutside) (number : ℕ) : Type 0 where
   pub ending : Ending
   pub ends : number ≡ ending_number ending
   pub second : ℕ
   pub read : IsReading told second
   pub once : tells ≡ once_read second told
-  pub comes : ComesToFor words clocks (first_number second) before after old new ending
+  pub comes : ComesToFor words (first_number second) before after old new ending
 
 -- words ask a question
 abbrev pub IsAsked : Option (List Text) → Type 0
 IsAsked None = ⊥
 IsAsked (Some words) = question_of words ≢ None
+
+-- The process ends with the number of what words came to. Only a question of theirs is answered.
+pub record EndsBy (words : Option (List Text)) (number : ℕ) : Type 0 where
+  pub ending : Ending
+  pub ends : number ≡ ending_number ending
+  pub asked : ending ≡ Answered → IsAsked words

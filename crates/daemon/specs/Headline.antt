@@ -1,4 +1,4 @@
--- The headline of a server: what one has done that ended with the status UsedUp, as nothing more was to come; and what one that a fault of the net stopped. `laws.rt`
+-- The headline of a server: what one has done that ended with the status UsedUp, as nothing more was to come, or was told to stop; and what one that a fault of the net stopped. `laws.rt`
 -- says that each one has.
 use Rattle.std.specs.Prelude.{◌≡◌, ◌⊎◌, ◌+◌, ◌-◌, ◌≤◌, ◌++◌, ℕ, List, [], codes, length, map, min, slice_get, Some, IfSome}
 use Rattle.std.specs.Io.KnownBytes.{Appends}
@@ -14,7 +14,6 @@ use Rattle.datagram_answers.specs.Dealing.{Dealing, answered_in}
 use Rattle.fronts.specs.Placed.{Placed}
 use Rattle.datagram_answers.specs.DealingTotals.{AreTotalsOf}
 use Rattle.connection_loop.specs.declared.desk.TheConstants.{MOST_UNSENT}
-use Rattle.server_words.specs.declared.stream_ports.StreamPorts.{StreamPorts}
 use Rattle.connection_loop.specs.Given.{Given}
 use Rattle.connection_loop.specs.Moments.{TalksThrough, IsCaughtUp}
 use Rattle.connection_loop.specs.Open.{OnLogs}
@@ -24,7 +23,7 @@ use Rattle.locked_front.specs.Parts.{most_turns}
 use Rattle.served.specs.Served.{AnswersLawfully, ServesPort, LeavesPort}
 use Rattle.locked_server.specs.Filled.{origin_of}
 use Rattle.locked_server.specs.Streams.{ListenFacts}
-use Rattle.locked_server.specs.Causes.{LacksPort}
+use Rattle.locked_server.specs.Causes.{LacksPort, LacksPlace}
 use Rattle.daemon_words.specs.DaemonWords.{Service}
 use Rattle.served.specs.TotalsText.{totals_text}
 use Rattle.server_words.specs.Output.{with_line_feed}
@@ -36,9 +35,9 @@ use Rattle.daemon.specs.Daemon.{DaemonOutside, ready_text, unbound_text}
 abbrev pub OfEach : {A : Type 0} → ℕ → List A → (ℕ → A → Type 0) → Type 0
 OfEach {A} count all P = (length all ≡ count) × ((f : ℕ) (own : A) → slice_get all f ≡ Some own → P f own)
 
--- a fact of the log that waited at a port and of what was left of it, where what listens tells both
-abbrev pub OnPortLogs : (Log → Log → Type 0) → ℕ → ListenFacts → ListenFacts → Type 0
-OnPortLogs P port before after = IfSome before.ports (λ waited. IfSome after.released (λ left. OnLogs P (waited port) (left port)))
+-- a fact of the log that waited at a share and of what was left of it, where what listens tells both
+abbrev pub OnShareLogs : (Log → Log → Type 0) → ℕ → ListenFacts → ListenFacts → Type 0
+OnShareLogs P share before after = IfSome before.waits (λ waited. IfSome after.released (λ left. OnLogs P (waited share) (left share)))
 
 -- what each front answered is lawful, from what filled the partitions
 pub record AnswersFromFilling (files : FilesFacts) (service : Service) (answers : List (List Answered)) : Type 0 where
@@ -49,7 +48,7 @@ pub record AnswersFromFilling (files : FilesFacts) (service : Service) (answers 
   pub runs : ℕ → List Placed
   pub lawful : AnswersLawfully service.options (origin_of service.options writes) answers runs
 
--- a front talked so with the clients at its port, whose log was this one before and that one after
+-- a front talked so with the clients of its share, whose log was this one before and that one after
 pub record TalksLawfully (options : Options) (base lacked : ℕ) (answers : List Answered) (before after : Log) : Type 0 where
   -- what clients do is as it was foretold;
   pub same : after.schedule ≡ before.schedule
@@ -60,7 +59,8 @@ pub record TalksLawfully (options : Options) (base lacked : ℕ) (answers : List
   pub few : min (length lacking) LAST_COUNT ≤ lacked
   -- all came in short turns, one for each report: first answers to clients, and behind them a few sweeps;
   pub turns : TakesTurns options base MOST_UNSENT after.schedule after.script.piece lacking after.entries given answers
-  -- at each moment what was sent to each client is due to what it had said, by the answers until then, and each close had a cause;
+  -- at each moment what was sent to each client is due to what it had said, by the answers until then, and each close had a cause; and what was answered since the
+  -- second was told last is answered at it, which is not before what it answers came;
   pub through : TalksThrough options base MOST_UNSENT after.schedule lacking after.entries given
   -- and in the end each connection is settled, or a report of it is to come
   pub caught_up : IsCaughtUp options base after.schedule after.script.piece after.entries given
@@ -77,9 +77,9 @@ TalksToItsEnd options base lacked answers before after = TalksLawfully options b
 abbrev pub TalksToAStop : Options → ℕ → ℕ → List Answered → Log → Log → Type 0
 TalksToAStop options base lacked answers before after = TalksLawfully options base lacked answers before after × (HasTalkedOut options answers after ⊎ LastFailed after)
 
--- this holds of the front at each port of connections, with what it answered
-abbrev pub TalkAtPorts : (List Answered → Log → Log → Type 0) → StreamPorts → List (List Answered) → ListenFacts → ListenFacts → Type 0
-TalkAtPorts talks streams answers before after = OfEach streams.fronts answers (λ f own. OnPortLogs (talks own) (streams.port + f) before after)
+-- this holds of the front behind each place of connections, which gave it one share, with what it answered
+abbrev pub TalkAtPlaces : (List Answered → Log → Log → Type 0) → ℕ → List (List Answered) → ListenFacts → ListenFacts → Type 0
+TalkAtPlaces talks places answers before after = OfEach places answers (λ f own. OnShareLogs (talks own) (before.given + f) before after)
 
 -- each front over datagrams served its port by these dealings
 abbrev pub ServePorts : PortOptions → List (List Dealing) → PortStates → PortStates → Type 0
@@ -93,8 +93,8 @@ pub record ServesLawfully (service : Service) (base : ℕ) (files : FilesFacts) 
   pub dealings : List (List Dealing)
   -- All their answers are lawful: one run of each partition's machine has them all.
   pub lawful : AnswersFromFilling files service (answers ++ map answered_in dealings)
-  -- At each port of connections what was sent to each client is due to what it said, at each moment, until nothing more was to come.
-  pub connections : TalkAtPorts (TalksToItsEnd service.options base new.lacked) service.streams.ports answers old.ports.listens new.ports.listens
+  -- At each place of connections what was sent to each client is due to what it said, at each moment, until nothing more was to come.
+  pub connections : TalkAtPlaces (TalksToItsEnd service.options base new.lacked) service.streams.ports.fronts answers old.ports.listens new.ports.listens
   -- At each port of datagrams all that waited was received, in order, and what was sent is what is due to each.
   pub datagrams : ServePorts service.ports dealings ports ports'
   -- The sink took the line that names the ports, then that of the totals, and nothing else.
@@ -114,15 +114,15 @@ pub record StopsLawfully (service : Service) (base : ℕ) (files : FilesFacts) (
   pub dealings : List (List Dealing)
   -- All their answers are lawful: one run of each partition's machine has them all.
   pub lawful : AnswersFromFilling files service (answers ++ map answered_in dealings)
-  -- At each port of connections what was sent to each client is due to what it said, at each moment, until there was a cause to stop.
-  pub connections : TalkAtPorts (TalksToAStop service.options base new.lacked) service.streams.ports answers old.ports.listens new.ports.listens
+  -- At each place of connections what was sent to each client is due to what it said, at each moment, until there was a cause to stop.
+  pub connections : TalkAtPlaces (TalksToAStop service.options base new.lacked) service.streams.ports.fronts answers old.ports.listens new.ports.listens
   -- At each port of datagrams a beginning of what waited was received, and what was sent is a beginning of what is due to that.
   pub datagrams : LeavePorts service.ports dealings ports ports'
   -- The sink took the line that names the ports, then `net fault`, and nothing else.
   pub printed : Appends old.sink.taken new.sink.taken (ready_text service.ports service.streams.ports ++ with_line_feed (codes "net fault"))
 
--- a port was not had, and the sink took the line that names it, and nothing else
-pub record NamesPort (old new : DaemonOutside) : Type 0 where
+-- a port was not had, or a place of connections; and the sink took the line that names it, and nothing else
+pub record NamesPort (first : ℕ) (old new : DaemonOutside) : Type 0 where
   pub port : ℕ
-  pub lacks : LacksPort port old.ports new.ports
+  pub lacks : LacksPort port old.ports new.ports ⊎ ((place : ℕ) × (port ≡ first + place) × LacksPlace place old.ports new.ports)
   pub printed : Appends old.sink.taken new.sink.taken (unbound_text port)

@@ -1,12 +1,12 @@
 //! What the server is told of itself as it begins.
 
+use crate::process::{Process, Start};
 use daemon_words::StreamOptions;
 use memcached_stats::{Board, Server, Tally};
 use mica_words::{key_hash, partition_of};
-use outside::{Clock, NoMemory};
+use outside::NoMemory;
 use partition_model::{MOST_PARTITIONS, Options, Write};
 use server_words::PortOptions;
-use std::alloc::Global;
 
 // How many writes fill each partition.
 fn tally_of(partitions: u32, filling: &[Write]) -> Tally {
@@ -23,27 +23,22 @@ fn tally_of(partitions: u32, filling: &[Write]) -> Tally {
 }
 
 /// Where the fronts of connections show what they count, and one place behind theirs, which shows what fills the partitions.
-pub(crate) fn board_of<C: Clock>(
-    alloc: Global,
+pub(crate) fn board_of<W, G>(
+    process: &Process<W, G>,
+    start: Start,
     options: &Options,
     ports: &PortOptions,
     streams: &StreamOptions,
-    clocks: &[C],
     filling: &[Write],
-    pid: u32,
 ) -> Result<Board, NoMemory> {
     let fronts = streams.ports.fronts;
-    let since = match clocks.first() {
-        Some(clock) => clock.present(),
-        None => 0,
-    };
     let server = Server {
-        pid: u64::from(pid),
-        since,
+        pid: u64::from(process.pid),
+        since: start.second,
         fronts: fronts.saturating_add(ports.fronts),
         connections: u64::from(fronts) * u64::from(streams.connections),
     };
-    let board = Board::new(alloc, server, options, fronts.saturating_add(1))?;
+    let board = Board::new(process.alloc, server, options, fronts.saturating_add(1))?;
     board.show(fronts, &mut tally_of(options.partitions, filling));
     Ok(board)
 }

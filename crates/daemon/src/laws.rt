@@ -1,6 +1,5 @@
 //! The headline of a server, as it follows from the contract of `daemon`.
-ghost use Rattle.std.specs.Prelude.{◌≡◌, ◌≤◌, ◌⊎◌, ℕ, List, Some, length};
-ghost use Rattle.outside.specs.Seconds.{ClockView};
+ghost use Rattle.std.specs.Prelude.{◌≡◌, ◌⊎◌, ℕ, List, Some};
 ghost use Rattle.served.specs.NetRun.{OnPorts};
 ghost use Rattle.daemon_words.specs.DaemonWords.{Service, daemon_of};
 ghost use Rattle.daemon.specs.Files.{FilesFacts};
@@ -9,19 +8,23 @@ ghost use Rattle.daemon.specs.Headline.{ServesLawfully, StopsLawfully, NamesPort
 
 use crate::DaemonStatus;
 
-/// Words that give a service, a clock for each of its fronts over connections, and `daemon`'s contract with the status `UsedUp`: where the net tells its ports, the
-/// service was carried out.
+/// Words that give a service, and `daemon`'s contract with the status `UsedUp`: where the net tells its ports, the service was carried out.
 pub fn headline()
-    ensures { (words : List (List ℕ)) (service : Service) (clocks : List ClockView) (base : ℕ) (before after : FilesFacts) (old new : DaemonOutside)
-        → daemon_of words ≡ Some service → service.streams.ports.fronts ≤ length clocks
-        → KeepsUp (daemon_of words) clocks base before after old new DaemonStatus.UsedUp
+    ensures { (words : List (List ℕ)) (service : Service) (base : ℕ) (before after : FilesFacts) (old new : DaemonOutside)
+        → daemon_of words ≡ Some service → KeepsUp (daemon_of words) base before after old new DaemonStatus.UsedUp
+        → OnPorts (ServesLawfully service base before old new) old.ports.net.ports new.ports.net.ports }
+{}
+
+/// The same with the status `Stopped`: it was told to stop, and had carried out its service until then.
+pub fn headline_at_stop()
+    ensures { (words : List (List ℕ)) (service : Service) (base : ℕ) (before after : FilesFacts) (old new : DaemonOutside)
+        → daemon_of words ≡ Some service → KeepsUp (daemon_of words) base before after old new DaemonStatus.Stopped
         → OnPorts (ServesLawfully service base before old new) old.ports.net.ports new.ports.net.ports }
 {}
 
 /// The same with the status `NetFault`: a port was not had, or the service was carried out until a fault of the net stopped it.
 pub fn headline_at_fault()
-    ensures { (words : List (List ℕ)) (service : Service) (clocks : List ClockView) (base : ℕ) (before after : FilesFacts) (old new : DaemonOutside)
-        → daemon_of words ≡ Some service → service.streams.ports.fronts ≤ length clocks
-        → KeepsUp (daemon_of words) clocks base before after old new DaemonStatus.NetFault
-        → NamesPort old new ⊎ OnPorts (StopsLawfully service base before old new) old.ports.net.ports new.ports.net.ports }
+    ensures { (words : List (List ℕ)) (service : Service) (base : ℕ) (before after : FilesFacts) (old new : DaemonOutside)
+        → daemon_of words ≡ Some service → KeepsUp (daemon_of words) base before after old new DaemonStatus.NetFault
+        → NamesPort service.streams.ports.port old new ⊎ OnPorts (StopsLawfully service base before old new) old.ports.net.ports new.ports.net.ports }
 {}

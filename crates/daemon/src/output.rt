@@ -19,12 +19,17 @@ pub(crate) fn write_due<K: Sink>(sink: &mut K, text: &[u8], status: DaemonStatus
     }
 }
 
-/// Prints the line of the totals, which is due where the server is used up.
-pub(crate) fn print_totals<K: Sink>(alloc: Global, totals: Totals, sink: &mut K) -> DaemonStatus
-    ensures { IsTold DaemonStatus.UsedUp (totals_text totals) (sink_facts K.Sink sink.old) (sink_facts K.Sink sink.new) result }
+/// Prints the line of the totals, which is due with this status.
+pub(crate) fn print_totals<K: Sink>(
+    alloc: Global,
+    totals: Totals,
+    status: DaemonStatus,
+    sink: &mut K,
+) -> DaemonStatus
+    ensures { IsTold status (totals_text totals) (sink_facts K.Sink sink.old) (sink_facts K.Sink sink.new) result }
 {
     match totals_line(alloc, totals) {
-        Ok(line) => write_due(sink, line.as_bytes(), DaemonStatus::UsedUp),
+        Ok(line) => write_due(sink, line.as_bytes(), status),
         Err(NoMemory) => DaemonStatus::NoMemory,
     }
 }

@@ -5,7 +5,7 @@ use std::alloc::Global;
 use std::str;
 
 // The text behind a name and the spaces that follow it, in a file.
-fn behind<'a>(bytes: &'a [u8], name: &str) -> Option<&'a str> {
+pub(crate) fn behind<'a>(bytes: &'a [u8], name: &str) -> Option<&'a str> {
     let text = str::from_utf8(bytes).ok()?;
     let (_, rest) = text.split_once(name)?;
     Some(rest.trim_start())

@@ -13,6 +13,16 @@ pub struct Process<'a, W, G> {
     pub gate: &'a G,
     /// Set once a port has ended, or a partition bears no more writes.
     pub ended: &'a AtomicBool,
+    /// Set once it is to stop, which its ports then tell as their end.
+    pub stopping: &'a AtomicBool,
     /// The number of the process.
     pub pid: u32,
+}
+
+/// When a server starts.
+#[derive(Clone, Copy)]
+pub struct Start {
+    pub second: u64,
+    /// The unique number of the first value that a partition takes from a connection.
+    pub base: u64,
 }

@@ -1,8 +1,7 @@
 //! The whole program: its words, the second at which it starts, and the number that it ends with.
-ghost use Rattle.std.specs.Prelude.{◌≡◌, ◌≤◌, [], None, length, map, string_bytes};
+ghost use Rattle.std.specs.Prelude.{◌≡◌, ◌≤◌, [], None, map, string_bytes};
 ghost use Rattle.std.specs.Process.{exit_status};
 ghost use Rattle.locked_server.specs.Causes.{ports_at};
-ghost use Rattle.server_words.specs.declared.limits.TheConstants.{MOST_FRONTS};
 ghost use Rattle.server_words.specs.Output.{sink_facts};
 ghost use Rattle.option_words.specs.ProgramWords.{words_of};
 ghost use Rattle.daemon_words.specs.Questions.{question_of};
@@ -12,7 +11,7 @@ ghost use Rattle.daemon.specs.Daemon.{daemon_outside};
 ghost use Rattle.daemon.specs.Exit.{first_number, BeginsAbove, BeginsExact, AnswersAlone, ComesTo, DaemonExits};
 
 use crate::reasons::note_reason;
-use crate::{DaemonStatus, Ending, Files, Process, Speaker, daemon};
+use crate::{DaemonStatus, Ending, Files, Process, Speaker, Start, daemon};
 use connections::Listeners;
 use daemon_words::{Question, answer_to, long_words, question_of};
 use locked_server::Left;
@@ -75,19 +74,10 @@ fn answer<K: Sink>(question: Question, sink: &mut K) -> Ending
 }
 
 // Runs the server that words give which ask no question.
-fn serve_words<
-    W: Threads + Wait + Sync,
-    F: Files,
-    K: Sink + Drop,
-    N: Net,
-    L: Listeners,
-    C: Clock + Drop + Send,
-    G: Gate,
->(
+fn serve_words<W: Threads + Wait + Sync, F: Files, K: Sink + Drop, N: Net, L: Listeners, G: Gate>(
     process: &Process<W, G>,
-    base: u64,
+    start: Start,
     words: &[String],
-    clocks: Vec<C>,
     files: &mut F,
     speaker: &mut Speaker<K>,
     net: &mut N,
@@ -95,10 +85,9 @@ fn serve_words<
     left: &mut Left,
 ) -> Ending
     requires net { N.binds net.old ≡ 0 }
-    requires clocks { MOST_FRONTS ≤ length clocks.items }
     requires tables { left.old.tables ≡ [] }
     requires uncounted { left.old.lacked ≡ 0 }
-    ensures { ComesTo None (map string_bytes words.now) (map C.view clocks.items) base (files_facts F.file F.free F.faults files.old) (files_facts F.file F.free F.faults files.new)
+    ensures { ComesTo None (map string_bytes words.now) start.base (files_facts F.file F.free F.faults files.old) (files_facts F.file F.free F.faults files.new)
         (daemon_outside (sink_facts K.Sink speaker.old.sink) (ports_at N.Net L.Listeners net.old listeners.old) left.old.tables left.old.lacked)
         (daemon_outside (sink_facts K.Sink speaker.new.sink) (ports_at N.Net L.Listeners net.new listeners.new) left.new.tables left.new.lacked) result }
 {
@@ -106,9 +95,8 @@ fn serve_words<
         Ok(long) => {
             let status = daemon(
                 process,
-                base,
+                start,
                 long.as_slice(),
-                clocks,
                 files,
                 speaker,
                 net,
@@ -129,13 +117,11 @@ pub fn answer_or_serve<
     K: Sink + Drop,
     N: Net,
     L: Listeners,
-    C: Clock + Drop + Send,
     G: Gate,
 >(
     process: &Process<W, G>,
-    base: u64,
+    start: Start,
     words: &[String],
-    clocks: Vec<C>,
     files: &mut F,
     speaker: &mut Speaker<K>,
     net: &mut N,
@@ -143,36 +129,32 @@ pub fn answer_or_serve<
     left: &mut Left,
 ) -> Ending
     requires net { N.binds net.old ≡ 0 }
-    requires clocks { MOST_FRONTS ≤ length clocks.items }
     requires tables { left.old.tables ≡ [] }
     requires uncounted { left.old.lacked ≡ 0 }
-    ensures { ComesTo (question_of (map string_bytes words.now)) (map string_bytes words.now) (map C.view clocks.items) base (files_facts F.file F.free F.faults files.old) (files_facts F.file F.free F.faults files.new)
+    ensures { ComesTo (question_of (map string_bytes words.now)) (map string_bytes words.now) start.base (files_facts F.file F.free F.faults files.old) (files_facts F.file F.free F.faults files.new)
         (daemon_outside (sink_facts K.Sink speaker.old.sink) (ports_at N.Net L.Listeners net.old listeners.old) left.old.tables left.old.lacked)
         (daemon_outside (sink_facts K.Sink speaker.new.sink) (ports_at N.Net L.Listeners net.new listeners.new) left.new.tables left.new.lacked) result }
 {
     match question_of(words) {
         Some(question) => answer(question, &mut speaker.sink),
-        None => serve_words(
-            process, base, words, clocks, files, speaker, net, listeners, left,
-        ),
+        None => serve_words(process, start, words, files, speaker, net, listeners, left),
     }
 }
 
 /// Answers what the program's words ask, which are `env::args(&rt)` in `main`, or runs the server that they give, and ends with the number of that. The clock says in which second it
-/// starts; each front of connections takes one of `clocks`. Only an `rt` that may start threads, as in `main`, serves.
+/// starts. Only an `rt` that may start threads, as in `main`, serves.
 pub fn run_daemon<
     W: Threads + Wait + Sync,
     F: Files,
     K: Sink + Drop,
     N: Net,
     L: Listeners,
-    C: Clock + Drop + Send,
+    C: Clock,
     G: Gate,
 >(
     process: &Process<W, G>,
     args: io::Result<Args>,
     clock: &mut C,
-    clocks: Vec<C>,
     files: &mut F,
     speaker: &mut Speaker<K>,
     net: &mut N,
@@ -180,20 +162,22 @@ pub fn run_daemon<
     left: &mut Left,
 ) -> ExitCode
     requires net { N.binds net.old ≡ 0 }
-    requires clocks { MOST_FRONTS ≤ length clocks.items }
     requires tables { left.old.tables ≡ [] }
     requires uncounted { left.old.lacked ≡ 0 }
-    ensures { DaemonExits (words_of string_bytes args) (C.view clock.old) (C.view clock.new) (map C.view clocks.items) (files_facts F.file F.free F.faults files.old) (files_facts F.file F.free F.faults files.new)
+    ensures { DaemonExits (words_of string_bytes args) (C.view clock.old) (C.view clock.new) (files_facts F.file F.free F.faults files.old) (files_facts F.file F.free F.faults files.new)
         (daemon_outside (sink_facts K.Sink speaker.old.sink) (ports_at N.Net L.Listeners net.old listeners.old) left.old.tables left.old.lacked)
         (daemon_outside (sink_facts K.Sink speaker.new.sink) (ports_at N.Net L.Listeners net.new listeners.new) left.new.tables left.new.lacked) (exit_status result) }
 {
-    let base = first_number(clock.second());
+    let second = clock.second();
+    let start = Start {
+        second,
+        base: first_number(second),
+    };
     match all_words(process.alloc, args) {
         Ok(words) => exit_code(answer_or_serve(
             process,
-            base,
+            start,
             behind_name(words.as_slice()),
-            clocks,
             files,
             speaker,
             net,

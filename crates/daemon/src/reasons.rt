@@ -4,12 +4,10 @@ ghost use Rattle.partition_model.specs.Options.{IsPossible};
 
 use crate::{DaemonStatus, Doubt, Files, Speaker, Unbound};
 use daemon_words::{refusal_text, value_given};
-use locked_server::Service;
 use outside::Sink;
 use partition_model::Options;
 use partition_sizes::start_bytes;
 use std::alloc::Global;
-use std::net::Ipv4Addr;
 
 const MEBIBYTE: u64 = 1_048_576;
 
@@ -71,31 +69,7 @@ pub(crate) fn note_image<K: Sink + Drop>(
     }
 }
 
-// Which one a port is among so many from a first one on, if it is.
-fn place_among(port: u16, first: u16, count: u32) -> Option<u32> {
-    let place = u32::from(port.checked_sub(first)?);
-    if place < count { Some(place) } else { None }
-}
-
-/// A port that was not had, where those of connections are at this address.
-pub(crate) fn unbound_at(service: &Service, address: Ipv4Addr, port: u16) -> Unbound {
-    let streams = &service.streams;
-    let (address, before) = match place_among(port, streams.port, streams.fronts) {
-        Some(place) => (address, place.saturating_mul(2).saturating_add(1)),
-        None => (
-            Ipv4Addr::LOCALHOST,
-            u32::from(port.saturating_sub(service.ports.port)),
-        ),
-    };
-    Unbound {
-        address,
-        port,
-        is_tcp: streams.fronts > 0,
-        before,
-    }
-}
-
-/// Names it.
+/// Names a port that was not had.
 pub(crate) fn unbound_reason(alloc: Global, unbound: Unbound) -> String {
     let Unbound { address, port, .. } = unbound;
     match format!(in alloc; "{address}:{port} not bound") {
@@ -117,6 +91,7 @@ fn plain_reason(status: DaemonStatus) -> &'static str {
         DaemonStatus::ImageRefused =>
             "a partition has no room for all of the image: give more memory",
         DaemonStatus::UsedUp => "its ports have taken all that can be counted",
+        DaemonStatus::Stopped => "",
     }
 }
 

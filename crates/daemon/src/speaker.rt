@@ -22,6 +22,28 @@ pub struct Unbound {
     pub before: u32,
 }
 
+impl Unbound {
+    /// One of datagrams, behind so many of them.
+    pub(crate) fn datagrams(port: u16, before: u32) -> Unbound {
+        Unbound {
+            address: Ipv4Addr::LOCALHOST,
+            port,
+            is_tcp: false,
+            before,
+        }
+    }
+
+    /// One of connections, at the place of this number.
+    pub(crate) fn connections(address: Ipv4Addr, port: u16, place: u32) -> Unbound {
+        Unbound {
+            address,
+            port,
+            is_tcp: true,
+            before: place.saturating_mul(2).saturating_add(1),
+        }
+    }
+}
+
 /// What the system can be asked once more about: why it gave no port, or no file.
 #[derive(Drop)]
 pub enum Doubt {
@@ -35,8 +57,6 @@ pub enum Doubt {
 pub struct Speaker<K> {
     pub sink: K,
     pub line: String,
-    /// That of the ports of connections.
-    pub address: Ipv4Addr,
     /// A sentence, or nothing where there is none.
     pub reason: String,
     pub doubt: Doubt,
@@ -50,7 +70,6 @@ impl<K: Sink + Drop> Speaker<K> {
         Speaker {
             sink,
             line: String::new(alloc),
-            address: Ipv4Addr::LOCALHOST,
             reason: String::new(alloc),
             doubt: Doubt::Nothing,
         }
@@ -69,7 +88,7 @@ impl<K: Sink + Drop> Announce for Speaker<K> {
     fn ready<D: Datagrams, C: Connections>(
         &mut self,
         _ports: &PortOptions,
-        _streams: &StreamPorts,
+        _places: u32,
         _ends: &[D],
         _connections: &[C],
     ) -> Result<(), Untold> {

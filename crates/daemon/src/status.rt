@@ -1,8 +1,10 @@
 //! What a server that stays up ends with.
 
-/// How a server that stays up ended, each with the number that its process ends with. None is 0: it ends only where it can't go on.
+/// How a server that stays up ended, each with the number that its process ends with. It ends where it can't go on, or is told to stop, and only then with 0.
 #[derive(Clone, Copy, PartialEq, Eq)]
 pub enum DaemonStatus {
+    /// It was told to stop.
+    Stopped = 0,
     /// The words give no server.
     Usage = 1,
     NoMemory = 2,

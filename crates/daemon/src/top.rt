@@ -1,14 +1,14 @@
 //! The top call: from words to a server that stays up, and to its status.
-ghost use Rattle.std.specs.Prelude.{◌≡◌, ◌≤◌, [], All, length, map, string_bytes, Err, IsTrue};
+ghost use Rattle.std.specs.Prelude.{◌≡◌, ◌≤◌, ◌⊎◌, ℕ, [], All, length, map, string_bytes, Err, IsTrue};
 ghost use Rattle.partition_model.specs.Options.{IsPossible};
 ghost use Rattle.partition_model.specs.Write.{IsWrite};
 ghost use Rattle.locked_server.specs.declared.stop.Stop.TheVariants.{Fault};
 ghost use Rattle.locked_server.specs.Service.{IsPossibleService};
 ghost use Rattle.locked_server.specs.Causes.{ports_at};
-ghost use Rattle.server_words.specs.declared.limits.TheConstants.{MOST_FRONTS};
+ghost use Rattle.server_words.specs.StreamPorts.{IsPossibleStreams};
 ghost use Rattle.daemon_words.specs.DaemonWords.{daemon_of, ArePossibleFronts};
 ghost use Rattle.server_words.specs.Output.{sink_facts};
-ghost use Rattle.daemon.specs.declared.status.DaemonStatus.TheVariants.{NetFault};
+ghost use Rattle.daemon.specs.declared.status.DaemonStatus.TheVariants.{NetFault, Stopped, UsedUp};
 ghost use Rattle.daemon.specs.Written.{IsTold};
 ghost use Rattle.daemon.specs.Files.{files_facts};
 ghost use Rattle.daemon.specs.Daemon.{HasMemory, WritesLast, ServesAloud, ServesOrNot, KeepsUp, daemon_outside, ready_text, unbound_text};
@@ -16,26 +16,28 @@ ghost use Rattle.daemon.specs.Daemon.{HasMemory, WritesLast, ServesAloud, Serves
 use crate::board::board_of;
 use crate::filling::filling_of;
 use crate::output::{print_totals, write_due};
-use crate::process::Process;
-use crate::reasons::{note_image, shortage_reason, unbound_at, unbound_reason};
-use crate::speaker::{Speaker, ready_line, unbound_line};
+use crate::places::places_of;
+use crate::process::{Process, Start};
+use crate::reasons::{note_image, shortage_reason, unbound_reason};
+use crate::speaker::{Speaker, Unbound, ready_line, unbound_line};
 use crate::{DaemonStatus, Doubt, Files};
 use connections::Listeners;
 use daemon_words::{DaemonOptions, StreamOptions, read_daemon};
 use fronts::ServeFault;
-use locked_server::{Left, Service, Shared, Start, Stop, serve_locked};
+use locked_server::{Left, Service, Shared, Stop, serve_locked};
 use option_words::WordsFault;
-use outside::{Clock, Gate, Net, NoMemory, Sink};
-use partition_model::Options;
+use outside::{Gate, Net, NoMemory, Sink};
+use partition_model::{Options, Write};
 use partition_sizes::start_bytes;
 use server_words::PortOptions;
 use std::alloc::Global;
 use std::sync::Wait;
+use std::sync::atomic::{AtomicBool, Ordering};
 use std::thread::Threads;
 
 // Writes the line of a fault that stopped the server.
 fn write_fault<K: Sink>(fault: ServeFault, sink: &mut K) -> DaemonStatus
-    ensures { WritesLast (Err (Fault fault)) (sink_facts K.Sink sink.old) (sink_facts K.Sink sink.new) result }
+    ensures { (first : ℕ) → WritesLast first (Err (Fault fault)) (sink_facts K.Sink sink.old) (sink_facts K.Sink sink.new) result }
 {
     match fault {
         ServeFault::Net => write_due(sink, b"net fault\n", DaemonStatus::NetFault),
@@ -53,42 +55,63 @@ fn write_unbound<K: Sink>(alloc: Global, port: u16, sink: &mut K) -> DaemonStatu
     }
 }
 
+// What a server ends with that comes to totals.
+fn status_at_totals(stopping: &AtomicBool) -> DaemonStatus
+    ensures { (result ≡ UsedUp) ⊎ (result ≡ Stopped) }
+{
+    if stopping.load(Ordering::Relaxed) {
+        DaemonStatus::Stopped
+    } else {
+        DaemonStatus::UsedUp
+    }
+}
+
 // Serves, with the line to be written at hand.
-fn serve_aloud<
-    W: Threads + Wait + Sync,
-    K: Sink + Drop,
-    N: Net,
-    L: Listeners,
-    C: Clock + Drop + Send,
-    G: Gate,
->(
+fn serve_aloud<W: Threads + Wait + Sync, K: Sink + Drop, N: Net, L: Listeners, G: Gate>(
     shared: &Shared<W, G>,
-    start: Start<C>,
+    stopping: &AtomicBool,
+    streams: &StreamOptions,
+    filling: Vec<Write>,
     speaker: &mut Speaker<K>,
     net: &mut N,
     listeners: &mut L,
     left: &mut Left,
 ) -> DaemonStatus
     requires service { IsPossibleService shared.now.service }
-    requires clocks { length start.clocks.items ≡ shared.now.service.streams.fronts }
-    requires filling { All IsWrite start.filling.items }
-    requires line { string_bytes speaker.old.line ≡ ready_text shared.now.service.ports shared.now.service.streams }
+    requires streams { IsPossibleStreams streams.now.ports }
+    requires fronts { shared.now.service.places ≡ streams.now.ports.fronts }
+    requires places { shared.now.service.places ≤ length (L.places listeners.old) }
+    requires filling { All IsWrite filling.items }
+    requires line { string_bytes speaker.old.line ≡ ready_text shared.now.service.ports streams.now.ports }
     requires unbound { N.binds net.old ≡ 0 }
     requires tables { left.old.tables ≡ [] }
     requires uncounted { left.old.lacked ≡ 0 }
-    ensures { ServesAloud shared.now.service (map C.view start.clocks.items) start.filling.items
+    ensures { ServesAloud shared.now.service streams.now.ports filling.items
         (daemon_outside (sink_facts K.Sink speaker.old.sink) (ports_at N.Net L.Listeners net.old listeners.old) left.old.tables left.old.lacked)
         (daemon_outside (sink_facts K.Sink speaker.new.sink) (ports_at N.Net L.Listeners net.new listeners.new) left.new.tables left.new.lacked) result }
 {
-    match serve_locked(shared, start, net, listeners, speaker, left) {
-        Ok(totals) => print_totals(shared.alloc, totals, &mut speaker.sink),
+    match serve_locked(shared, filling, net, listeners, speaker, left) {
+        Ok(totals) => print_totals(
+            shared.alloc,
+            totals,
+            status_at_totals(stopping),
+            &mut speaker.sink,
+        ),
         Err(Stop::Refused) => write_due(
             &mut speaker.sink,
             b"pair refused\n",
             DaemonStatus::ImageRefused,
         ),
         Err(Stop::Unbound(port)) => {
-            let unbound = unbound_at(&shared.service, speaker.address, port);
+            let before = u32::from(port.saturating_sub(shared.service.ports.port));
+            let unbound = Unbound::datagrams(port, before);
+            speaker.reason = unbound_reason(shared.alloc, unbound);
+            speaker.doubt = Doubt::Port(unbound);
+            write_unbound(shared.alloc, port, &mut speaker.sink)
+        }
+        Err(Stop::Unheard(place)) => {
+            let port = streams.ports.port + place as u16;
+            let unbound = Unbound::connections(streams.address, port, place);
             speaker.reason = unbound_reason(shared.alloc, unbound);
             speaker.doubt = Doubt::Port(unbound);
             write_unbound(shared.alloc, port, &mut speaker.sink)
@@ -98,21 +121,14 @@ fn serve_aloud<
     }
 }
 
-// Serves at the place that the words give, where there is memory for the line.
-fn stay_up<
-    W: Threads + Wait + Sync,
-    K: Sink + Drop,
-    N: Net,
-    L: Listeners,
-    C: Clock + Drop + Send,
-    G: Gate,
->(
+// Serves at the places that the words give, where there is memory for these and for the line.
+fn stay_up<W: Threads + Wait + Sync, K: Sink + Drop, N: Net, L: Listeners, G: Gate>(
     process: &Process<W, G>,
-    base: u64,
+    start: Start,
     options: &Options,
     ports: &PortOptions,
     streams: &StreamOptions,
-    start: Start<C>,
+    filling: Vec<Write>,
     speaker: &mut Speaker<K>,
     net: &mut N,
     listeners: &mut L,
@@ -120,51 +136,49 @@ fn stay_up<
 ) -> DaemonStatus
     requires options { IsPossible options.now }
     requires fronts { ArePossibleFronts ports.now streams.now.ports }
-    requires clocks { MOST_FRONTS ≤ length start.clocks.items }
-    requires filling { All IsWrite start.filling.items }
+    requires filling { All IsWrite filling.items }
     requires unbound { N.binds net.old ≡ 0 }
     requires tables { left.old.tables ≡ [] }
     requires uncounted { left.old.lacked ≡ 0 }
-    ensures { ServesOrNot options.now ports.now streams.now (map C.view start.clocks.items) base start.filling.items
+    ensures { ServesOrNot options.now ports.now streams.now start.base filling.items
         (daemon_outside (sink_facts K.Sink speaker.old.sink) (ports_at N.Net L.Listeners net.old listeners.old) left.old.tables left.old.lacked)
         (daemon_outside (sink_facts K.Sink speaker.new.sink) (ports_at N.Net L.Listeners net.new listeners.new) left.new.tables left.new.lacked) result }
 {
-    let Ok(board) = board_of(
-        process.alloc,
-        options,
-        ports,
-        streams,
-        start.clocks.as_slice(),
-        start.filling.as_slice(),
-        process.pid,
-    ) else {
+    let Ok(board) = board_of(process, start, options, ports, streams, filling.as_slice()) else {
         return DaemonStatus::NoMemory;
     };
-    match ready_line(process.alloc, ports, &streams.ports) {
-        Ok(line) => {
-            speaker.line = line;
-            speaker.address = streams.address;
-            listeners.set_place(streams.address, streams.connections);
-            let mut start = start;
-            start.clocks.truncate(streams.ports.fronts as usize);
-            let service = Service {
-                options: *options,
-                ports: *ports,
-                streams: streams.ports,
-                base,
-            };
-            let shared = Shared {
-                rt: process.rt,
-                alloc: process.alloc,
-                service,
-                board: &board,
-                gate: process.gate,
-                ended: process.ended,
-            };
-            serve_aloud(&shared, start, speaker, net, listeners, left)
-        }
-        Err(NoMemory) => DaemonStatus::NoMemory,
-    }
+    let Ok(places) = places_of(process.alloc, streams) else {
+        return DaemonStatus::NoMemory;
+    };
+    let Ok(line) = ready_line(process.alloc, ports, &streams.ports) else {
+        return DaemonStatus::NoMemory;
+    };
+    listeners.set_places(places, streams.connections);
+    speaker.line = line;
+    let service = Service {
+        options: *options,
+        ports: *ports,
+        places: streams.ports.fronts,
+        base: start.base,
+    };
+    let shared = Shared {
+        rt: process.rt,
+        alloc: process.alloc,
+        service,
+        board: &board,
+        gate: process.gate,
+        ended: process.ended,
+    };
+    serve_aloud(
+        &shared,
+        process.stopping,
+        streams,
+        filling,
+        speaker,
+        net,
+        listeners,
+        left,
+    )
 }
 
 // Whether there is memory for the partitions, as far as that is known.
@@ -180,21 +194,12 @@ fn has_memory<F: Files>(alloc: Global, files: &F, options: &Options) -> bool
 
 /// Fills the partitions from the image that the words name, and serves the ports that they give, each for as many datagrams as can be
 /// counted, and each connection until it ends. It writes one line once it has all ports, and one at its end. Where they take more memory than is free, it ends at once.
-/// `base` is the unique number of the first value that a partition takes from a connection. `left.lacked` says how many connections were closed since there was no
+/// `start` has the unique number of the first value that a partition takes from a connection. `left.lacked` says how many connections were closed since there was no
 /// memory for them.
-pub fn daemon<
-    W: Threads + Wait + Sync,
-    F: Files,
-    K: Sink + Drop,
-    N: Net,
-    L: Listeners,
-    C: Clock + Drop + Send,
-    G: Gate,
->(
+pub fn daemon<W: Threads + Wait + Sync, F: Files, K: Sink + Drop, N: Net, L: Listeners, G: Gate>(
     process: &Process<W, G>,
-    base: u64,
+    start: Start,
     words: &[String],
-    clocks: Vec<C>,
     files: &mut F,
     speaker: &mut Speaker<K>,
     net: &mut N,
@@ -202,10 +207,9 @@ pub fn daemon<
     left: &mut Left,
 ) -> DaemonStatus
     requires net { N.binds net.old ≡ 0 }
-    requires clocks { MOST_FRONTS ≤ length clocks.items }
     requires tables { left.old.tables ≡ [] }
     requires uncounted { left.old.lacked ≡ 0 }
-    ensures { KeepsUp (daemon_of (map string_bytes words.now)) (map C.view clocks.items) base (files_facts F.file F.free F.faults files.old) (files_facts F.file F.free F.faults files.new)
+    ensures { KeepsUp (daemon_of (map string_bytes words.now)) start.base (files_facts F.file F.free F.faults files.old) (files_facts F.file F.free F.faults files.new)
         (daemon_outside (sink_facts K.Sink speaker.old.sink) (ports_at N.Net L.Listeners net.old listeners.old) left.old.tables left.old.lacked)
         (daemon_outside (sink_facts K.Sink speaker.new.sink) (ports_at N.Net L.Listeners net.new listeners.new) left.new.tables left.new.lacked) result }
 {
@@ -224,12 +228,9 @@ pub fn daemon<
         return DaemonStatus::NoMemory;
     }
     match filling_of(process.alloc, files, image, &mut speaker.sink) {
-        Ok(filling) => {
-            let start = Start { filling, clocks };
-            stay_up(
-                process, base, &options, &ports, &streams, start, speaker, net, listeners, left,
-            )
-        }
+        Ok(filling) => stay_up(
+            process, start, &options, &ports, &streams, filling, speaker, net, listeners, left,
+        ),
         Err(status) => {
             note_image(process.alloc, image, status, speaker);
             status

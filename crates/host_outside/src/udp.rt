@@ -25,6 +25,9 @@ pub struct UdpEnd<'a> {
     port: u16,
     peer: Option<SocketAddr>,
     has_failed: Option<&'a AtomicBool>,
+    /// Set once who serves is to stop.
+    stopping: Option<&'a AtomicBool>,
+    ended: bool,
     faults: u64,
 }
 
@@ -33,6 +36,7 @@ pub struct UdpEnd<'a> {
 pub struct UdpNet<'a, R> {
     rt: &'a R,
     has_failed: Option<&'a AtomicBool>,
+    stopping: Option<&'a AtomicBool>,
     binds: u32,
     first: u16,
     refused: u32,
@@ -51,6 +55,7 @@ impl<'a, R: Sockets> UdpNet<'a, R> {
         UdpNet {
             rt,
             has_failed: None,
+            stopping: None,
             binds: 0,
             first: 0,
             refused: 0,
@@ -59,8 +64,12 @@ impl<'a, R: Sockets> UdpNet<'a, R> {
     }
 
     /// A net whose ends fail together: once a receive or a reply of one has failed, which `has_failed` tells, each other one fails at its
-    /// next receive, and at the latest a second later.
-    pub fn failing_whole(rt: &'a R, has_failed: &'a AtomicBool) -> UdpNet<'a, R>
+    /// next receive, and at the latest a second later. They end so once `stopping` is set.
+    pub fn failing_whole(
+        rt: &'a R,
+        has_failed: &'a AtomicBool,
+        stopping: &'a AtomicBool,
+    ) -> UdpNet<'a, R>
         ensures unbound { ⟦<UdpNet<'a, R> as Net>⟧.binds result ≡ 0 }
         ensures faults { ⟦<UdpNet<'a, R> as Net>⟧.faults result ≡ 0 }
         ensures refused { ⟦<UdpNet<'a, R> as Net>⟧.refused result ≡ 0 }
@@ -68,6 +77,7 @@ impl<'a, R: Sockets> UdpNet<'a, R> {
         UdpNet {
             rt,
             has_failed: Some(has_failed),
+            stopping: Some(stopping),
             binds: 0,
             first: 0,
             refused: 0,
@@ -89,20 +99,26 @@ fn bind_socket<R: Sockets>(
     Ok(socket)
 }
 
-/// The next datagram, as far as it fits, and its sender. A wait that the system interrupts, or that looks at the other ends, begins again.
+/// The next datagram, as far as it fits, and its sender; none where it is to stop. A wait that the system interrupts, or that looks at the other ends, begins again.
 fn receive(
     socket: &UdpSocket,
     out: &mut [u8],
     has_failed: Option<&AtomicBool>,
-) -> Result<(usize, SocketAddr), Failed>
-    ensures { IfOk result (λ r. r.0 ≤ length out.new) }
+    stopping: Option<&AtomicBool>,
+) -> Result<Option<(usize, SocketAddr)>, Failed>
+    ensures { IfOk result (λ got. IfSome got (λ r. r.0 ≤ length out.new)) }
 {
     for _ in 0..u64::MAX {
-        if tells(has_failed) {
+        // An end that stopped counts as one that has failed, so this is asked last.
+        let one_has_failed = tells(has_failed);
+        if tells(stopping) {
+            return Ok(None);
+        }
+        if one_has_failed {
             return Err(Failed);
         }
         match socket.recv_from(out) {
-            Ok(received) => return Ok(received),
+            Ok(received) => return Ok(Some(received)),
             Err(error) => match error.kind() {
                 ErrorKind::Interrupted | ErrorKind::WouldBlock => {}
                 _ => return Err(Failed),
@@ -112,9 +128,9 @@ fn receive(
     Err(Failed)
 }
 
-/// Whether an end has failed, of those that fail together.
-fn tells(has_failed: Option<&AtomicBool>) -> bool {
-    has_failed.is_some_and(|told| told.load(Ordering::Relaxed))
+/// Whether a flag that ends have in common is set.
+fn tells(flag: Option<&AtomicBool>) -> bool {
+    flag.is_some_and(|told| told.load(Ordering::Relaxed))
 }
 
 /// Whether a send failed by its peer, by a rule of the system or by the moment, so that the socket can go on: a sender's port that is 0,
@@ -172,14 +188,15 @@ impl<'a> Datagrams for UdpEnd<'a> {
 
     ghost faults = { λ e. e.faults };
 
-    ghost has_ended = { λ _. false };
+    ghost has_ended = { λ e. e.ended };
 
     ghost has_received = { λ e. is_some e.peer };
 
     ghost script = { λ _. None };
 
     fn recv(&mut self, out: &mut [u8]) -> Result<Option<usize>, Failed>
-        requires { 0 < length out.old }
+        requires room { 0 < length out.old }
+        requires open { self.old.ended ≡ false }
         ensures fits { IfOk result (λ got. IfSome got (λ n. n ≤ length out.old)) }
         ensures next { IfOk result (λ got. IfSome got (λ n. IfSome (⟦<UdpEnd<'a> as Datagrams>⟧.traffic self.old)
             (λ t. ReceivesNext t (take n out.new) (length out.old) (⟦<UdpEnd<'a> as Datagrams>⟧.traffic self.new)))) }
@@ -195,9 +212,13 @@ impl<'a> Datagrams for UdpEnd<'a> {
         ensures counted { self.new.faults ≡ faults_after (is_err result) self.old.faults }
         ensures port { self.new.port ≡ self.old.port }
     {
-        let Ok((count, peer)) = receive(&self.socket, out, self.has_failed) else {
+        let Ok(received) = receive(&self.socket, out, self.has_failed, self.stopping) else {
             self.count_fault();
             return Err(Failed);
+        };
+        let Some((count, peer)) = received else {
+            self.ended = true;
+            return Ok(None);
         };
         self.peer = Some(peer);
         Ok(Some(count))
@@ -209,6 +230,7 @@ impl<'a> Datagrams for UdpEnd<'a> {
         ensures sent { OnOk result (⟦<UdpEnd<'a> as Datagrams>⟧.traffic self.new ≡ option_map (sent_one piece.now) (⟦<UdpEnd<'a> as Datagrams>⟧.traffic self.old)) }
         ensures unsent { OnErr result (⟦<UdpEnd<'a> as Datagrams>⟧.traffic self.new ≡ ⟦<UdpEnd<'a> as Datagrams>⟧.traffic self.old) }
         ensures peer { self.new.peer ≡ self.old.peer }
+        ensures ended { self.new.ended ≡ self.old.ended }
         ensures cause { OnErr result (Rose self.old.faults self.new.faults) }
         ensures never_fall { self.old.faults ≤ self.new.faults }
         ensures counted { self.new.faults ≡ faults_after (is_err result) self.old.faults }
@@ -268,6 +290,8 @@ impl<'a, R: Sockets> Net for UdpNet<'a, R> {
                 port,
                 peer: None,
                 has_failed: self.has_failed,
+                stopping: self.stopping,
+                ended: false,
                 faults: 0,
             }),
             Err(_) => {

@@ -1,67 +1,51 @@
--- Ports of connections that were listened at one after another.
-use Rattle.std.proofs.Common.{◌≡◌, ◌≢◌, ℕ, suc, ◌+◌, ◌<◌, ◌≤◌, inl, inr, List, [], ◌∷◌, ◌++◌, length, Option, Some, None, cond, refl, sym, ap, ◌∙◌, subst, arith}
-use Rattle.std.specs.Prelude.{IfSome, option_map}
-use Rattle.std.proofs.lemmas.Bool.{ne_eqb}
+-- Places that were listened at one after another, and the shares that they gave.
+use Rattle.std.proofs.Common.{◌≡◌, ℕ, suc, ◌+◌, Bool, true, false, List, [], ◌∷◌, ◌++◌, Option, Some, None, cond, refl, sym, ap, ◌∙◌, subst, slice_get, arith}
+use Rattle.std.specs.Prelude.{nat_lt, option_map}
+use Rattle.std.proofs.lemmas.Bool.{ltb-true, ltb-false, lt-ltb, le-ltb}
 use Rattle.connections.specs.Log.{Log}
-use Rattle.connections.specs.declared.listeners.Heard.{Heard}
-use Rattle.connections.specs.declared.listeners.PortPlace.{PortPlace}
-use Rattle.connections.specs.PortLogs.{PortLogs, heard_at, without_port}
-use Rattle.served.proofs.Binding.{at_snoc}
-use Rattle.server_words.specs.declared.stream_ports.StreamPorts.{StreamPorts}
-use Rattle.locked_server.specs.Streams.{StreamFacts, ListenFacts, IsNewStream, AreNewStreams, LeavesOthers, KeepsListeners, with_heard}
+use Rattle.connections.specs.Shares.{ShareLogs, ShareFacts, GivesShares, without_shares}
+use Rattle.connections.proofs.Shares.{without_none}
+use Rattle.locked_server.specs.Streams.{ListenFacts, AreNewShares, KeepsListeners, with_heard}
 
--- what waited at the next port waits there still
-pub waits_still : (first k : ℕ) (before now : Option PortLogs) (log : Option Log) → LeavesOthers first k before now → IfSome now (λ all. all (first + k) ≡ log)
-    → IfSome before (λ all. all (first + k) ≡ log)
-waits_still first k None now log leaves waits = tt
-waits_still first k (Some before) None log leaves waits = absurd leaves
-waits_still first k (Some before) (Some now) log leaves waits = sym (leaves (first + k) (λ j less same. absurd (omega (arith, less, same)))) ∙ waits
+-- no share was given out
+pub waits_none : (first : ℕ) (waits : Option ShareLogs) → waits ≡ option_map (without_shares first 0) waits
+waits_none first None = refl
+waits_none first (Some all) = ap Some (sym (without_none first all))
 
-pub leaves_none : (first : ℕ) (before : Option PortLogs) → LeavesOthers first 0 before before
-leaves_none first None = refl
-leaves_none first (Some before) = λ port other. refl
-
--- one port more was listened at
-pub leaves_more : (first k : ℕ) (before now new : Option PortLogs) → LeavesOthers first k before now → new ≡ option_map (without_port (first + k)) now → LeavesOthers first (k + 1) before new
-leaves_more first k None now new leaves is = is ∙ ap (option_map (without_port (first + k))) leaves
-leaves_more first k (Some before) None new leaves is = absurd leaves
-leaves_more first k (Some before) (Some now) new leaves is = subst (LeavesOthers first (k + 1) (Some before)) (sym is) elsewhere
+-- one share more
+one_more : (first k : ℕ) (all : ShareLogs) → without_shares (first + k) 1 (without_shares first k all) ≡ without_shares first (k + 1) all
+one_more first k all = λ i n. by n (nat_lt n first) (nat_lt n (first + k)) (nat_lt n (first + k + 1)) refl refl refl i
   where
-    elsewhere : (port : ℕ) → ((j : ℕ) → j < k + 1 → port ≢ first + j) → without_port (first + k) now port ≡ before port
-    elsewhere port other = ap (λ t. cond t None (now port)) (ne_eqb port (first + k) (other k (omega arith))) ∙ leaves port (λ j less. other j (omega (arith, less)))
+    by : (n : ℕ) (a b h : Bool) → nat_lt n first ≡ a → nat_lt n (first + k) ≡ b → nat_lt n (first + k + 1) ≡ h
+        → cond b (cond a (all n) (cond b None (all n))) (cond h None (cond a (all n) (cond b None (all n)))) ≡ cond a (all n) (cond (nat_lt n (first + (k + 1))) None (all n))
+    by n true true h low under upto = refl
+    by n true false h low under upto = absurd (let less = ltb-true n first low in let past = ltb-false n (first + k) under in omega (arith, less, past))
+    by n false true h low under upto = sym (ap (λ c. cond c None (all n)) (lt-ltb n (first + (k + 1)) (let less = ltb-true n (first + k) under in omega (arith, less))))
+    by n false false true low under upto = sym (ap (λ c. cond c None (all n)) (lt-ltb n (first + (k + 1)) (let less = ltb-true n (first + k + 1) upto in omega (arith, less))))
+    by n false false false low under upto = sym (ap (λ c. cond c None (all n)) (le-ltb n (first + (k + 1)) (let past = ltb-false n (first + k + 1) upto in omega (arith, past))))
 
--- or some that are not
-pub leaves_few : (first k n : ℕ) (before now : Option PortLogs) → k ≤ n → LeavesOthers first k before now → LeavesOthers first n before now
-leaves_few first k n None now few leaves = leaves
-leaves_few first k n (Some before) None few leaves = leaves
-leaves_few first k n (Some before) (Some now) few leaves = λ port other. leaves port (λ j less. other j (omega (arith, few, less)))
+pub waits_more : (first k : ℕ) (before now new : Option ShareLogs) → now ≡ option_map (without_shares first k) before → new ≡ option_map (without_shares (first + k) 1) now
+    → new ≡ option_map (without_shares first (k + 1)) before
+waits_more first k None now new was is = is ∙ ap (option_map (without_shares (first + k) 1)) was
+waits_more first k (Some all) now new was is = is ∙ ap (option_map (without_shares (first + k) 1)) was ∙ ap Some (one_more first k all)
 
-pub streams_more : (waited : Option PortLogs) (first : ℕ) (all : List StreamFacts) (one : StreamFacts) → AreNewStreams waited first all → IsNewStream waited (first + length all) one
-    → AreNewStreams waited first (all ++ one ∷ [])
-streams_more waited first all one are new k stream at =
-    elim (at_snoc all one k stream at) as (λ _. IsNewStream waited (first + k) stream) [
-      | inl h ↦ are k stream h.0
-      | inr h ↦ subst (λ (y : ℕ × StreamFacts). IsNewStream waited (first + y.0) y.1) (λ i. (sym h.0 i, h.1 i)) new
-    ]
+-- one place more is told of, where it was listened at behind the others
+pub heard_more : (k : ℕ) (before : List ℕ) {now new : List ℕ} → now ≡ with_heard k before → new ≡ now ++ k ∷ [] → new ≡ with_heard (k + 1) before
+heard_more k before is more = more ∙ ap (λ l. l ++ k ∷ []) is ∙ ap (λ n. with_heard n before) (let next : suc k ≡ k + 1 = omega arith in next)
 
--- one port more is told of, where it was listened at behind the others
-pub heard_more : {place told : PortPlace} (first k : ℕ) {port : ℕ} (before : List Heard) {now new : List Heard} → now ≡ with_heard place first k before → told ≡ place → port ≡ first + k
-    → new ≡ now ++ heard_at told port ∷ [] → new ≡ with_heard place first (k + 1) before
-heard_more {place} first k before is here at more =
-    more ∙ (λ i. is i ++ heard_at (here i) (at i) ∷ []) ∙ ap (λ n. with_heard place first n before) (let next : suc k ≡ k + 1 = omega arith in next)
+-- the shares that were given out are new, each at its place
+pub new_shares : (waited : Option ShareLogs) (first count : ℕ) (all : List ShareFacts) → GivesShares waited first count [] all → AreNewShares waited first all
+new_shares waited first count all gives k share at = gives.each k share (ap (λ l. slice_get l k) (sym gives.behind) ∙ at)
 
 -- nothing was listened at
-pub kept_unheard : (streams : StreamPorts) (all : ListenFacts) → KeepsListeners 0 streams all all
-kept_unheard streams all = record {
+pub kept_unheard : (places : ℕ) (all : ListenFacts) → KeepsListeners 0 places all all
+kept_unheard places all = record {
   few = omega arith;
   heard = refl;
+  given = omega arith;
   never_fall = omega arith;
-  others = leaves_few streams.port 0 streams.fronts all.ports all.ports (omega arith) (leaves_none streams.port all.ports);
-  place = refl;
+  waits = waits_none all.given all.waits;
+  places_are = refl;
+  most = refl;
   unneeded = λ none. refl;
 }
-
--- the ports are new, whatever waited at them
-pub new_untold : (waited : Option PortLogs) (first : ℕ) (all : List StreamFacts) → AreNewStreams waited first all → AreNewStreams None first all
-new_untold waited first all new k stream at =
-    let one = new k stream at in record { port_is = one.port_is; no_faults = one.no_faults; unended = one.unended; fresh = one.fresh; waited_is = tt }

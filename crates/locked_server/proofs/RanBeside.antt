@@ -8,7 +8,6 @@ use Rattle.std.proofs.lemmas.Simd.{map-map}
 use Rattle.std.proofs.lemmas.Option.{slice_get_within, same_Some, get_or_from_slice_get}
 use Rattle.list_laws.proofs.AllElements.{all_zipped}
 use Rattle.list_laws.proofs.Places.{at_map, from_map, element_at}
-use Rattle.outside.specs.Seconds.{ClockView}
 use Rattle.fronts.specs.Answered.{Answered, gets_of}
 use Rattle.fronts.specs.declared.totals.ServeFault.{ServeFault}
 use Rattle.fronts.specs.declared.totals.ServeFault.TheVariants.{Net, NoMemory}
@@ -26,7 +25,8 @@ use Rattle.served.proofs.ServedBeside.{closed_gets}
 use Rattle.locked_server.specs.declared.streams.StreamTask.{StreamTask}
 use Rattle.locked_server.specs.declared.worker.FrontTask.{FrontTask}
 use Rattle.locked_server.specs.Opening.{AreNewParts, AreNewHands}
-use Rattle.locked_server.specs.Streams.{StreamFacts, HasFinished, HasStopped, ServesStream, AreServed, AreUnserved, StopsStream, counted_by_all}
+use Rattle.connections.specs.Shares.{ShareFacts}
+use Rattle.locked_server.specs.Streams.{HasFinished, HasStopped, ServesStream, AreServed, AreUnserved, StopsStream, counted_by_all}
 use Rattle.locked_server.specs.Running.{run_of, front_facts, IsReadyTask, AreReadyTasks, TaskRan, TasksRan, IsReadyStream, AreReadyStreams, StreamRan, StreamsRan, RunsStream, RanBeside}
 use Rattle.locked_server.proofs.Joined.{at_left, at_right, at_either, same_sums}
 use Rattle.locked_server.specs.Taking.{AreHands}
@@ -37,7 +37,7 @@ use Rattle.locked_server.proofs.Taken.{closed_by, closed_at}
 abbrev pub hand_of : {D : Type 0} → FrontTask D → List LockedPart
 hand_of task = task.parts.items
 
-abbrev pub stream_hand : {C K : Type 0} → StreamTask C K → List LockedPart
+abbrev pub stream_hand : {C : Type 0} → StreamTask C → List LockedPart
 stream_hand task = task.parts.items
 
 -- a get closes a try
@@ -50,27 +50,24 @@ closed_told p parts = by (slice_get parts p)
 
 -- Fronts of connections
 
-module _ {C K : Type 0} (plan : Plan) (facts : C → StreamFacts) (view : K → ClockView) (base : ℕ) (olds news : List (StreamTask C K)) (ran : StreamsRan plan facts view base olds news) where
-  abbrev pub port_of : StreamTask C K → StreamFacts
-  port_of task = facts task.port
-
-  abbrev pub view_of : StreamTask C K → ClockView
-  view_of task = view task.clock
+module _ {C : Type 0} (plan : Plan) (facts : C → ShareFacts) (base : ℕ) (olds news : List (StreamTask C)) (ran : StreamsRan plan facts base olds news) where
+  abbrev pub share_of : StreamTask C → ShareFacts
+  share_of task = facts task.share
 
   -- what the front of a place answered
   pub record StreamAt (k : ℕ) (own : List Answered) : Type 0 where
-    pub old : StreamTask C K
-    pub new : StreamTask C K
+    pub old : StreamTask C
+    pub new : StreamTask C
     pub was : slice_get olds k ≡ Some old
     pub is : slice_get news k ≡ Some new
     pub front : IsLockedFront plan (locked_view plan.options k new.parts.items)
-    pub run : RunsStream plan.options base (front_facts facts view 0 old) (front_facts facts view new.lacked new) own new.answer (facts old.port) (facts new.port)
+    pub run : RunsStream plan.options base (front_facts facts 0 old) (front_facts facts new.lacked new) own new.answer (facts old.share) (facts new.share)
 
   pub stream_at : (k : ℕ) → k < length olds → (own : List Answered) × StreamAt k own
   stream_at k low =
       let old = element_at olds k low in
       let new = element_at news k (omega (arith, low, ran.0)) in
-      let it = subst (λ (y : StreamTask C K × StreamTask C K). StreamRan plan facts view base k y.0 y.1)
+      let it = subst (λ (y : StreamTask C × StreamTask C). StreamRan plan facts base k y.0 y.1)
       (λ i. (get_or_from_slice_get olds k old.0 new.0 old.1 i, get_or_from_slice_get news k new.0 new.0 new.1 i)) (ran.1 k new.0 low) in
       (it.answered, record { old = old.0; new = new.0; was = old.1; is = new.1; front = it.is; run = it.run })
 
@@ -90,57 +87,55 @@ module _ {C K : Type 0} (plan : Plan) (facts : C → StreamFacts) (view : K → 
       let same : s.1.new ≡ n.0 = same_Some _ _ (sym s.1.is ∙ n.1) in
       subst (λ (l : List LockedPart). IsLockedFront plan (locked_view plan.options k l)) (ap stream_hand same ∙ n.2) s.1.front
 
-  abbrev pub count_of : StreamTask C K → ℕ
+  abbrev pub count_of : StreamTask C → ℕ
   count_of task = task.lacked
 
-  pub served : AreServed plan.options base (map view_of olds) (map count_of news) answers (map port_of olds) (map port_of news)
+  pub served : AreServed plan.options base (map count_of news) answers (map share_of olds) (map share_of news)
   served = record {
-    many = length-map news port_of ∙ ran.0 ∙ sym (length-map olds port_of);
-    counted = length-map news count_of ∙ ran.0 ∙ sym (length-map olds port_of);
-    each = λ k told lacked own b a told_at count_at own_at b_at a_at.
+    many = length-map news share_of ∙ ran.0 ∙ sym (length-map olds share_of);
+    counted = length-map news count_of ∙ ran.0 ∙ sym (length-map olds share_of);
+    each = λ k lacked own b a count_at own_at b_at a_at.
         let s = all_at.2 k own own_at in
-        let one : view s.old.clock ≡ told = same_Some _ _ (sym (at_map view_of olds k s.old s.was) ∙ told_at) in
-        let two : facts s.old.port ≡ b = same_Some _ _ (sym (at_map port_of olds k s.old s.was) ∙ b_at) in
-        let three : facts s.new.port ≡ a = same_Some _ _ (sym (at_map port_of news k s.new s.is) ∙ a_at) in record {
-          old = front_facts facts view 0 s.old;
-          new = front_facts facts view s.new.lacked s.new;
-          told_is = one;
+        let one : facts s.old.share ≡ b = same_Some _ _ (sym (at_map share_of olds k s.old s.was) ∙ b_at) in
+        let two : facts s.new.share ≡ a = same_Some _ _ (sym (at_map share_of news k s.new s.is) ∙ a_at) in record {
+          old = front_facts facts 0 s.old;
+          new = front_facts facts s.new.lacked s.new;
           uncounted = refl;
           lacked_is = same_Some _ _ (sym (at_map count_of news k s.new s.is) ∙ count_at);
-          serves = subst (λ (y : StreamFacts × StreamFacts). ServesStream plan.options base (front_facts facts view 0 s.old) (front_facts facts view s.new.lacked s.new) own y.0 y.1)
-              (λ i. (two i, three i)) s.run.serves;
+          serves = subst (λ (y : ShareFacts × ShareFacts). ServesStream plan.options base (front_facts facts 0 s.old) (front_facts facts s.new.lacked s.new) own y.0 y.1)
+              (λ i. (one i, two i)) s.run.serves;
         };
   }
 
-  pub finished : (k : ℕ) (own : List Answered) (after : StreamFacts) → ((fault : ServeFault) → slice_get (map (λ (t : StreamTask C K). t.answer) news) k ≢ Some (Err fault))
-      → slice_get answers k ≡ Some own → slice_get (map port_of news) k ≡ Some after → HasFinished plan.options own after
+  pub finished : (k : ℕ) (own : List Answered) (after : ShareFacts) → ((fault : ServeFault) → slice_get (map (λ (t : StreamTask C). t.answer) news) k ≢ Some (Err fault))
+      → slice_get answers k ≡ Some own → slice_get (map share_of news) k ≡ Some after → HasFinished plan.options own after
   finished k own after well own_at after_at =
       let s = all_at.2 k own own_at in
-      let same : facts s.new.port ≡ after = same_Some _ _ (sym (at_map port_of news k s.new s.is) ∙ after_at) in
+      let same : facts s.new.share ≡ after = same_Some _ _ (sym (at_map share_of news k s.new s.is) ∙ after_at) in
       subst (HasFinished plan.options own) same
-      (finished_at s.new.answer (λ fault is. well fault (at_map (λ (t : StreamTask C K). t.answer) news k s.new s.is ∙ ap Some is)) s.run.finished)
+      (finished_at s.new.answer (λ fault is. well fault (at_map (λ (t : StreamTask C). t.answer) news k s.new s.is ∙ ap Some is)) s.run.finished)
 
-  pub stopped : (k : ℕ) (own : List Answered) (before after : StreamFacts) → slice_get (map (λ (t : StreamTask C K). t.answer) news) k ≢ Some (Err NoMemory)
-      → slice_get answers k ≡ Some own → slice_get (map port_of olds) k ≡ Some before → slice_get (map port_of news) k ≡ Some after → HasStopped plan.options own before after
+  pub stopped : (k : ℕ) (own : List Answered) (before after : ShareFacts) → slice_get (map (λ (t : StreamTask C). t.answer) news) k ≢ Some (Err NoMemory)
+      → slice_get answers k ≡ Some own → slice_get (map share_of olds) k ≡ Some before → slice_get (map share_of news) k ≡ Some after → HasStopped plan.options own before after
   stopped k own before after began own_at before_at after_at =
       let s = all_at.2 k own own_at in
-      let one : facts s.old.port ≡ before = same_Some _ _ (sym (at_map port_of olds k s.old s.was) ∙ before_at) in
-      let two : facts s.new.port ≡ after = same_Some _ _ (sym (at_map port_of news k s.new s.is) ∙ after_at) in
-      subst (λ (y : StreamFacts × StreamFacts). HasStopped plan.options own y.0 y.1) (λ i. (one i, two i))
-      (stopped_at s.new.answer (λ is. began (at_map (λ (t : StreamTask C K). t.answer) news k s.new s.is ∙ ap Some is)) s.run.finished s.run.cause)
+      let one : facts s.old.share ≡ before = same_Some _ _ (sym (at_map share_of olds k s.old s.was) ∙ before_at) in
+      let two : facts s.new.share ≡ after = same_Some _ _ (sym (at_map share_of news k s.new s.is) ∙ after_at) in
+      subst (λ (y : ShareFacts × ShareFacts). HasStopped plan.options own y.0 y.1) (λ i. (one i, two i))
+      (stopped_at s.new.answer (λ is. began (at_map (λ (t : StreamTask C). t.answer) news k s.new s.is ∙ ap Some is)) s.run.finished s.run.cause)
 
-  pub failed : (k : ℕ) → slice_get (map (λ (t : StreamTask C K). t.answer) news) k ≡ Some (Err Net) → StopsStream (map port_of olds) (map port_of news)
+  pub failed : (k : ℕ) → slice_get (map (λ (t : StreamTask C). t.answer) news) k ≡ Some (Err Net) → StopsStream (map share_of olds) (map share_of news)
   failed k at =
-      let n = from_map (λ (t : StreamTask C K). t.answer) news k (Err Net) at in
+      let n = from_map (λ (t : StreamTask C). t.answer) news k (Err Net) at in
       let s = stream_at k (omega (arith, slice_get_within news k n.0 n.1, ran.0)) in
       let same : s.1.new ≡ n.0 = same_Some _ _ (sym s.1.is ∙ n.1) in
       record {
         front = k;
-        old = facts s.1.old.port;
-        new = facts s.1.new.port;
-        was = at_map port_of olds k s.1.old s.1.was;
-        is = at_map port_of news k s.1.new s.1.is;
-        failed = s.1.run.cause (ap (λ (t : StreamTask C K). t.answer) same ∙ n.2);
+        old = facts s.1.old.share;
+        new = facts s.1.new.share;
+        was = at_map share_of olds k s.1.old s.1.was;
+        is = at_map share_of news k s.1.new s.1.is;
+        failed = s.1.run.cause (ap (λ (t : StreamTask C). t.answer) same ∙ n.2);
       }
 
   -- beside all others
@@ -265,43 +260,43 @@ module _ {D : Type 0} (plan : Plan) (batches : ℕ) (facts : D → EndFacts) (fi
 -- Both
 
 -- what fronts of both kinds have in hand
-pub both_are : {C K D : Type 0} (plan : Plan) (stream_facts : C → StreamFacts) (view : K → ClockView) (base : ℕ) (stream_olds stream_news : List (StreamTask C K))
-    (batches : ℕ) (facts : D → EndFacts) (olds news : List (FrontTask D)) → StreamsRan plan stream_facts view base stream_olds stream_news
+pub both_are : {C D : Type 0} (plan : Plan) (stream_facts : C → ShareFacts) (base : ℕ) (stream_olds stream_news : List (StreamTask C))
+    (batches : ℕ) (facts : D → EndFacts) (olds news : List (FrontTask D)) → StreamsRan plan stream_facts base stream_olds stream_news
     → TasksRan plan batches facts (length stream_olds) olds news → AreHands plan (map stream_hand stream_news ++ map hand_of news)
-both_are plan stream_facts view base stream_olds stream_news batches facts olds news streams ran f parts at =
+both_are plan stream_facts base stream_olds stream_news batches facts olds news streams ran f parts at =
     elim (at_either (map stream_hand stream_news) (map hand_of news) f parts at) as (λ _. IsLockedFront plan (locked_view plan.options f parts)) [
-      | inl here ↦ streams_are plan stream_facts view base stream_olds stream_news streams f parts here
+      | inl here ↦ streams_are plan stream_facts base stream_olds stream_news streams f parts here
       | inr there ↦
           subst (λ n. IsLockedFront plan (locked_view plan.options n parts)) (omega (arith, there.1, length-map stream_news stream_hand, streams.0))
           (fronts_are plan batches facts (length stream_olds) olds news ran there.0 parts there.2)
     ]
 
-module _ {C K D : Type 0} (plan : Plan) (some : 1 ≤ plan.options.partitions) (stream_facts : C → StreamFacts) (view : K → ClockView) (base : ℕ) (stream_olds stream_news : List (StreamTask C K))
+module _ {C D : Type 0} (plan : Plan) (some : 1 ≤ plan.options.partitions) (stream_facts : C → ShareFacts) (base : ℕ) (stream_olds stream_news : List (StreamTask C))
     (batches : ℕ) (facts : D → EndFacts) (olds news : List (FrontTask D)) {lefts afters : List Owned}
-    (streams : StreamsRan plan stream_facts view base stream_olds stream_news) (ran : TasksRan plan batches facts (length stream_olds) olds news)
+    (streams : StreamsRan plan stream_facts base stream_olds stream_news) (ran : TasksRan plan batches facts (length stream_olds) olds news)
     (all : HaveRan plan (map stream_hand stream_olds ++ map hand_of olds) (map stream_hand stream_news ++ map hand_of news) lefts afters) where
   abbrev own : List (List Answered)
-  own = answers plan stream_facts view base stream_olds stream_news streams
+  own = answers plan stream_facts base stream_olds stream_news streams
 
   own_many : length own ≡ length stream_olds
-  own_many = answers_many plan stream_facts view base stream_olds stream_news streams
+  own_many = answers_many plan stream_facts base stream_olds stream_news streams
 
   fronts_long : length stream_olds + length olds ≡ plan.fronts
   fronts_long =
       omega (arith, all.opened.many, length-append (map stream_hand stream_olds) (map hand_of olds), length-map stream_olds stream_hand, length-map olds hand_of)
 
-  pub ran_beside : RanBeside plan.options plan.origin batches base (map (λ (t : StreamTask C K). view t.clock) stream_olds) (kept all) (counted_by_all (map (λ (t : StreamTask C K). t.lacked) stream_news)) (map (λ (t : StreamTask C K). t.answer) stream_news)
+  pub ran_beside : RanBeside plan.options plan.origin batches base (kept all) (counted_by_all (map (λ (t : StreamTask C). t.lacked) stream_news)) (map (λ (t : StreamTask C). t.answer) stream_news)
       (map (λ (t : FrontTask D). t.answer) news) (map (λ (t : FrontTask D). facts t.end) olds) (map (λ (t : FrontTask D). facts t.end) news)
-      (map (λ (t : StreamTask C K). stream_facts t.port) stream_olds) (map (λ (t : StreamTask C K). stream_facts t.port) stream_news)
+      (map (λ (t : StreamTask C). stream_facts t.share) stream_olds) (map (λ (t : StreamTask C). stream_facts t.share) stream_news)
   ran_beside = record {
     answers = own;
-    counts = map (λ (t : StreamTask C K). t.lacked) stream_news;
-    many = own_many ∙ sym (length-map stream_olds (λ (t : StreamTask C K). stream_facts t.port));
-    served = served plan stream_facts view base stream_olds stream_news streams;
+    counts = map (λ (t : StreamTask C). t.lacked) stream_news;
+    many = own_many ∙ sym (length-map stream_olds (λ (t : StreamTask C). stream_facts t.share));
+    served = served plan stream_facts base stream_olds stream_news streams;
     lacked_is = refl;
-    finished = finished plan stream_facts view base stream_olds stream_news streams;
-    stopped = stopped plan stream_facts view base stream_olds stream_news streams;
-    failed = failed plan stream_facts view base stream_olds stream_news streams;
+    finished = finished plan stream_facts base stream_olds stream_news streams;
+    stopped = stopped plan stream_facts base stream_olds stream_news streams;
+    failed = failed plan stream_facts base stream_olds stream_news streams;
     ran = record {
       fronts = runs plan batches facts (length stream_olds) olds news ran;
       answers_are = runs_answers plan batches facts (length stream_olds) olds news ran;
@@ -310,7 +305,7 @@ module _ {C K D : Type 0} (plan : Plan) (some : 1 ≤ plan.options.partitions) (
         runs = placed all;
         ran = subst (λ n. RunsPartitions plan.options plan.origin n (placed all))
             (omega (arith, fronts_long, own_many, runs_long plan batches facts (length stream_olds) olds news ran, ran.0)) (runs_all all);
-        before = streams_beside plan stream_facts view base stream_olds stream_news streams some (map hand_of olds) (map hand_of news) all;
+        before = streams_beside plan stream_facts base stream_olds stream_news streams some (map hand_of olds) (map hand_of news) all;
         each = λ f run at. subst (λ n. IsTakenIn plan.options plan.origin (placed all) (n + f) run) (sym own_many)
             (fronts_taken plan batches facts (length stream_olds) olds news ran (map stream_hand stream_olds) (map stream_hand stream_news) all (length-map stream_olds stream_hand)
             (length-map stream_news stream_hand ∙ streams.0) f run at);
@@ -322,7 +317,7 @@ module _ {C K D : Type 0} (plan : Plan) (some : 1 ≤ plan.options.partitions) (
               arith,
               closes all p entry at,
               sum_by-append (closed_at p) (map stream_hand stream_news) (map hand_of news),
-              streams_closed plan stream_facts view base stream_olds stream_news streams some (map hand_of olds) (map hand_of news) all p low,
+              streams_closed plan stream_facts base stream_olds stream_news streams some (map hand_of olds) (map hand_of news) all p low,
               fronts_closed plan batches facts (length stream_olds) olds news ran p,
             );
       };
@@ -345,12 +340,12 @@ module _ {D : Type 0} (plan : Plan) (batches : ℕ) (facts : D → EndFacts) (fe
         fresh = end.1;
       })
 
--- and each with its port of connections
-module _ {C K : Type 0} (plan : Plan) (facts : C → StreamFacts) (view : K → ClockView) (fronts : ℕ) (ports : List C) (tasks : List (StreamTask C K))
-    (opened : AreNewHands plan 0 fronts (map stream_hand tasks)) (own : map (λ (t : StreamTask C K). t.port) tasks ≡ ports) (fresh : AreUnserved (map facts ports)) where
-  pub ready_streams : AreReadyStreams plan facts view tasks
+-- and each with its share of connections
+module _ {C : Type 0} (plan : Plan) (facts : C → ShareFacts) (fronts : ℕ) (shares : List C) (tasks : List (StreamTask C))
+    (opened : AreNewHands plan 0 fronts (map stream_hand tasks)) (own : map (λ (t : StreamTask C). t.share) tasks ≡ shares) (fresh : AreUnserved (map facts shares)) where
+  pub ready_streams : AreReadyStreams plan facts tasks
   ready_streams k d low =
       let t = element_at tasks k low in
-      let unserved = fresh k (facts t.0.port) (at_map facts ports k t.0.port (ap (λ l. slice_get l k) (sym own) ∙ at_map (λ (t : StreamTask C K). t.port) tasks k t.0 t.1)) in
-      subst (IsReadyStream plan facts view k) (sym (get_or_from_slice_get tasks k t.0 d t.1))
+      let unserved = fresh k (facts t.0.share) (at_map facts shares k t.0.share (ap (λ l. slice_get l k) (sym own) ∙ at_map (λ (t : StreamTask C). t.share) tasks k t.0 t.1)) in
+      subst (IsReadyStream plan facts k) (sym (get_or_from_slice_get tasks k t.0 d t.1))
       (record { parts = subst (λ n. AreNewParts plan n (stream_hand t.0)) (omega arith) (opened.each k (stream_hand t.0) (at_map stream_hand tasks k t.0 t.1)); unserved = unserved })

@@ -1,13 +1,12 @@
--- A front that was served behind its port, by the answers that its log tells; where it tells none, by some.
+-- A front that was served behind its share, by the answers that its log tells; where it tells none, by some.
 use Rattle.std.proofs.Common.{◌≡◌, ◌≢◌, ◌-◌, ◌+◌, ◌≤◌, ◌⊎◌, inl, inr, ℕ, Bool, false, List, [], Option, None, Some, refl, arith}
 use Rattle.std.specs.Prelude.{⊤, IfSome, Result, Ok, Err, IsErrOf, OnOk}
 use Rattle.partition_model.specs.declared.options.Options.{Options}
 use Rattle.connections.specs.Log.{Log}
-use Rattle.fronts.specs.Answered.{Answered}
 use Rattle.fronts.specs.declared.totals.ServeFault.{ServeFault}
 use Rattle.fronts.specs.declared.totals.ServeFault.TheVariants.{Net, NoMemory}
 use Rattle.locked_front.specs.Parts.{most_turns}
-use Rattle.connection_loop.specs.Going.{GoesBy, GoesByThese}
+use Rattle.connection_loop.specs.Going.{GoesBy}
 use Rattle.connection_loop.specs.Open.{OnLogs}
 use Rattle.connection_loop.specs.Serving.{FrontAt, IsFinished, ServesFromNone}
 use Rattle.connection_loop.specs.declared.desk.TheConstants.{MOST_UNSENT}
@@ -15,20 +14,18 @@ use Rattle.locked_server.specs.Streams.{ServesClients}
 
 -- it went on by these answers, and served its clients by them
 pub record GoesAndServes (options : Options) (base : ℕ) (old new : FrontAt) (before after : Option Log) : Type 0 where
-  pub answers : List Answered
-  pub goes : GoesByThese options false old.sessions old.left old.clock answers new.sessions new.left new.clock
-  pub clients : OnLogs (ServesClients options base old new answers) before after
+  pub goes : GoesBy options false old.sessions old.left new.sessions new.left
+  pub clients : OnLogs (ServesClients options base old new goes.answers) before after
 
 pub both_by : (options : Options) (base : ℕ) (old new : FrontAt) (before after : Option Log) → IfSome before (λ l. l.entries ≡ [])
-    → GoesBy options false old.sessions old.left old.clock new.sessions new.left new.clock → OnLogs (ServesFromNone options false base MOST_UNSENT old new) before after
+    → GoesBy options false old.sessions old.left new.sessions new.left → OnLogs (ServesFromNone options false base MOST_UNSENT old new) before after
     → GoesAndServes options base old new before after
-both_by options base old new None after fresh goes serves =
-    record { answers = goes.answers; goes = record { in_order = goes.in_order; seconds = goes.seconds; few = goes.few }; clients = tt }
+both_by options base old new None after fresh goes serves = record { goes = goes; clients = tt }
 both_by options base old new (Some before) None fresh goes serves = absurd serves
 both_by options base old new (Some before) (Some after) fresh goes serves =
     let log = serves fresh in
     let all = log.serves in
-    record { answers = all.answers; goes = record { in_order = all.in_order; seconds = all.seconds; few = all.few }; clients = (log, refl) }
+    record { goes = record { answers = all.answers; in_order = all.in_order; seconds = all.seconds; few = all.few }; clients = (log, refl) }
 
 -- a front that had all its writes before has finished, by what it was given
 pub finishes : (options : Options) (has_ended : Bool) (left writes : ℕ) → most_turns ≤ left + writes → IsFinished options has_ended left

@@ -3,18 +3,16 @@ use Rattle.std.proofs.Common.{◌≡◌, ℕ, zero, suc, ◌≤◌, inl, inr, Li
 use Rattle.std.proofs.lemmas.List.{length-replicate}
 use Rattle.std.specs.Prelude.{IfSome}
 use Rattle.std.proofs.lemmas.Option.{slice_get_within, same_Some}
-use Rattle.outside.specs.Seconds.{ClockView}
 use Rattle.connections.specs.State.{Entry}
 use Rattle.connections.specs.Log.{Log}
-use Rattle.connections.specs.PortLogs.{PortLogs}
 use Rattle.partition_model.specs.declared.options.Options.{Options}
 use Rattle.fronts.specs.Answered.{Answered}
-use Rattle.server_words.specs.declared.stream_ports.StreamPorts.{StreamPorts}
 use Rattle.connection_loop.specs.Open.{OnLogs}
 use Rattle.connection_loop.specs.Serving.{FrontAt}
 use Rattle.connection_loop.specs.declared.desk.TheConstants.{MOST_UNSENT}
 use Rattle.connection_loop.specs.Moments.{TalksThrough, IsCaughtUp}
-use Rattle.locked_server.specs.Streams.{StreamFacts, IsUnserved, AreNewStreams, ServesClients, ServesFrom, AreStreams, counted_by_all}
+use Rattle.connections.specs.Shares.{ShareFacts}
+use Rattle.locked_server.specs.Streams.{ListenFacts, IsUnserved, AreNewShares, ServesClients, ServesFrom, AreStreams, counted_by_all}
 
 -- each of so many answered nothing
 abbrev pub no_answers : ℕ → List (List Answered)
@@ -36,21 +34,21 @@ each_same a (suc n) (suc k) own at = each_same a n k own at
 pub none_answered : (n k : ℕ) (own : List Answered) → slice_get (no_answers n) k ≡ Some own → own ≡ []
 none_answered = each_same []
 
--- a front whose clock was seen so, and that did nothing
-abbrev unmoved : ClockView → FrontAt
-unmoved told = record { sessions = λ q. record { seen = []; done = []; last = 0; told = None }; left = 0; clock = told; lacked = 0; has_ended = false }
+-- a front that did nothing
+abbrev unmoved : FrontAt
+unmoved = record { sessions = λ q. record { seen = []; done = []; last = 0; told = None }; left = 0; lacked = 0; has_ended = false }
 
 module _ (options : Options) (base : ℕ) where
-  none_told : (told : ClockView) (log : Option Log) → IfSome log (λ l. l.entries ≡ []) → OnLogs (ServesClients options base (unmoved told) (unmoved told) []) log log
-  none_told told None fresh = tt
-  none_told told (Some log) fresh = (
+  none_told : (log : Option Log) → IfSome log (λ l. l.entries ≡ []) → OnLogs (ServesClients options base unmoved unmoved []) log log
+  none_told None fresh = tt
+  none_told (Some log) fresh = (
     record {
       same = refl;
       all = [];
       serves = record {
         answers = [];
         in_order = λ q. refl;
-        seconds = refl;
+        seconds = (0, omega arith);
         few = omega arith;
         lacking = [];
         counted = refl;
@@ -64,35 +62,34 @@ module _ (options : Options) (base : ℕ) where
     refl,
   )
 
-  serves_none : (told : ClockView) (lacked : ℕ) (own : List Answered) (b a : StreamFacts) → IsUnserved b → lacked ≡ 0 → own ≡ [] → a ≡ b → ServesFrom options base told lacked own b a
-  serves_none told lacked own b a unserved uncounted none same = subst (λ (y : ℕ × List Answered × StreamFacts). ServesFrom options base told y.0 y.1 b y.2)
+  serves_none : (lacked : ℕ) (own : List Answered) (b a : ShareFacts) → IsUnserved b → lacked ≡ 0 → own ≡ [] → a ≡ b → ServesFrom options base lacked own b a
+  serves_none lacked own b a unserved uncounted none same = subst (λ (y : ℕ × List Answered × ShareFacts). ServesFrom options base y.0 y.1 b y.2)
       (λ i. (sym uncounted i, sym none i, sym same i)) (record {
-        old = unmoved told;
-        new = unmoved told;
-        told_is = refl;
+        old = unmoved;
+        new = unmoved;
         uncounted = refl;
         lacked_is = refl;
-        serves = record { port = refl; never_fall = omega arith; seconds = refl; ended = sym unserved.unended; stopped = inr refl; clients = none_told told b.log unserved.fresh };
+        serves = record { share = refl; never_fall = omega arith; seconds = (0, omega arith); ended = sym unserved.unended; stopped = inr refl; clients = none_told b.log unserved.fresh };
       })
 
-  -- the ports that were listened at are as they were
-  pub as_heard : (streams : StreamPorts) (waited : Option PortLogs) (clocks : List ClockView) (heard : List StreamFacts) → AreNewStreams waited streams.port heard → length heard ≤ streams.fronts
-      → AreStreams options base streams waited clocks (no_counts (length heard)) (no_answers streams.fronts) heard heard
-  as_heard streams waited clocks heard new within = record {
+  -- the shares that were given out are as they were
+  pub as_heard : (places : ℕ) (before : ListenFacts) (shares : List ShareFacts) → AreNewShares before.waits before.given shares → length shares ≤ places
+      → AreStreams options base places before (no_counts (length shares)) (no_answers places) shares shares
+  as_heard places before shares new within = record {
     are_new = new;
     within = within;
-    fronts = length-replicate streams.fronts [];
+    fronts = length-replicate places [];
     served = record {
       many = refl;
-      counted = length-replicate (length heard) 0;
-      each = λ k told lacked own b a told_at count_at own_at b_at a_at.
+      counted = length-replicate (length shares) 0;
+      each = λ k lacked own b a count_at own_at b_at a_at.
           let fresh = new k b b_at in
-          serves_none told lacked own b a (record { unended = fresh.unended; fresh = fresh.fresh }) (each_same 0 (length heard) k lacked count_at)
-          (none_answered streams.fronts k own own_at) (same_Some _ _ (sym a_at ∙ b_at));
+          serves_none lacked own b a (record { unended = fresh.unended; fresh = fresh.fresh }) (each_same 0 (length shares) k lacked count_at)
+          (none_answered places k own own_at) (same_Some _ _ (sym a_at ∙ b_at));
     };
-    unheard = λ k own at past. none_answered streams.fronts k own at;
+    unheard = λ k own at past. none_answered places k own at;
   }
 
   -- there are none
-  pub none_heard : (streams : StreamPorts) (waited : Option PortLogs) (clocks : List ClockView) → AreStreams options base streams waited clocks [] (no_answers streams.fronts) [] []
-  none_heard streams waited clocks = as_heard streams waited clocks [] (λ k s at. absurd (let low = slice_get_within [] k s at in omega arith)) (omega arith)
+  pub none_heard : (places : ℕ) (before : ListenFacts) → AreStreams options base places before [] (no_answers places) [] []
+  none_heard places before = as_heard places before [] (λ k s at. absurd (let low = slice_get_within [] k s at in omega arith)) (omega arith)

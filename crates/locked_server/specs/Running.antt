@@ -1,6 +1,5 @@
 -- What each front makes of the port of its place, and what is left of the partitions then.
 use Rattle.std.specs.Prelude.{◌≡◌, ◌≢◌, ◌+◌, ◌<◌, ◌≤◌, ◌⊎◌, ⊤, ℕ, false, List, length, slice_get, slice_index_or, Some, IfSome, Result, Ok, Err, IsErrOf, OnOk}
-use Rattle.outside.specs.Seconds.{ClockView}
 use Rattle.outside.specs.Traffic.{new_traffic}
 use Rattle.partition_model.specs.declared.options.Options.{Options}
 use Rattle.partition_model.specs.History.{History}
@@ -20,7 +19,8 @@ use Rattle.served.specs.FrontRuns.{FrontRun, RunsFront, RanAll, SumsUp}
 use Rattle.locked_server.specs.declared.worker.FrontTask.{FrontTask}
 use Rattle.locked_server.specs.declared.streams.StreamTask.{StreamTask}
 use Rattle.locked_server.specs.Opening.{AreNewParts}
-use Rattle.locked_server.specs.Streams.{StreamFacts, HasFinished, HasFailed, HasStopped, IsUnserved, ServesStream, AreServed, StopsStream, counted_by_all, others_of}
+use Rattle.connections.specs.Shares.{ShareFacts}
+use Rattle.locked_server.specs.Streams.{HasFinished, HasFailed, HasStopped, IsUnserved, ServesStream, AreServed, StopsStream, counted_by_all, others_of}
 
 -- Fronts of datagrams
 
@@ -51,58 +51,57 @@ module _ {D : Type 0} (plan : Plan) (batches : ℕ) (facts : D → EndFacts) whe
 
 -- Fronts of connections
 
--- A front was served behind its port. Its sessions went on by these answers, and it was given no writes but those among them. Where it came to no fault, it has finished;
--- where it came to one of its port, that has failed.
-pub record RunsStream (options : Options) (base : ℕ) (old new : FrontAt) (answered : List Answered) (answer : Result ⊤ ServeFault) (before after : StreamFacts) : Type 0 where
+-- A front was served behind its share. Its sessions went on by these answers, and it was given no writes but those among them. Where it came to no fault, it has finished;
+-- where it came to one of its share, that has failed.
+pub record RunsStream (options : Options) (base : ℕ) (old new : FrontAt) (answered : List Answered) (answer : Result ⊤ ServeFault) (before after : ShareFacts) : Type 0 where
   pub serves : ServesStream options base old new answered before after
   pub in_order : AnswersInOrder options false old.sessions answered new.sessions
   pub few : old.left ≤ new.left + count_of_writes answered
   pub finished : OnOk answer (HasFinished options answered after)
   pub cause : IsErrOf answer Net → HasFailed before after
 
--- as what it has in hand, its clock, what it counted and its port tell it
-abbrev pub front_facts : {C K : Type 0} → (C → StreamFacts) → (K → ClockView) → ℕ → StreamTask C K → FrontAt
-front_facts facts view lacked task = record {
+-- as what it has in hand, what it counted and its share tell it
+abbrev pub front_facts : {C : Type 0} → (C → ShareFacts) → ℕ → StreamTask C → FrontAt
+front_facts facts lacked task = record {
   sessions = sessions_of task.parts.items;
   left = turns_left task.parts.items;
-  clock = view task.clock;
   lacked = lacked;
-  has_ended = (facts task.port).has_ended;
+  has_ended = (facts task.share).has_ended;
 }
 
-module _ {C K : Type 0} (plan : Plan) (facts : C → StreamFacts) (view : K → ClockView) where
-  -- new parts, and a port with which nothing was done
-  pub record IsReadyStream (k : ℕ) (task : StreamTask C K) : Type 0 where
+module _ {C : Type 0} (plan : Plan) (facts : C → ShareFacts) where
+  -- new parts, and a share with which nothing was done
+  pub record IsReadyStream (k : ℕ) (task : StreamTask C) : Type 0 where
     pub parts : AreNewParts plan k task.parts.items
-    pub unserved : IsUnserved (facts task.port)
+    pub unserved : IsUnserved (facts task.share)
 
-  abbrev pub AreReadyStreams : List (StreamTask C K) → Type 0
-  AreReadyStreams tasks = (k : ℕ) (d : StreamTask C K) → k < length tasks → IsReadyStream k (slice_index_or tasks k d)
+  abbrev pub AreReadyStreams : List (StreamTask C) → Type 0
+  AreReadyStreams tasks = (k : ℕ) (d : StreamTask C) → k < length tasks → IsReadyStream k (slice_index_or tasks k d)
 
   module _ (base : ℕ) where
-    -- the front was served behind its port, where it had counted nothing, and has its parts still
-    pub record StreamRan (k : ℕ) (old new : StreamTask C K) : Type 0 where
+    -- the front was served behind its share, where it had counted nothing, and has its parts still
+    pub record StreamRan (k : ℕ) (old new : StreamTask C) : Type 0 where
       pub is : IsLockedFront plan (locked_view plan.options k new.parts.items)
       pub answered : List Answered
-      pub run : RunsStream plan.options base (front_facts facts view 0 old) (front_facts facts view new.lacked new) answered new.answer (facts old.port) (facts new.port)
+      pub run : RunsStream plan.options base (front_facts facts 0 old) (front_facts facts new.lacked new) answered new.answer (facts old.share) (facts new.share)
 
-    abbrev pub StreamsRan : List (StreamTask C K) → List (StreamTask C K) → Type 0
+    abbrev pub StreamsRan : List (StreamTask C) → List (StreamTask C) → Type 0
     StreamsRan olds news =
-        (length news ≡ length olds) × ((k : ℕ) (d : StreamTask C K) → k < length olds → StreamRan k (slice_index_or olds k d) (slice_index_or news k d))
+        (length news ≡ length olds) × ((k : ℕ) (d : StreamTask C) → k < length olds → StreamRan k (slice_index_or olds k d) (slice_index_or news k d))
 
 -- All fronts
 
 -- All ran beside each other and came to these answers, and these are the seats that the partitions may leave. For so many connections there was no memory.
-pub record RanBeside (options : Options) (origin : ℕ → History) (batches base : ℕ) (clocks : List ClockView) (kept : List KeptSeat) (lacked : ℕ) (streams : List (Result ⊤ ServeFault))
-    (fronts : List (Result Totals ServeFault)) (before after : List EndFacts) (olds news : List StreamFacts) : Type 0 where
+pub record RanBeside (options : Options) (origin : ℕ → History) (batches base : ℕ) (kept : List KeptSeat) (lacked : ℕ) (streams : List (Result ⊤ ServeFault))
+    (fronts : List (Result Totals ServeFault)) (before after : List EndFacts) (olds news : List ShareFacts) : Type 0 where
   pub answers : List (List Answered)
   pub counts : List ℕ
   pub many : length answers ≡ length olds
-  pub served : AreServed options base clocks counts answers olds news
+  pub served : AreServed options base counts answers olds news
   pub lacked_is : lacked ≡ counted_by_all counts
-  pub finished : (k : ℕ) (own : List Answered) (after : StreamFacts) → ((fault : ServeFault) → slice_get streams k ≢ Some (Err fault))
+  pub finished : (k : ℕ) (own : List Answered) (after : ShareFacts) → ((fault : ServeFault) → slice_get streams k ≢ Some (Err fault))
       → slice_get answers k ≡ Some own → slice_get news k ≡ Some after → HasFinished options own after
-  pub stopped : (k : ℕ) (own : List Answered) (before after : StreamFacts) → slice_get streams k ≢ Some (Err NoMemory)
+  pub stopped : (k : ℕ) (own : List Answered) (before after : ShareFacts) → slice_get streams k ≢ Some (Err NoMemory)
       → slice_get answers k ≡ Some own → slice_get olds k ≡ Some before → slice_get news k ≡ Some after → HasStopped options own before after
   pub failed : (k : ℕ) → slice_get streams k ≡ Some (Err Net) → StopsStream olds news
   pub ran : RanAll (others_of answers olds news) options origin batches kept fronts before after

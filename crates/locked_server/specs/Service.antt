@@ -1,7 +1,6 @@
 -- What a server may serve.
 use Rattle.std.specs.Prelude.{◌≡◌, ◌+◌, ◌≤◌, ℕ}
 use Rattle.partition_model.specs.Options.{IsPossible}
-use Rattle.server_words.specs.StreamPorts.{IsPossibleStreams}
 use Rattle.locked_front.specs.Plan.{Plan}
 use Rattle.server_words.specs.PossiblePorts.{IsPossiblePorts}
 use Rattle.server_words.specs.declared.limits.TheConstants.{MOST_FRONTS}
@@ -11,14 +10,13 @@ use Rattle.locked_server.specs.declared.service.Service.{Service}
 pub record IsPossibleService (service : Service) : Type 0 where
   pub options : IsPossible service.options
   pub ports : IsPossiblePorts service.ports
-  pub streams : IsPossibleStreams service.streams
-  pub some : 1 ≤ service.streams.fronts + service.ports.fronts
-  pub few : service.streams.fronts + service.ports.fronts ≤ MOST_FRONTS
+  pub some : 1 ≤ service.places + service.ports.fronts
+  pub few : service.places + service.ports.fronts ≤ MOST_FRONTS
 
 -- the partitions of the plan are those that are served, before as many fronts
 pub record IsPlanOf (service : Service) (plan : Plan) : Type 0 where
   pub options : service.options ≡ plan.options
-  pub fronts : plan.fronts ≡ service.streams.fronts + service.ports.fronts
+  pub fronts : plan.fronts ≡ service.places + service.ports.fronts
 
 -- and they lie under as many locks
 pub record IsLockedPlan (service : Service) (plan : Plan) (many : ℕ) : Type 0 where

@@ -17,15 +17,15 @@ use crate::left::Left;
 use crate::listening::{listen_all, release_streams};
 use crate::opening::{FilledPart, makers_of, open_parts};
 use crate::server::{LockedServer, serve_all};
-use crate::service::{Shared, Start};
+use crate::service::Shared;
 use crate::stop::Stop;
 use any_partition::OnTable;
 use cache_partition::CachePartition;
 use connections::Listeners;
 use fronts::Totals;
 use locked_front::ServerPlan;
-use outside::{Clock, Gate, Net, rehearse};
-use partition_model::Mode;
+use outside::{Gate, Net, rehearse};
+use partition_model::{Mode, Write};
 use partition_table::{Note, OwnerSeat, ReaderSeat};
 use partition_words::LendPartition;
 use served::{bind_all, release_all};
@@ -34,62 +34,60 @@ use std::sync::Wait;
 use std::thread::Threads;
 use store_partition::StorePartition;
 
-/// Binds the ports of datagrams, listens at those of connections, tells so where all could be had, and serves them.
+/// Binds the ports of datagrams, listens at the places of connections, tells so where all could be had, and serves them.
 fn bind_and_serve<
     W: Threads + Wait + Sync,
     J: ServerPlan + Send + Sync,
     P: OnTable + LendPartition<Reader = ReaderSeat, Note = Note> + Drop + Send,
     N: Net,
     L: Listeners,
-    K: Clock + Drop + Send,
     G: Gate,
     A: Announce,
 >(
     shared: &Shared<W, G>,
-    server: LockedServer<J, P, N::End, L::Port, K>,
+    server: LockedServer<J, P, N::End, L::Port>,
     net: &mut N,
     ends: &mut Vec<N::End>,
     listeners: &mut L,
     connections: &mut Vec<L::Port>,
-    clocks: Vec<K>,
     announce: &mut A,
     left: &mut Left,
 ) -> Result<Totals, Stop>
     requires same { (p : P) → P.state p ≡ P.owner p }
     requires service { IsPossibleService shared.now.service }
     requires plan { IsPlanOf shared.now.service J.plan }
-    requires clocks { length clocks.items ≡ shared.now.service.streams.fronts }
     requires filled { (p : ℕ) → p < shared.now.service.options.partitions → IsHistory shared.now.service.options (J.plan.origin p) }
-    requires server { IsLockedServer J.plan shared.now.service.streams.fronts shared.now.service.ports.fronts (length server.locks.items)
+    requires server { IsLockedServer J.plan shared.now.service.places shared.now.service.ports.fronts (length server.locks.items)
         server.stream_hands.items server.hands.items server.room }
     requires tables { left.old.tables ≡ [] }
     requires uncounted { left.old.lacked ≡ 0 }
     requires unbound { N.binds net.old ≡ 0 }
+    requires places { shared.now.service.places ≤ length (L.places listeners.old) }
     requires none { ends.old.items ≡ [] }
     requires room { shared.now.service.ports.fronts ≤ vec_capacity ends.old }
     requires no_streams { connections.old.items ≡ [] }
-    requires room_of_streams { shared.now.service.streams.fronts ≤ vec_capacity connections.old }
+    requires room_of_streams { shared.now.service.places ≤ vec_capacity connections.old }
     ensures served { ComesBeside (λ others came. BindsAndServes others shared.now.service.options J.plan.origin shared.now.service.ports came left.new.tables
         (net_facts N.Net net.old) (net_facts N.Net net.new) (map (end_facts N.End.Datagrams) ends.new.items))
-        (λ news. news ≡ map (stream_facts L.Port.Connections) connections.new.items) result shared.now.service (map K.view clocks.items) left.new.lacked
+        (λ news. news ≡ map (stream_facts L.Port.Connections) connections.new.items) result shared.now.service left.new.lacked
         (listen_facts L.Listeners listeners.old) (listen_facts L.Listeners listeners.new) }
     ensures unreleased { L.released listeners.new ≡ L.released listeners.old }
-    ensures heard { KeepsListeners (vec_len connections.new) shared.now.service.streams (listen_facts L.Listeners listeners.old) (listen_facts L.Listeners listeners.new) }
-    ensures announced { HasAnnounced (A.says shared.now.service.ports shared.now.service.streams) (A.fails shared.now.service.ports shared.now.service.streams) result
+    ensures heard { KeepsListeners (vec_len connections.new) shared.now.service.places (listen_facts L.Listeners listeners.old) (listen_facts L.Listeners listeners.new) }
+    ensures announced { HasAnnounced (A.says shared.now.service.ports shared.now.service.places) (A.fails shared.now.service.ports shared.now.service.places) result
         (ports_at N.Net L.Listeners net.old listeners.old) (ports_at N.Net L.Listeners net.new listeners.new) announce.old announce.new }
 {
     let ports = &shared.service.ports;
-    let streams = &shared.service.streams;
+    let places = shared.service.places;
     match bind_all(net, ports, ends) {
         Ok(()) => {}
         Err(_) => return Err(Stop::Unbound(ports.port + ends.len() as u16)),
     }
-    match listen_all(listeners, streams, connections) {
+    match listen_all(listeners, places, connections) {
         Ok(()) => {}
-        Err(_) => return Err(Stop::Unbound(streams.port + connections.len() as u16)),
+        Err(_) => return Err(Stop::Unheard(connections.len() as u32)),
     }
-    announce.ready(ports, streams, ends.as_slice(), connections.as_slice())?;
-    let totals = serve_all(shared, server, ends, connections, clocks, left)?;
+    announce.ready(ports, places, ends.as_slice(), connections.as_slice())?;
+    let totals = serve_all(shared, server, ends, connections, left)?;
     Ok(totals)
 }
 
@@ -100,13 +98,11 @@ fn serve_named<
     P: OnTable + LendPartition<Reader = ReaderSeat, Note = Note> + Drop + Send,
     N: Net,
     L: Listeners,
-    K: Clock + Drop + Send,
     G: Gate,
     A: Announce,
 >(
     shared: &Shared<W, G>,
     parts: Vec<FilledPart<P>>,
-    clocks: Vec<K>,
     net: &mut N,
     listeners: &mut L,
     announce: &mut A,
@@ -117,19 +113,19 @@ fn serve_named<
     requires service { IsPossibleService shared.now.service }
     requires plan { IsPlanOf shared.now.service J.plan }
     requires of { ArePlanned J.plan 0 (map (λ f. filled_view P.owner P.home f) parts.items) }
-    requires clocks { length clocks.items ≡ shared.now.service.streams.fronts }
     requires unbound { N.binds net.old ≡ 0 }
+    requires places { shared.now.service.places ≤ length (L.places listeners.old) }
     requires tables { left.old.tables ≡ [] }
     requires uncounted { left.old.lacked ≡ 0 }
-    ensures cause { HasCause result shared.now.service J.plan.origin (map K.view clocks.items) left.new.tables left.new.lacked
+    ensures cause { HasCause result shared.now.service J.plan.origin left.new.tables left.new.lacked
         (ports_at N.Net L.Listeners net.old listeners.old) (ports_at N.Net L.Listeners net.new listeners.new) }
     ensures leaves { Leaves A.says A.fails result shared.now.service
         (ports_at N.Net L.Listeners net.old listeners.old) (ports_at N.Net L.Listeners net.new listeners.new) announce.old announce.new }
 {
     let service = &shared.service;
-    let server = LockedServer::<J, P, N::End, L::Port, K>::new(shared.alloc, service, parts)?;
+    let server = LockedServer::<J, P, N::End, L::Port>::new(shared.alloc, service, parts)?;
     let mut ends = Vec::with_capacity(shared.alloc, service.ports.fronts as usize)?;
-    let mut connections = Vec::with_capacity(shared.alloc, service.streams.fronts as usize)?;
+    let mut connections = Vec::with_capacity(shared.alloc, service.places as usize)?;
     let answer = bind_and_serve(
         shared,
         server,
@@ -137,7 +133,6 @@ fn serve_named<
         &mut ends,
         listeners,
         &mut connections,
-        clocks,
         announce,
         left,
     );
@@ -152,12 +147,11 @@ fn serve_on<
     P: OnTable + LendPartition<Reader = ReaderSeat, Note = Note> + Drop + Send,
     N: Net,
     L: Listeners,
-    K: Clock + Drop + Send,
     G: Gate,
     A: Announce,
 >(
     shared: &Shared<W, G>,
-    start: Start<K>,
+    filling: Vec<Write>,
     net: &mut N,
     listeners: &mut L,
     announce: &mut A,
@@ -167,19 +161,18 @@ fn serve_on<
     requires same { (p : P) → P.state p ≡ P.owner p }
     requires service { IsPossibleService shared.now.service }
     requires mode { shared.now.service.options.mode ≡ P.mode }
-    requires clocks { length start.clocks.items ≡ shared.now.service.streams.fronts }
-    requires filling { All IsWrite start.filling.items }
+    requires filling { All IsWrite filling.items }
     requires unbound { N.binds net.old ≡ 0 }
+    requires places { shared.now.service.places ≤ length (L.places listeners.old) }
     requires tables { left.old.tables ≡ [] }
     requires uncounted { left.old.lacked ≡ 0 }
-    ensures cause { IsCauseOfStop result shared.now.service start.filling.items (map K.view start.clocks.items) left.new.tables left.new.lacked
+    ensures cause { IsCauseOfStop result shared.now.service filling.items left.new.tables left.new.lacked
         (ports_at N.Net L.Listeners net.old listeners.old) (ports_at N.Net L.Listeners net.new listeners.new) }
     ensures leaves { Leaves A.says A.fails result shared.now.service
         (ports_at N.Net L.Listeners net.old listeners.old) (ports_at N.Net L.Listeners net.new listeners.new) announce.old announce.new }
 {
     let service = &shared.service;
-    let Start { filling, clocks } = start;
-    let fronts = service.streams.fronts + service.ports.fronts;
+    let fronts = service.places + service.ports.fronts;
     let makers = makers_of(&service.options);
     rehearse(shared.rt, shared.alloc, fronts.max(makers))?;
     let parts = open_parts::<W, P>(
@@ -189,46 +182,38 @@ fn serve_on<
         filling.as_slice(),
     )?;
     drop(filling);
-    serve_named::<Brand, W, P, N, L, K, G, A>(shared, parts, clocks, net, listeners, announce, left)
+    serve_named::<Brand, W, P, N, L, G, A>(shared, parts, net, listeners, announce, left)
 }
 
-/// Fills the partitions by these writes, binds a port for each front of datagrams and listens at one for each front of connections, in order, and tells
-/// so. Then all fronts run side by side, each in a thread of its own, and each is the owner of a partition for as long as one write takes. A front of
-/// connections has a clock of its own. All ends are released. The owners' seats are kept, in the order of the partitions, where no front failed. Whatever
+/// Fills the partitions by these writes, binds a port for each front of datagrams and listens at a place for each front of connections, in order, and tells
+/// so. Then all fronts run side by side, each in a thread of its own, and each is the owner of a partition for as long as one write takes. All ends and shares are released. The owners' seats are kept, in the order of the partitions, where no front failed. Whatever
 /// the answer, `left.lacked` says how many connections were closed since there was no memory for them.
-pub fn serve_locked<
-    W: Threads + Wait + Sync,
-    N: Net,
-    L: Listeners,
-    K: Clock + Drop + Send,
-    G: Gate,
-    A: Announce,
->(
+pub fn serve_locked<W: Threads + Wait + Sync, N: Net, L: Listeners, G: Gate, A: Announce>(
     shared: &Shared<W, G>,
-    start: Start<K>,
+    filling: Vec<Write>,
     net: &mut N,
     listeners: &mut L,
     announce: &mut A,
     left: &mut Left,
 ) -> Result<Totals, Stop>
     requires service { IsPossibleService shared.now.service }
-    requires clocks { length start.clocks.items ≡ shared.now.service.streams.fronts }
-    requires filling { All IsWrite start.filling.items }
+    requires filling { All IsWrite filling.items }
     requires unbound { N.binds net.old ≡ 0 }
+    requires places { shared.now.service.places ≤ length (L.places listeners.old) }
     requires tables { left.old.tables ≡ [] }
     requires uncounted { left.old.lacked ≡ 0 }
 
-    ensures cause { IsCauseOfStop result shared.now.service start.filling.items (map K.view start.clocks.items) left.new.tables left.new.lacked
+    ensures cause { IsCauseOfStop result shared.now.service filling.items left.new.tables left.new.lacked
         (ports_at N.Net L.Listeners net.old listeners.old) (ports_at N.Net L.Listeners net.new listeners.new) }
     ensures leaves { Leaves A.says A.fails result shared.now.service
         (ports_at N.Net L.Listeners net.old listeners.old) (ports_at N.Net L.Listeners net.new listeners.new) announce.old announce.new }
 {
     match shared.service.options.mode {
-        Mode::Cache => serve_on::<W, CachePartition<OwnerSeat>, N, L, K, G, A>(
-            shared, start, net, listeners, announce, left,
+        Mode::Cache => serve_on::<W, CachePartition<OwnerSeat>, N, L, G, A>(
+            shared, filling, net, listeners, announce, left,
         ),
-        Mode::Store => serve_on::<W, StorePartition<OwnerSeat>, N, L, K, G, A>(
-            shared, start, net, listeners, announce, left,
+        Mode::Store => serve_on::<W, StorePartition<OwnerSeat>, N, L, G, A>(
+            shared, filling, net, listeners, announce, left,
         ),
     }
 }

@@ -26,7 +26,7 @@ use any_partition::OnTable;
 use connections::Connections;
 use fronts::{ServeFault, Totals};
 use locked_front::{LockedPart, OwnedPartition, Returned, ServerPlan};
-use outside::{Clock, Datagrams, Gate, NoMemory};
+use outside::{Datagrams, Gate, NoMemory};
 use partition_table::{Note, ReaderSeat};
 use partition_words::LendPartition;
 use std::alloc::Global;
@@ -57,26 +57,21 @@ impl<T: Drop, A: Drop> KindRoom<T, A> {
 
 /// The room for all fronts, for what they come to, and for the partitions that are taken back.
 #[derive(Drop)]
-pub struct Room<P: LendPartition<Reader = ReaderSeat, Note = Note> + Drop, D, C, K> {
-    pub streams: KindRoom<StreamTask<C, K>, ()>,
+pub struct Room<P: LendPartition<Reader = ReaderSeat, Note = Note> + Drop, D, C> {
+    pub streams: KindRoom<StreamTask<C>, ()>,
     pub fronts: KindRoom<FrontTask<D>, Totals>,
-    pub ports: Vec<C>,
+    pub shares: Vec<C>,
     pub ends: Vec<D>,
     pub parts: Vec<Returned<P>>,
 }
 
-impl<P: LendPartition<Reader = ReaderSeat, Note = Note> + Drop, D: Drop, C: Drop, K: Drop> Room<
-    P,
-    D,
-    C,
-    K,
-> {
+impl<P: LendPartition<Reader = ReaderSeat, Note = Note> + Drop, D: Drop, C: Drop> Room<P, D, C> {
     fn new(
         alloc: Global,
         streams: usize,
         fronts: usize,
         partitions: usize,
-    ) -> Result<Room<P, D, C, K>, NoMemory>
+    ) -> Result<Room<P, D, C>, NoMemory>
         requires streams { streams ≤ MOST_FRONTS }
         requires fronts { fronts ≤ MOST_FRONTS }
         requires partitions { partitions ≤ MOST_PARTITIONS }
@@ -85,7 +80,7 @@ impl<P: LendPartition<Reader = ReaderSeat, Note = Note> + Drop, D: Drop, C: Drop
         Ok(Room {
             streams: KindRoom::new(alloc, streams)?,
             fronts: KindRoom::new(alloc, fronts)?,
-            ports: Vec::with_capacity(alloc, streams)?,
+            shares: Vec::with_capacity(alloc, streams)?,
             ends: Vec::with_capacity(alloc, fronts)?,
             parts: Vec::with_capacity(alloc, partitions)?,
         })
@@ -99,14 +94,13 @@ pub struct LockedServer<
     P: LendPartition<Reader = ReaderSeat, Note = Note> + Drop,
     D,
     C,
-    K,
 > {
     pub locks: Vec<Mutex<OwnedPartition<J, P>>>,
     /// Those of the fronts of connections.
     pub stream_hands: Vec<Vec<LockedPart>>,
     /// Those of the fronts of datagrams.
     pub hands: Vec<Vec<LockedPart>>,
-    pub room: Room<P, D, C, K>,
+    pub room: Room<P, D, C>,
 }
 
 impl<
@@ -114,23 +108,22 @@ impl<
     P: LendPartition<Reader = ReaderSeat, Note = Note> + Drop,
     D: Drop,
     C: Drop,
-    K: Drop,
-> LockedServer<J, P, D, C, K> {
+> LockedServer<J, P, D, C> {
     pub(crate) fn new(
         alloc: Global,
         service: &Service,
         parts: Vec<FilledPart<P>>,
-    ) -> Result<LockedServer<J, P, D, C, K>, NoMemory>
+    ) -> Result<LockedServer<J, P, D, C>, NoMemory>
         requires notes { NotesAre P.noted P.note_home note_state note_home }
-        requires few { service.now.streams.fronts + service.now.ports.fronts ≤ MOST_FRONTS }
-        requires takers { J.plan.fronts ≡ service.now.streams.fronts + service.now.ports.fronts }
+        requires few { service.now.places + service.now.ports.fronts ≤ MOST_FRONTS }
+        requires takers { J.plan.fronts ≡ service.now.places + service.now.ports.fronts }
         requires partitions { J.plan.options.partitions ≤ MOST_PARTITIONS }
         requires of { ArePlanned J.plan 0 (map (λ f. filled_view P.owner P.home f) parts.items) }
-        ensures { IfOk result (λ server. IsLockedServer J.plan service.now.streams.fronts service.now.ports.fronts (length server.locks.items)
+        ensures { IfOk result (λ server. IsLockedServer J.plan service.now.places service.now.ports.fronts (length server.locks.items)
             server.stream_hands.items server.hands.items server.room) }
     {
         let mut parts = parts;
-        let streams = service.streams.fronts;
+        let streams = service.places;
         let fronts = service.ports.fronts;
         let room = Room::new(alloc, streams as usize, fronts as usize, parts.len())?;
         let stream_hands = lend_hands::<J, P>(alloc, &mut parts, 0, streams)?;
@@ -161,25 +154,22 @@ fn run_all<
     P: LendPartition<Reader = ReaderSeat, Note = Note> + Drop + Send,
     D: Datagrams + Drop + Send,
     C: Connections + Send,
-    K: Clock + Drop + Send,
     G: Gate,
 >(
     shared: &Shared<W, G>,
-    server: LockedServer<J, P, D, C, K>,
+    server: LockedServer<J, P, D, C>,
     ends: &mut Vec<D>,
     connections: &mut Vec<C>,
-    clocks: Vec<K>,
 ) -> Came<P>
     requires service { IsPossibleService shared.now.service }
     requires plan { IsPlanOf shared.now.service J.plan }
     requires takers { J.plan.fronts ≡ length connections.old.items + length ends.old.items }
-    requires clocks { length clocks.items ≡ length connections.old.items }
     requires filled { (p : ℕ) → p < shared.now.service.options.partitions → IsHistory shared.now.service.options (J.plan.origin p) }
     requires server { IsLockedServer J.plan (length connections.old.items) (length ends.old.items) (length server.locks.items)
         server.stream_hands.items server.hands.items server.room }
     requires unserved { AreOpen (map (end_facts D.Datagrams) ends.old.items) }
     requires fresh { AreUnserved (map (stream_facts C.Connections) connections.old.items) }
-    ensures ran { RanBeside shared.now.service.options J.plan.origin shared.now.service.ports.batches shared.now.service.base (map K.view clocks.items)
+    ensures ran { RanBeside shared.now.service.options J.plan.origin shared.now.service.ports.batches shared.now.service.base
         (map (λ left. kept_seat_in left.owner) (map (λ part. left_view P.owner P.home part) result.parts.items)) result.lacked result.streams.items result.fronts.items
         (map (end_facts D.Datagrams) ends.old.items) (map (end_facts D.Datagrams) ends.new.items)
         (map (stream_facts C.Connections) connections.old.items) (map (stream_facts C.Connections) connections.new.items) }
@@ -194,15 +184,15 @@ fn run_all<
     let Room {
         mut streams,
         mut fronts,
-        ports,
+        shares,
         ends: room_of_ends,
         mut parts,
     } = room;
-    let ports_before = mem::replace(connections, ports);
+    let shares_before = mem::replace(connections, shares);
     let ends_before = mem::replace(ends, room_of_ends);
     let mut stream_tasks = streams.tasks;
     let mut tasks = fronts.tasks;
-    pair_streams(stream_hands, ports_before, clocks, &mut stream_tasks);
+    pair_streams(stream_hands, shares_before, &mut stream_tasks);
     pair_up(hands, ends_before, &mut tasks);
     let first = stream_tasks.len() as u32;
     run_workers(
@@ -228,35 +218,32 @@ fn run_all<
     }
 }
 
-/// Serves all ports side by side, and keeps the owners' seats where no front failed. Says for how many connections there was no memory, whatever the answer.
+/// Serves all ports and places side by side, and keeps the owners' seats where no front failed. Says for how many connections there was no memory, whatever the answer.
 pub(crate) fn serve_all<
     W: Threads + Wait + Sync,
     J: ServerPlan + Send + Sync,
     P: OnTable + LendPartition<Reader = ReaderSeat, Note = Note> + Drop + Send,
     D: Datagrams + Drop + Send,
     C: Connections + Send,
-    K: Clock + Drop + Send,
     G: Gate,
 >(
     shared: &Shared<W, G>,
-    server: LockedServer<J, P, D, C, K>,
+    server: LockedServer<J, P, D, C>,
     ends: &mut Vec<D>,
     connections: &mut Vec<C>,
-    clocks: Vec<K>,
     left: &mut Left,
 ) -> Result<Totals, ServeFault>
     requires same { (p : P) → P.state p ≡ P.owner p }
     requires service { IsPossibleService shared.now.service }
     requires plan { IsPlanOf shared.now.service J.plan }
     requires takers { J.plan.fronts ≡ length connections.old.items + length ends.old.items }
-    requires clocks { length clocks.items ≡ length connections.old.items }
     requires filled { (p : ℕ) → p < shared.now.service.options.partitions → IsHistory shared.now.service.options (J.plan.origin p) }
     requires server { IsLockedServer J.plan (length connections.old.items) (length ends.old.items) (length server.locks.items)
         server.stream_hands.items server.hands.items server.room }
     requires tables { left.old.tables ≡ [] }
     requires unserved { AreOpen (map (end_facts D.Datagrams) ends.old.items) }
     requires fresh { AreUnserved (map (stream_facts C.Connections) connections.old.items) }
-    ensures { ServesBeside shared.now.service.options J.plan.origin shared.now.service.ports.batches shared.now.service.base (map K.view clocks.items) result left.new.tables left.new.lacked
+    ensures { ServesBeside shared.now.service.options J.plan.origin shared.now.service.ports.batches shared.now.service.base result left.new.tables left.new.lacked
         (map (end_facts D.Datagrams) ends.old.items) (map (end_facts D.Datagrams) ends.new.items)
         (map (stream_facts C.Connections) connections.old.items) (map (stream_facts C.Connections) connections.new.items) }
 {
@@ -265,7 +252,7 @@ pub(crate) fn serve_all<
         streams,
         fronts,
         lacked,
-    } = run_all(shared, server, ends, connections, clocks);
+    } = run_all(shared, server, ends, connections);
     left.lacked = lacked;
     let totals = sum_up_beside(streams.as_slice(), fronts.as_slice())?;
     keep_all(parts, &mut left.tables);

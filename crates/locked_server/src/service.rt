@@ -1,7 +1,7 @@
 //! What a server serves, and what all its fronts share.
 use memcached_stats::Board;
-use partition_model::{Options, Write};
-use server_words::{PortOptions, StreamPorts};
+use partition_model::Options;
+use server_words::PortOptions;
 use std::alloc::Global;
 use std::sync::atomic::AtomicBool;
 
@@ -12,8 +12,8 @@ pub struct Service {
     pub options: Options,
     /// The ports of datagrams.
     pub ports: PortOptions,
-    /// The ports of connections.
-    pub streams: StreamPorts,
+    /// How many places of connections there are, numbered from 0. Behind each one stands a front.
+    pub places: u32,
     /// The unique number of the first value that a partition takes from a connection.
     pub base: u64,
 }
@@ -31,11 +31,4 @@ pub struct Shared<'a, W, G> {
     pub gate: &'a G,
     /// Set once a front has ended or a partition bears no more writes: ports that fail together end the server then.
     pub ended: &'a AtomicBool,
-}
-
-/// What a server begins with: the writes that fill its partitions, in their order, and a clock for each front of connections.
-#[derive(Drop)]
-pub struct Start<K> {
-    pub filling: Vec<Write>,
-    pub clocks: Vec<K>,
 }

@@ -13,8 +13,10 @@ use std::fmt;
 pub enum Stop {
     /// A write that was to fill its partition was refused. No port was bound.
     Refused,
-    /// This port could not be bound, or not be listened at. Nothing was received.
+    /// This port could not be bound. Nothing was received.
     Unbound(u16),
+    /// The place of this number could not be listened at. Nothing was received.
+    Unheard(u32),
     /// The ports were bound, and what was to be told then could not be told. Nothing was received.
     Unannounced,
     Fault(ServeFault),
@@ -29,6 +31,7 @@ impl fmt::Display for Stop {
         match self {
             Stop::Refused => fmt::Display::fmt(&OpenFault::Refused, f),
             Stop::Unbound(port) => write!(f, "port {port} could not be bound"),
+            Stop::Unheard(place) => write!(f, "place {place} could not be listened at"),
             Stop::Unannounced => fmt::Display::fmt(&Untold, f),
             Stop::Fault(fault) => fmt::Display::fmt(fault, f),
         }

@@ -6,11 +6,11 @@ ghost use Rattle.locked_server.specs.Running.{IsReadyStream, StreamRan, AreReady
 
 use crate::service::Shared;
 use command_answers::Numbering;
-use connection_loop::serve_connections;
+use connection_loop::{Hand, serve_connections};
 use connections::Connections;
 use fronts::ServeFault;
 use locked_front::{LockedFront, LockedPart, OwnedPartition, ServerPlan};
-use outside::{Clock, Gate};
+use outside::Gate;
 use partition_table::{Note, ReaderSeat};
 use partition_words::LendPartition;
 use std::mem;
@@ -18,19 +18,18 @@ use std::sync::atomic::Ordering;
 use std::sync::{Mutex, Wait};
 use std::thread::{Threads, for_each_mut};
 
-/// What a front has in hand, its port of connections, and its clock.
+/// What a front has in hand, and its share of connections.
 #[derive(Drop)]
-pub struct StreamTask<C, K> {
+pub struct StreamTask<C> {
     pub parts: Vec<LockedPart>,
-    pub port: C,
-    pub clock: K,
+    pub share: C,
     /// How many connections there was no memory for.
     pub lacked: u64,
     pub answer: Result<(), ServeFault>,
 }
 
-impl<C: Connections, K: Clock> StreamTask<C, K> {
-    // Serves the port, as the front of this number, which has taken no turn, and counts from 0.
+impl<C: Connections> StreamTask<C> {
+    // Serves the share, as the front of this number, which has taken no turn, and counts from 0.
     fn run<
         W: Threads + Wait + Sync,
         J: ServerPlan,
@@ -39,28 +38,30 @@ impl<C: Connections, K: Clock> StreamTask<C, K> {
     >(&mut self, shared: &Shared<W, G>, locks: &[Mutex<OwnedPartition<J, P>>], number: u32)
         requires plan { IsLockedPlan shared.now.service J.plan (length locks.now) }
         requires low { number < J.plan.fronts }
-        requires ready { IsReadyStream J.plan (stream_facts C.Connections) K.view number self.old }
-        ensures { StreamRan J.plan (stream_facts C.Connections) K.view shared.now.service.base number self.old self.new }
+        requires ready { IsReadyStream J.plan (stream_facts C.Connections) number self.old }
+        ensures { StreamRan J.plan (stream_facts C.Connections) shared.now.service.base number self.old self.new }
     {
         let options = &shared.service.options;
         let parts = mem::replace(&mut self.parts, Vec::new(shared.alloc));
-        let mut front = LockedFront::new(shared.rt, options, locks, number, parts, shared.ended);
-        let numbering = Numbering {
-            partitions: options.partitions,
-            base: shared.service.base,
+        let mut hand = Hand {
+            alloc: shared.alloc,
+            front: LockedFront::new(shared.rt, options, locks, number, parts, shared.ended),
+            numbering: Numbering {
+                partitions: options.partitions,
+                base: shared.service.base,
+            },
+            second: 0,
         };
         self.lacked = 0;
         self.answer = serve_connections(
-            shared.alloc,
-            &mut front,
-            &mut self.clock,
-            numbering,
+            &mut hand,
             shared.board,
             number,
-            &mut self.port,
+            &mut self.share,
             &mut self.lacked,
         );
         shared.ended.store(true, Ordering::Relaxed);
+        let Hand { front, .. } = hand;
         self.parts = front.into_parts();
     }
 }
@@ -71,13 +72,12 @@ pub(crate) fn run_streams<
     J: ServerPlan + Send + Sync,
     P: LendPartition<Reader = ReaderSeat, Note = Note> + Drop + Send,
     C: Connections + Send,
-    K: Clock + Drop + Send,
     G: Gate,
->(shared: &Shared<W, G>, locks: &[Mutex<OwnedPartition<J, P>>], streams: &mut Vec<StreamTask<C, K>>)
+>(shared: &Shared<W, G>, locks: &[Mutex<OwnedPartition<J, P>>], streams: &mut Vec<StreamTask<C>>)
     requires plan { IsLockedPlan shared.now.service J.plan (length locks.now) }
     requires many { length streams.old.items ≤ J.plan.fronts }
-    requires ready { AreReadyStreams J.plan (stream_facts C.Connections) K.view streams.old.items }
-    ensures { StreamsRan J.plan (stream_facts C.Connections) K.view shared.now.service.base streams.old.items streams.new.items }
+    requires ready { AreReadyStreams J.plan (stream_facts C.Connections) streams.old.items }
+    ensures { StreamsRan J.plan (stream_facts C.Connections) shared.now.service.base streams.old.items streams.new.items }
 {
     let threads = streams.len().max(1);
     for_each_mut(
@@ -86,66 +86,58 @@ pub(crate) fn run_streams<
         threads,
         &|number, stream|
             requires { (number < J.plan.fronts) × IsLockedPlan shared.now.service J.plan (length locks.now)
-                × IsReadyStream J.plan (stream_facts C.Connections) K.view number stream.now }
-            ensures { StreamRan J.plan (stream_facts C.Connections) K.view shared.entry.now.service.base number stream.entry.now stream.exit.now }
+                × IsReadyStream J.plan (stream_facts C.Connections) number stream.now }
+            ensures { StreamRan J.plan (stream_facts C.Connections) shared.entry.now.service.base number stream.entry.now stream.exit.now }
         { stream.run(shared, locks, number as u32) },
     );
 }
 
-/// The fronts of connections with the ports of their places, each with a clock.
-pub(crate) fn pair_streams<C: Drop, K: Drop>(
+/// The fronts of connections with their shares.
+pub(crate) fn pair_streams<C: Drop>(
     hands: Vec<Vec<LockedPart>>,
-    ports: Vec<C>,
-    clocks: Vec<K>,
-    tasks: &mut Vec<StreamTask<C, K>>,
+    shares: Vec<C>,
+    tasks: &mut Vec<StreamTask<C>>,
 )
     requires none { tasks.old.items ≡ [] }
-    requires hands { length hands.items ≡ length ports.items }
-    requires clocks { length clocks.items ≡ length ports.items }
-    requires room { vec_len ports ≤ vec_capacity tasks.old }
+    requires hands { length hands.items ≡ length shares.items }
+    requires room { vec_len shares ≤ vec_capacity tasks.old }
     ensures hands { map (λ t. t.parts) tasks.new.items ≡ hands.items }
-    ensures ports { map (λ t. t.port) tasks.new.items ≡ ports.items }
-    ensures clocks { map (λ t. t.clock) tasks.new.items ≡ clocks.items }
+    ensures shares { map (λ t. t.share) tasks.new.items ≡ shares.items }
 {
-    let mut hands_left = hands.into_iter();
-    let mut clocks_left = clocks.into_iter();
-    for port in ports {
-        let Some(parts) = hands_left.next() else {
-            unreachable!()
-        };
-        let Some(clock) = clocks_left.next() else {
+    let mut left = hands.into_iter();
+    for share in shares {
+        let Some(parts) = left.next() else {
             unreachable!()
         };
         tasks.push_reserved(StreamTask {
             parts,
-            port,
-            clock,
+            share,
             lacked: 0,
             answer: Err(ServeFault::NoMemory),
         });
     }
 }
 
-/// The ports, the hands and the answers of the fronts, in order; and for how many connections there was no memory.
+/// The shares, the hands and the answers of the fronts, in order; and for how many connections there was no memory.
 #[tactic(auto, using(crate::proofs::Counted::counted_next))]
-pub(crate) fn part_streams<C: Drop, K: Drop>(
-    streams: Vec<StreamTask<C, K>>,
-    ports: &mut Vec<C>,
+pub(crate) fn part_streams<C: Drop>(
+    streams: Vec<StreamTask<C>>,
+    shares: &mut Vec<C>,
     hands: &mut Vec<Vec<LockedPart>>,
     answers: &mut Vec<Result<(), ServeFault>>,
 ) -> u64
-    requires none { (ports.old.items ≡ []) × (hands.old.items ≡ []) × (answers.old.items ≡ []) }
-    requires ports { vec_len streams ≤ vec_capacity ports.old }
+    requires none { (shares.old.items ≡ []) × (hands.old.items ≡ []) × (answers.old.items ≡ []) }
+    requires shares { vec_len streams ≤ vec_capacity shares.old }
     requires hands { vec_len streams ≤ vec_capacity hands.old }
     requires answers { vec_len streams ≤ vec_capacity answers.old }
-    ensures ports { ports.new.items ≡ map (λ t. t.port) streams.items }
+    ensures shares { shares.new.items ≡ map (λ t. t.share) streams.items }
     ensures hands { hands.new.items ≡ map (λ t. t.parts) streams.items }
     ensures answers { answers.new.items ≡ map (λ t. t.answer) streams.items }
     ensures lacked { result ≡ counted_by_all (map (λ t. t.lacked) streams.items) }
 {
     let mut lacked = 0u64;
     for stream in streams {
-        ports.push_reserved(stream.port);
+        shares.push_reserved(stream.share);
         hands.push_reserved(stream.parts);
         answers.push_reserved(stream.answer);
         lacked = lacked.saturating_add(stream.lacked);

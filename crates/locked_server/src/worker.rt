@@ -12,7 +12,7 @@ use connections::Connections;
 use datagram_answers::serve_end;
 use fronts::{ServeFault, Totals};
 use locked_front::{LockedFront, LockedPart, OwnedPartition, ServerPlan};
-use outside::{Clock, Datagrams, Gate};
+use outside::{Datagrams, Gate};
 use partition_table::{Note, ReaderSeat};
 use partition_words::LendPartition;
 use std::mem;
@@ -95,28 +95,27 @@ pub(crate) fn run_workers<
     P: LendPartition<Reader = ReaderSeat, Note = Note> + Drop + Send,
     D: Datagrams + Drop + Send,
     C: Connections + Send,
-    K: Clock + Drop + Send,
     G: Gate,
 >(
     shared: &Shared<W, G>,
     locks: &[Mutex<OwnedPartition<J, P>>],
     first: u32,
-    streams: &mut Vec<StreamTask<C, K>>,
+    streams: &mut Vec<StreamTask<C>>,
     fronts: &mut Vec<FrontTask<D>>,
 )
     requires plan { IsLockedPlan shared.now.service J.plan (length locks.now) }
     requires first { length streams.old.items ≤ first }
     requires many { first + length fronts.old.items ≡ J.plan.fronts }
-    requires ready_streams { AreReadyStreams J.plan (stream_facts C.Connections) K.view streams.old.items }
+    requires ready_streams { AreReadyStreams J.plan (stream_facts C.Connections) streams.old.items }
     requires ready { AreReadyTasks J.plan shared.now.service.ports.batches (end_facts D.Datagrams) first fronts.old.items }
-    ensures streams { StreamsRan J.plan (stream_facts C.Connections) K.view shared.now.service.base streams.old.items streams.new.items }
+    ensures streams { StreamsRan J.plan (stream_facts C.Connections) shared.now.service.base streams.old.items streams.new.items }
     ensures fronts { TasksRan J.plan shared.now.service.ports.batches (end_facts D.Datagrams) first fronts.old.items fronts.new.items }
 {
     join_mut(
         shared.rt,
         &mut ||
             requires { IsSync W.row × IsSync J.row × IsSync G.row × IsLockedPlan shared.now.service J.plan (length locks.now)
-                × (length streams.now.items ≤ J.plan.fronts) × AreReadyStreams J.plan (stream_facts C.Connections) K.view streams.now.items }
+                × (length streams.now.items ≤ J.plan.fronts) × AreReadyStreams J.plan (stream_facts C.Connections) streams.now.items }
         { run_streams(shared, locks, streams) },
         &mut ||
             requires { IsSync W.row × IsSync J.row × IsSync G.row × IsLockedPlan shared.now.service J.plan (length locks.now)

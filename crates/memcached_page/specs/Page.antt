@@ -6,7 +6,7 @@ use Rattle.std.specs.Prelude.{◌≡◌, ◌≤◌, ◌<◌, ◌==◌, ℕ, Bool
 use Rattle.std.specs.List.{AllByRecursion}
 use Rattle.outside.specs.Faults.{LAST_COUNT}
 use Rattle.partition_model.specs.declared.options.Options.{Options}
-use Rattle.connections.specs.State.{Entry}
+use Rattle.connections.specs.State.{Entry, turned_away as one_away}
 use Rattle.connections.specs.Log.{Log}
 use Rattle.memcached_page.specs.Shelf.{Shelf}
 use Rattle.memcached_page.specs.Course.{Deed, carried, flushed, went, moved, Done, IsCourse}
@@ -35,9 +35,10 @@ pub record IsOwn (shares : ℕ) (done : Done) : Type 0 where
 abbrev pub InTime : ℕ → (ℕ → Log) → (ℕ → Story) → Type 0
 InTime shares logs stories = ⊤
 
--- One that came when there were as many connections as may be was turned away, and is no client. No entry tells it yet.
+-- One that came when there were as many connections as may be was turned away, and is no client.
 abbrev pub is_turned_away : Entry → Bool
-is_turned_away entry = false
+is_turned_away one_away = true
+is_turned_away _ = false
 
 -- All clients of all shares are served as by memcached, key by key. For so many connections memory lacked.
 pub record ServesAsMemcached (options : Options) (shares lacked : ℕ) (from : ℕ → Shelf) (before logs : ℕ → Log) : Type 0 where

@@ -1,14 +1,14 @@
 -- What the thread of a share and its clients said to each other.
-use Rattle.std.specs.Prelude.{◌≡◌, ◌≢◌, ◌≤◌, ◌<◌, ◌+◌, ◌-◌, ◌==◌, ◌⊎◌, ℕ, Bool, true, false, List, [], ◌∷◌, ◌++◌, length, take, drop, map, filter, filter_map, flat_map, slice_get, nat_lt, AllPairs, Option, Some, None, IfSome, if◌then◌else◌}
-use Rattle.std.specs.List.{list_any, list_all}
+use Rattle.std.specs.Prelude.{◌≡◌, ◌≢◌, ◌≤◌, ◌<◌, ◌+◌, ◌-◌, ◌==◌, ◌⊎◌, ℕ, zero, suc, Bool, true, false, List, [], ◌∷◌, ◌++◌, length, take, drop, map, filter, filter_map, flat_map, slice_get, nat_lt, AllPairs, Option, Some, None, IfSome, if◌then◌else◌}
+use Rattle.std.specs.List.{AllByRecursion, list_any, list_all}
 use Rattle.memcached_text.specs.declared.next.Next.TheVariants.{More}
 use Rattle.memcached_text.specs.Next.{next_of}
 use Rattle.memcached_text.specs.Stream.{len_of, is_last}
 use Rattle.connections.specs.declared.schedule.Step.{Step}
-use Rattle.connections.specs.declared.schedule.Step.TheVariants.{Opens, Reports, Happens}
+use Rattle.connections.specs.declared.schedule.Step.TheVariants.{Opens, TurnsAway, Reports, Happens}
 use Rattle.connections.specs.Connection.{Connection}
-use Rattle.connections.specs.State.{Entry, closed, state_after}
-use Rattle.connections.specs.Log.{Log, state_of, connections_of, received_of, sent_of}
+use Rattle.connections.specs.State.{Entry, opened, reported, turned_away, received, closed, state_after}
+use Rattle.connections.specs.Log.{Log, state_of, connections_of, received_of, sent_of, second_of as told_second}
 use Rattle.command_answers.specs.Exchange.{is_flush_all}
 use Rattle.memcached_page.specs.Course.{Deed, carried, flushed, went, moved, Done}
 use Rattle.memcached_page.specs.Exchange.{Exchange, CarryOut, is_done, due_to}
@@ -102,6 +102,7 @@ ClosesForCause parts log story = (n c : ℕ) → n < length log.entries → call
 -- a step is a report of the c-th connection
 abbrev pub reports : ℕ → Step → Bool
 reports c (Opens window bytes) = false
+reports c TurnsAway = false
 reports c (Reports d change) = d == c
 reports c (Happens d change) = d == c
 
@@ -124,6 +125,22 @@ second_of (flushed part number flush took) = if nat_lt 0 flush.due then Some flu
 second_of (went second key) = Some second
 second_of (moved key) = None
 
--- The seconds of a share's deeds never fall. Its log does not tell them yet.
-abbrev pub TellsSeconds : Log → Story → Type 0
-TellsSeconds log story = AllPairs (λ earlier later. earlier ≤ later) (filter_map (λ done. second_of done.deed) story.deeds)
+-- what was done from the moment before to the n-th
+abbrev pub done_at : Story → ℕ → List Done
+done_at story zero = take (story.reached 0) story.deeds
+done_at story (suc n) = drop (story.reached n) (take (story.reached (suc n)) story.deeds)
+
+-- the last call gave no bytes and no report, or the second behind them was told since
+abbrev pub is_timed : List Entry → Bool
+is_timed (opened number ∷ entries) = false
+is_timed (reported number ∷ entries) = false
+is_timed (turned_away ∷ entries) = false
+is_timed (received c bytes ∷ entries) = false
+is_timed _ = true
+
+-- At each moment a share's deeds are done at the second that its log told last, and none before it was told behind what came. These seconds never fall. So a command is carried out
+-- at a second that is not before its bytes came.
+pub record TellsSeconds (log : Log) (story : Story) : Type 0 where
+  pub at : (n : ℕ) → n ≤ length log.entries → AllByRecursion (λ done. IfSome (second_of done.deed) (λ second. second ≡ told_second (calls_by log n))) (done_at story n)
+  pub timed : (n : ℕ) → n ≤ length log.entries → is_timed (calls_by log n) ≡ false → done_at story n ≡ []
+  pub never_fall : AllPairs (λ earlier later. earlier ≤ later) (filter_map (λ done. second_of done.deed) story.deeds)

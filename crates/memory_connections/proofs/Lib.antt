@@ -4,5 +4,6 @@ pub mod Room
 pub mod Pending
 pub mod Stages
 pub mod Views
-pub mod Told
+pub mod Timing
+mod Told
 pub mod Seats

@@ -6,10 +6,10 @@ use Rattle.std.proofs.lemmas.List.{append-nil, map-append, reverse-append, take_
 use Rattle.std.proofs.lemmas.List.Elements.{recursion_from_All}
 use Rattle.std.proofs.lemmas.Grind.{common_steps}
 use Rattle.memory_connections.specs.declared.memory_log.Note.{Note}
-use Rattle.memory_connections.specs.declared.memory_log.Note.TheVariants.{Opened, Reported, Met, Received, Asked, Closed}
+use Rattle.memory_connections.specs.declared.memory_log.Note.TheVariants.{Opened, Reported, TurnedAway, Met, Second, Received, Asked, Closed}
 use Rattle.memory_connections.specs.declared.memory_log.Mark.{Mark}
 use Rattle.memory_connections.specs.declared.memory_log.Mark.TheVariants.{Noted, Sent}
-use Rattle.connections.specs.State.{Entry, opened, reported, met, received, sent, asked, closed}
+use Rattle.connections.specs.State.{Entry, opened, reported, turned_away, met, second, received, sent, asked, closed}
 use Rattle.connections.specs.Log.{sent_of}
 use Rattle.memory_connections.specs.MemoryLog.{noted, entry_in, entries_in, IsWithin}
 
@@ -45,7 +45,9 @@ sent_more bytes more marks c from to all from_is to_is =
 sent_one : (c : ℕ) (entry : Entry) (entries : List Entry) → sent_of c (entry ∷ entries) ≡ sent_of c entries ++ sent_of c (entry ∷ [])
 sent_one c (opened number) entries = sym (append-nil (sent_of c entries))
 sent_one c (reported number) entries = sym (append-nil (sent_of c entries))
+sent_one c turned_away entries = sym (append-nil (sent_of c entries))
 sent_one c met entries = sym (append-nil (sent_of c entries))
+sent_one c (second s) entries = sym (append-nil (sent_of c entries))
 sent_one c (received d bytes) entries = sym (append-nil (sent_of c entries))
 sent_one c (sent d bytes) entries = by (eqb d c)
   where
@@ -66,7 +68,9 @@ sent_on c bytes marks i d there =
 pub none_noted : (c : ℕ) (note : Note) → [] ≡ sent_of c (noted note ∷ [])
 none_noted c (Opened number) = refl
 none_noted c (Reported number) = refl
+none_noted c TurnedAway = refl
 none_noted c Met = refl
+none_noted c (Second s) = refl
 none_noted c (Received d bytes) = refl
 none_noted c (Asked d) = refl
 none_noted c (Closed d) = refl

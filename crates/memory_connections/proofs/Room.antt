@@ -8,7 +8,7 @@ use Rattle.std.proofs.lemmas.Option.{none-some, same_Some, slice_get-get_or}
 use Rattle.std.proofs.lemmas.Grind.{common_steps}
 use Rattle.connections.specs.declared.schedule.Change.{Change}
 use Rattle.connections.specs.declared.schedule.Step.{Step}
-use Rattle.connections.specs.declared.schedule.Step.TheVariants.{Opens, Reports, Happens}
+use Rattle.connections.specs.declared.schedule.Step.TheVariants.{Opens, TurnsAway, Reports, Happens}
 use Rattle.connections.specs.Connection.{Connection, readable, after_change, after_read, after_write, after_ask, after_close}
 use Rattle.connections.specs.State.{changed}
 use Rattle.memory_connections.specs.MemoryConnection.{need_of, cost_of, need}
@@ -36,7 +36,7 @@ length_readable : (breaks : Option ℕ) (bytes : List ℕ) → length (readable 
 length_readable None bytes = omega arith
 length_readable (Some n) bytes = omega (arith, length-take n bytes)
 
-change_needs : (change : Change) (x : Connection) → need_of (after_change change x) ≤ need_of x + (5 * change.comes + change.takes)
+change_needs : (change : Change) (x : Connection) → need_of (after_change change x) ≤ need_of x + (8 * change.comes + change.takes)
 change_needs change x =
     let came = x.waiting ++ take change.comes x.to_come in
     let all : length came ≤ length x.waiting + change.comes = grind (arith, common_steps) in
@@ -49,24 +49,27 @@ window_fits c takes bound all x there is small = let p = part c all x (slice_get
 
 -- what stands after each entry needs less
 pub opened_needs : (all : List Connection) (later : List Step) (window : ℕ) (bytes : List ℕ) (x : Connection) → need_of x ≡ window + 1
-    → need (record { connections = all ++ x ∷ []; later = later }) + 1 ≤ need (record { connections = all; later = Opens window bytes ∷ later })
+    → need (record { connections = all ++ x ∷ []; later = later }) + 2 ≤ need (record { connections = all; later = Opens window bytes ∷ later })
 opened_needs all later window bytes x is = omega (arith, sum_by_push need_of all x, sum_by-cons cost_of (Opens window bytes) later, is)
 
-pub reported_needs : (all : List Connection) (later : List Step) (c : ℕ) (change : Change) → need (record { connections = changed c (after_change change) all; later = later }) + 1 ≤ need (record { connections = all; later = Reports c change ∷ later })
-reported_needs all later c change =
-    omega (arith, raised c (5 * change.comes + change.takes) (after_change change) all (change_needs change), sum_by-cons cost_of (Reports c change) later)
+pub turned_needs : (all : List Connection) (later : List Step) → need (record { connections = all; later = later }) + 2 ≤ need (record { connections = all; later = TurnsAway ∷ later })
+turned_needs all later = omega (arith, sum_by-cons cost_of TurnsAway later)
 
-pub happened_needs : (all : List Connection) (later : List Step) (c : ℕ) (change : Change) → need (record { connections = changed c (after_change change) all; later = later }) + 2 ≤ need (record { connections = all; later = Happens c change ∷ later })
+pub reported_needs : (all : List Connection) (later : List Step) (c : ℕ) (change : Change) → need (record { connections = changed c (after_change change) all; later = later }) + 2 ≤ need (record { connections = all; later = Reports c change ∷ later })
+reported_needs all later c change =
+    omega (arith, raised c (8 * change.comes + change.takes) (after_change change) all (change_needs change), sum_by-cons cost_of (Reports c change) later)
+
+pub happened_needs : (all : List Connection) (later : List Step) (c : ℕ) (change : Change) → need (record { connections = changed c (after_change change) all; later = later }) + 3 ≤ need (record { connections = all; later = Happens c change ∷ later })
 happened_needs all later c change =
-    omega (arith, raised c (5 * change.comes + change.takes) (after_change change) all (change_needs change), sum_by-cons cost_of (Happens c change) later)
+    omega (arith, raised c (8 * change.comes + change.takes) (after_change change) all (change_needs change), sum_by-cons cost_of (Happens c change) later)
 
 pub pushed_needs : (all : List Connection) (later : List Step) (step : Step) → need (record { connections = all; later = later ++ step ∷ [] }) ≡ need (record { connections = all; later = later }) + cost_of step
 pushed_needs all later step = omega (arith, sum_by_push cost_of later step)
 
 pub read_needs : (all : List Connection) (later : List Step) (c count : ℕ) (x : Connection) → slice_get all c ≡ Some x → 0 < count → count ≤ length x.waiting
-    → need (record { connections = changed c (after_read count) all; later = later }) + 1 ≤ need (record { connections = all; later = later })
+    → need (record { connections = changed c (after_read count) all; later = later }) + 2 ≤ need (record { connections = all; later = later })
 read_needs all later c count x is some fits =
-    let l = lowered c 1 (after_read count) all x is (omega (arith, length-drop count x.waiting, some, fits)) in omega (arith, l)
+    let l = lowered c 2 (after_read count) all x is (omega (arith, length-drop count x.waiting, some, fits)) in omega (arith, l)
 
 pub write_needs : (all : List Connection) (later : List Step) (c count : ℕ) (x : Connection) → slice_get all c ≡ Some x → count ≤ x.window
     → need (record { connections = changed c (after_write count) all; later = later }) + count ≤ need (record { connections = all; later = later })
@@ -74,12 +77,12 @@ write_needs all later c count x is fits =
     let l = lowered c count (after_write count) all x is (omega (arith, fits)) in omega (arith, l)
 
 pub ask_needs : (all : List Connection) (later : List Step) (c : ℕ) (x : Connection) → slice_get all c ≡ Some x → 0 < x.asks
-    → need (record { connections = changed c after_ask all; later = later }) + 2 ≤ need (record { connections = all; later = later })
+    → need (record { connections = changed c after_ask all; later = later }) + 3 ≤ need (record { connections = all; later = later })
 ask_needs all later c x is some =
-    let l = lowered c 2 after_ask all x is (omega (arith, some)) in omega (arith, l)
+    let l = lowered c 3 after_ask all x is (omega (arith, some)) in omega (arith, l)
 
 pub close_needs : (all : List Connection) (later : List Step) (c : ℕ) (x : Connection) → slice_get all c ≡ Some x → x.is_closed ≡ false
     → need (record { connections = changed c after_close all; later = later }) + 1 ≤ need (record { connections = all; later = later })
 close_needs all later c x is unclosed =
-    let one : need_of x ≡ 5 * length x.waiting + x.window + 2 * x.asks + 1 = ap (λ b. 5 * length x.waiting + x.window + 2 * x.asks + (if b then 0 else 1)) unclosed in
+    let one : need_of x ≡ 8 * length x.waiting + x.window + 3 * x.asks + 1 = ap (λ b. 8 * length x.waiting + x.window + 3 * x.asks + (if b then 0 else 1)) unclosed in
     let l = lowered c 1 after_close all x is (omega (arith, one)) in omega (arith, l)

@@ -6,9 +6,9 @@ use Rattle.std.proofs.lemmas.List.{length-append, append-nil, length-take-le}
 use Rattle.std.proofs.lemmas.Option.{slice_get_within, slice_get-get_or}
 use Rattle.connections.specs.declared.schedule.Change.{Change}
 use Rattle.connections.specs.declared.schedule.Step.{Step}
-use Rattle.connections.specs.declared.schedule.Step.TheVariants.{Opens, Reports, Happens}
+use Rattle.connections.specs.declared.schedule.Step.TheVariants.{Opens, TurnsAway, Reports, Happens}
 use Rattle.connections.specs.Connection.{Connection, nothing, new_connection, after_change, after_read, after_write, after_ask, after_close}
-use Rattle.connections.specs.State.{State, Entry, after, changed, opened, reported, met, received, sent, asked, closed}
+use Rattle.connections.specs.State.{State, Entry, after, changed, opened, reported, turned_away, met, second, received, sent, asked, closed}
 use Rattle.connections.specs.declared.connections.Input.{Input}
 use Rattle.connections.specs.declared.connections.Input.TheVariants.{Bytes, All}
 use Rattle.connections.specs.Log.{after_meeting_one}
@@ -17,7 +17,7 @@ use Rattle.memory_connections.specs.MemoryConnection.{owed, pending, need, cost_
 use Rattle.memory_connections.specs.Stage.{Goes, IsStage, Played, played_state, played_connections}
 use Rattle.connections.proofs.Places.{length_changed}
 use Rattle.memory_connections.proofs.Numbers.{KeepsNumber, below_changed, below_push}
-use Rattle.memory_connections.proofs.Room.{opened_needs, reported_needs, happened_needs, pushed_needs, read_needs, write_needs, ask_needs, close_needs}
+use Rattle.memory_connections.proofs.Room.{opened_needs, turned_needs, reported_needs, happened_needs, pushed_needs, read_needs, write_needs, ask_needs, close_needs}
 use Rattle.memory_connections.proofs.Pending.{next_pending, next_owed, more_pending, goes_on, goes_by}
 
 -- a stage with one entry more, for which there was room
@@ -58,6 +58,25 @@ stays {schedule} {at} {reports} {paid} {all} {entries} {room} {k} e reports' all
     (subst (λ es. IsStage schedule at reports paid all es room') (sym entries_are)
     (subst (λ n. IsStage schedule at reports paid all entries n) (sym room_is) e.stage)))
 
+-- behind the entry stands which second it was
+pub then_second : {schedule : List Step} {at : ℕ} {reports : List ℕ} {paid : ℕ} {all : List Connection} {entries : List Entry} {room k : ℕ} → Enters schedule at reports paid all entries room k
+    → (s : ℕ) → Enters schedule at reports paid all (second s ∷ entries) room k
+then_second e s = record {
+  room_for = e.room_for;
+  stage = record {
+    at_fits = e.stage.at_fits;
+    paid_fits = e.stage.paid_fits;
+    goes = record { stands = e.stage.goes.stands; fits = e.stage.goes.fits };
+    few = e.stage.few;
+    numbers = e.stage.numbers;
+  };
+}
+
+-- with an entry and the second behind it
+pub stays_told : {schedule : List Step} {at : ℕ} {reports : List ℕ} {paid : ℕ} {all : List Connection} {entries : List Entry} {room : ℕ} {entry : Entry} → Enters schedule at reports paid all (entry ∷ entries) room 2
+    → (n : ℕ) (all' : List Connection) (entries' : List Entry) (room' : ℕ) → all' ≡ all → entries' ≡ second n ∷ entry ∷ entries → room' ≡ room - 2 → IsStage schedule at reports paid all' entries' room'
+stays_told {reports = reports} e n all' entries' room' all_are entries_are room_is = stays (then_second e n) reports all' entries' room' refl all_are entries_are room_is
+
 some_there : (all : List Connection) (c : ℕ) → c < length all → (x : Connection) × (slice_get all c ≡ Some x)
 some_there [] c there = absurd (omega arith)
 some_there (x ∷ all) zero there = (x, refl)
@@ -86,11 +105,11 @@ module _ (schedule : List Step) (at : ℕ) (reports : List ℕ) (paid : ℕ) (al
   next_needs step is = subst (λ (l : List Step). need (record { connections = all; later = l }) ≤ room) (next_pending schedule at reports paid step is) (before s.goes)
 
   pub stage_opened : (window : ℕ) (bytes : List ℕ) (number : ℕ) → slice_get schedule at ≡ Some (Opens window bytes) → number ≤ length all
-      → Enters schedule (at + 1) reports paid (all ++ new_connection number window bytes ∷ []) (opened number ∷ entries) room 1
+      → Enters schedule (at + 1) reports paid (all ++ new_connection number window bytes ∷ []) (opened number ∷ entries) room 2
   stage_opened window bytes number is low =
       let x = new_connection number window bytes in
       let less = opened_needs all rest window bytes x (omega arith) in
-      let fits = by_need _ _ room 1 less (next_needs (Opens window bytes) is) in
+      let fits = by_need _ _ room 2 less (next_needs (Opens window bytes) is) in
       let long : length (all ++ x ∷ []) ≡ length all + 1 = length-append all (x ∷ []) in
       let few = s.few in
       record {
@@ -98,9 +117,25 @@ module _ (schedule : List Step) (at : ℕ) (reports : List ℕ) (paid : ℕ) (al
         stage = record {
           at_fits = let w = slice_get_within schedule at (Opens window bytes) is in omega (arith, w);
           paid_fits = s.paid_fits;
-          goes = goes_by schedule entries room 1 (opened number) all later rest (Opens window bytes) (record { connections = all ++ x ∷ []; later = rest }) s.goes (next_pending schedule at reports paid (Opens window bytes) is) refl less;
+          goes = goes_by schedule entries room 2 (opened number) all later rest (Opens window bytes) (record { connections = all ++ x ∷ []; later = rest }) s.goes (next_pending schedule at reports paid (Opens window bytes) is) refl less;
           few = omega (arith, long, few, fits);
           numbers = subst (λ n. are_below n (all ++ x ∷ []) ≡ true) (sym long) (below_push (length all) all x s.numbers low);
+        };
+      }
+
+  pub stage_turned : slice_get schedule at ≡ Some TurnsAway → Enters schedule (at + 1) reports paid all (turned_away ∷ entries) room 2
+  stage_turned is =
+      let less = turned_needs all rest in
+      let fits = by_need _ _ room 2 less (next_needs TurnsAway is) in
+      let few = s.few in
+      record {
+        room_for = fits;
+        stage = record {
+          at_fits = let w = slice_get_within schedule at TurnsAway is in omega (arith, w);
+          paid_fits = s.paid_fits;
+          goes = goes_by schedule entries room 2 turned_away all later rest TurnsAway (record { connections = all; later = rest }) s.goes (next_pending schedule at reports paid TurnsAway is) refl less;
+          few = omega (arith, few, fits);
+          numbers = s.numbers;
         };
       }
 
@@ -122,32 +157,32 @@ module _ (schedule : List Step) (at : ℕ) (reports : List ℕ) (paid : ℕ) (al
       }
 
   pub stage_reported : (c : ℕ) (change : Change) (number : ℕ) → slice_get schedule at ≡ Some (Reports c change)
-      → Enters schedule (at + 1) reports paid (changed c (after_change change) all) (reported number ∷ entries) room 1
+      → Enters schedule (at + 1) reports paid (changed c (after_change change) all) (reported number ∷ entries) room 2
   stage_reported c change number is =
       let less = reported_needs all rest c change in
       let w = slice_get_within schedule at (Reports c change) is in
-      changed_stage (at + 1) reports paid 1 c (after_change change) (reported number) (λ x. refl) (omega (arith, w)) s.paid_fits (by_need _ _ room 1 less (next_needs (Reports c change) is))
-      (goes_by schedule entries room 1 (reported number) all later rest (Reports c change) (record { connections = changed c (after_change change) all; later = rest }) s.goes (next_pending schedule at reports paid (Reports c change) is) refl less)
+      changed_stage (at + 1) reports paid 2 c (after_change change) (reported number) (λ x. refl) (omega (arith, w)) s.paid_fits (by_need _ _ room 2 less (next_needs (Reports c change) is))
+      (goes_by schedule entries room 2 (reported number) all later rest (Reports c change) (record { connections = changed c (after_change change) all; later = rest }) s.goes (next_pending schedule at reports paid (Reports c change) is) refl less)
 
   pub stage_happened : (c : ℕ) (change : Change) (number : ℕ) → slice_get schedule at ≡ Some (Happens c change)
-      → Enters schedule (at + 1) reports paid (changed c (after_change change) all) (reported number ∷ entries) room 1
+      → Enters schedule (at + 1) reports paid (changed c (after_change change) all) (reported number ∷ entries) room 2
   stage_happened c change number is =
       let more = happened_needs all rest c change in
-      let less : need (record { connections = changed c (after_change change) all; later = rest }) + 1 ≤ need (record { connections = all; later = Happens c change ∷ rest }) = omega (arith, more) in
+      let less : need (record { connections = changed c (after_change change) all; later = rest }) + 2 ≤ need (record { connections = all; later = Happens c change ∷ rest }) = omega (arith, more) in
       let w = slice_get_within schedule at (Happens c change) is in
-      changed_stage (at + 1) reports paid 1 c (after_change change) (reported number) (λ x. refl) (omega (arith, w)) s.paid_fits (by_need _ _ room 1 less (next_needs (Happens c change) is))
-      (goes_by schedule entries room 1 (reported number) all later rest (Happens c change) (record { connections = changed c (after_change change) all; later = rest }) s.goes (next_pending schedule at reports paid (Happens c change) is) refl less)
+      changed_stage (at + 1) reports paid 2 c (after_change change) (reported number) (λ x. refl) (omega (arith, w)) s.paid_fits (by_need _ _ room 2 less (next_needs (Happens c change) is))
+      (goes_by schedule entries room 2 (reported number) all later rest (Happens c change) (record { connections = changed c (after_change change) all; later = rest }) s.goes (next_pending schedule at reports paid (Happens c change) is) refl less)
 
   pub stage_paid : (c number : ℕ) → drop at schedule ≡ [] → slice_get reports paid ≡ Some c
-      → Enters schedule at reports (paid + 1) (changed c (after_change nothing) all) (reported number ∷ entries) room 1
+      → Enters schedule at reports (paid + 1) (changed c (after_change nothing) all) (reported number ∷ entries) room 2
   stage_paid c number over is =
       let rest' = pending schedule at reports (paid + 1) in
       let next = next_owed schedule at reports paid c over is in
       let less = reported_needs all rest' c nothing in
       let w = slice_get_within reports paid c is in
-      changed_stage at reports (paid + 1) 1 c (after_change nothing) (reported number) (λ x. refl) s.at_fits (omega (arith, w))
-      (by_need _ _ room 1 less (subst (λ (l : List Step). need (record { connections = all; later = l }) ≤ room) next (before s.goes)))
-      (goes_by schedule entries room 1 (reported number) all later rest' (owed c) (record { connections = changed c (after_change nothing) all; later = rest' }) s.goes next refl less)
+      changed_stage at reports (paid + 1) 2 c (after_change nothing) (reported number) (λ x. refl) s.at_fits (omega (arith, w))
+      (by_need _ _ room 2 less (subst (λ (l : List Step). need (record { connections = all; later = l }) ≤ room) next (before s.goes)))
+      (goes_by schedule entries room 2 (reported number) all later rest' (owed c) (record { connections = changed c (after_change nothing) all; later = rest' }) s.goes next refl less)
 
   pub stage_met : (c : ℕ) (change : Change) → slice_get schedule at ≡ Some (Happens c change)
       → Enters schedule (at + 1) (reports ++ c ∷ []) paid (changed c (after_change change) all) (met ∷ entries) room 1
@@ -175,9 +210,9 @@ module _ (schedule : List Step) (at : ℕ) (reports : List ℕ) (paid : ℕ) (al
       (goes_on schedule entries room k entry (record { connections = all; later = later }) (record { connections = changed c f all; later = later }) s.goes moves less)
 
   pub stage_received : (c : ℕ) (bytes : List ℕ) (x : Connection) → slice_get all c ≡ Some x → 0 < length bytes → length bytes ≤ length x.waiting
-      → Enters schedule at reports paid (changed c (after_read (length bytes)) all) (received c bytes ∷ entries) room 1
+      → Enters schedule at reports paid (changed c (after_read (length bytes)) all) (received c bytes ∷ entries) room 2
   stage_received c bytes x is some fits =
-      same_later (after_read (length bytes)) c 1 (received c bytes) (λ x. refl) refl (read_needs all later c (length bytes) x is some fits)
+      same_later (after_read (length bytes)) c 2 (received c bytes) (λ x. refl) refl (read_needs all later c (length bytes) x is some fits)
 
   pub stage_sent : (c : ℕ) (bytes : List ℕ) (x : Connection) → slice_get all c ≡ Some x → length bytes ≤ x.window
       → Enters schedule at reports paid (changed c (after_write (length bytes)) all) (sent c bytes ∷ entries) room (length bytes)
@@ -236,7 +271,7 @@ module _ (schedule : List Step) (at : ℕ) (reports : List ℕ) (paid : ℕ) (al
       is = slice_get-get_or all c x (there_too c there) ∙ ap Some (sym x_is)
 
       pub reads_there : (most : ℕ) (bytes : List ℕ) → 0 < most → 0 < length x.waiting → IfSome (slice_get all c) (λ y. length bytes ≡ min (length y.waiting) most)
-          → Enters schedule at reports paid (changed c (after_read (length bytes)) all) (received c bytes ∷ entries) room 1
+          → Enters schedule at reports paid (changed c (after_read (length bytes)) all) (received c bytes ∷ entries) room 2
       reads_there most bytes some waits count =
           let n = of_some is (λ y. length bytes ≡ min (length y.waiting) most) count in
           stage_received c bytes x is (omega (arith, n, some, waits)) (omega (arith, n))

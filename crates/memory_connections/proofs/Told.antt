@@ -5,8 +5,8 @@ use Rattle.connections.specs.declared.connections.Input.{Input}
 use Rattle.connections.specs.declared.connections.Broken.{Broken}
 use Rattle.connections.specs.declared.schedule.Step.{Step}
 use Rattle.connections.specs.Connection.{Connection}
-use Rattle.connections.specs.State.{Entry, held}
-use Rattle.connections.specs.Log.{Log, state_of, connections_of, with_entries, after_met, after_meeting_one}
+use Rattle.connections.specs.State.{Entry, held, now_after}
+use Rattle.connections.specs.Log.{Log, state_of, now_of, connections_of, with_entries, after_met, after_meeting_one}
 use Rattle.connections.specs.Calls.{IsGiven, IsTaken, AfterMeeting, gave, took}
 use Rattle.memory_connections.specs.Stage.{Played, played_connections}
 
@@ -29,13 +29,13 @@ met_is old m h =
 
 pub read_told : (old : Log) (number place most most' : ℕ) (out : List ℕ) (answer : Result Input Broken) (m n : Played) → held number (connections_of old) ≡ Some place → HasMet old m → most ≡ most'
     → IfSome (slice_get (played_connections m) place) (λ x. IsGiven x most out answer)
-    → IfSome (slice_get (played_connections m) place) (λ x. n.entries ≡ gave place x answer m.entries) → n.schedule ≡ m.schedule
-    → AfterMeeting number old (λ c x. IsGiven x most' out answer × (Some (record old { schedule = n.schedule; entries = n.entries }) ≡ Some (with_entries (gave c x answer) (after_met old))))
+    → IfSome (slice_get (played_connections m) place) (λ x. n.entries ≡ gave (now_after m.schedule m.entries) place x answer m.entries) → n.schedule ≡ m.schedule
+    → AfterMeeting number old (λ c x. IsGiven x most' out answer × (Some (record old { schedule = n.schedule; entries = n.entries }) ≡ Some (with_entries (gave (now_of (after_met old)) c x answer) (after_met old))))
 read_told old number place most most' out answer m n at h same gives entries schedule =
     let is = met_is old m h in
     let g = subst (λ k. IfSome (slice_get (connections_of (after_met old)) place) (λ x. IsGiven x k out answer)) same (subst (λ (p : Played). IfSome (slice_get (played_connections p) place) (λ x. IsGiven x most out answer)) is gives) in
-    let e = subst (λ (p : Played). IfSome (slice_get (played_connections p) place) (λ x. n.entries ≡ gave place x answer p.entries)) is entries in
-    subst (λ o. IfSome o (λ c. IfSome (slice_get (connections_of (after_met old)) c) (λ x. IsGiven x most' out answer × (Some (record old { schedule = n.schedule; entries = n.entries }) ≡ Some (with_entries (gave c x answer) (after_met old)))))) (sym at)
+    let e = subst (λ (p : Played). IfSome (slice_get (played_connections p) place) (λ x. n.entries ≡ gave (now_after p.schedule p.entries) place x answer p.entries)) is entries in
+    subst (λ o. IfSome o (λ c. IfSome (slice_get (connections_of (after_met old)) c) (λ x. IsGiven x most' out answer × (Some (record old { schedule = n.schedule; entries = n.entries }) ≡ Some (with_entries (gave (now_of (after_met old)) c x answer) (after_met old)))))) (sym at)
     (both (slice_get (connections_of (after_met old)) place) _ _ _ (λ x p q. (
       p,
       ap (λ (l : Log). Some l)

@@ -2,7 +2,7 @@
 use Rattle.std.specs.Prelude.{◌≡◌, ℕ, ◌+◌, ◌*◌, Bool, true, false, List, ◌++◌, length, drop, map, nat_lt, Result, Ok, Err, if◌then◌else◌}
 use Rattle.std.specs.List.{sum_by, list_all}
 use Rattle.connections.specs.declared.schedule.Step.{Step}
-use Rattle.connections.specs.declared.schedule.Step.TheVariants.{Opens, Reports, Happens}
+use Rattle.connections.specs.declared.schedule.Step.TheVariants.{Opens, TurnsAway, Reports, Happens}
 use Rattle.connections.specs.declared.connections.Input.{Input}
 use Rattle.connections.specs.declared.connections.Input.TheVariants.{Bytes, All, Later, Ended}
 use Rattle.connections.specs.declared.connections.Broken.{Broken}
@@ -24,14 +24,16 @@ owed c = Reports c nothing
 abbrev pub pending : List Step → ℕ → List ℕ → ℕ → List Step
 pending schedule at reports reported = drop at schedule ++ map owed (drop reported reports)
 
--- A byte that comes is read, and lets its connection be asked for twice, each time with a report: at most five entries.
+-- Behind each report and each read stands which second it is. A byte that comes is read, and lets its connection be asked for twice, each time with a report: at
+-- most eight entries.
 abbrev pub cost_of : Step → ℕ
-cost_of (Opens window bytes) = window + 2
-cost_of (Reports c change) = 5 * change.comes + change.takes + 1
-cost_of (Happens c change) = 5 * change.comes + change.takes + 2
+cost_of (Opens window bytes) = window + 3
+cost_of TurnsAway = 2
+cost_of (Reports c change) = 8 * change.comes + change.takes + 2
+cost_of (Happens c change) = 8 * change.comes + change.takes + 3
 
 abbrev pub need_of : Connection → ℕ
-need_of c = 5 * length c.waiting + c.window + 2 * c.asks + (if c.is_closed then 0 else 1)
+need_of c = 8 * length c.waiting + c.window + 3 * c.asks + (if c.is_closed then 0 else 1)
 
 abbrev pub need : State → ℕ
 need state = sum_by cost_of state.later + sum_by need_of state.connections

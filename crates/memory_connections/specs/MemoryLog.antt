@@ -1,10 +1,10 @@
 -- What calls did, as it is kept in memory.
 use Rattle.std.specs.Prelude.{ℕ, ◌≤◌, List, map, reverse, slice_range, ⊤}
 use Rattle.memory_connections.specs.declared.memory_log.Note.{Note}
-use Rattle.memory_connections.specs.declared.memory_log.Note.TheVariants.{Opened, Reported, Met, Received, Asked, Closed}
+use Rattle.memory_connections.specs.declared.memory_log.Note.TheVariants.{Opened, Reported, TurnedAway, Met, Second, Received, Asked, Closed}
 use Rattle.memory_connections.specs.declared.memory_log.Mark.{Mark}
 use Rattle.memory_connections.specs.declared.memory_log.Mark.TheVariants.{Noted, Sent}
-use Rattle.connections.specs.State.{Entry, opened, reported, met, received, sent, asked, closed}
+use Rattle.connections.specs.State.{Entry, opened, reported, turned_away, met, second, received, sent, asked, closed}
 
 -- the entries, and for how many more there is room
 pub record LogRoom : Type 0 where
@@ -14,7 +14,9 @@ pub record LogRoom : Type 0 where
 abbrev pub noted : Note → Entry
 noted (Opened number) = opened number
 noted (Reported number) = reported number
+noted TurnedAway = turned_away
 noted Met = met
+noted (Second s) = second s
 noted (Received c bytes) = received c bytes.now
 noted (Asked c) = asked c
 noted (Closed c) = closed c

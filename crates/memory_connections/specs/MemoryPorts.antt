@@ -2,8 +2,9 @@
 use Rattle.std.specs.Global.{Box}
 use Rattle.std.specs.Prelude.{◌≡◌, ℕ, suc, ◌==◌, false, List, [], ◌∷◌, slice_get, Option, None, Some, IfSome, option_map, if◌then◌else◌}
 use Rattle.memory_connections.specs.declared.memory_connections.MemConnections.{MemConnections}
+use Rattle.memory_connections.specs.declared.boxed_connections.BoxedConnections.{BoxedConnections}
 use Rattle.memory_connections.specs.MemoryConnections.{log_of}
-use Rattle.connections.specs.PortLogs.{PortLogs}
+use Rattle.connections.specs.Shares.{ShareLogs, ShareFacts}
 
 -- the connections at each port, where there are some
 abbrev pub Seating : Type 0
@@ -28,15 +29,19 @@ taken_in (None ∷ seats) = taken_in seats
 taken_in (Some seat ∷ seats) = suc (taken_in seats)
 
 -- the log at each port
-abbrev pub logs_at : Seating → PortLogs
+abbrev pub logs_at : Seating → ShareLogs
 logs_at at = λ port. option_map log_of (at port)
 
 -- connections at this port, with which nothing was done yet
 pub record IsNewAt (port : ℕ) (c : MemConnections) : Type 0 where
-  pub port_is : c.port ≡ port
+  pub share_is : c.share ≡ port
   pub no_faults : c.faults ≡ 0
   pub unended : c.ended ≡ false
   pub fresh : c.stage.entries ≡ []
 
 abbrev pub AreNew : Seating → Type 0
 AreNew at = (port : ℕ) → IfSome (at port) (IsNewAt port)
+
+-- what contracts see of connections that were taken, in their box
+abbrev pub facts_of : BoxedConnections → ShareFacts
+facts_of b = record { share = b.connections.value.share; faults = b.connections.value.faults; has_ended = b.connections.value.ended; log = Some (log_of b.connections.value) }

@@ -10,7 +10,7 @@ pub struct BoxedConnections<'a> {
 }
 
 impl<'a> Connections for BoxedConnections<'a> {
-    ghost port = { λ b. ⟦<MemConnections<'a> as Connections>⟧.port b.connections.value };
+    ghost share = { λ b. ⟦<MemConnections<'a> as Connections>⟧.share b.connections.value };
 
     ghost log = { λ b. ⟦<MemConnections<'a> as Connections>⟧.log b.connections.value };
 
@@ -20,8 +20,14 @@ impl<'a> Connections for BoxedConnections<'a> {
 
     ghost reports = { λ b. ⟦<MemConnections<'a> as Connections>⟧.reports b.connections.value };
 
+    ghost last = { λ b. ⟦<MemConnections<'a> as Connections>⟧.last b.connections.value };
+
     fn next(&mut self) -> Result<Option<Event>, Failed> {
         self.connections.next()
+    }
+
+    fn second(&self) -> u64 {
+        self.connections.second()
     }
 
     fn read(&mut self, number: u32, out: &mut [u8]) -> Result<Input, Broken> {

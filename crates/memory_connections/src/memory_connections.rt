@@ -10,7 +10,7 @@ use std::alloc::Global;
 /// Connections in memory: everything that happens at their other ends is a schedule. Their calls take no memory.
 #[derive(Drop)]
 pub struct MemConnections<'a> {
-    pub(crate) port: u16,
+    pub(crate) share: u16,
     pub(crate) stage: Stage<'a>,
     piece: u32,
     fails: Vec<u32>,
@@ -24,20 +24,20 @@ impl<'a> MemConnections<'a> {
     /// Connections whose reads and writes move at most so many bytes each. The calls of `next` that are to fail are listed by their numbers from 1.
     pub fn new(
         alloc: Global,
-        port: u16,
+        share: u16,
         schedule: &'a [Step],
         piece: u32,
         fails: &[u32],
     ) -> Result<Self, NoMemory>
         requires { 0 < piece }
-        ensures port { IfOk result (λ c. c.port ≡ port) }
+        ensures share { IfOk result (λ c. c.share ≡ share) }
         ensures schedule { IfOk result (λ c. c.stage.schedule ≡ schedule.entry.now) }
         ensures entries { IfOk result (λ c. c.stage.entries ≡ []) }
         ensures script { IfOk result (λ c. (c.fails.items ≡ fails.now) × (c.calls ≡ 0) × (c.piece ≡ piece)) }
         ensures open { IfOk result (λ c. (c.ended ≡ false) × (c.faults ≡ 0)) }
     {
         Ok(MemConnections {
-            port,
+            share,
             stage: Stage::new(alloc, schedule)?,
             piece,
             fails: Vec::from_slice(alloc, fails)?,
@@ -57,9 +57,10 @@ impl<'a> MemConnections<'a> {
 
 impl<'a> Connections for MemConnections<'a> {
     ghost use Rattle.std.specs.Prelude.{Some};
+    ghost use Rattle.connections.specs.Log.{second_of};
     ghost use Rattle.memory_connections.specs.MemoryConnections.{log_of};
 
-    ghost port = { λ c. c.port };
+    ghost share = { λ c. c.share };
 
     ghost log = { λ c. Some (log_of c) };
 
@@ -68,6 +69,8 @@ impl<'a> Connections for MemConnections<'a> {
     ghost has_ended = { λ c. c.ended };
 
     ghost reports = { λ c. c.stage.room };
+
+    ghost last = { λ c. second_of c.stage.entries };
 
     fn next(&mut self) -> Result<Option<Event>, Failed> {
         self.calls = self.calls.saturating_add(1);
@@ -78,6 +81,10 @@ impl<'a> Connections for MemConnections<'a> {
         let event = self.stage.next();
         self.ended = event.is_none();
         Ok(event)
+    }
+
+    fn second(&self) -> u64 {
+        self.stage.second()
     }
 
     fn read(&mut self, number: u32, out: &mut [u8]) -> Result<Input, Broken> {

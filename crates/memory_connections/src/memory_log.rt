@@ -1,6 +1,6 @@
 //! What calls did, in room that was taken beforehand.
 ghost use Rattle.std.specs.Prelude.{◌≡◌, ◌-◌, ◌<◌, ◌≤◌, ◌∷◌, [], All, length, IfOk};
-ghost use Rattle.connections.specs.State.{sent};
+ghost use Rattle.connections.specs.State.{second, sent};
 ghost use Rattle.connections.specs.Log.{sent_of};
 ghost use Rattle.memory_connections.specs.MemoryLog.{noted, entry_in, entries_in, IsWithin};
 
@@ -13,7 +13,9 @@ use std::marker::Model;
 pub enum Note<'a> {
     Opened(u32),
     Reported(u32),
+    TurnedAway,
     Met,
+    Second(u64),
     Received(usize, &'a [u8]),
     Asked(usize),
     Closed(usize),
@@ -104,6 +106,16 @@ impl<'a> MemLog<'a> {
     {
         self.marks.push_reserved(Mark::Noted(note));
         self.room -= 1;
+    }
+
+    /// Notes one entry more, and behind it which second it is.
+    pub fn note_at(&mut self, note: Note<'a>, at: u64)
+        requires { 1 < self.old.room }
+        ensures entries { self.new.entries ≡ second at ∷ noted note.entry ∷ self.old.entries }
+        ensures room { self.new.room ≡ self.old.room - 2 }
+    {
+        self.note(note);
+        self.note(Note::Second(at));
     }
 
     /// Bytes were sent for a connection.

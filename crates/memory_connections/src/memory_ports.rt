@@ -1,6 +1,7 @@
 //! Connections in memory at ports.
-ghost use Rattle.std.specs.Prelude.{◌≡◌, ◌+◌, ◌≤◌, length, None, Some, option_map, IfOk, IfSome, IfNone};
-ghost use Rattle.memory_connections.specs.MemoryPorts.{with_seat, seating_in, taken_in};
+ghost use Rattle.std.specs.Prelude.{◌≡◌, ◌+◌, ◌≤◌, length, is_some, None, Some, option_map, IfOk, IfSome, IfNone};
+ghost use Rattle.connections.specs.Shares.{are_awaited};
+ghost use Rattle.memory_connections.specs.MemoryPorts.{with_seat, seating_in, taken_in, logs_at};
 
 use crate::MemConnections;
 use outside::NoMemory;
@@ -70,6 +71,29 @@ impl<'a> MemPorts<'a> {
             Some(connections) => Some(&**connections),
             None => None,
         }
+    }
+
+    /// Whether there are some at a port of this number.
+    #[tactic(auto, using(crate::proofs::Seats::was_there))]
+    fn is_taken(&self, port: usize) -> bool
+        ensures { result ≡ is_some (seating_in self.now.seats.items port) }
+    {
+        match self.seats.get(port) {
+            Some(seat) => seat.is_some(),
+            None => false,
+        }
+    }
+
+    /// Whether there are some at each of so many ports from the first on.
+    pub fn are_taken(&self, first: u32, count: u32) -> bool
+        ensures { result ≡ are_awaited first count (logs_at (seating_in self.now.seats.items)) }
+    {
+        for k in 0..count {
+            if !self.is_taken(first as usize + k as usize) {
+                return false;
+            }
+        }
+        true
     }
 
     /// At how many ports there are some.

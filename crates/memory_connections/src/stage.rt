@@ -1,8 +1,8 @@
 //! A schedule that is played in memory.
 ghost use Rattle.std.specs.Prelude.{◌≡◌, ◌+◌, ◌*◌, ◌<◌, ◌≤◌, ◌∷◌, [], true, false, Some, length, take, min, slice_get, is_some, IfOk, IfSome, IfNone};
 ghost use Rattle.std.specs.List.{sum_by};
-ghost use Rattle.connections.specs.State.{held, asked, closed};
-ghost use Rattle.connections.specs.Log.{after_meeting_one, sent_of};
+ghost use Rattle.connections.specs.State.{held, now_after, asked, closed};
+ghost use Rattle.connections.specs.Log.{after_meeting_one, second_of, sent_of, timed_entries};
 ghost use Rattle.connections.specs.Calls.{IsNext, entry_of, FitsRoom, IsGiven, IsTaken, gave, took};
 ghost use Rattle.memory_connections.specs.MemoryConnection.{cost_of};
 ghost use Rattle.memory_connections.specs.Stage.{played_state, played_connections};
@@ -25,11 +25,14 @@ pub struct Stage<'a> {
     paid: usize,
     all: Vec<MemConnection<'a>>,
     log: MemLog<'a>,
+    /// Which second it is, and which was told last.
+    present: u64,
+    told: u64,
 }
 
 impl<'a> Model for Stage<'a> {
     ghost use Rattle.std.specs.Prelude.{◌+◌, ◌≤◌, vec_len, vec_capacity};
-    ghost use Rattle.memory_connections.specs.Stage.{Played, IsStage};
+    ghost use Rattle.memory_connections.specs.Stage.{Played, IsStage, IsTimed};
 
     ghost Value = { Played };
 
@@ -37,15 +40,16 @@ impl<'a> Model for Stage<'a> {
 
     ghost invariant = { λ s. IsStage s.schedule.now s.at s.owed.items s.paid s.all.items s.log.entries s.log.room
         × (vec_len s.owed + s.log.room ≤ vec_capacity s.owed)
-        × (vec_len s.all + s.log.room ≤ vec_capacity s.all) };
+        × (vec_len s.all + s.log.room ≤ vec_capacity s.all)
+        × IsTimed s.schedule.now s.log.entries s.log.room s.present s.told };
 }
 
 /// How much a change may add to what its connection needs.
 fn weight(change: Change) -> u64
-    ensures weight { result ≡ 5 * change.comes + change.takes }
-    ensures small { result < 34359738368 }
+    ensures weight { result ≡ 8 * change.comes + change.takes }
+    ensures small { result < 68719476736 }
 {
-    5 * u64::from(change.comes) + u64::from(change.takes)
+    8 * u64::from(change.comes) + u64::from(change.takes)
 }
 
 /// What a step costs at most, in entries.
@@ -53,9 +57,10 @@ fn cost(step: &Step) -> u64
     ensures { result ≡ cost_of step.now }
 {
     match step {
-        Step::Opens(window, _) => u64::from(*window) + 2,
-        Step::Reports(_, change) => weight(*change) + 1,
-        Step::Happens(_, change) => weight(*change) + 2,
+        Step::Opens(window, _) => u64::from(*window) + 3,
+        Step::TurnsAway => 2,
+        Step::Reports(_, change) => weight(*change) + 2,
+        Step::Happens(_, change) => weight(*change) + 3,
     }
 }
 
@@ -81,7 +86,7 @@ fn put(out: &mut [u8], bytes: &[u8])
 
 impl<'a> Stage<'a> {
     /// A stage on which nothing has happened.
-    #[tactic(auto, using(crate::proofs::Stages::stage_new))]
+    #[tactic(auto, using(crate::proofs::Stages::stage_new, crate::proofs::Timing::timed_new))]
     pub fn new(alloc: Global, schedule: &'a [Step]) -> Result<Self, NoMemory>
         ensures schedule { IfOk result (λ s. s.schedule ≡ schedule.entry.now) }
         ensures entries { IfOk result (λ s. s.entries ≡ []) }
@@ -94,14 +99,18 @@ impl<'a> Stage<'a> {
             paid: 0,
             all: Vec::with_capacity(alloc, room)?,
             log: MemLog::new(alloc, room)?,
+            present: 0,
+            told: 0,
         })
     }
 
     /// Reports the next step, or the next report that is owed.
+    #[tactic(auto, using(crate::proofs::Timing::told_rises))]
     pub fn next(&mut self) -> Option<Event>
         ensures next { IfSome result (λ event. IsNext event (played_connections self.old) (played_state self.old).later) }
-        ensures entries { IfSome result (λ event. self.new.entries ≡ entry_of event ∷ self.old.entries) }
+        ensures entries { IfSome result (λ event. self.new.entries ≡ timed_entries self.old.schedule (entry_of event ∷ self.old.entries)) }
         ensures over { IfNone result (((played_state self.old).later ≡ []) × (self.new.entries ≡ self.old.entries)) }
+        ensures rises { second_of self.old.entries ≤ second_of self.new.entries }
         ensures room { IfSome result (λ _. self.new.room < self.old.room) }
         ensures schedule { self.new.schedule ≡ self.old.schedule }
     {
@@ -112,29 +121,48 @@ impl<'a> Stage<'a> {
                 self.at += 1;
                 self.all
                     .push_reserved(MemConnection::new(number, *window, bytes.bytes()));
-                self.log.note(Note::Opened(number));
+                self.told = self.present;
+                self.log.note_at(Note::Opened(number), self.present);
                 Some(Event::Opened(number))
+            }
+            Some(Step::TurnsAway) => {
+                self.at += 1;
+                self.told = self.present;
+                self.log.note_at(Note::TurnedAway, self.present);
+                Some(Event::TurnedAway)
             }
             Some(Step::Reports(place, change)) => {
                 let number = change_at(&mut self.all, *place, change);
                 self.at += 1;
-                self.log.note(Note::Reported(number));
+                self.present += u64::from(change.passes);
+                self.told = self.present;
+                self.log.note_at(Note::Reported(number), self.present);
                 Some(Event::Ready(number))
             }
             Some(Step::Happens(place, change)) => {
                 let number = change_at(&mut self.all, *place, change);
                 self.at += 1;
-                self.log.note(Note::Reported(number));
+                self.present += u64::from(change.passes);
+                self.told = self.present;
+                self.log.note_at(Note::Reported(number), self.present);
                 Some(Event::Ready(number))
             }
             None => {
                 let place = *self.owed.get(self.paid)?;
                 let number = change_at(&mut self.all, place, &Change::NOTHING);
                 self.paid += 1;
-                self.log.note(Note::Reported(number));
+                self.told = self.present;
+                self.log.note_at(Note::Reported(number), self.present);
                 Some(Event::Ready(number))
             }
         }
+    }
+
+    /// Which second was told last.
+    pub fn second(&self) -> u64
+        ensures { result ≡ second_of self.now.entries }
+    {
+        self.told
     }
 
     /// Takes the next step where it may come in the midst of calls.
@@ -151,8 +179,10 @@ impl<'a> Stage<'a> {
                 self.at += 1;
                 self.owed.push_reserved(*place);
                 self.log.note(Note::Met);
+                self.present += u64::from(change.passes);
             }
             Some(Step::Opens(_, _)) => {}
+            Some(Step::TurnsAway) => {}
             Some(Step::Reports(_, _)) => {}
             None => {}
         }
@@ -171,13 +201,15 @@ impl<'a> Stage<'a> {
     }
 
     /// Reads at a place, up to so many bytes.
+    #[tactic(auto, using(crate::proofs::Timing::told_rises))]
     pub fn read(&mut self, place: usize, most: usize, out: &mut [u8]) -> Result<Input, Broken>
         requires there { place < length (played_connections self.old) }
         requires some { 0 < most }
         requires fits { most ≤ length out.old }
         ensures gives { IfSome (slice_get (played_connections self.old) place) (λ c. IsGiven c most out.new result) }
         ensures entries { IfSome (slice_get (played_connections self.old) place)
-            (λ c. self.new.entries ≡ gave place c result self.old.entries) }
+            (λ c. self.new.entries ≡ gave (now_after self.old.schedule self.old.entries) place c result self.old.entries) }
+        ensures rises { second_of self.old.entries ≤ second_of self.new.entries }
         ensures fits { IfOk result (FitsRoom (length out.old)) }
         ensures room { self.new.room ≤ self.old.room }
         ensures schedule { self.new.schedule ≡ self.old.schedule }
@@ -189,7 +221,8 @@ impl<'a> Stage<'a> {
         let is_emptied = connection.is_emptied(most);
         let given = take_at(&mut self.all, place, most);
         put(out, given);
-        self.log.note(Note::Received(place, given));
+        self.log.note_at(Note::Received(place, given), self.present);
+        self.told = self.present;
         if is_emptied {
             return Ok(Input::All(given.len()));
         }

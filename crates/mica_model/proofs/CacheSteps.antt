@@ -1,9 +1,9 @@
 -- The methods of the cache machine's state against the rules of its step.
-use Rattle.std.proofs.Common.{◌≡◌, ℕ, zero, suc, ◌+◌, ◌*◌, ◌≤◌, ◌<◌, List, [], ◌∷◌, ◌++◌, length, get_or, Option, Some, None, Bool, true, false, cond, refl, sym, ap, ◌∙◌, arith, eqb, leb, slice_set, is_some}
+use Rattle.std.proofs.Common.{◌≡◌, ℕ, zero, suc, ◌+◌, ◌*◌, ◌<◌, List, [], ◌∷◌, ◌++◌, length, get_or, Option, Some, None, Bool, true, false, cond, refl, sym, ap, ◌∙◌, arith, eqb, slice_set, is_some}
 use Rattle.std.specs.List.{position, count_by, AllByRecursion as AllOf}
 use Rattle.std.proofs.lemmas.List.Quantifiers.{position-Some}
 use Rattle.std.specs.Prelude.{map, option_map}
-use Rattle.std.proofs.lemmas.Bool.{le-leb, lt-leb, and_from, and_left, and_right}
+use Rattle.std.proofs.lemmas.Bool.{and_from, and_left, and_right}
 use Rattle.std.proofs.lemmas.Option.{none-some}
 use Rattle.std.proofs.lemmas.Grind.{common_steps}
 use Rattle.mica_words.specs.declared.entry.TheConstants.{SLOTS}
@@ -16,6 +16,7 @@ use Rattle.partition_model.specs.Write.{size_of}
 use Rattle.partition_model.specs.Cache.{Record, Cache, has_key, record_of, is_live, value_in}
 use Rattle.partition_model.specs.CacheStep as cs
 use Rattle.partition_model.specs.CacheStep.{is_in_bucket, without_first, kept_record, may_keep, kept_if}
+use Rattle.partition_model.specs.Rooms.{keeps}
 use Rattle.mica_model.specs.CacheFields.{displaced_at, displaced_record, kept_place, without_at}
 use Rattle.partition_model.specs.Records.{IsUnique}
 use Rattle.mica_model.proofs.Places.{removed_at, kept_all, found_at, missed_all}
@@ -56,14 +57,14 @@ module _ (options : Options) (key : List ℕ) (records : List Record) where
 -- whether a put may be kept in a record's room
 
 module _ (options : Options) (s : Cache) (write : Write) (held : Record) where
-  pub may_true : size_of write ≤ held.room → is_live options.words (s.stamp + 1) held.offset ≡ true → may_keep options s write held ≡ true
-  may_true fits live = and_from (leb (size_of write) held.room) (is_live options.words (s.stamp + 1) held.offset) (le-leb (size_of write) held.room fits) live
+  pub may_true : keeps (size_of write) held.room ≡ true → is_live options.words (s.stamp + 1) held.offset ≡ true → may_keep options s write held ≡ true
+  may_true fits live = and_from (keeps (size_of write) held.room) (is_live options.words (s.stamp + 1) held.offset) fits live
 
-  pub may_short : held.room < size_of write → may_keep options s write held ≡ false
-  may_short short = and_left (leb (size_of write) held.room) (is_live options.words (s.stamp + 1) held.offset) (lt-leb (size_of write) held.room short)
+  pub may_not : keeps (size_of write) held.room ≡ false → may_keep options s write held ≡ false
+  may_not not = and_left (keeps (size_of write) held.room) (is_live options.words (s.stamp + 1) held.offset) not
 
   pub may_passed : is_live options.words (s.stamp + 1) held.offset ≡ false → may_keep options s write held ≡ false
-  may_passed passed = and_right (leb (size_of write) held.room) (is_live options.words (s.stamp + 1) held.offset) passed
+  may_passed passed = and_right (keeps (size_of write) held.room) (is_live options.words (s.stamp + 1) held.offset) passed
 
 -- the place of the record that keeps a put
 

@@ -1,7 +1,6 @@
 -- Accepted writes, by the fields of the machine.
 use Rattle.std.proofs.Common.{◌≡◌, ℕ, List, ◌+◌, ◌<◌, ◌≤◌, ◌⊎◌, ⊎_elim, None, refl, sym, ap, ◌∙◌, subst, arith}
 use Rattle.std.proofs.Math.Nat.{mod-lt, one-le-pow}
-use Rattle.std.specs.Prelude.{max}
 use Rattle.std.specs.FinMap.{get, insert, remove}
 use Rattle.std.proofs.lemmas.Grind.{common_steps}
 use Rattle.mica_words.specs.Hash.{fnv1a, bucket_of}
@@ -14,8 +13,8 @@ use Rattle.partition_model.specs.declared.write.Outcome.TheVariants.{Stored, Del
 use Rattle.partition_model.specs.declared.write.Write.{Write}
 use Rattle.mica_model.specs.declared.store_machine.StoreMachine.TheInside.{Inside}
 use Rattle.partition_model.specs.Write.{GivesValue, write_of}
-use Rattle.partition_model.specs.Store.{Store, room_of, rooms, spares_in_use}
-use Rattle.partition_model.specs.StoreStep.{Allows, after}
+use Rattle.partition_model.specs.Store.{Store, rooms, spares_in_use}
+use Rattle.partition_model.specs.StoreStep.{Allows, after, room_after}
 use Rattle.mica_model.specs.CellTable.{Table, with_cells}
 use Rattle.mica_model.specs.StoreMachineFields.{IsMachine}
 use Rattle.partition_model.specs.History.{IsStep, store_state}
@@ -42,7 +41,7 @@ module _ (a : Inside) (m : IsMachine a) (op : Op) (key value : List ℕ) where
   within : bucket_of key a.options.buckets < a.options.buckets
   within = bucket_within key a.options.buckets (subst (λ n. 0 < n) (sym m.valid.buckets.2) (let one = one-le-pow m.valid.buckets.0 2 (omega arith) in omega arith))
 
-  module _ (allowed : Allows a.options (store_of a) (write_of op key value) Stored) (room : ℕ) (takes : room ≡ max (room_of (get a.table.cells key)) (item_size key value))
+  module _ (allowed : Allows a.options (store_of a) (write_of op key value) Stored) (room : ℕ) (takes : room ≡ room_after (get a.table.cells key) (item_size key value))
       (table : Table) (new : table ≡ with_cells a.table (insert a.table.cells key (record { value = value; room = room }))) where
     pub put_keeps : IsMachine (accepting a table)
     put_keeps =

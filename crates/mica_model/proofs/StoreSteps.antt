@@ -1,5 +1,5 @@
 -- Steps of the store, by the fields of the machine.
-use Rattle.std.proofs.Common.{◌≡◌, ℕ, List, ◌+◌, ◌%◌, ◌<◌, ◌≤◌, ◌⊎◌, ⊎_elim, Option, Some, None, refl, sym, ap, ◌∙◌, subst, arith}
+use Rattle.std.proofs.Common.{◌≡◌, ℕ, List, ◌+◌, ◌%◌, ◌<◌, ◌≤◌, ◌⊎◌, ⊎_elim, Option, Some, None, refl, sym, ap, subst, arith}
 use Rattle.std.specs.Prelude.{max, IsSomeAnd}
 use Rattle.std.specs.FinMap.{get, insert, remove}
 use Rattle.std.proofs.lemmas.Bool.Decides.{eqb_tells}
@@ -17,20 +17,21 @@ use Rattle.partition_model.proofs.CellSums.{rooms_insert, rooms_remove, remove_n
 use Rattle.partition_model.proofs.BucketSums.{less_here}
 use Rattle.mica_model.proofs.SparesInUse.{new_spares, over_spares, less_spares}
 
-room_is : (o : Option Cell) (size : ℕ) → room_after o size ≡ max (room_of o) size
-room_is None size = omega arith
-room_is (Some cell) size = grind (arith, common_steps)
+-- a put makes no room larger than both its item and the room that the key had, nor than this where the item fits
+room_most : (o : Option Cell) (size : ℕ) → room_after o size ≤ max (room_of o) size
+room_most None size = omega arith
+room_most (Some cell) size = grind (arith, common_steps)
 
-fits_room : (o : Option Cell) (size : ℕ) → IsSomeAnd o (λ cell. size ≤ cell.room) → size ≤ room_of o
-fits_room None size fits = absurd fits
-fits_room (Some cell) size fits = fits
+room_within : (o : Option Cell) (size : ℕ) → IsSomeAnd o (λ cell. size ≤ cell.room) → room_after o size ≤ room_of o
+room_within None size fits = absurd fits
+room_within (Some cell) size fits = grind (arith, common_steps)
 
-module _ (options : Options) (s : Store) (op : Op) (key value : List ℕ) (room : ℕ) (takes : room ≡ max (room_of (get s.cells key)) (item_size key value)) where
+module _ (options : Options) (s : Store) (op : Op) (key value : List ℕ) (room : ℕ) (takes : room ≡ room_after (get s.cells key) (item_size key value)) where
   abbrev pub new_cell : Cell
   new_cell = record { value = value; room = room }
 
   put_given : after_put s (write_of op key value) ≡ record { cells = insert s.cells key new_cell; stamp = s.stamp + 1; accepted = s.accepted + 1 }
-  put_given = ap (λ r. record { cells = insert s.cells key (record { value = value; room = r }); stamp = s.stamp + 1; accepted = s.accepted + 1 }) (room_is (get s.cells key) (item_size key value) ∙ sym takes)
+  put_given = ap (λ r. record { cells = insert s.cells key (record { value = value; room = r }); stamp = s.stamp + 1; accepted = s.accepted + 1 }) (sym takes)
 
   pub put_state : (op_ : Op) → GivesValue op_ → after s (write_of op_ key value) ≡ record { cells = insert s.cells key new_cell; stamp = s.stamp + 1; accepted = s.accepted + 1 }
   unfolding after
@@ -41,7 +42,7 @@ module _ (options : Options) (s : Store) (op : Op) (key value : List ℕ) (room 
 
   pub put_rooms : FitsRoom s (write_of op key value) ⊎ (NeedsBlock options s (write_of op key value) × HasWords options s (write_of op key value))
       → rooms s.cells ≤ options.words → rooms (insert s.cells key new_cell) ≤ options.words
-  put_rooms may within = grind (arith, common_steps, rooms_insert s.cells key new_cell, ⊎_elim, fits_room (get s.cells key) (item_size key value))
+  put_rooms may within = grind (arith, common_steps, rooms_insert s.cells key new_cell, ⊎_elim, room_within (get s.cells key) (item_size key value), room_most (get s.cells key) (item_size key value))
 
   module _ (within : bucket_of key options.buckets < options.buckets) where
     new_key : get s.cells key ≡ None → NeedsBlock options s (write_of op key value) → spares_in_use options.buckets s.cells ≤ options.spares

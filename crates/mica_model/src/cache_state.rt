@@ -14,7 +14,7 @@ ghost use Rattle.partition_model.specs.Write.{HasValueOf, write_of};
 use crate::cache_record::CacheRecord;
 use mica_words::{SLOTS, bucket_of, item_size, key_hash, tail_of};
 use outside::{Bytes, NoMemory};
-use partition_model::{Op, Options, Outcome, has_room};
+use partition_model::{Op, Options, Outcome, has_room, keeps};
 use std::alloc::Global;
 use std::marker::Model;
 
@@ -211,7 +211,7 @@ impl CacheState {
     {
         let at = found?;
         let record = &self.records[at];
-        if item_size(key.len(), value.len()) <= record.room()
+        if keeps(item_size(key.len(), value.len()), record.room())
             && record.is_live(options.words, self.stamp + 1)
         {
             Some(at)

@@ -6,12 +6,14 @@ ghost use Rattle.mica_words.specs.Hash.{bucket_of};
 ghost use Rattle.mica_words.specs.Item.{StoredFits};
 ghost use Rattle.mica_words.specs.declared.entry.TheConstants.{SLOTS};
 ghost use Rattle.partition_model.specs.Store.{room_of, rooms, spares_in_use};
+ghost use Rattle.partition_model.specs.StoreStep.{room_after};
 ghost use Rattle.mica_model.specs.CellTable.{LacksSpare, with_cells, cell_of};
 
 use crate::bucket_keys::BucketKeys;
 use crate::cell::Cell;
 use mica_words::{SLOTS, bucket_of, key_hash};
 use outside::{Bytes, NoMemory};
+use partition_model::keeps;
 use std::alloc::Global;
 use std::collections::BTreeMap;
 use std::marker::Model;
@@ -61,11 +63,20 @@ impl CellTable {
         self.cells.get(key)
     }
 
-    // The words that the key may use.
-    pub fn room_of(&self, key: &[u8]) -> u32
-        ensures { result ≡ room_of (get self.now.cells key.now) }
+    // The words that the key may use once an item of this size is put.
+    pub fn room_after(&self, key: &[u8], size: u32) -> u32
+        ensures { result ≡ room_after (get self.now.cells key.now) size }
     {
-        self.get(key).map_or(0, |cell| cell.room)
+        match self.get(key) {
+            Some(cell) => {
+                if keeps(size, cell.room) {
+                    cell.room
+                } else {
+                    size
+                }
+            }
+            None => size,
+        }
     }
 
     // The words of all rooms.

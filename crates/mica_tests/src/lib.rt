@@ -7,8 +7,12 @@ mod clock;
 #[cfg(test)]
 mod link;
 #[cfg(test)]
+mod port;
+#[cfg(test)]
 mod solo;
 #[cfg(test)]
 mod tcp;
+#[cfg(test)]
+mod tcp_ends;
 #[cfg(test)]
 mod udp;

@@ -1,93 +1,30 @@
-//! Ports of TCP connections, and plain sockets as their clients.
-ghost use Rattle.std.specs.Prelude.{◌≡◌, ◌<◌, false, length};
+//! Connections over TCP: what passes, who hears it, and how a share ends.
+ghost use Rattle.std.specs.Prelude.{◌<◌, length};
 
-use connections::{Broken, Connections, Event, Input, Listeners};
-use outside::Failed;
+use crate::port::{Flags, Share, new_share, share_at};
+use connections::{Broken, Event, Input};
+use host_outside::StdClock;
+use outside::Clock;
 use std::io::{Read, Write};
-use std::net::{Ipv4Addr, Net as Sockets, Shutdown, TcpListener, TcpStream};
+use std::net::{Shutdown, TcpStream};
 use std::process::Abort;
 use std::sync::Wait;
-use std::sync::atomic::{AtomicBool, Ordering};
+use std::sync::atomic::Ordering;
 use std::test::Fail;
 use std::thread::{join, sleep};
 use std::time::Duration;
-use tcp_connections::{TcpConnections, TcpListeners};
-
-/// Connections at the first of some ports that is free, and this port.
-fn new_port<'a, R: Abort + AllocGlobal + Sockets + Wait + Sync>(
-    rt: &'a R,
-    has_failed: &'a AtomicBool,
-) -> (TcpConnections<'a, R>, u16)
-    ensures { ⟦<TcpConnections<'a, R> as Connections>⟧.has_ended result.0 ≡ false }
-{
-    let mut listeners = TcpListeners::failing_whole(
-        rt,
-        rt.alloc(),
-        Ipv4Addr::LOCALHOST,
-        8,
-        has_failed,
-    );
-    for port in 47_500..47_600u16 {
-        if let Ok(connections) = listeners.listen(port) {
-            return (connections, port);
-        }
-    }
-    panic!(rt; "no port is free");
-}
-
-/// A client that comes, and the number that its connection is under.
-fn joined(
-    rt: &(impl Abort + Sockets<Listener = TcpListener, Stream = TcpStream>),
-    connections: &mut TcpConnections<'_, impl Wait>,
-    port: u16,
-) -> Result<(TcpStream, u32), Fail> {
-    let client = TcpStream::connect(rt, ("127.0.0.1", port))?;
-    client.set_read_timeout(Some(Duration::from_secs(5)))?;
-    for _ in 0..100u32 {
-        if let Ok(Some(Event::Opened(number))) = connections.next() {
-            return Ok((client, number));
-        }
-    }
-    panic!(rt; "no connection came");
-}
-
-/// Whether the connection under this number is reported.
-fn is_ready(event: Result<Option<Event>, Failed>, number: u32) -> bool {
-    match event {
-        Ok(Some(Event::Ready(other))) => other == number,
-        _ => false,
-    }
-}
-
-/// What the connection under this number gives next, at the reports of it.
-fn input_of(
-    rt: &impl Abort,
-    connections: &mut TcpConnections<'_, impl Wait>,
-    number: u32,
-    out: &mut [u8; 16],
-) -> Result<Input, Broken> {
-    for _ in 0..100u32 {
-        if is_ready(connections.next(), number) {
-            match connections.read(number, out) {
-                Ok(Input::Later) => {}
-                input => return input,
-            }
-        }
-    }
-    panic!(rt; "nothing came");
-}
 
 /// The client says this, and it comes under the number, and nothing else does.
 fn expect_said(
     rt: &impl Abort,
-    connections: &mut TcpConnections<'_, impl Wait>,
+    share: &mut Share<'_, impl Wait, StdClock>,
     client: &mut TcpStream,
     number: u32,
     said: &[u8],
 ) -> Result<(), Fail> {
     client.write_all(said)?;
     let mut out = [0; 16];
-    let count = match input_of(rt, connections, number, &mut out) {
+    let count = match share.input_of(rt, number, &mut out) {
         Ok(Input::All(count)) => count,
         _ => 0,
     };
@@ -98,14 +35,14 @@ fn expect_said(
 /// What is written under the number comes to the client, and nothing else did.
 fn expect_heard(
     rt: &impl Abort,
-    connections: &mut TcpConnections<'_, impl Wait>,
+    share: &mut Share<'_, impl Wait, StdClock>,
     client: &mut TcpStream,
     number: u32,
     reply: &[u8],
 ) -> Result<(), Fail>
     requires some { 0 < length reply.now }
 {
-    let taken = connections.write(number, reply).unwrap_or(0);
+    let taken = share.write(number, reply).unwrap_or(0);
     assert!(rt; taken == reply.len());
     let mut back = [0; 16];
     let count = client.read(&mut back)?;
@@ -116,38 +53,55 @@ fn expect_heard(
 // Each of two clients hears what is sent to it, also once one of them has closed its half, and once the other one is closed.
 #[test]
 fn two_clients_hear_their_own(rt: HostRuntime) -> Result<(), Fail> {
-    let has_failed = AtomicBool::new(false);
-    let (mut connections, port) = new_port(&rt, &has_failed);
-    let (mut one, first) = joined(&rt, &mut connections, port)?;
-    let (mut two, second) = joined(&rt, &mut connections, port)?;
-    expect_said(&rt, &mut connections, &mut one, first, b"one")?;
-    expect_said(&rt, &mut connections, &mut two, second, b"second")?;
-    expect_heard(&rt, &mut connections, &mut one, first, b"ONE")?;
-    expect_heard(&rt, &mut connections, &mut two, second, b"THE SECOND")?;
+    let flags = Flags::new();
+    let (mut share, port) = new_share(&rt, StdClock::new(&rt), &flags, 8);
+    let (mut one, first) = share.join(&rt, port)?;
+    let (mut two, second) = share.join(&rt, port)?;
+    expect_said(&rt, &mut share, &mut one, first, b"one")?;
+    expect_said(&rt, &mut share, &mut two, second, b"second")?;
+    expect_heard(&rt, &mut share, &mut one, first, b"ONE")?;
+    expect_heard(&rt, &mut share, &mut two, second, b"THE SECOND")?;
     one.shutdown(Shutdown::Write)?;
     let mut out = [0; 16];
-    let input = input_of(&rt, &mut connections, first, &mut out);
+    let input = share.input_of(&rt, first, &mut out);
     assert!(&rt; matches!(input, Ok(Input::Ended)));
-    expect_heard(&rt, &mut connections, &mut one, first, b"still")?;
-    connections.close(first);
+    expect_heard(&rt, &mut share, &mut one, first, b"still")?;
+    share.close(first);
     assert!(&rt; one.read(&mut out)? == 0);
-    expect_said(&rt, &mut connections, &mut two, second, b"still here")?;
-    expect_heard(&rt, &mut connections, &mut two, second, b"and there")?;
-    assert!(&rt; !has_failed.load(Ordering::Relaxed));
+    expect_said(&rt, &mut share, &mut two, second, b"still here")?;
+    expect_heard(&rt, &mut share, &mut two, second, b"and there")?;
+    assert!(&rt; !flags.has_failed.load(Ordering::Relaxed));
     Ok(())
 }
 
+// What is longer than the room of a read is read in pieces, in order, and nothing of another client stands between.
+#[test]
+fn a_long_talk_is_read_in_pieces(rt: HostRuntime) -> Result<(), Fail> {
+    let flags = Flags::new();
+    let (mut share, port) = new_share(&rt, StdClock::new(&rt), &flags, 8);
+    let (mut one, first) = share.join(&rt, port)?;
+    let (mut two, second) = share.join(&rt, port)?;
+    one.write_all(b"get fruit\r\nget other\r\n")?;
+    let mut out = [0; 16];
+    let input = share.input_of(&rt, first, &mut out);
+    assert!(&rt; matches!(input, Ok(Input::Bytes(16))) && out.starts_with(b"get fruit\r\nget o"));
+    expect_said(&rt, &mut share, &mut two, second, b"se")?;
+    let input = share.read(first, &mut out);
+    assert!(&rt; matches!(input, Ok(Input::All(6))) && out.starts_with(b"ther\r\n"));
+    expect_said(&rt, &mut share, &mut two, second, b"cond")
+}
+
 /// Writes bytes that count up to 250 again and again, as far as they are taken, and says how many were.
-fn fill(rt: &impl Abort, connections: &mut TcpConnections<'_, impl Wait>, number: u32) -> u32 {
+fn fill(rt: &impl Abort, share: &mut Share<'_, impl Wait, StdClock>, number: u32) -> u32 {
     let mut piece = [0; 4_016];
     for at in 0..4_016usize {
         piece[at] = (at % 251) as u8;
     }
     let mut sent = 0u32;
     for _ in 0..1_000_000u32 {
-        match connections.write(number, &piece[sent as usize % 251..]) {
+        match share.write(number, &piece[sent as usize % 251..]) {
             Ok(0) => return sent,
-            Ok(count) => sent = sent.saturating_add(count as u32),
+            Ok(count) => sent = sent.saturating_add(u32::try_from(count).unwrap_or(u32::MAX)),
             Err(Broken) => panic!(rt; "the connection is broken"),
         }
     }
@@ -174,46 +128,45 @@ fn expect_filled(rt: &impl Abort, client: &mut TcpStream, sent: u32) -> Result<(
 // What is not taken is told, and what was taken comes. A client that hears no more resets its connection, which is told, too.
 #[test]
 fn a_shut_window_and_a_reset_are_told(rt: HostRuntime) -> Result<(), Fail> {
-    let has_failed = AtomicBool::new(false);
-    let (mut connections, port) = new_port(&rt, &has_failed);
-    let (mut one, first) = joined(&rt, &mut connections, port)?;
-    let (mut two, second) = joined(&rt, &mut connections, port)?;
-    let sent = fill(&rt, &mut connections, first);
-    expect_heard(&rt, &mut connections, &mut two, second, b"meanwhile")?;
+    let flags = Flags::new();
+    let (mut share, port) = new_share(&rt, StdClock::new(&rt), &flags, 8);
+    let (mut one, first) = share.join(&rt, port)?;
+    let (mut two, second) = share.join(&rt, port)?;
+    let sent = fill(&rt, &mut share, first);
+    expect_heard(&rt, &mut share, &mut two, second, b"meanwhile")?;
     expect_filled(&rt, &mut one, sent)?;
-    expect_heard(&rt, &mut connections, &mut one, first, b"more")?;
-    let taken = connections.write(second, b"unheard").unwrap_or(0);
+    expect_heard(&rt, &mut share, &mut one, first, b"more")?;
+    let taken = share.write(second, b"unheard").unwrap_or(0);
     assert!(&rt; taken == 7);
     sleep(&rt, Duration::from_millis(50));
     drop(two);
     let mut out = [0; 16];
-    let input = input_of(&rt, &mut connections, second, &mut out);
+    let input = share.input_of(&rt, second, &mut out);
     assert!(&rt; input.is_err());
-    expect_said(&rt, &mut connections, &mut one, first, b"still here")
+    expect_said(&rt, &mut share, &mut one, first, b"still here")
 }
 
-// A port is of its address alone, and of nobody else.
+// A place is of its address alone, and of nobody else.
 #[test]
-fn a_port_is_of_one_address(rt: HostRuntime) -> Result<(), Fail> {
-    let has_failed = AtomicBool::new(false);
-    let (_connections, port) = new_port(&rt, &has_failed);
+fn a_place_is_of_one_address(rt: HostRuntime) -> Result<(), Fail> {
+    let flags = Flags::new();
+    let (_share, port) = new_share(&rt, StdClock::new(&rt), &flags, 8);
     assert!(&rt; TcpStream::connect(&rt, ("127.0.0.2", port)).is_err());
-    let mut others = TcpListeners::new(&rt, rt.alloc(), Ipv4Addr::LOCALHOST, 8);
-    assert!(&rt; others.listen(port).is_err());
+    assert!(&rt; share_at(&rt, StdClock::new(&rt), &flags, port, 8).is_none());
     Ok(())
 }
 
-// A port that waits fails once another has.
+// A share that waits fails once another has.
 #[test]
-fn ports_fail_together(rt: HostRuntime) -> Result<(), Fail> {
-    let has_failed = AtomicBool::new(false);
-    let (mut connections, _) = new_port(&rt, &has_failed);
+fn shares_fail_together(rt: HostRuntime) -> Result<(), Fail> {
+    let flags = Flags::new();
+    let (mut share, _) = new_share(&rt, StdClock::new(&rt), &flags, 8);
     let (reported, ()) = join(
         &rt,
-        || connections.next(),
+        || share.report(&rt),
         || {
             sleep(&rt, Duration::from_millis(1_500));
-            has_failed.store(true, Ordering::Relaxed);
+            flags.has_failed.store(true, Ordering::Relaxed);
         },
     );
     assert!(&rt; reported.is_err());

@@ -7,15 +7,31 @@ use std::net::{Net as Sockets, UdpSocket};
 use std::process::Abort;
 use std::sync::atomic::{AtomicBool, Ordering};
 use std::test::Fail;
-use std::thread::join;
+use std::thread::{join, sleep};
 use std::time::Duration;
 
+/// The flags of a net: whether an end has failed, and whether all are to stop.
+#[derive(Drop)]
+struct Flags {
+    has_failed: AtomicBool,
+    stopping: AtomicBool,
+}
+
+impl Flags {
+    fn new() -> Flags {
+        Flags {
+            has_failed: AtomicBool::new(false),
+            stopping: AtomicBool::new(false),
+        }
+    }
+}
+
 /// An end at the first of some ports that is free, and this port.
-fn new_end<'a, R: Abort + Sockets>(rt: &'a R, has_failed: &'a AtomicBool) -> (UdpEnd<'a>, u16)
+fn new_end<'a, R: Abort + Sockets>(rt: &'a R, flags: &'a Flags) -> (UdpEnd<'a>, u16)
     ensures { ⟦<UdpEnd<'a> as Datagrams>⟧.has_ended result.0 ≡ false }
 {
     for port in 47_000..47_100u16 {
-        if let Ok(end) = UdpNet::failing_whole(rt, has_failed).bind(port) {
+        if let Ok(end) = UdpNet::failing_whole(rt, &flags.has_failed, &flags.stopping).bind(port) {
             return (end, port);
         }
     }
@@ -37,8 +53,8 @@ fn expect_datagram<D: Datagrams>(rt: &impl Abort, end: &mut D, given: &[u8])
 
 #[test]
 fn datagrams_come_in_order_and_replies_go_back(rt: HostRuntime) -> Result<(), Fail> {
-    let has_failed = AtomicBool::new(false);
-    let (mut end, port) = new_end(&rt, &has_failed);
+    let flags = Flags::new();
+    let (mut end, port) = new_end(&rt, &flags);
     let client = UdpSocket::bind(&rt, "127.0.0.1:0")?;
     client.send_to(b"hello", ("127.0.0.1", port))?;
     client.send_to(b"longer than the room", ("127.0.0.1", port))?;
@@ -56,8 +72,8 @@ fn datagrams_come_in_order_and_replies_go_back(rt: HostRuntime) -> Result<(), Fa
 
 #[test]
 fn a_taken_port_is_refused(rt: HostRuntime) -> Result<(), Fail> {
-    let has_failed = AtomicBool::new(false);
-    let (end, port) = new_end(&rt, &has_failed);
+    let flags = Flags::new();
+    let (end, port) = new_end(&rt, &flags);
     let mut net = UdpNet::new(&rt);
     assert!(&rt; net.bind(port).is_err());
     net.release(end);
@@ -67,8 +83,8 @@ fn a_taken_port_is_refused(rt: HostRuntime) -> Result<(), Fail> {
 // A reply goes to the sender of the last datagram, and what is sent to another address of this machine does not come.
 #[test]
 fn a_reply_goes_to_the_last_sender(rt: HostRuntime) -> Result<(), Fail> {
-    let has_failed = AtomicBool::new(false);
-    let (mut end, port) = new_end(&rt, &has_failed);
+    let flags = Flags::new();
+    let (mut end, port) = new_end(&rt, &flags);
     let one = UdpSocket::bind(&rt, "127.0.0.1:0")?;
     let other = UdpSocket::bind(&rt, "127.0.0.1:0")?;
     one.send_to(b"past", ("127.0.0.2", port))?;
@@ -84,23 +100,38 @@ fn a_reply_goes_to_the_last_sender(rt: HostRuntime) -> Result<(), Fail> {
     Ok(())
 }
 
-// An end that waits fails once another end of its net has. A socket that nobody sends to lets the wait begin.
+// An end that waits fails once another end of its net has.
 #[test]
 fn ends_fail_together(rt: HostRuntime) -> Result<(), Fail> {
-    let has_failed = AtomicBool::new(false);
-    let (mut end, _) = new_end(&rt, &has_failed);
-    let clock = UdpSocket::bind(&rt, "127.0.0.1:0")?;
-    clock.set_read_timeout(Some(Duration::from_millis(1_500)))?;
-    let (received, timed) = join(
+    let flags = Flags::new();
+    let (mut end, _) = new_end(&rt, &flags);
+    let (received, ()) = join(
         &rt,
         || end.recv(&mut [0; 8]),
         || {
-            let timed = clock.recv(&mut [0; 8]);
-            has_failed.store(true, Ordering::Relaxed);
-            timed
+            sleep(&rt, Duration::from_millis(1_500));
+            flags.has_failed.store(true, Ordering::Relaxed);
         },
     );
-    assert!(&rt; received.is_err() && timed.is_err());
+    assert!(&rt; received.is_err());
+    UdpNet::new(&rt).release(end);
+    Ok(())
+}
+
+// And it ends where it is to stop.
+#[test]
+fn ends_stop(rt: HostRuntime) -> Result<(), Fail> {
+    let flags = Flags::new();
+    let (mut end, _) = new_end(&rt, &flags);
+    let (received, ()) = join(
+        &rt,
+        || end.recv(&mut [0; 8]),
+        || {
+            sleep(&rt, Duration::from_millis(1_500));
+            flags.stopping.store(true, Ordering::Relaxed);
+        },
+    );
+    assert!(&rt; matches!(received, Ok(None)) && !flags.has_failed.load(Ordering::Relaxed));
     UdpNet::new(&rt).release(end);
     Ok(())
 }

@@ -1,12 +1,9 @@
 //! The program over standard output, the files, the clock and the sockets of this machine.
 
-ghost use Rattle.std.specs.Prelude.{◌≡◌, length, string_bytes, IfOk};
+ghost use Rattle.std.specs.Prelude.{ℕ, List, Option, string_bytes, IfSome};
 ghost use Rattle.std.specs.Process.{exit_status};
 ghost use Rattle.option_words.specs.ProgramWords.{words_of};
-ghost use Rattle.daemon.specs.declared.status.Ending.{Ending};
-ghost use Rattle.daemon.specs.Numbers.{ending_number};
-ghost use Rattle.daemon.specs.Exit.{IsAsked};
-ghost use Rattle.server_words.specs.declared.limits.TheConstants.{MOST_FRONTS};
+ghost use Rattle.daemon.specs.Exit.{EndsBy};
 
 use crate::host_causes::doubt_text;
 use crate::host_files::HostFiles;
@@ -14,29 +11,16 @@ use crate::host_start::begin;
 use daemon::{DaemonStatus, Ending, Process, Speaker, exit_code, run_daemon};
 use host_outside::{StdClock, StdSink, UdpNet};
 use locked_server::Left;
-use outside::{FreeGate, NoMemory};
-use server_words::MOST_FRONTS;
-use std::alloc::Global;
+use outside::{FreeGate, NoMemory, rehearse};
 use std::env::Args;
-use std::net::{Ipv4Addr, Net as Sockets};
+use std::net::Net as Sockets;
 use std::process::ExitCode;
 use std::rt::{Env, Files};
 use std::sync::Wait;
-use std::sync::atomic::AtomicBool;
+use std::sync::atomic::{AtomicBool, Ordering};
 use std::thread::Threads;
 use std::{io, time};
 use tcp_connections::TcpListeners;
-
-/// As many clocks as there may be fronts.
-fn clocks_of<'a, R: time::Clock>(rt: &'a R, alloc: Global) -> Result<Vec<StdClock<'a, R>>, NoMemory>
-    ensures { IfOk result (λ clocks. length clocks.items ≡ MOST_FRONTS) }
-{
-    let mut clocks = Vec::with_capacity(alloc, MOST_FRONTS as usize)?;
-    for _ in 0..MOST_FRONTS {
-        clocks.push_reserved(StdClock::new(rt));
-    }
-    Ok(clocks)
-}
 
 /// Says on standard error why the program ends, where there is a reason. What can't be said is left out.
 fn say_why<R: AllocGlobal + Eprint + Sockets + Files, K>(rt: &R, speaker: &Speaker<K>) {
@@ -50,40 +34,74 @@ fn say_why<R: AllocGlobal + Eprint + Sockets + Files, K>(rt: &R, speaker: &Speak
     };
 }
 
-/// The program as `main` runs it, with the words that it was started with and the number of its process. It ends with 0 only where these ask a question.
-pub fn run_on_host<
-    R: Threads + Wait + Sync + AllocGlobal + Env + Eprint + Files + Print + Sockets + time::Clock,
->(rt: &R, args: io::Result<Args>, pid: u32) -> ExitCode
-    ensures number { (ending : Ending) × (exit_status result ≡ ending_number ending) }
-    ensures zero { exit_status result ≡ 0 → IsAsked (words_of string_bytes args) }
+/// The flags that all of the process have in common.
+#[derive(Drop)]
+pub struct Flags {
+    /// A port has ended, or a partition bears no more writes.
+    pub ended: AtomicBool,
+    /// It is to stop.
+    pub stopping: AtomicBool,
+    /// The server has ended.
+    pub over: AtomicBool,
+}
+
+impl Flags {
+    /// Nothing has ended.
+    pub fn new() -> Flags {
+        Flags {
+            ended: AtomicBool::new(false),
+            stopping: AtomicBool::new(false),
+            over: AtomicBool::new(false),
+        }
+    }
+}
+
+/// What the program ends with before it serves: where it may not begin, or there is no thread for the look for signals.
+pub fn refused_on_host<R: Threads + Wait + Sync + AllocGlobal + Env + Eprint + Files + Sockets>(
+    rt: &R,
+    pid: u32,
+) -> Option<ExitCode>
+    ensures { IfSome result (λ code. (words : Option (List (List ℕ))) → EndsBy words (exit_status code)) }
 {
     if !begin(rt, pid) {
-        return exit_code(Ending::Ended(DaemonStatus::Usage));
+        return Some(exit_code(Ending::Ended(DaemonStatus::Usage)));
     }
+    match rehearse(rt, rt.alloc(), 1) {
+        Ok(()) => None,
+        Err(NoMemory) => Some(exit_code(Ending::Ended(DaemonStatus::NoMemory))),
+    }
+}
+
+/// Answers the words that the program was started with, or serves by them, and then says why that ended. It ends with 0 where these ask a question, and where a
+/// signal asked for its end. `main` runs it beside the look for signals: a handle that opens files goes to a thread only there.
+pub fn run_on_host<
+    R: Threads + Wait + Sync + AllocGlobal + Eprint + Files + Print + Sockets + time::Clock,
+>(rt: &R, args: io::Result<Args>, pid: u32, flags: &Flags) -> ExitCode
+    ensures { EndsBy (words_of string_bytes args) (exit_status result) }
+{
     let alloc = rt.alloc();
-    let Ok(clocks) = clocks_of(rt, alloc) else {
-        return exit_code(Ending::Ended(DaemonStatus::NoMemory));
-    };
-    let ended = AtomicBool::new(false);
+    let clock = StdClock::new(rt);
+    let mut at_start = clock;
     let process = Process {
         rt,
         alloc,
         gate: &FreeGate,
-        ended: &ended,
+        ended: &flags.ended,
+        stopping: &flags.stopping,
         pid,
     };
     let mut speaker = Speaker::new(alloc, StdSink::new(io::writer(rt)));
     let code = run_daemon(
         &process,
         args,
-        &mut StdClock::new(rt),
-        clocks,
+        &mut at_start,
         &mut HostFiles::new(rt),
         &mut speaker,
-        &mut UdpNet::failing_whole(rt, &ended),
-        &mut TcpListeners::failing_whole(rt, alloc, Ipv4Addr::LOCALHOST, 0, &ended),
+        &mut UdpNet::failing_whole(rt, &flags.ended, &flags.stopping),
+        &mut TcpListeners::new(rt, alloc, clock, &flags.ended, &flags.stopping),
         &mut Left::nothing(),
     );
     say_why(rt, &speaker);
+    flags.over.store(true, Ordering::Relaxed);
     code
 }

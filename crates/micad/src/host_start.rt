@@ -1,6 +1,7 @@
 //! What is done and told before the words are read as a server's.
 
 use crate::host_files::HostFiles;
+use crate::host_stop::say_unseen;
 use daemon::{is_run_by, start_text};
 use daemon_words::value_given;
 use option_words::{all_words, behind_name};
@@ -58,5 +59,6 @@ pub fn begin<R: AllocGlobal + Env + Eprint + Files>(rt: &R, process: u32) -> boo
     }
     write_process(rt, alloc, words, process);
     let _ = eprint!(rt; "{text}");
+    say_unseen(rt, alloc);
     true
 }

@@ -13,14 +13,15 @@ use Rattle.partition_model.specs.declared.write.Outcome.TheVariants.{Stored, Del
 use Rattle.partition_model.specs.Write.{size_of}
 use Rattle.partition_model.specs.Cache.{Record, Cache, has_key, record_of, is_live}
 use Rattle.partition_model.specs.Limits.{is_at_end}
+use Rattle.partition_model.specs.Rooms.{keeps}
 
 -- as many writes were accepted as the partition may bear, or its log has come to its end
 abbrev pub is_worn : Options → Cache → Bool
 is_worn options cache = nat_le options.wear cache.accepted || is_at_end cache.stamp
 
--- whether a put may be kept in this record's room: its item fits, and the log will not have passed it
+-- whether a put may be kept in this record's room: its item keeps the room, and the log will not have passed it
 abbrev pub may_keep : Options → Cache → Write → Record → Bool
-may_keep options cache write held = nat_le (size_of write) held.room && is_live options.words (cache.stamp + 1) held.offset
+may_keep options cache write held = keeps (size_of write) held.room && is_live options.words (cache.stamp + 1) held.offset
 
 -- the record, where a put may keep its place
 abbrev pub kept_if : Options → Cache → Write → Option Record → Option Record

@@ -12,3 +12,4 @@ pub mod Run
 pub mod ReplyAt
 pub mod Limits
 pub mod Touches
+pub mod Rooms

@@ -1,5 +1,5 @@
 -- The step of a partition in store mode: segregated fit and a chained index. It is a relation with one choice.
-use Rattle.std.specs.Prelude.{◌≡◌, ℕ, ◌+◌, ◌-◌, ◌*◌, ◌%◌, ◌<◌, ◌≤◌, ◌⊎◌, List, Option, Some, None, IsSome, IsSomeAnd, if◌then◌else◌, nat_le}
+use Rattle.std.specs.Prelude.{◌≡◌, ℕ, ◌+◌, ◌-◌, ◌*◌, ◌%◌, ◌<◌, ◌≤◌, ◌⊎◌, List, Option, Some, None, IsSome, IsSomeAnd, if◌then◌else◌}
 use Rattle.std.specs.FinMap.{get, insert, remove, len}
 use Rattle.mica_words.specs.Hash.{bucket_of}
 use Rattle.mica_words.specs.declared.entry.TheConstants.{SLOTS}
@@ -10,6 +10,7 @@ use Rattle.partition_model.specs.declared.write.Op.TheVariants.{Put, Add, Touch,
 use Rattle.partition_model.specs.declared.write.Outcome.{Outcome}
 use Rattle.partition_model.specs.declared.write.Outcome.TheVariants.{Stored, Deleted, Absent, Touched, FullSpare, FullBlock, Worn, Exists}
 use Rattle.partition_model.specs.Write.{GivesValue, Replaces, size_of}
+use Rattle.partition_model.specs.Rooms.{keeps}
 use Rattle.partition_model.specs.Store.{Cell, Store, rooms, keys_in, spares_in_use}
 
 -- as many writes were accepted as the partition may bear
@@ -66,16 +67,16 @@ abbrev pub Allows : Options → Store → Write → Outcome → Type 0
 Allows options store write Worn = IsWorn options store
 Allows options store write outcome = ¬ (IsWorn options store) × AllowsUnworn options store write outcome
 
--- the room of a key after a put: the one that it has where the item fits it, else the item's size
+-- the room of a key after a put: the one that it has where the item keeps it, else the item's size
 abbrev pub room_after : Option Cell → ℕ → ℕ
 room_after None size = size
-room_after (Some cell) size = if nat_le size cell.room then cell.room else size
+room_after (Some cell) size = if keeps size cell.room then cell.room else size
 
 -- the state after an accepted write that gives a key this cell
 abbrev pub after_cell : Store → List ℕ → Cell → Store
 after_cell store key cell = record { cells = insert store.cells key cell; stamp = store.stamp + 1; accepted = store.accepted + 1 }
 
--- the state after an accepted put or add: a room that suffices stays
+-- the state after an accepted put or add
 abbrev pub after_put : Store → Write → Store
 after_put store write =
     after_cell store write.key (record { value = write.value; room = room_after (get store.cells write.key) (size_of write) })

@@ -13,6 +13,7 @@ mod laws;
 mod log_end;
 mod options;
 mod ranges;
+mod rooms;
 mod write;
 
 pub use change::Change;
@@ -21,4 +22,5 @@ pub use item_buf::ItemBuf;
 pub use laws::{count_comes_first, one_cut, touches_keep, valid_is_possible};
 pub use log_end::{LARGEST_STORED_ITEM, LAST_TAIL, has_room};
 pub use options::{MAX_WEAR, MOST_PARTITIONS, MOST_SPARES, MOST_WEAR, MOST_WORDS, Mode, Options};
+pub use rooms::{keeps, small_rooms_stay};
 pub use write::{Answer, Op, Outcome, Write, write_fits};

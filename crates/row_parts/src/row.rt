@@ -6,7 +6,7 @@ use outside::NoMemory;
 use std::alloc::Global;
 
 /// What a line may begin with.
-static NAMES: [&str; 27] = [
+static NAMES: [&str; 30] = [
     "run",
     "ends",
     "or",
@@ -34,6 +34,9 @@ static NAMES: [&str; 27] = [
     "file",
     "reads",
     "free",
+    "passes",
+    "turned",
+    "stops",
 ];
 
 /// A row: where its lines stand, what they are, and whether they are a row.

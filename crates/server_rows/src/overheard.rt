@@ -1,11 +1,20 @@
-//! Ports of connections in memory, and what is heard there, in the order in which it comes to pass.
-ghost use Rattle.std.specs.Prelude.{◌<◌};
+//! Places of connections in memory, and what is heard there, in the order in which it comes to pass.
+ghost use Rattle.std.specs.Prelude.{None, IfSome};
+ghost use Rattle.connections.specs.Shares.{IsNewShare, share_facts};
 
-use connections::{Broken, Connections, Event, Input, Listeners, Step};
-use memory_connections::{BoxedConnections, MemListeners};
-use outside::{Failed, NoMemory};
+use connections::{Broken, Connections, Event, Input, Listeners, Place, Step};
+use memory_connections::MemConnections;
+use outside::Failed;
+use row_parts::at_least_one;
 use std::alloc::Global;
-use std::net::Ipv4Addr;
+
+/// A port of connections: how many bytes a read or a write moves, and what happens there.
+#[derive(Drop)]
+pub struct Port {
+    pub number: u16,
+    pub piece: u32,
+    pub schedule: Vec<Step>,
+}
 
 /// What became of the connections of a port: a line as `0: STORED` for what was sent under the number 0, and `0: closed`.
 #[derive(Drop)]
@@ -17,7 +26,7 @@ pub struct Overheard {
 /// Connections in memory, of which is heard.
 #[derive(Drop)]
 pub struct OverheardConnections<'a> {
-    connections: BoxedConnections<'a>,
+    connections: MemConnections<'a>,
     heard: Overheard,
 }
 
@@ -29,18 +38,24 @@ fn note(heard: &mut Overheard, number: u32, what: &[u8]) {
 }
 
 impl<'a> Connections for OverheardConnections<'a> {
-    ghost port = { λ c. ⟦<BoxedConnections<'a> as Connections>⟧.port c.connections };
+    ghost share = { λ c. ⟦<MemConnections<'a> as Connections>⟧.share c.connections };
 
-    ghost log = { λ c. ⟦<BoxedConnections<'a> as Connections>⟧.log c.connections };
+    ghost log = { λ c. ⟦<MemConnections<'a> as Connections>⟧.log c.connections };
 
-    ghost faults = { λ c. ⟦<BoxedConnections<'a> as Connections>⟧.faults c.connections };
+    ghost faults = { λ c. ⟦<MemConnections<'a> as Connections>⟧.faults c.connections };
 
-    ghost has_ended = { λ c. ⟦<BoxedConnections<'a> as Connections>⟧.has_ended c.connections };
+    ghost has_ended = { λ c. ⟦<MemConnections<'a> as Connections>⟧.has_ended c.connections };
 
-    ghost reports = { λ c. ⟦<BoxedConnections<'a> as Connections>⟧.reports c.connections };
+    ghost reports = { λ c. ⟦<MemConnections<'a> as Connections>⟧.reports c.connections };
+
+    ghost last = { λ c. ⟦<MemConnections<'a> as Connections>⟧.last c.connections };
 
     fn next(&mut self) -> Result<Option<Event>, Failed> {
         self.connections.next()
+    }
+
+    fn second(&self) -> u64 {
+        self.connections.second()
     }
 
     fn read(&mut self, number: u32, out: &mut [u8]) -> Result<Input, Broken> {
@@ -63,66 +78,100 @@ impl<'a> Connections for OverheardConnections<'a> {
     }
 }
 
-/// Ports in memory, of which is heard once they are let go.
+/// Places in memory, at the ports of a row, of which is heard once their shares are let go. What waits there they don't tell.
 #[derive(Drop)]
 pub struct OverheardListeners<'a> {
     alloc: Global,
-    listeners: MemListeners<'a>,
+    ports: &'a [Port],
+    places: Vec<Place>,
+    most: u32,
+    listened: Vec<u32>,
+    given: u16,
+    faults: u64,
     heard: Vec<Overheard>,
 }
 
 impl<'a> OverheardListeners<'a> {
-    /// No ports.
-    pub fn new(alloc: Global) -> Result<OverheardListeners<'a>, NoMemory> {
-        Ok(OverheardListeners {
+    /// No places yet, of these ports.
+    pub fn new(alloc: Global, ports: &'a [Port]) -> OverheardListeners<'a> {
+        OverheardListeners {
             alloc,
-            listeners: MemListeners::new(alloc, Ipv4Addr::LOCALHOST, 0)?,
+            ports,
+            places: Vec::new(alloc),
+            most: 0,
+            listened: Vec::new(alloc),
+            given: 0,
+            faults: 0,
             heard: Vec::new(alloc),
-        })
-    }
-
-    /// This happens at a port, where so many bytes move at a time.
-    pub fn add_port(&mut self, port: u16, schedule: &'a [Step], piece: u32) -> Result<(), NoMemory>
-        requires { 0 < piece }
-    {
-        self.listeners
-            .add_port(self.alloc, port, schedule, piece, &[])
+        }
     }
 
     /// What was heard at each port that was let go.
     pub fn into_overheard(self) -> Vec<Overheard> {
         self.heard
     }
+
+    // The connections of a port, with which nothing was done, as the next share.
+    fn connections_at(&self, number: u16) -> Option<OverheardConnections<'a>>
+        ensures { IfSome result (λ c. IsNewShare None self.now.given (share_facts ⟦<OverheardConnections<'a> as Connections>⟧.share
+            ⟦<OverheardConnections<'a> as Connections>⟧.faults ⟦<OverheardConnections<'a> as Connections>⟧.has_ended ⟦<OverheardConnections<'a> as Connections>⟧.log c)) }
+    {
+        let port = self.ports.iter().find(|port| port.number == number)?;
+        let piece = at_least_one(port.piece);
+        let schedule = port.schedule.as_slice();
+        let connections = MemConnections::new(self.alloc, self.given, schedule, piece, &[]).ok()?;
+        let heard = Overheard {
+            port: number,
+            bytes: Vec::new(self.alloc),
+        };
+        Some(OverheardConnections { connections, heard })
+    }
 }
 
 impl<'a> Listeners for OverheardListeners<'a> {
     type Port = OverheardConnections<'a>;
 
-    ghost faults = { λ l. ⟦<MemListeners<'a> as Listeners>⟧.faults l.listeners };
+    ghost faults = { λ l. l.faults };
 
-    ghost ports = { λ l. ⟦<MemListeners<'a> as Listeners>⟧.ports l.listeners };
+    ghost waits = { λ _. None };
 
-    ghost released = { λ l. ⟦<MemListeners<'a> as Listeners>⟧.released l.listeners };
+    ghost released = { λ _. None };
 
-    ghost place = { λ l. ⟦<MemListeners<'a> as Listeners>⟧.place l.listeners };
+    ghost places = { λ l. l.places.items };
 
-    ghost heard = { λ l. ⟦<MemListeners<'a> as Listeners>⟧.heard l.listeners };
+    ghost most = { λ l. l.most };
 
-    fn set_place(&mut self, address: Ipv4Addr, most: u32) {
-        self.listeners.set_place(address, most);
+    ghost heard = { λ l. l.listened.items };
+
+    ghost given = { λ l. l.given };
+
+    fn set_places(&mut self, named: Vec<Place>, limit: u32) {
+        self.places = named;
+        self.listened.clear();
+        self.most = limit;
     }
 
-    fn listen(&mut self, port: u16) -> Result<OverheardConnections<'a>, Failed> {
-        let connections = self.listeners.listen(port)?;
-        let heard = Overheard {
-            port,
-            bytes: Vec::new(self.alloc),
-        };
-        Ok(OverheardConnections { connections, heard })
+    fn listen(
+        &mut self,
+        place: u32,
+        shares: u32,
+        out: &mut Vec<OverheardConnections<'a>>,
+    ) -> Result<(), Failed> {
+        let number = self.places[place as usize].port;
+        if shares == 1 && self.given < u16::MAX {
+            if let Some(connections) = self.connections_at(number) {
+                if self.listened.push(place).is_ok() {
+                    out.push_reserved(connections);
+                    self.given += 1;
+                    return Ok(());
+                }
+            }
+        }
+        self.faults = self.faults.saturating_add(1);
+        Err(Failed)
     }
 
     fn release(&mut self, connections: OverheardConnections<'a>) {
         let _ = self.heard.push(connections.heard);
-        self.listeners.release(connections.connections);
     }
 }

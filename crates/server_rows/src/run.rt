@@ -1,17 +1,13 @@
 //! A row's runs of a server that stays up, over memory.
 
-ghost use Rattle.std.specs.Prelude.{◌≡◌, length, IfOk};
-ghost use Rattle.server_words.specs.declared.limits.TheConstants.{MOST_FRONTS};
-
-use crate::overheard::{Overheard, OverheardListeners};
+use crate::overheard::{Overheard, OverheardListeners, Port};
 use anyhow::Result;
 use connections::{Change, Step};
-use daemon::{MemFiles, Process, Speaker, answer_or_serve, ending_number, free_by};
+use daemon::{MemFiles, Process, Speaker, Start, answer_or_serve, ending_number, free_by};
 use locked_server::Left;
-use memory_outside::{MemClock, MemNet, MemSink};
+use memory_outside::{MemNet, MemSink};
 use outside::{Bytes, NoMemory};
 use row_parts::{Entry, Row, RowGate, at_least_one, has_sent, is_one_of, net_of};
-use server_words::MOST_FRONTS;
 use std::alloc::Global;
 use std::sync::Wait;
 use std::sync::atomic::AtomicBool;
@@ -27,14 +23,6 @@ struct End {
     net: MemNet,
     gate: RowGate,
     heard: Vec<Overheard>,
-}
-
-/// A port of connections: how many bytes a read or a write moves, and what happens there.
-#[derive(Drop)]
-struct Port {
-    number: u16,
-    piece: u32,
-    schedule: Vec<Step>,
 }
 
 /// The files and the memory of the row.
@@ -55,30 +43,6 @@ fn files_of(alloc: Global, row: &Row) -> Result<MemFiles, NoMemory> {
     Ok(files)
 }
 
-/// The seconds that each clock shows.
-fn seconds_of(alloc: Global, row: &Row) -> Result<Vec<Option<u64>>, NoMemory> {
-    let mut seconds = Vec::new(alloc);
-    for entry in &row.entries {
-        if entry.is("shows") {
-            for _ in 0..entry.number(1) {
-                seconds.push(Some(entry.long(2)))?;
-            }
-        }
-    }
-    Ok(seconds)
-}
-
-/// As many clocks as there may be fronts, each of which shows these seconds.
-fn clocks_of(alloc: Global, seconds: &[Option<u64>]) -> Result<Vec<MemClock<'_>>, NoMemory>
-    ensures { IfOk result (λ clocks. length clocks.items ≡ MOST_FRONTS) }
-{
-    let mut clocks = Vec::with_capacity(alloc, MOST_FRONTS as usize)?;
-    for _ in 0..MOST_FRONTS {
-        clocks.push_reserved(MemClock::new(seconds));
-    }
-    Ok(clocks)
-}
-
 /// All that one client says at a port.
 fn all_of(alloc: Global, client: u32, behind: &[Entry]) -> Result<Bytes, NoMemory> {
     let mut all = Vec::new(alloc);
@@ -93,9 +57,10 @@ fn all_of(alloc: Global, client: u32, behind: &[Entry]) -> Result<Bytes, NoMemor
     Ok(all.into())
 }
 
-/// What a client does.
-fn change_of(entry: &Entry) -> Change {
+/// What a client does, once so many seconds have passed.
+fn change_of(entry: &Entry, passes: u32) -> Change {
     let mut change = Change {
+        passes,
         comes: u32::try_from(entry.text().len()).unwrap_or(0),
         ..Change::NOTHING
     };
@@ -110,20 +75,26 @@ fn change_of(entry: &Entry) -> Change {
 }
 
 /// What clients do at a port comes in this order, each piece alone, and each is reported. A connection is made as its client begins, the first one for
-/// 0, the next for 1.
+/// 0, the next for 1. Seconds pass before what comes behind them.
 fn schedule_of(alloc: Global, window: u32, behind: &[Entry]) -> Result<Vec<Step>, NoMemory> {
     let mut steps = Vec::new(alloc);
     let mut count = 0u32;
+    let mut passes = 0u32;
     for entry in behind {
         if entry.is_place() {
             break;
         }
-        if entry.is("says") || entry.is("takes") {
+        if entry.is("passes") {
+            passes = entry.number(1);
+        } else if entry.is("turned") {
+            steps.push(Step::TurnsAway)?;
+        } else if entry.is("says") || entry.is("takes") {
             if entry.number(1) == count {
                 steps.push(Step::Opens(window, all_of(alloc, count, behind)?))?;
                 count = count.saturating_add(1);
             }
-            steps.push(Step::Reports(entry.number(1), change_of(entry)))?;
+            steps.push(Step::Reports(entry.number(1), change_of(entry, passes)))?;
+            passes = 0;
         }
     }
     Ok(steps)
@@ -144,22 +115,12 @@ fn ports_of(alloc: Global, row: &Row) -> Result<Vec<Port>, NoMemory> {
             };
             ports.push(Port {
                 number: entry.port(1),
-                piece: at_least_one(piece),
+                piece,
                 schedule: schedule_of(alloc, window, &entries[at + 1..])?,
             })?;
         }
     }
     Ok(ports)
-}
-
-/// Listeners at these ports.
-fn listeners_of(alloc: Global, ports: &[Port]) -> Result<OverheardListeners<'_>, NoMemory> {
-    let mut listeners = OverheardListeners::new(alloc)?;
-    for port in ports {
-        let piece = at_least_one(port.piece);
-        listeners.add_port(port.number, port.schedule.as_slice(), piece)?;
-    }
-    Ok(listeners)
 }
 
 /// Runs the words over the outside that the row says.
@@ -170,8 +131,7 @@ fn run(
 ) -> Result<End, NoMemory> {
     let alloc = rt.alloc();
     let ports = ports_of(alloc, row)?;
-    let seconds = seconds_of(alloc, row)?;
-    let mut listeners = listeners_of(alloc, ports.as_slice())?;
+    let mut listeners = OverheardListeners::new(alloc, ports.as_slice());
     let mut net = net_of(alloc, row)?;
     let gate = RowGate::new(row);
     let sink = MemSink::new(
@@ -186,14 +146,15 @@ fn run(
         alloc,
         gate: &gate,
         ended: &AtomicBool::new(false),
+        stopping: &AtomicBool::new(row.find("stops").is_some()),
         pid: 1,
     };
+    let start = Start { second: 0, base: 1 };
     let mut left = Left::nothing();
     let ending = answer_or_serve(
         &process,
-        1,
+        start,
         words,
-        clocks_of(alloc, seconds.as_slice())?,
         &mut files_of(alloc, row)?,
         &mut speaker,
         &mut net,

@@ -17,7 +17,7 @@ use Rattle.store_partition.proofs.Words.{length_permutation, only_key, others_sa
 use Rattle.store_partition.proofs.Words.{stands_by, sum_by-IsPermutation, used_block, used_blocks, words_of, words_of-append, ℕ_discrete, ◌≢◌, ◌≤◌}
 use Rattle.store_partition.proofs.Words.{◌⊎◌}
 use Rattle.chained_index.proofs.Filled.{SameBucket}
-use Rattle.store_partition.proofs.Held.{Held, IsOther, before, m, main_at, may_give, HasBlock, Split, as_cells, as_keys, as_rooms, each, has_cell}
+use Rattle.store_partition.proofs.Held.{AreOwn, Held, IsOther, before, m, main_at, may_give, HasBlock, Split, as_cells, as_keys, as_rooms, each, has_cell}
 use Rattle.store_partition.proofs.Held.{once, one_entry, other_bucket, rooms_apart, stood, used}
 use Rattle.partition_words.proofs.Differing.{AllDiffer, differ_joined, differ_last, differ_moved, one_place}
 use Rattle.store_partition.proofs.Lists.{Heap, in_one}
@@ -142,24 +142,26 @@ module _ (h : Held) (a : AcceptedWrite h.o) where
 abbrev pub later : (h : Held) → AcceptedWrite h.o → Cells
 later h a = (ss.after (m h) a.w).cells
 
--- What goes and what comes: `own` is the key's entry before, `news` the one after it, and the blocks `taken` and `given` are those of the heap.
+-- What goes and what comes: `own` is the key's entry before, `news` the one after it, and the blocks `taken`, `lost` and `given` are those of the heap.
 pub record Exchange (h : Held) (a : AcceptedWrite h.o) (b : ℕ) (words ys : List ℕ) (blocks : List Block) (Becomes : List Block → Type 0) : Type 0 where
   pub own : List ℕ
   pub rest : List ℕ
   pub news : List ℕ
   pub taken : List Block
+  pub lost : List Block
   pub given : List Block
   pub split : Split h a.w.key b own rest
   pub lists : IsPermutation ys (news ++ rest)
   pub few : length news ≤ 1
   pub long : length news ≡ one_or_none (get (later h a) a.w.key)
   pub spells : (x : ℕ) → Contains news x → (cell : Cell) × Spells (written h.o a words) b x a.w.key cell
-  pub heap : Heap h.o.shape.words h.blocks blocks taken given Becomes
+  pub heap : Heap h.o.shape.words h.blocks blocks taken lost given Becomes
   pub housed : (x : ℕ) → Contains news x → HasBlock (written h.o a words) blocks x
-  pub freed : (y : Block) → Contains given y → (x : ℕ) × Contains own x × (y.place ≡ entry_offset x)
+  pub parted : AreOwn h a.w.key lost
+  pub freed : AreOwn h a.w.key given
   pub apart : (y : Block) → Contains given y → (x : ℕ) → Contains news x → y.place ≢ entry_offset x
-  pub count : length taken + length own ≡ length given + length news
-  pub total : words_of taken + room_of (get (m h).cells a.w.key) ≡ words_of given + room_of (get (later h a) a.w.key)
+  pub count : length taken + length own ≡ length given + length lost + length news
+  pub total : words_of taken + room_of (get (m h).cells a.w.key) ≡ words_of given + words_of lost + room_of (get (later h a) a.w.key)
 
 -- with these words of the events, before the end
 module _ (h : Held) (a : AcceptedWrite h.o) (b : ℕ) (here : b ≡ bucket_in h.o a.w.key) (words : List ℕ) where
@@ -192,10 +194,14 @@ module _ (h : Held) (a : AcceptedWrite h.o) (b : ℕ) (here : b ≡ bucket_in h.
           (others_same (m h) a.w other.own other.differs ∙ has_cell h other.own other.cell (entry_offset x) other.spells.has)) other.spells
 
       now_housed : HasBlock p blocks x
-      now_housed = subst (λ n. Contains (used_blocks blocks) (used_block (entry_offset x) n))
-          (sym (room_same h.o a words x keeps (let fits = other.spells.in_room in omega arith)))
-          (Contains-permutation (e.taken ++ used_blocks h.blocks) (used_blocks blocks) _ (IsPermutation-sym _ _ e.heap.more)
-          (Contains-append_right e.taken (used_blocks h.blocks) _ (used h c other.main x other.among)))
+      now_housed =
+          let block = used_block (entry_offset x) (room_in h.o x) in
+          subst (λ n. Contains (used_blocks blocks) (used_block (entry_offset x) n)) (sym (room_same h.o a words x keeps (let fits = other.spells.in_room in omega arith)))
+          (elim (Contains-append_cases e.lost (used_blocks blocks) block (Contains-permutation (e.taken ++ used_blocks h.blocks) (e.lost ++ used_blocks blocks) block (IsPermutation-sym _ _ e.heap.more)
+          (Contains-append_right e.taken (used_blocks h.blocks) block (used h c other.main x other.among)))) [
+            | inl gone ↦ absurd (e.parted block gone c x other refl)
+            | inr stays ↦ stays
+          ])
 
     -- The entries now: the write's own, and those of other keys
 
@@ -310,10 +316,7 @@ module _ (h : Held) (a : AcceptedWrite h.o) (b : ℕ) (here : b ≡ bucket_in h.
       where
         left_alone : Source c x → Contains e.given (used_block (entry_offset x) (room_in p x)) → ⊥
         left_alone (inl new) gone = e.apart _ gone x new.1 refl
-        left_alone (inr other) gone =
-            let freed = e.freed _ gone in
-            let its = e.split.its freed.0 freed.1 in
-            other.differs (sym (only_key h.o h.kept b c freed.0 x a.w.key other.own its.0 other.cell its.1 other.spells (sym freed.2)))
+        left_alone (inr other) gone = e.freed _ gone c x other refl
 
     parts_last : (bs : List Block) → Becomes bs → AreParts index bs (after_event (Ends b) p)
     parts_last bs becomes =
@@ -335,11 +338,11 @@ module _ (h : Held) (a : AcceptedWrite h.o) (b : ℕ) (here : b ≡ bucket_in h.
               (let more = length_permutation _ _ e.heap.more in
               let less = length_permutation _ _ heap.1 in
               let lengths = length-append e.given (used_blocks bs) in
-              omega (arith, as_cells h, ex.all, e.count, length-append e.taken (used_blocks h.blocks), e.split.long, e.long)) ∙ ap len cells;
+              omega (arith, as_cells h, ex.all, e.count, length-append e.taken (used_blocks h.blocks), length-append e.lost (used_blocks blocks), e.split.long, e.long)) ∙ ap len cells;
           words =
               (let more = sum_by-IsPermutation (λ (y : Block). y.size) _ _ e.heap.more in
               let less = sum_by-IsPermutation (λ (y : Block). y.size) _ _ heap.1 in
-              omega (arith, as_rooms h, ex.room, e.total, words_of-append e.taken (used_blocks h.blocks), words_of-append e.given (used_blocks bs)))
+              omega (arith, as_rooms h, ex.room, e.total, words_of-append e.taken (used_blocks h.blocks), words_of-append e.lost (used_blocks blocks), words_of-append e.given (used_blocks bs)))
               ∙ ap rooms cells;
         }
 

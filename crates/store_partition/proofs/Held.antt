@@ -20,6 +20,11 @@ use Rattle.store_partition.proofs.Lists.{nothing, once_by, single, added, list_o
 use Rattle.store_partition.proofs.Cells.{one_or_none}
 use Rattle.circular_log.proofs.SpeltItem.{spelt_item}
 use Rattle.partition_model.specs.StoreStep as ss
+use Rattle.partition_model.specs.Rooms.{keeps}
+use Rattle.std.proofs.lemmas.Bool.{and_left, lt-leb}
+use Rattle.std.proofs.lemmas.Bool.Decides.{nat_tests}
+use Rattle.mica_words.specs.Item.{largest_item}
+use Rattle.std.specs.Prelude.{nat_le, ◌*◌}
 
 -- an owner's state, with the index and the blocks that go with it
 pub record Held : Type 0 where
@@ -41,6 +46,10 @@ pub record IsOther (h : Held) (key : List ℕ) (c x : ℕ) : Type 0 where
   pub cell : Cell
   pub spells : Spells h.o c x own cell
   pub differs : own ≢ key
+
+-- no other key's item lies where one of these blocks begins
+abbrev pub AreOwn : Held → List ℕ → List Block → Type 0
+AreOwn h key blocks = (y : Block) → Contains blocks y → (c x : ℕ) → IsOther h key c x → y.place ≢ entry_offset x
 
 pub main_at : (o : OwnerState) → Kept o → (key : List ℕ) (b : ℕ) → b ≡ bucket_in o key → IsMain o.shape b
 main_at o s key b here = subst (IsMain o.shape) (sym here) (main_of o s key)
@@ -309,6 +318,16 @@ pub already : (h : Held) (key value : List ℕ) (b : ℕ) (spot : Spot) → Know
     → IsOwnerStep h.o h.o (write_of Add key value) Exists
 already h key value b spot k unworn = refused_step h.o h.parts.idle (write_of Add key value) Exists refl
     (may_give h (write_of Add key value) Exists (not_worn h unworn, (refl, subst IsSome (sym k.has) refl)))
+
+-- an item keeps no room that it does not fit, and fits the one that it keeps; one that it fits and does not keep is longer
+pub not_kept : (size room : ℕ) → room < size → keeps size room ≡ false
+not_kept size room short = and_left (nat_le size room) (nat_le room (2 * size + largest_item)) (lt-leb size room short)
+
+pub fits_kept : (size room : ℕ) → keeps size room ≡ true → size ≤ room
+fits_kept size room is = grind (arith, nat_tests, common_steps)
+
+pub is_longer : (size room : ℕ) → size ≤ room → keeps size room ≡ false → size < room
+is_longer size room fits not = grind (arith, nat_tests, common_steps)
 
 -- a test that tells where a number is reached tells where it is not
 pub not_reached : (most n : ℕ) (test : Bool) → (most ≤ n → test ≡ true) → test ≡ false → n < most

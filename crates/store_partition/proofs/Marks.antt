@@ -17,10 +17,10 @@ use Rattle.store_partition.proofs.Words.{◌+◌, ◌<◌, ◌^◌, ◌∙◌, �
 use Rattle.store_partition.proofs.Lists.{Gave, Heap, heap_gives, heap_kept, nothing, single}
 use Rattle.store_partition.proofs.Lists.{swap_moved}
 use Rattle.store_partition.proofs.Cells.{left, none_left, one_or_none}
-use Rattle.store_partition.proofs.Held.{Held, Known, Split, has_none, known, m, not_worn, split_none}
+use Rattle.store_partition.proofs.Held.{AreOwn, Held, Known, Split, has_none, known, m, not_worn, split_none}
 use Rattle.store_partition.proofs.Events.{Closes, Opens, accepts, main, marked_at, marked_base, may_open, now, number_in, number_is}
 use Rattle.store_partition.proofs.Events.{finished, later, same_chain}
-use Rattle.store_partition.proofs.Puts.{freed_one}
+use Rattle.store_partition.proofs.Puts.{its_own}
 
 -- Of a delete once the item's block is given back,
 pub record DelKnown (o : OwnerState) (index : Index) (blocks : List Block) (w : Write) (b t : ℕ) (spot : Spot) (old : ℕ) : Type 0 where
@@ -47,8 +47,8 @@ no_value op other = grind (arith, common_steps)
 
 module _ (h : Held) (key : List ℕ) (fits : KeyFits key) (bytes : AreBytes key) (unworn : length h.o.history < h.o.shape.wear)
     (n : ℕ) (counted : n ≡ length h.o.history) (b : ℕ) (here : b ≡ bucket_in h.o key) where
-  abbrev kept_list : Heap h.o.shape.words h.blocks h.blocks [] [] (λ bs. bs ≡ h.blocks)
-  kept_list = heap_kept h.o.shape.words h.blocks h.blocks [] h.parts.list (IsPermutation-refl (used_blocks h.blocks))
+  abbrev kept_list : Heap h.o.shape.words h.blocks h.blocks [] [] [] (λ bs. bs ≡ h.blocks)
+  kept_list = heap_kept h.o.shape.words h.blocks h.blocks [] [] h.parts.list (IsPermutation-refl (used_blocks h.blocks))
 
   module _ (op : Op) (other : ¬ (GivesValue op)) (outcome : Outcome) (accepted : is_accepted outcome ≡ true)
       (allowed : Allows (options_in h.o) (store_state (m h)) (write_of op key []) outcome) where
@@ -58,7 +58,7 @@ module _ (h : Held) (key : List ℕ) (fits : KeyFits key) (bytes : AreBytes key)
     -- leaves nothing of the key, where the machine has nothing of it then
     none_closes : get (later h d) key ≡ None → (o2 o4 : OwnerState) → o2 ≡ marked_in_bucket h.o b d.w d.t → (ys : List ℕ) → ChangesChain o2 o4 b ys → Kept o4 → (index : Index) → IsIndexOf index o4
         → (own rest : List ℕ) → Split h key b own rest → IsPermutation ys rest → (given : List Block) (Becomes : List Block → Type 0)
-        → Heap h.o.shape.words h.blocks h.blocks [] given Becomes → ((y : Block) → Contains given y → (x : ℕ) × Contains own x × (y.place ≡ entry_offset x))
+        → Heap h.o.shape.words h.blocks h.blocks [] [] given Becomes → AreOwn h key given
         → length own ≡ length given → room_of (get (m h).cells key) ≡ words_of given → Closes h.o d.w outcome b d.t index Becomes o4
     none_closes gone o2 o4 at ys change kept index known own rest split lists given Becomes heap freed count total =
         finished h d b here o2 o4 (marked_base h d b here o2 at) ys change kept index known h.blocks Becomes (λ words change kept. record {
@@ -66,6 +66,7 @@ module _ (h : Held) (key : List ℕ) (fits : KeyFits key) (bytes : AreBytes key)
           rest = rest;
           news = [];
           taken = [];
+          lost = [];
           given = given;
           split = split;
           lists = lists;
@@ -74,6 +75,7 @@ module _ (h : Held) (key : List ℕ) (fits : KeyFits key) (bytes : AreBytes key)
           spells = λ x has. nothing x has;
           heap = heap;
           housed = λ x has. nothing x has;
+          parted = λ y gone. nothing y gone;
           freed = freed;
           apart = λ y gone x has. nothing x has;
           count = omega (arith, count);
@@ -103,6 +105,7 @@ module _ (h : Held) (key : List ℕ) (fits : KeyFits key) (bytes : AreBytes key)
             rest = beside;
             news = e ∷ [];
             taken = [];
+            lost = [];
             given = [];
             split = k.split beside moved;
             lists = subst (λ xs. IsPermutation xs (e ∷ beside)) (sym (z.entries b (main h d b here))) moved;
@@ -116,10 +119,11 @@ module _ (h : Held) (key : List ℕ) (fits : KeyFits key) (bytes : AreBytes key)
             heap = kept_list;
             housed = λ x new.
                 grind (arith, common_steps, written h.o d words, single e x new, new, room_same h.o d words e (own_words words change) (let some = k.some in let same = k.room in omega arith), own_words words change);
+            parted = λ y gone. nothing y gone;
             freed = λ y gone. nothing y gone;
             apart = λ y gone. nothing y gone;
             count = refl;
-            total = ap (λ o. words_of [] + room_of o) (k.has ∙ sym has);
+            total = let same = ap room_of (k.has ∙ sym has) in omega (arith, same);
           })
 
   pub known_gone : (spot : Spot) → Known h key b spot → (old : ℕ) → old ≡ entry_offset (spot_entry h.o spot) → DelKnown h.o h.index h.blocks (write_of Del key []) b (n + 1) spot old
@@ -142,8 +146,8 @@ module _ (h : Held) (key : List ℕ) (fits : KeyFits key) (bytes : AreBytes key)
             none_closes Del none Deleted refl allowed (left (m h) a.w) o2 o4 events rest change kept index known (e ∷ []) rest
             (k.split rest (subst (λ ys. IsPermutation ys (e ∷ rest)) (z.entries b (main h a b here)) moved)) (IsPermutation-refl rest)
             (used_block old k.cell.room ∷ []) (Gave h.blocks old)
-            (heap_gives h.o.shape.words h.blocks h.blocks [] h.parts.list (IsPermutation-refl (used_blocks h.blocks)) old k.cell.room k.some its)
-            (freed_one old k.cell.room e old_is) refl (let had = ap room_of k.has in omega arith);
+            (heap_gives h.o.shape.words h.blocks h.blocks [] [] h.parts.list (IsPermutation-refl (used_blocks h.blocks)) old k.cell.room k.some its)
+            (its_own h key b spot k old k.cell.room old_is) refl (let had = ap room_of k.has in omega arith);
         small = let low = k.small in omega (arith, old_is);
         gives = record { size = k.cell.room; among = its };
       }

@@ -22,7 +22,8 @@ pub use Rattle.std.specs.Bool.{Decides}
 pub use Rattle.std.specs.Prelude.{IsSome, IsSomeAnd, MatchOption, remove as list_remove, slice_set, swap_remove, ◌&&◌}
 pub use Rattle.std.proofs.lemmas.Bool.{cond-false, cond-true, le-leb, leb-false, leb-true, lt-leb}
 pub use Rattle.std.proofs.lemmas.List.{set_split}
-pub use Rattle.std.proofs.lemmas.List.Sorted.{IsPermutation-middle, IsPermutation-remove, IsPermutation-swap_remove, IsPermutation-to_front}
+pub use Rattle.std.proofs.lemmas.List.Sorted.{IsPermutation-append_right, IsPermutation-cons, IsPermutation-middle, IsPermutation-remove}
+pub use Rattle.std.proofs.lemmas.List.Sorted.{IsPermutation-swap_remove, IsPermutation-to_front, IsPermutation-trans}
 pub use Rattle.std.proofs.lemmas.List.Sorted.{length_permutation, sum_by-IsPermutation, sum_by_popped}
 pub use Rattle.std.proofs.lemmas.Option.{same_Some}
 pub use Rattle.std.specs.Cmp.{eq_by_cmp_equiv}
@@ -74,9 +75,11 @@ pub use Rattle.partition_words.specs.declared.state.OwnerState.{OwnerState}
 pub use Rattle.partition_words.specs.declared.state.Phase.TheVariants.{Marked}
 pub use Rattle.block_heap.proofs.Counting.{words_parted}
 pub use Rattle.block_heap.proofs.Order.{back_fills, coalesced_once, fills_once, words_of-append, words_of-fills}
-pub use Rattle.block_heap.proofs.UsedBlocks.{AddsBlock, block_within, same_or_apart, taken_apart, taken_within, used_blocks-given, used_blocks-taken}
-pub use Rattle.block_heap.specs.Blocks.{Fills, HasUsed, IsBlockList, IsCoalesced, MayLack, free_block, used_block, used_blocks, words_of}
-pub use Rattle.block_heap.specs.Changes.{IsGiven, IsTaken}
+pub use Rattle.block_heap.proofs.Parting.{has_rest}
+pub use Rattle.block_heap.proofs.UsedBlocks.{AddsBlock, block_within, same_or_apart, same_size, taken_apart, taken_within, used_blocks-given, used_blocks-parted}
+pub use Rattle.block_heap.proofs.UsedBlocks.{used_blocks-taken}
+pub use Rattle.block_heap.specs.Blocks.{Fills, HasLonger, HasUsed, IsBlockList, IsCoalesced, MayLack, free_block, used_block, used_blocks, words_of}
+pub use Rattle.block_heap.specs.Changes.{IsGiven, IsParted, IsTaken}
 pub use Rattle.block_heap.specs.declared.block.Block.{Block}
 pub use Rattle.circular_log.specs.LogItem.{HasItem, IsItem, IsValueAt}
 pub use Rattle.chained_index.proofs.Chained.{all_on, chain_inside, chained}

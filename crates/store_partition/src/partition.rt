@@ -1,10 +1,11 @@
 //! The partition in store mode, and its calls.
-ghost use Rattle.std.specs.Prelude.{◌≡◌, ◌+◌, ◌<◌, ◌≤◌, ◌↔◌, [], Some, None, IsTrue, IfOk, MatchOption, length};
+ghost use Rattle.std.specs.Prelude.{◌≡◌, ◌+◌, ◌<◌, ◌≤◌, ◌↔◌, [], Some, None, true, false, IsTrue, IfOk, MatchOption, length};
 ghost use Rattle.mica_words.specs.Hash.{fnv1a};
 ghost use Rattle.mica_words.specs.Item.{KeyFits, StoredFits, item_size as item_size_of};
 ghost use Rattle.mica_words.specs.Entry.{entry_offset as entry_offset_of};
 ghost use Rattle.partition_model.specs.declared.options.Mode.TheVariants.{Store};
 ghost use Rattle.partition_model.specs.declared.write.Op.TheVariants.{Put, Add, Touch, Del};
+ghost use Rattle.partition_model.specs.Rooms.{keeps as keeps_room};
 ghost use Rattle.partition_model.specs.Write.{GivesValue, write_of};
 ghost use Rattle.partition_model.specs.History.{stamp_of};
 ghost use Rattle.partition_words.specs.declared.state.Phase.TheVariants.{Idle};
@@ -23,7 +24,7 @@ use block_heap::Heap;
 use chained_index::{ChainedIndex, Spot};
 use mica_words::{item_size, tag_of};
 use outside::NoMemory;
-use partition_model::{Answer, ItemBuf, Op, Outcome};
+use partition_model::{Answer, ItemBuf, Op, Outcome, keeps};
 use partition_words::{
     LendPartition, LendWords, OwnerWords, Partition, rewrite_item, write_item_hashed,
 };
@@ -76,7 +77,7 @@ impl<W: OwnerWords> StorePartition<W> {
         self.words.shape().wear <= self.accepted
     }
 
-    // A put of a key that has an item, whose room is kept where it suffices.
+    // A put of a key that has an item: in its room, which is kept or cut, or in a larger one.
     fn put_known(&mut self, bucket: u32, spot: Spot, key: &[u8], hash: u64, value: &[u8]) -> Outcome
         requires kept { Kept (W.owner self.old.words) }
         requires unworn { length (W.owner self.old.words).history < (W.owner self.old.words).shape.wear }
@@ -91,8 +92,13 @@ impl<W: OwnerWords> StorePartition<W> {
         ensures home { W.home self.new.words ≡ W.home self.old.words }
     {
         let block = block_at(&mut self.words, spot);
-        if item_size(key.len(), value.len()) > block.room {
+        let size = item_size(key.len(), value.len());
+        if size > block.room {
             return self.put_grown(bucket, spot, block.offset, key, hash, value);
+        }
+        if !keeps(size, block.room) {
+            self.put_shrunk(bucket, spot, block, key, value);
+            return Outcome::Stored;
         }
         self.put_in_room(bucket, spot, block, key, value);
         Outcome::Stored
@@ -107,7 +113,7 @@ impl<W: OwnerWords> StorePartition<W> {
         requires sought { IsSought (W.owner self.old.words) key.now bucket (Some spot) }
         requires offset { block.offset ≡ entry_offset_of (spot_entry (W.owner self.old.words) spot) }
         requires room { block.room ≡ room_in (W.owner self.old.words) (spot_entry (W.owner self.old.words) spot) }
-        requires fits { item_size_of key.now value.now ≤ block.room }
+        requires stays { keeps_room (item_size_of key.now value.now) block.room ≡ true }
         ensures step { IsOwnerStep (W.owner self.old.words) (W.owner self.new.words)
             (write_of Put key.entry.now value.entry.now) Outcome.Stored }
         ensures home { W.home self.new.words ≡ W.home self.old.words }
@@ -116,6 +122,32 @@ impl<W: OwnerWords> StorePartition<W> {
         begin_marked(&mut self.words, bucket, Op::Put, key, value, stamp);
         rewrite_item(&mut self.words, block.offset, block.room, key, value);
         self.words.end_write(bucket);
+        self.accepted = stamp;
+    }
+
+    // The put writes its item into the first words of its key's room, and gives the others back.
+    fn put_shrunk(&mut self, bucket: u32, spot: Spot, block: Block, key: &[u8], value: &[u8])
+        requires kept { Kept (W.owner self.old.words) }
+        requires unworn { length (W.owner self.old.words).history < (W.owner self.old.words).shape.wear }
+        requires key { KeyFits key.now }
+        requires value { StoredFits value.now }
+        requires sought { IsSought (W.owner self.old.words) key.now bucket (Some spot) }
+        requires offset { block.offset ≡ entry_offset_of (spot_entry (W.owner self.old.words) spot) }
+        requires room { block.room ≡ room_in (W.owner self.old.words) (spot_entry (W.owner self.old.words) spot) }
+        requires fits { item_size_of key.now value.now ≤ block.room }
+        requires cut { keeps_room (item_size_of key.now value.now) block.room ≡ false }
+        ensures step { IsOwnerStep (W.owner self.old.words) (W.owner self.new.words)
+            (write_of Put key.entry.now value.entry.now) Outcome.Stored }
+        ensures home { W.home self.new.words ≡ W.home self.old.words }
+    {
+        let size = item_size(key.len(), value.len());
+        let place = block.offset as u32;
+        self.heap.part(place, size);
+        let stamp = self.accepted + 1;
+        begin_marked(&mut self.words, bucket, Op::Put, key, value, stamp);
+        rewrite_item(&mut self.words, block.offset, size, key, value);
+        self.words.end_write(bucket);
+        self.heap.give(place + size);
         self.accepted = stamp;
     }
 

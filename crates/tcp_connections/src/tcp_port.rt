@@ -3,7 +3,7 @@ ghost use Rattle.std.specs.Prelude.{◌<◌, ◌≤◌, length, IfOk};
 ghost use Rattle.connections.specs.Calls.{FitsRoom};
 
 use crate::patience::Patience;
-use connections::{Broken, Event, Input};
+use connections::{Broken, Event, Input, Place};
 use mio::event::Events;
 use mio::net::{TcpListener, TcpStream};
 use mio::{Interest, Poll, Token};
@@ -11,7 +11,7 @@ use slab::Slab;
 use std::alloc::Global;
 use std::io::{self, ErrorKind, Read, Write};
 use std::mem;
-use std::net::{Ipv4Addr, Net as Sockets, Shutdown, SocketAddr};
+use std::net::{Net as Sockets, Shutdown, SocketAddr};
 use std::sync::atomic::{AtomicBool, Ordering};
 use std::time::Duration;
 
@@ -24,7 +24,7 @@ const MOST_EVENTS: usize = 1_024;
 /// How long to wait before the system is asked again for a connection that it refused.
 const PAUSE_MILLIS: u64 = 100;
 
-/// How long a port waits before it looks whether another one has failed.
+/// How long a port waits before it looks whether another one has failed, or whether it is to stop.
 const LOOK_SECONDS: u64 = 1;
 
 /// How many bytes that nobody reads any more are dropped before a close, so that the replies before it are not lost to a reset.
@@ -32,6 +32,9 @@ const MOST_DROPPED: usize = 64 * 1_024;
 
 /// So many of them are dropped at once.
 const SCRATCH_LEN: usize = 4_096;
+
+/// What a connection is told that is turned away.
+const TOO_MANY: &[u8] = b"ERROR Too many open connections\r\n";
 
 /// How often a read or a write that was interrupted is tried. A socket that never blocks is hardly interrupted at all.
 const MOST_TRIES: u32 = 64;
@@ -56,12 +59,12 @@ enum Accepting {
     Refused,
 }
 
-/// A TCP port and its connections, at most so many at a time: more wait to be accepted.
+/// A TCP port and its connections, at most so many at a time: more are turned away.
 #[derive(Drop)]
 pub(crate) struct TcpPort<'a> {
     most: usize,
-    /// Tells whether a port has failed, where ports fail together.
-    has_failed: Option<&'a AtomicBool>,
+    /// Whether a port has failed: all fail together.
+    has_failed: &'a AtomicBool,
     poll: Poll,
     events: Events,
     listener: TcpListener,
@@ -149,6 +152,16 @@ fn write_to(stream: &TcpStream, piece: &[u8]) -> Result<usize, Broken>
     Err(Broken)
 }
 
+/// A connection at which nothing was read yet.
+fn new_slot(stream: TcpStream) -> Slot {
+    Slot {
+        stream,
+        may_read: false,
+        half_closed: false,
+        queued: false,
+    }
+}
+
 /// Says that nothing more will be sent, and drops what the peer sent and nobody reads, up to a bound: a close with bytes unread loses replies.
 fn drop_unread(slot: &mut Slot) {
     let _unheeded = slot.stream.shutdown(Shutdown::Write);
@@ -161,19 +174,25 @@ fn drop_unread(slot: &mut Slot) {
     }
 }
 
+/// Tells a connection that there are too many, and lets it go. What it is told may get lost.
+fn turn_away(stream: TcpStream) {
+    let _unheeded = write_to(&stream, TOO_MANY);
+    let mut slot = new_slot(stream);
+    drop_unread(&mut slot);
+}
+
 impl<'a> TcpPort<'a> {
-    /// Listens at a port.
+    /// Listens at a place.
     pub(crate) fn open(
         rt: &impl Sockets,
         alloc: Global,
-        address: Ipv4Addr,
-        port: u16,
+        place: Place,
         most: usize,
-        has_failed: Option<&'a AtomicBool>,
+        has_failed: &'a AtomicBool,
     ) -> io::Result<TcpPort<'a>> {
         let poll = Poll::new(rt)?;
         let events = Events::with_capacity(alloc, MOST_EVENTS)?;
-        let mut listener = TcpListener::bind(rt, SocketAddr::from((address, port)))?;
+        let mut listener = TcpListener::bind(rt, SocketAddr::from((place.address, place.port)))?;
         poll.registry()
             .register(&mut listener, LISTENER, Interest::READABLE)?;
         Ok(TcpPort {
@@ -202,13 +221,7 @@ impl<'a> TcpPort<'a> {
         self.round
             .reserve(room.saturating_sub(self.round.len()))
             .ok()?;
-        let slot = Slot {
-            stream,
-            may_read: false,
-            half_closed: false,
-            queued: false,
-        };
-        let number = self.slots.insert(slot).ok()?;
+        let number = self.slots.insert(new_slot(stream)).ok()?;
         let slot = self.slots.get_mut(number)?;
         let both = Interest::READABLE | Interest::WRITABLE;
         let registry = self.poll.registry();
@@ -222,18 +235,13 @@ impl<'a> TcpPort<'a> {
         u32::try_from(number).ok()
     }
 
-    /// Whether there is room for one more connection, and one may wait.
-    fn may_accept(&self) -> bool {
-        self.accepting == Accepting::Ready && self.slots.len() < self.most
-    }
-
-    /// The next connection, where one waits and there is room.
-    fn accept(&mut self) -> Option<u32> {
-        if !self.may_accept() {
+    /// The next connection that waits, where there is one.
+    fn accept(&mut self) -> Option<TcpStream> {
+        if self.accepting != Accepting::Ready {
             return None;
         }
         match self.listener.accept() {
-            Ok((stream, _)) => self.take_in(stream),
+            Ok((stream, _)) => Some(stream),
             Err(error) => {
                 match error.kind() {
                     ErrorKind::WouldBlock => self.accepting = Accepting::Idle,
@@ -245,23 +253,25 @@ impl<'a> TcpPort<'a> {
         }
     }
 
-    /// How long to wait: not at all where something is to be reported or accepted, and not for long where ports fail together.
-    fn timeout(&self) -> Option<Duration> {
-        if !self.queue.is_empty() || self.may_accept() {
-            Some(Duration::ZERO)
-        } else if self.accepting == Accepting::Refused {
-            Some(Duration::from_millis(PAUSE_MILLIS))
-        } else if self.has_failed.is_some() {
-            Some(Duration::from_secs(LOOK_SECONDS))
-        } else {
-            None
+    /// Takes in the next connection that waits, or turns it away where there is no room.
+    fn open_next(&mut self) -> Option<Event> {
+        let stream = self.accept()?;
+        if self.slots.len() >= self.most {
+            turn_away(stream);
+            return Some(Event::TurnedAway);
         }
+        Some(Event::Opened(self.take_in(stream)?))
     }
 
-    /// Whether a port has failed, of those that fail together.
-    fn tells_failure(&self) -> bool {
-        self.has_failed
-            .is_some_and(|told| told.load(Ordering::Relaxed))
+    /// How long to wait: not at all where something is to be reported or accepted, and never for long.
+    fn timeout(&self) -> Duration {
+        if !self.queue.is_empty() || self.accepting == Accepting::Ready {
+            Duration::ZERO
+        } else if self.accepting == Accepting::Refused {
+            Duration::from_millis(PAUSE_MILLIS)
+        } else {
+            Duration::from_secs(LOOK_SECONDS)
+        }
     }
 
     /// Looks for what is ready at once, a few times over, and says whether something is.
@@ -280,16 +290,16 @@ impl<'a> TcpPort<'a> {
     /// Waits until something is ready. Where it may sleep, it looks for more first.
     fn wait(&mut self) -> io::Result<()> {
         let timeout = self.timeout();
-        if timeout != Some(Duration::ZERO) && self.finds_some()? {
+        if timeout != Duration::ZERO && self.finds_some()? {
             return Ok(());
         }
-        self.poll.poll(&mut self.events, timeout)
+        self.poll.poll(&mut self.events, Some(timeout))
     }
 
     /// Asks the system what is ready. All of it is one round of reports, by number: connections that were opened together stand together there, and a thread of a client that has several of them wakes
     /// once for all.
     fn ask(&mut self) -> io::Result<()> {
-        if self.tells_failure() {
+        if self.has_failed.load(Ordering::Relaxed) {
             return Err(ErrorKind::Other.into());
         }
         self.wait()?;
@@ -310,6 +320,20 @@ impl<'a> TcpPort<'a> {
         Some(number)
     }
 
+    /// The next report of those at hand: of this round, and of the next one as far as it is known.
+    pub(crate) fn at_hand(&mut self) -> Option<Event> {
+        let most = self.round.len().saturating_add(self.queue.len());
+        for _ in 0..most {
+            if self.round.is_empty() {
+                mem::swap(&mut self.queue, &mut self.round);
+            }
+            if let Some(number) = self.take_ready() {
+                return Some(Event::Ready(number));
+            }
+        }
+        None
+    }
+
     /// The next report, if there is one at hand or comes with one look: those of a round, and after each round one connection that waits to be accepted.
     pub(crate) fn step(&mut self) -> io::Result<Option<Event>> {
         if !self.round.is_empty() {
@@ -320,21 +344,16 @@ impl<'a> TcpPort<'a> {
         }
         if self.may_open {
             self.may_open = false;
-            return Ok(match self.accept() {
-                Some(number) => Some(Event::Opened(number)),
-                None => None,
-            });
+            return Ok(self.open_next());
         }
         self.ask()?;
         self.may_open = true;
         Ok(None)
     }
 
-    /// The connections there have failed: so those at the other ports fail, where ports fail together.
+    /// The connections there have failed: so those at the other ports fail.
     pub(crate) fn tell_failure(&self) {
-        if let Some(has_failed) = self.has_failed {
-            has_failed.store(true, Ordering::Relaxed);
-        }
+        self.has_failed.store(true, Ordering::Relaxed);
     }
 
     /// Reads from a connection, where there may be more.

@@ -7,7 +7,7 @@ use mica_words::{
     tag_of, tail_of, unpack, value_fits,
 };
 use outside::NoMemory;
-use partition_model::has_room;
+use partition_model::{has_room, keeps};
 use size_classes::{class_of, fine_class_of};
 use std::alloc::Global;
 
@@ -79,6 +79,12 @@ fn size(key_len: u64, value_len: u64) -> Option<u64> {
     Some(u64::from(item_size(key_len, value_len)))
 }
 
+fn kept(size: u64, room: u64) -> Option<u64> {
+    let size = u32::try_from(size).ok()?;
+    let room = u32::try_from(room).ok()?;
+    Some(u64::from(keeps(size, room)))
+}
+
 fn header(room: u64, key_len: u64, value_len: u64) -> Option<u64> {
     let room = u32::try_from(room).ok()?;
     let key_len = u32::from(u16::try_from(key_len).ok()?);
@@ -103,6 +109,7 @@ fn result_of(alloc: Global, line: &str) -> Result<Option<u64>, NoMemory> {
         [x, y] => match name {
             "entry_of" => entry(*x, *y),
             "item_size" => size(*x, *y),
+            "keeps" => kept(*x, *y),
             _ => place_of(name, *x, *y),
         },
         [x, y, z] => header(*x, *y, *z),

@@ -19,7 +19,7 @@ pub loop-count-init : goal.loop-count-init
 loop-count-init g c =
     let F = g.F.Front in record {
       answers = [];
-      first = none_yet (F.options c.args.front.now) F.is_alone c.args.base c.args.asks.now (F.sessions c.args.front.now) (g.C.Clock.view c.args.clock.now);
+      first = none_yet (F.options c.args.front.now) F.is_alone c.args.base c.args.second c.args.asks.now (F.sessions c.args.front.now);
       many = refl;
       left_is = refl;
       fit = c.requires.fit;
@@ -42,13 +42,13 @@ module _ (g : given.Over) (c : After-answer_ask g) where
   here : drop (length c.loop-count.invariant.answers) asks ≡ c.in-Some.asked ∷ c.next_asked.new.self
   here = ap (λ n. drop n asks) (sym c.loop-count.invariant.many) ∙ sym c.loop-count.invariant.left_is ∙ c.in-Some.ensures
 
-  first : (a : Answered) → AnswersAt (g.F.Front.options c.loop-count.front) g.F.Front.is_alone c.args.base (g.C.Clock.view c.answer_ask.new.clock).last
+  first : (a : Answered) → AnswersAt (g.F.Front.options c.loop-count.front) g.F.Front.is_alone c.args.base c.args.second
       (g.F.Front.sessions c.loop-count.front) c.in-Some.asked (g.F.Front.sessions c.answer_ask.new.front) a
-      → AnswersFirst (g.F.Front.options c.args.front.now) g.F.Front.is_alone c.args.base asks (g.F.Front.sessions c.args.front.now) (g.C.Clock.view c.args.clock.now)
-      (g.F.Front.sessions c.answer_ask.new.front) (g.C.Clock.view c.answer_ask.new.clock) (c.loop-count.invariant.answers ++ a ∷ [])
+      → AnswersFirst (g.F.Front.options c.args.front.now) g.F.Front.is_alone c.args.base c.args.second asks (g.F.Front.sessions c.args.front.now)
+      (g.F.Front.sessions c.answer_ask.new.front) (c.loop-count.invariant.answers ++ a ∷ [])
   first a at =
-      one_more a c.loop-count.invariant.first here c.answer_ask.ensures.read
-      (subst (λ (o : Options). AnswersAt o g.F.Front.is_alone c.args.base (g.C.Clock.view c.answer_ask.new.clock).last (g.F.Front.sessions c.loop-count.front) c.in-Some.asked
+      one_more a c.loop-count.invariant.first here
+      (subst (λ (o : Options). AnswersAt o g.F.Front.is_alone c.args.base c.args.second (g.F.Front.sessions c.loop-count.front) c.in-Some.asked
       (g.F.Front.sessions c.answer_ask.new.front) a) c.loop-count.invariant.options at)
 
   counts : (a : Answered) → c.answer_ask.new.buffers.tally ≡ tally_after c.args.base c.args.partitions c.in-Some.asked a c.loop-count.buffers.tally

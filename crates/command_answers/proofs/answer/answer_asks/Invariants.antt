@@ -13,8 +13,7 @@ abbrev pub invariant-loop-count : goal.invariant-loop-count
 invariant-loop-count g l =
     let F = g.F.Front in record {
       answers : List Answered;
-      first : AnswersFirst (F.options l.initial.front) F.is_alone l.base l.initial.asks (F.sessions l.initial.front) (g.C.Clock.view l.initial.clock)
-          (F.sessions l.front) (g.C.Clock.view l.clock) answers;
+      first : AnswersFirst (F.options l.initial.front) F.is_alone l.base l.second l.initial.asks (F.sessions l.initial.front) (F.sessions l.front) answers;
       many : l.count ≡ length answers;
       left_is : l.asks ≡ drop l.count l.initial.asks;
       fit : AllByRecursion IsFitAsked l.asks;

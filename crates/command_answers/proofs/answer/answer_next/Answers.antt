@@ -5,7 +5,6 @@ use Rattle.std.specs.declared.result.Result.TheVariants.{Ok, Err}
 use Rattle.std.proofs.lemmas.List.{length-drop}
 use Rattle.fronts.specs.Answered.{Answered}
 use Rattle.memcached_text.specs.declared.next.Next.{Next}
-use Rattle.memcached_text.specs.Lifetimes.{IsDue}
 use Rattle.memcached_commands.specs.declared.asks.Asked.{Asked}
 use Rattle.memcached_commands.specs.Asks.{asks_in}
 use Rattle.memcached_commands.specs.Answers.{unless_quiet}
@@ -20,7 +19,7 @@ use Rattle.memcached_stats.specs.Stats.{stats_text}
 use Rattle.memcached_stats.specs.Tallies.{counted}
 use Rattle.command_answers.specs.Counting.{tally_after_all}
 use Rattle.memcached_stats.proofs.Untold.{untold}
-use Rattle.command_answers.proofs.ExchangeLaws.{of_stats, fit_due, flush_goes, flush_replies, plain_goes, plain_replies, asks_go, asks_reply, is_below}
+use Rattle.command_answers.proofs.ExchangeLaws.{of_stats, flush_goes, flush_replies, plain_goes, plain_replies, asks_go, asks_reply, is_below}
 use Rattle.command_answers.proofs.Counting.{counted_flush, counted_keyed, counted_plain}
 use Rattle.command_answers.proofs.answer.answer_next.Goals as goal
 
@@ -31,32 +30,27 @@ if_ok P Q (Err e) then is = is
 abbrev progress_of : ℕ → Bool → Progress
 progress_of done whole = record { done = done; is_whole = whole }
 
-pub answer_flush-requires-clause-due : goal.answer_flush-requires-clause-due
-answer_flush-requires-clause-due g c = subst IsDue (sym c.flush_due.ensures) (fit_due c.args.next c.requires.fit)
-
 pub returns-then-is_flush_all-clause-answered : goal.returns-then-is_flush_all-clause-answered
 returns-then-is_flush_all-clause-answered g c =
     let F = g.F.Front in
     let options = F.options c.args.front.now in
     let old = F.sessions c.args.front.now in
     let new = F.sessions c.answer_flush.new.front in
-    let told = g.C.Clock.view c.args.clock.now in
     let next = c.args.next in
     let done = c.args.done in
     let flushes : is_flush_all next ≡ true = sym c.is_flush_all.ensures ∙ c.if-is_flush_all.true in
-    let tells = g.C.Clock.view c.answer_flush.new.clock in
     let r = c.answer_flush.ensures.flushed in
-    let asked : (second : ℕ) × FlushesFrom options (flush_at second (flush_due next)) 0 r.0 = (r.3.0, subst (λ due. FlushesFrom options (flush_at r.3.0 due) 0 r.0) c.flush_due.ensures r.3.1) in (
+    let asked = subst (λ due. FlushesFrom options (flush_at c.args.second due) 0 r.0) c.flush_due.ensures r.2 in (
       r.0,
-      flush_goes options F.is_alone c.args.numbering.base next done c.requires.open old new told tells flushes r.0 asked r.1 r.2,
+      flush_goes options F.is_alone c.args.numbering.base c.args.second next done c.requires.open old new flushes r.0 asked r.1,
       if_ok _ (Replies options c.args.numbering.base next done c.args.limits r.0 c.args.out.now.items c.answer_flush.new.out.items) c.answer_flush.result
-          (λ progress all. flush_replies options F.is_alone c.args.numbering.base next done c.requires.open old new told tells flushes r.0 asked c.args.limits c.args.out.now.items
-          c.answer_flush.new.out.items progress (r.4 ∙ c.requires.partitions) (all.0 ∙ ap (λ n. progress_of n true) c.requires.partitions)
-          (all.1 ∙ ap (λ q. c.args.out.now.items ++ unless_quiet q (flush_text true r.0)) (c.is_quiet-quiet.ensures ∙ ap quiet_of c.style_of-style.ensures))) r.5,
-      r.6,
+          (λ progress all. flush_replies options F.is_alone c.args.numbering.base c.args.second next done c.requires.open old new flushes r.0 asked c.args.limits c.args.out.now.items
+          c.answer_flush.new.out.items progress (r.3 ∙ c.requires.partitions) (all.0 ∙ ap (λ n. progress_of n true) c.requires.partitions)
+          (all.1 ∙ ap (λ q. c.args.out.now.items ++ unless_quiet q (flush_text true r.0)) (c.is_quiet-quiet.ensures ∙ ap quiet_of c.style_of-style.ensures))) r.4,
+      r.5,
       c.count.ensures ∙ ap (λ k. counted k c.args.buffers.now.tally) c.counter_by.ensures
           ∙ sym (counted_flush c.args.numbering.base c.args.numbering.partitions next done r.0 c.args.buffers.now.tally flushes),
-      omega (arith, r.4),
+      omega (arith, r.3),
     )
 
 pub returns-then-is_stats-clause-answered : goal.returns-then-is_stats-clause-answered
@@ -64,16 +58,15 @@ returns-then-is_stats-clause-answered g c =
     let F = g.F.Front in
     let options = F.options c.args.front.now in
     let old = F.sessions c.args.front.now in
-    let last = g.C.Clock.view c.args.clock.now in
     let next = c.args.next in
     let is = of_stats next (sym c.is_stats.ensures ∙ c.if-is_stats.true) in
     let before = c.args.out.now.items in
     let after = c.answer_stats.new.out.items in (
       [],
-      plain_goes options F.is_alone c.args.numbering.base next c.args.done c.requires.open old old last last is.keyed is.none,
+      plain_goes options F.is_alone c.args.numbering.base c.args.second next c.args.done c.requires.open old old is.keyed is.none,
       if_ok _ (Replies options c.args.numbering.base next c.args.done c.args.limits [] before after) c.answer_stats.result
           (λ progress all. subst (Replies options c.args.numbering.base next c.args.done c.args.limits [] before after) (sym all.0)
-          (plain_replies options F.is_alone c.args.numbering.base next c.args.done c.requires.open old old last last is.keyed is.none all.1.0 c.args.limits before after
+          (plain_replies options F.is_alone c.args.numbering.base c.args.second next c.args.done c.requires.open old old is.keyed is.none all.1.0 c.args.limits before after
           (all.1.1 ∙ ap (λ n. before ++ stats_text n all.1.0) c.requires.partitions ∙ ap (λ text. before ++ text) (sym (is.due options.partitions all.1.0)))))
           c.answer_stats.ensures.told,
       omega arith,
@@ -87,15 +80,14 @@ returns-then-is_empty-clause-answered g c =
     let F = g.F.Front in
     let options = F.options c.args.front.now in
     let old = F.sessions c.args.front.now in
-    let told = g.C.Clock.view c.args.clock.now in
     let next = c.args.next in
     let keyed : is_flush_all next ≡ false = sym c.is_flush_all.ensures ∙ c.if-is_flush_all.false in
     let none : asks_in next ≡ [] = sym c.by-asks.ensures.asks ∙ none_left c.by-asks.result (sym c.is_empty.ensures ∙ c.if-is_empty.true) in
     let text = c.in-Ok.ensures.ok ∙ (λ i. c.args.out.now.items ++ unless_quiet ((c.is_quiet-quiet.ensures ∙ ap quiet_of c.style_of-style.ensures) i)
     (c.plain_line-line.ensures.text (sym c.is_stats.ensures ∙ c.if-is_stats.false) options.partitions untold i)) in (
       [],
-      plain_goes options F.is_alone c.args.numbering.base next c.args.done c.requires.open old old told told keyed none,
-      plain_replies options F.is_alone c.args.numbering.base next c.args.done c.requires.open old old told told keyed none untold c.args.limits c.args.out.now.items c.put_line.new.out.items
+      plain_goes options F.is_alone c.args.numbering.base c.args.second next c.args.done c.requires.open old old keyed none,
+      plain_replies options F.is_alone c.args.numbering.base c.args.second next c.args.done c.requires.open old old keyed none untold c.args.limits c.args.out.now.items c.put_line.new.out.items
           text,
       omega arith,
       c.count.ensures ∙ ap (λ k. counted k c.args.buffers.now.tally) c.counter_by.ensures
@@ -108,11 +100,10 @@ returns-in_default-clause-answered g c =
     let F = g.F.Front in
     let options = F.options c.args.front.now in
     let old = F.sessions c.args.front.now in
-    let told = g.C.Clock.view c.args.clock.now in
     let keyed : is_flush_all c.args.next ≡ false = sym c.is_flush_all.ensures ∙ c.if-is_flush_all.false in
     let none : asks_in c.args.next ≡ [] = sym c.by-asks.ensures.asks ∙ none_left c.by-asks.result (sym c.is_empty.ensures ∙ c.if-is_empty.true) in (
       [],
-      plain_goes options F.is_alone c.args.numbering.base c.args.next c.args.done c.requires.open old old told told keyed none,
+      plain_goes options F.is_alone c.args.numbering.base c.args.second c.args.next c.args.done c.requires.open old old keyed none,
       tt,
       omega arith,
       c.count.ensures ∙ ap (λ k. counted k c.args.buffers.now.tally) c.counter_by.ensures
@@ -155,8 +146,6 @@ returns-in-Ok-answer_asks-clause-answered g c =
     let options = F.options c.args.front.now in
     let old = F.sessions c.args.front.now in
     let new = F.sessions c.answer_asks.new.front in
-    let told = g.C.Clock.view c.args.clock.now in
-    let tells = g.C.Clock.view c.answer_asks.new.clock in
     let next = c.args.next in
     let done = c.args.done in
     let base = c.args.numbering.base in
@@ -168,13 +157,13 @@ returns-in-Ok-answer_asks-clause-answered g c =
     let asks_are : c.skip.new.asks ≡ drop done (asks_in next) = c.skip.ensures ∙ ap (drop done) c.by-asks.ensures.asks in
     let some = some_asked next c.by-asks.result c.by-asks.ensures.asks done c.requires.open (sym c.is_empty.ensures ∙ c.if-is_empty.false) in
     let r = c.in-Ok-answer_asks.ensures.answered in
-    let first = subst (λ (l : List Asked). AnswersFirst options F.is_alone base l old told new tells r.0) asks_are r.1 in
+    let first = subst (λ (l : List Asked). AnswersFirst options F.is_alone base c.args.second l old new r.0) asks_are r.1 in
     let said = subst (λ (l : List Asked). RepliesFirst base c.style_of-style.result l c.args.limits r.0 before after count left) asks_are r.2 in
     let replies = subst (λ (s : Style). RepliesFirst base s (drop done (asks_in next)) c.args.limits r.0 before after count left) c.style_of-style.ensures said in (
       r.0,
-      asks_go options F.is_alone base next done c.requires.open old new told tells keyed r.0 first,
+      asks_go options F.is_alone base c.args.second next done c.requires.open old new keyed r.0 first,
       subst (λ (w : Bool). Replies options base next done c.args.limits r.0 before after (progress_of (done + count) w)) (sym c.is_empty-in-Ok-answer_asks.ensures)
-          (asks_reply options F.is_alone base next done c.requires.open old new told tells keyed r.0 c.args.limits before after count left some first.to_asks replies),
+          (asks_reply options F.is_alone base c.args.second next done c.requires.open old new keyed r.0 c.args.limits before after count left some first.to_asks replies),
       r.3,
       r.4 ∙ (λ i. tally_after_all c.args.numbering.base c.args.numbering.partitions (asks_are i) r.0
           ((c.count.ensures ∙ ap (λ k. counted k c.args.buffers.now.tally) c.counter_by.ensures) i))
@@ -188,14 +177,12 @@ returns-in-Err-clause-answered g c =
     let options = F.options c.args.front.now in
     let old = F.sessions c.args.front.now in
     let new = F.sessions c.answer_asks.new.front in
-    let told = g.C.Clock.view c.args.clock.now in
-    let tells = g.C.Clock.view c.answer_asks.new.clock in
     let keyed : is_flush_all c.args.next ≡ false = sym c.is_flush_all.ensures ∙ c.if-is_flush_all.false in
     let asks_are : c.skip.new.asks ≡ drop c.args.done (asks_in c.args.next) = c.skip.ensures ∙ ap (drop c.args.done) c.by-asks.ensures.asks in
     let r = c.answer_asks.ensures.answered in
-    let first = subst (λ (l : List Asked). AnswersFirst options F.is_alone c.args.numbering.base l old told new tells r.0) asks_are r.1 in (
+    let first = subst (λ (l : List Asked). AnswersFirst options F.is_alone c.args.numbering.base c.args.second l old new r.0) asks_are r.1 in (
       r.0,
-      asks_go options F.is_alone c.args.numbering.base c.args.next c.args.done c.requires.open old new told tells keyed r.0 first,
+      asks_go options F.is_alone c.args.numbering.base c.args.second c.args.next c.args.done c.requires.open old new keyed r.0 first,
       tt,
       r.3,
       r.4 ∙ (λ i. tally_after_all c.args.numbering.base c.args.numbering.partitions (asks_are i) r.0

@@ -1,7 +1,6 @@
 use Rattle.std.proofs.Common.{◌≡◌, ◌∷◌, ◌++◌, ℕ, List, [], length, sym, ap, ◌∙◌, subst, arith}
 use Rattle.std.specs.Prelude.{option_copied}
 use Rattle.std.proofs.lemmas.Result.{on_ok_weaker}
-use Rattle.outside.specs.Seconds.{ClockView}
 use Rattle.mica_words.specs.Hash.{partition_of}
 use Rattle.memcached_commands.specs.declared.asks.Asked.{Asked}
 use Rattle.memcached_commands.specs.Changes.{looks}
@@ -12,16 +11,9 @@ use Rattle.command_answers.specs.AskAnswers.{order_of, said_of}
 use Rattle.memcached_stats.specs.Counted.{counter_of}
 use Rattle.memcached_stats.specs.Tallies.{counted}
 use Rattle.command_answers.specs.Counting.{noted_if}
-use Rattle.command_answers.specs.Going.{AnswersAt, ask_text}
-use Rattle.command_answers.specs.Seconds.{ToldFrom}
+use Rattle.command_answers.specs.Going.{ask_text}
 use Rattle.command_answers.proofs.Looking.{IsAnsweredBy, answered_by}
 use Rattle.command_answers.proofs.ask.answer_ask.Goals as goal
-
-pub returns-clause-read : goal.returns-clause-read
-returns-clause-read g c =
-    let view = g.C.Clock.view in
-    let one = c.second-second.ensures in
-    subst (λ (s : ℕ). ToldFrom (view c.args.clock.now) (s ∷ []) (view c.second-second.new.self)) (sym (ap (λ (v : ClockView). v.last) one.once)) (one.told, one.once)
 
 pub returns-clause-answered : goal.returns-clause-answered
 returns-clause-answered g c =
@@ -30,7 +22,7 @@ returns-clause-answered g c =
     let old = F.sessions c.args.front.now in
     let new = F.sessions c.change-changed.new.self in
     let asked : Asked = c.args.asked.now in
-    let second = c.second-second.result in
+    let second = c.args.second in
     let changed = c.change-changed.result in
     let buffer = c.change-changed.new.found in
     let order = c.new-order.result in
@@ -43,12 +35,11 @@ returns-clause-answered g c =
     let others = subst (λ (k : List ℕ). ChangesOnly (partition_of k options.partitions) old new) c.bytes-key.ensures c.change-changed.ensures.others in
     let by : IsAnsweredBy options F.is_alone c.args.base second asked old new changed buffer =
     answered_by options F.is_alone c.args.base second asked old new changed buffer comes others in
-    let at = subst (λ (s : ℕ). AnswersAt options F.is_alone c.args.base s old asked new by.answered) (sym (ap (λ (v : ClockView). v.last) c.second-second.ensures.once)) by.at in
     let says : c.says-says.result ≡ said_of c.args.base asked by.answered =
     c.says-says.ensures.said ∙ ap (λ (o : Order). says_by o changed.when (option_copied c.value_found-stored.result) changed.outcome) c.new-order.ensures
     ∙ ap (λ v. says_by (order_of c.args.base asked) changed.when v changed.outcome) c.value_found-stored.ensures ∙ by.said in (
       by.answered,
-      at,
+      by.at,
       on_ok_weaker c.put_said.result (λ text.
           text ∙ (λ i. c.args.out.now.items ++ ask_text c.args.style c.args.is_last (c.bytes-key.ensures i) (says i))) c.put_said.ensures.ok,
       (let left = c.change-changed.ensures.left in omega (arith, left, by.count)),

@@ -7,7 +7,7 @@ use Rattle.command_answers.proofs.sweeper.sweep_places.Goals as goal
 pub loop-looked-init : goal.loop-looked-init
 loop-looked-init g c =
     let F = g.F.Front in record {
-      swept = none_swept (F.options c.args.front.now) F.is_alone c.args.numbering.base 0 (F.sessions c.args.front.now) (F.left c.args.front.now) (g.C.Clock.view c.args.clock.now);
+      swept = none_swept (F.options c.args.front.now) F.is_alone c.args.numbering.base c.args.second 0 (F.sessions c.args.front.now) (F.left c.args.front.now);
       few = omega arith;
       left = omega arith;
       options = refl;
@@ -21,9 +21,9 @@ loop-looked-preserved g c =
     let inv = c.loop-looked.invariant in
     let one = c.sweep_place-gone.ensures in
     let left = one.left in
-    let here = subst (λ (o : Options). SweepsBy o F.is_alone c.args.numbering.base 1 (F.sessions c.loop-looked.front) (F.left c.loop-looked.front) (g.C.Clock.view c.loop-looked.clock)
-    (F.sessions c.sweep_place-gone.new.front) (F.left c.sweep_place-gone.new.front) (g.C.Clock.view c.sweep_place-gone.new.clock)) inv.options one.swept in record {
-      swept = swept_then (F.options c.args.front.now) F.is_alone c.args.numbering.base (omega arith) inv.swept here;
+    let here = subst (λ (o : Options). SweepsBy o F.is_alone c.args.numbering.base c.args.second 1 (F.sessions c.loop-looked.front) (F.left c.loop-looked.front)
+    (F.sessions c.sweep_place-gone.new.front) (F.left c.sweep_place-gone.new.front)) inv.options one.swept in record {
+      swept = swept_then (F.options c.args.front.now) F.is_alone c.args.numbering.base c.args.second (omega arith) inv.swept here;
       few = let less = c.loop-looked-test.true in omega (arith, less);
       left = omega (arith, left, inv.left);
       options = one.options ∙ inv.options;

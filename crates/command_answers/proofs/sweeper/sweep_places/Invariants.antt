@@ -5,8 +5,8 @@ use Rattle.command_answers.proofs.sweeper.sweep_places.Given as goal
 abbrev pub invariant-loop-looked : goal.invariant-loop-looked
 invariant-loop-looked g l =
     let F = g.F.Front in record {
-      swept : SweepsBy (F.options l.initial.front) F.is_alone l.numbering.base l.looked (F.sessions l.initial.front) (F.left l.initial.front) (g.C.Clock.view l.initial.clock)
-          (F.sessions l.front) (F.left l.front) (g.C.Clock.view l.clock);
+      swept : SweepsBy (F.options l.initial.front) F.is_alone l.numbering.base l.second l.looked (F.sessions l.initial.front) (F.left l.initial.front)
+          (F.sessions l.front) (F.left l.front);
       few : l.looked ≤ l.most;
       left : F.left l.initial.front ≤ F.left l.front + l.looked;
       options : F.options l.front ≡ F.options l.initial.front;

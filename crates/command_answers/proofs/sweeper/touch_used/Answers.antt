@@ -7,7 +7,7 @@ use Rattle.command_answers.proofs.sweeper.touch_used.Goals as goal
 pub loop-hash-init : goal.loop-hash-init
 loop-hash-init g c =
     let F = g.F.Front in record {
-      swept = λ base told. none_swept (F.options c.args.front.now) F.is_alone base 0 (F.sessions c.args.front.now) (F.left c.args.front.now) told;
+      swept = λ base second. none_swept (F.options c.args.front.now) F.is_alone base second 0 (F.sessions c.args.front.now) (F.left c.args.front.now);
       few = omega arith;
       left = omega arith;
       options = refl;
@@ -22,9 +22,9 @@ loop-hash-preserved g c =
     let one = c.touch_old-touched.ensures in
     let left = one.left in
     let few = one.few in record {
-      swept = λ base told.
-          swept_then (F.options c.args.front.now) F.is_alone base (omega arith) (inv.swept base told)
-          (subst (λ (o : Options). SweepsBy o F.is_alone base 1 (F.sessions c.loop-hash.front) (F.left c.loop-hash.front) told (F.sessions c.touch_old-touched.new.front) (F.left c.touch_old-touched.new.front) told) inv.options (one.swept base told));
+      swept = λ base second.
+          swept_then (F.options c.args.front.now) F.is_alone base second (omega arith) (inv.swept base second)
+          (subst (λ (o : Options). SweepsBy o F.is_alone base second 1 (F.sessions c.loop-hash.front) (F.left c.loop-hash.front) (F.sessions c.touch_old-touched.new.front) (F.left c.touch_old-touched.new.front)) inv.options (one.swept base second));
       few = omega (arith, few, inv.few);
       left = omega (arith, left, inv.left);
       options = one.options ∙ inv.options;
@@ -33,9 +33,9 @@ loop-hash-preserved g c =
     }
 
 pub returns-clause-swept : goal.returns-clause-swept
-returns-clause-swept g c = λ base told.
+returns-clause-swept g c = λ base second.
     let F = g.F.Front in
     let options = F.options c.args.front.now in
     let now = c.loop-hash.front in
-    swept_then options F.is_alone base (omega (arith, c.loop-hash.auto.hash-index-end, c.used-hash-items.ensures)) (c.loop-hash.invariant.swept base told)
-    (none_swept options F.is_alone base 0 (F.sessions now) (F.left now) told)
+    swept_then options F.is_alone base second (omega (arith, c.loop-hash.auto.hash-index-end, c.used-hash-items.ensures)) (c.loop-hash.invariant.swept base second)
+    (none_swept options F.is_alone base second 0 (F.sessions now) (F.left now))

@@ -9,7 +9,7 @@ use Rattle.connection_loop.proofs.answer.answer_one.Goals as goal
 
 pub returns-in_err-progress-clause-talk : goal.returns-in_err-progress-clause-talk
 returns-in_err-progress-clause-talk g c =
-    let options = g.F.Front.options c.args.front.now in
+    let options = g.F.Front.options c.args.hand.now.front in
     let r = c.in_err-progress.ensures.answered in
     let few : length r.0 ≤ most_to_one options = omega (arith, r.5, c.requires.partitions) in
     let is = err_from_is_err_and c.from_residual.result c.from_residual.ensures.1 in (
@@ -17,38 +17,38 @@ returns-in_err-progress-clause-talk g c =
       these_of options g.F.Front.is_alone r.1 r.3,
       (
         few,
-        match_err _ _ c.from_residual.result is.0 is.1 (spoke_of options c.args.numbering.base c.args.bytes.now c.args.done c.said_next-next.result c.said_next-next.ensures.next r.1 c.in_default.not-More
+        match_err _ _ c.from_residual.result is.0 is.1 (spoke_of options c.args.hand.now.numbering.base c.args.bytes.now c.args.done c.said_next-next.result c.said_next-next.ensures.next r.1 c.in_default.not-More
             c.requires.«open»),
       ),
     )
 
 pub returns-in-More-clause-talk : goal.returns-in-More-clause-talk
 returns-in-More-clause-talk g c =
-    let options = g.F.Front.options c.args.front.now in
+    let options = g.F.Front.options c.args.hand.now.front in
     let more = sym c.said_next-next.ensures.next ∙ c.in-More.is in (
       [],
-      these_none options g.F.Front.is_alone (g.F.Front.sessions c.args.front.now) (g.F.Front.left c.args.front.now) (g.K.Clock.view c.args.clock.now),
-      (omega arith, (on_as options c.args.numbering.base (λ received given due r. (r, more)) (on_none options c.args.numbering.base _ c.args.out.now.items), tt)),
+      these_none options g.F.Front.is_alone (g.F.Front.sessions c.args.hand.now.front) (g.F.Front.left c.args.hand.now.front) c.args.hand.now.second c.args.hand.now.second (omega arith),
+      (omega arith, (on_as options c.args.hand.now.numbering.base (λ received given due r. (r, more)) (on_none options c.args.hand.now.numbering.base _ c.args.out.now.items), tt)),
     )
 
 pub returns-then-not-progress-clause-talk : goal.returns-then-not-progress-clause-talk
 returns-then-not-progress-clause-talk g c =
-    let options = g.F.Front.options c.args.front.now in
+    let options = g.F.Front.options c.args.hand.now.front in
     let r = c.in_ok-progress.ensures.answered in
     let few : length r.0 ≤ most_to_one options = omega (arith, r.5, c.requires.partitions) in
-    let on = part_on c.args.bytes.now c.args.done c.said_next-next.result c.said_next-next.ensures.next c.in_default.not-More c.requires.«open» options c.args.numbering.base r.2 (omega arith)
+    let on = part_on c.args.bytes.now c.args.done c.said_next-next.result c.said_next-next.ensures.next c.in_default.not-More c.requires.«open» options c.args.hand.now.numbering.base r.2 (omega arith)
     c.requires.room c.if-not-progress.true in (
       r.0,
       these_of options g.F.Front.is_alone r.1 r.3,
       (
         few,
-        (part_of options c.args.numbering.base c.args.bytes.now c.said_next-next.result c.said_next-next.ensures.next r.1 r.2 c.if-not-progress.true, speaks_more r.2 on.1),
+        (part_of options c.args.hand.now.numbering.base c.args.bytes.now c.said_next-next.result c.said_next-next.ensures.next r.1 r.2 c.if-not-progress.true, speaks_more r.2 on.1),
       ),
     )
 
 pub returns-then-last-clause-talk : goal.returns-then-last-clause-talk
 returns-then-last-clause-talk g c =
-    let options = g.F.Front.options c.args.front.now in
+    let options = g.F.Front.options c.args.hand.now.front in
     let r = c.in_ok-progress.ensures.answered in
     let few : length r.0 ≤ most_to_one options = omega (arith, r.5, c.requires.partitions) in (
       r.0,
@@ -56,7 +56,7 @@ returns-then-last-clause-talk g c =
       (
         few,
         (
-          last_of options c.args.numbering.base c.args.bytes.now c.said_next-next.result c.said_next-next.ensures.next r.1 r.2 c.in_default.not-More
+          last_of options c.args.hand.now.numbering.base c.args.bytes.now c.said_next-next.result c.said_next-next.ensures.next r.1 r.2 c.in_default.not-More
               (sym c.is_last-last.ensures ∙ c.if-last.true),
           tt,
         ),
@@ -65,7 +65,7 @@ returns-then-last-clause-talk g c =
 
 pub returns-else-last-clause-talk : goal.returns-else-last-clause-talk
 returns-else-last-clause-talk g c =
-    let options = g.F.Front.options c.args.front.now in
+    let options = g.F.Front.options c.args.hand.now.front in
     let r = c.in_ok-progress.ensures.answered in
     let few : length r.0 ≤ most_to_one options = omega (arith, r.5, c.requires.partitions) in (
       r.0,
@@ -73,7 +73,7 @@ returns-else-last-clause-talk g c =
       (
         few,
         (
-          whole_of options c.args.numbering.base c.args.bytes.now c.said_next-next.result c.said_next-next.ensures.next r.1 r.2 c.in_default.not-More c.if-not-progress.false
+          whole_of options c.args.hand.now.numbering.base c.args.bytes.now c.said_next-next.result c.said_next-next.ensures.next r.1 r.2 c.in_default.not-More c.if-not-progress.false
               (sym c.is_last-last.ensures ∙ c.if-last.false) c.len_of-len.result c.speaks-spoke.result c.len_of-len.ensures,
           speaks_whole r.2 c.len_of-len.result c.len-before.result c.len.result c.speaks-spoke.result (omega (arith, c.len-before.ensures)) (omega (arith, c.len.ensures))
               c.speaks-spoke.ensures.spoke c.speaks-spoke.ensures.silent,
@@ -83,7 +83,7 @@ returns-else-last-clause-talk g c =
 
 pub returns-then-not-progress-clause-on : goal.returns-then-not-progress-clause-on
 returns-then-not-progress-clause-on g c =
-    part_on c.args.bytes.now c.args.done c.said_next-next.result c.said_next-next.ensures.next c.in_default.not-More c.requires.«open» (g.F.Front.options c.args.front.now) c.args.numbering.base
+    part_on c.args.bytes.now c.args.done c.said_next-next.result c.said_next-next.ensures.next c.in_default.not-More c.requires.«open» (g.F.Front.options c.args.hand.now.front) c.args.hand.now.numbering.base
     c.in_ok-progress.ensures.answered.2 (omega arith) c.requires.room c.if-not-progress.true
 
 pub returns-else-last-clause-on : goal.returns-else-last-clause-on

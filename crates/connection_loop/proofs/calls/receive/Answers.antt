@@ -18,5 +18,5 @@ returns-clause-keeps g c =
 pub returns-clause-open : goal.returns-clause-open
 returns-clause-open g c =
     let log = g.C.Connections.log in
-    received_open c.args.number (c.args.asks + gained c.read.result) (log c.args.connections.now) (log c.read.new.self) c.read.ensures.told
+    received_open c.args.number (c.args.asks + gained c.read.result) (log c.args.connections.now) (log c.read.new.self) c.read.ensures.leaves.told
     (receives c.args.number (length c.args.out.now) c.args.asks c.read.new.out c.read.result (log c.args.connections.now) (log c.read.new.self) c.requires.«open» c.read.ensures.read)

@@ -11,7 +11,7 @@ use Rattle.connection_loop.proofs.calls.send.Goals as goal
 pub loop-sent-init : goal.loop-sent-init
 loop-sent-init g c =
     let log = g.C.Connections.log in
-    (search rules, same_keeps (log c.args.connections.now), c.requires.«open», refl, refl, refl, refl, wrote_none c.args.number c.args.text.now (log c.args.connections.now), omega arith)
+    (search rules, same_keeps (log c.args.connections.now), c.requires.«open», refl, refl, refl, refl, wrote_none c.args.number c.args.text.now (log c.args.connections.now), omega arith, omega arith)
 
 pub returns-in_err-count-clause-sends : goal.returns-in_err-count-clause-sends
 returns-in_err-count-clause-sends g c =
@@ -34,7 +34,7 @@ pub returns-in_err-count-clause-open : goal.returns-in_err-count-clause-open
 returns-in_err-count-clause-open g c =
     let log = g.C.Connections.log in
     let inv = c.loop-sent.invariant in
-    still_open c.args.number c.args.asks (log c.loop-sent.connections) (log c.write.new.self) c.write.ensures.told
+    still_open c.args.number c.args.asks (log c.loop-sent.connections) (log c.write.new.self) c.write.ensures.leaves.told
     (sends c.args.number c.args.asks _ c.write.result (log c.loop-sent.connections) (log c.write.new.self) inv.2 c.write.ensures.written) inv.2
 
 pub loop-sent-preserved : goal.loop-sent-preserved
@@ -46,16 +46,17 @@ loop-sent-preserved g c =
     let fits : c.loop-sent.sent + c.in_ok-count.count ≤ length c.args.text.now = search rules in (
       fits,
       keeps_on (log c.args.connections.now) (log c.loop-sent.connections) (log c.write.new.self) inv.3 inv.1 keeps,
-      still_open c.args.number c.args.asks (log c.loop-sent.connections) (log c.write.new.self) c.write.ensures.told keeps inv.2,
-      c.write.ensures.told ∙ inv.3,
-      c.write.ensures.ended ∙ inv.4,
-      c.write.ensures.faults ∙ inv.5,
-      c.write.ensures.port ∙ inv.6,
+      still_open c.args.number c.args.asks (log c.loop-sent.connections) (log c.write.new.self) c.write.ensures.leaves.told keeps inv.2,
+      c.write.ensures.leaves.told ∙ inv.3,
+      c.write.ensures.leaves.ended ∙ inv.4,
+      c.write.ensures.leaves.no_fault ∙ inv.5,
+      c.write.ensures.leaves.same_share ∙ inv.6,
       on_one c.args.number (WritesMore text c.loop-sent.sent (Ok c.in_ok-count.count)) (SendsFirst text (c.loop-sent.sent + c.in_ok-count.count)) (log c.args.connections.now) (log c.write.new.self)
           (λ d a b w. w.0)
           (wrote_more c.args.number c.args.asks text (take (length text - c.loop-sent.sent) (drop c.loop-sent.sent text)) c.loop-sent.sent (Ok c.in_ok-count.count) (log c.args.connections.now)
           (log c.loop-sent.connections) (log c.write.new.self) (take_rest text c.loop-sent.sent) c.requires.«open» inv.7 c.in_ok-count.ensures.written),
-      (let before = inv.8 in let now = c.write.ensures.no_more in omega (arith, before, now)),
+      (let before = inv.8 in let now = c.write.ensures.leaves.no_more in omega (arith, before, now)),
+      (let before = inv.9 in let same = c.write.ensures.last in omega (arith, before, same)),
     )
 
 pub returns-then-count-eq0-clause-keeps : goal.returns-then-count-eq0-clause-keeps
@@ -69,7 +70,7 @@ pub returns-then-count-eq0-clause-open : goal.returns-then-count-eq0-clause-open
 returns-then-count-eq0-clause-open g c =
     let log = g.C.Connections.log in
     let inv = c.loop-sent.invariant in
-    still_open c.args.number c.args.asks (log c.loop-sent.connections) (log c.write.new.self) c.write.ensures.told
+    still_open c.args.number c.args.asks (log c.loop-sent.connections) (log c.write.new.self) c.write.ensures.leaves.told
     (sends c.args.number c.args.asks _ c.write.result (log c.loop-sent.connections) (log c.write.new.self) inv.2 c.write.ensures.written) inv.2
 
 pub returns-then-count-eq0-clause-sends : goal.returns-then-count-eq0-clause-sends

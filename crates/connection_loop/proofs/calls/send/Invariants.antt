@@ -13,9 +13,10 @@ invariant-loop-sent g l =
     × (is_some (g.C.Connections.log l.connections) ≡ is_some (g.C.Connections.log l.initial.connections))
     × (g.C.Connections.has_ended l.connections ≡ g.C.Connections.has_ended l.initial.connections)
     × (g.C.Connections.faults l.connections ≡ g.C.Connections.faults l.initial.connections)
-    × (g.C.Connections.port l.connections ≡ g.C.Connections.port l.initial.connections)
+    × (g.C.Connections.share l.connections ≡ g.C.Connections.share l.initial.connections)
     × OnLogs (OnHeld l.number (SendsFirst l.text l.sent)) (g.C.Connections.log l.initial.connections) (g.C.Connections.log l.connections)
     × (g.C.Connections.reports l.connections ≤ g.C.Connections.reports l.initial.connections)
+    × (g.C.Connections.last l.initial.connections ≤ g.C.Connections.last l.connections)
 
 abbrev pub decreases-loop-sent : goal.decreases-loop-sent
 decreases-loop-sent g l = length l.text - l.sent

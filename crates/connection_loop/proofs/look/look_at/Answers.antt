@@ -26,15 +26,15 @@ returns-in_err-keep-clause-talk g c =
       r.1,
       (
         r.2.0,
-        match_err _ _ c.from_residual-in_err-keep.result is.0 is.1 (spoke_halts (g.F.Front.options c.args.front.now) c.args.numbering.base far.halt (position_at bytes c.args.done)
+        match_err _ _ c.from_residual-in_err-keep.result is.0 is.1 (spoke_halts (g.F.Front.options c.args.hand.now.front) c.args.hand.now.numbering.base far.halt (position_at bytes c.args.done)
             (position_in bytes far) r.0 _ _ (length bytes) c.in_ok-answered.ensures.«open» (omega (arith, len)) r.2.1.0),
       ),
     )
 
 pub returns-clause-talk : goal.returns-clause-talk
 returns-clause-talk g c =
-    let options = g.F.Front.options c.args.front.now in
-    let base = c.args.numbering.base in
+    let options = g.F.Front.options c.args.hand.now.front in
+    let base = c.args.hand.now.numbering.base in
     let bytes = c.args.bytes.now in
     let far = c.in_ok-answered.answered in
     let kept = c.in_ok-keep.ensures.kept in

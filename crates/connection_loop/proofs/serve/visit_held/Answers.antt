@@ -1,5 +1,5 @@
 use Rattle.std.proofs.Common.{[], refl, sym, ◌∙◌, subst, arith}
-use Rattle.connection_loop.proofs.Going.{these_none, these_given}
+use Rattle.connection_loop.proofs.Going.{these_none, these_within, these_given}
 use Rattle.connection_loop.proofs.Opening.{still_open}
 use Rattle.connection_loop.proofs.Holding.{found_held, put_back, let_go, moves_keeps, moves_then, others_of_asked, asked_open}
 use Rattle.connection_loop.proofs.Served.{VisitsTo, given_by, answers_by, serves_none, serves_waits, serves_again, serves_over, serves_lacks}
@@ -61,18 +61,19 @@ returns-in-Over-clause-clients g c =
 
 pub returns-in_default-clause-serves : goal.returns-in_default-clause-serves
 returns-in_default-clause-serves g c =
-    let options = g.F.Front.options c.args.front.now in (
+    let options = g.F.Front.options c.args.hand.now.front in (
       [],
-      these_none options g.F.Front.is_alone (g.F.Front.sessions c.args.front.now) (g.F.Front.left c.args.front.now) (g.K.Clock.view c.args.clock.now),
-      serves_none options c.args.numbering.base c.args.number c.args.clients.now.held.items c.take.new.self.held.items c.take.ensures.others c.take.ensures.gone
+      these_none options g.F.Front.is_alone (g.F.Front.sessions c.args.hand.now.front) (g.F.Front.left c.args.hand.now.front) (g.C.Connections.last c.args.connections.now)
+          (g.C.Connections.last c.args.connections.now) (omega arith),
+      serves_none options c.args.hand.now.numbering.base c.args.number c.args.clients.now.held.items c.take.new.self.held.items c.take.ensures.others c.take.ensures.gone
           (sym c.take.ensures.taken ∙ c.in_default.is) (g.C.Connections.log c.args.connections.now),
     )
 
 pub returns-in-Waits-clause-serves : goal.returns-in-Waits-clause-serves
 returns-in-Waits-clause-serves g c =
     let log = g.C.Connections.log in
-    let options = g.F.Front.options c.args.front.now in
-    let base = c.args.numbering.base in
+    let options = g.F.Front.options c.args.hand.now.front in
+    let base = c.args.hand.now.numbering.base in
     let number = c.args.number in
     let clients = c.args.clients.now.held.items in
     let before = log c.args.connections.now in
@@ -90,8 +91,8 @@ returns-in-Waits-clause-serves g c =
 pub returns-in-Again-clause-serves : goal.returns-in-Again-clause-serves
 returns-in-Again-clause-serves g c =
     let log = g.C.Connections.log in
-    let options = g.F.Front.options c.args.front.now in
-    let base = c.args.numbering.base in
+    let options = g.F.Front.options c.args.hand.now.front in
+    let base = c.args.hand.now.numbering.base in
     let number = c.args.number in
     let clients = c.args.clients.now.held.items in
     let before = log c.args.connections.now in
@@ -101,7 +102,8 @@ returns-in-Again-clause-serves g c =
     let r = c.in-Ok.ensures.talks in
     let visits = subst (VisitsTo options base number c.in-Some.client r.0 visit.new.client before (log visit.new.connections)) c.in-Again.is r.2 in (
       given_by number before r.0,
-      these_given options g.F.Front.is_alone r.0 (given_by number before r.0) (answers_by number before r.0) r.1,
+      these_given options g.F.Front.is_alone r.0 (given_by number before r.0) (answers_by number before r.0)
+          (these_within options g.F.Front.is_alone (omega arith) c.ask_again.ensures.rises r.1),
       serves_again options base number clients c.take.new.self.held.items c.take.ensures.others c.take.ensures.gone c.in-Some.client is_held r.0 visit.new.client
           c.put-in-Again.new.self.held.items c.put-in-Again.ensures.others c.in-Some.client.asks _ refl refl refl before (log visit.new.connections) (log c.ask_again.new.connections)
           c.put-in-Again.ensures.here held.1 visits c.ask_again.ensures.asks,
@@ -110,8 +112,8 @@ returns-in-Again-clause-serves g c =
 pub returns-in-Over-clause-serves : goal.returns-in-Over-clause-serves
 returns-in-Over-clause-serves g c =
     let log = g.C.Connections.log in
-    let options = g.F.Front.options c.args.front.now in
-    let base = c.args.numbering.base in
+    let options = g.F.Front.options c.args.hand.now.front in
+    let base = c.args.hand.now.numbering.base in
     let number = c.args.number in
     let clients = c.args.clients.now.held.items in
     let before = log c.args.connections.now in
@@ -121,7 +123,8 @@ returns-in-Over-clause-serves g c =
     let r = c.in-Ok.ensures.talks in
     let visits = subst (VisitsTo options base number c.in-Some.client r.0 visit.new.client before (log visit.new.connections)) c.in-Over.is r.2 in (
       given_by number before r.0,
-      these_given options g.F.Front.is_alone r.0 (given_by number before r.0) (answers_by number before r.0) r.1,
+      these_given options g.F.Front.is_alone r.0 (given_by number before r.0) (answers_by number before r.0)
+          (these_within options g.F.Front.is_alone (omega arith) c.close-in-Over.ensures.rises r.1),
       serves_over options base number clients c.take.new.self.held.items c.take.ensures.others c.take.ensures.gone c.in-Some.client is_held r.0 visit.new.client c.in-Some.client.asks before
           (log visit.new.connections) (log c.close-in-Over.new.connections) held.1 visits c.close-in-Over.ensures.closed,
     )
@@ -147,8 +150,8 @@ returns-in-Err-clause-clients g c =
 pub returns-in-Err-clause-serves : goal.returns-in-Err-clause-serves
 returns-in-Err-clause-serves g c =
     let log = g.C.Connections.log in
-    let options = g.F.Front.options c.args.front.now in
-    let base = c.args.numbering.base in
+    let options = g.F.Front.options c.args.hand.now.front in
+    let base = c.args.hand.now.numbering.base in
     let number = c.args.number in
     let clients = c.args.clients.now.held.items in
     let before = log c.args.connections.now in
@@ -157,7 +160,8 @@ returns-in-Err-clause-serves g c =
     let held = found_held number clients c.take.result c.in-Some.client before c.requires.clients c.take.ensures.taken c.in-Some.is in
     let r = c.in-Err.ensures.talks in (
       given_by number before r.0,
-      these_given options g.F.Front.is_alone r.0 (given_by number before r.0) (answers_by number before r.0) r.1,
+      these_given options g.F.Front.is_alone r.0 (given_by number before r.0) (answers_by number before r.0)
+          (these_within options g.F.Front.is_alone (omega arith) c.close.ensures.rises r.1),
       serves_lacks options base number clients c.take.new.self.held.items c.take.ensures.others c.take.ensures.gone c.in-Some.client is_held r.0 c.in-Some.client.asks before
           (log visit.new.connections) (log c.close.new.connections) held.1 r.2 c.close.ensures.closed,
     )

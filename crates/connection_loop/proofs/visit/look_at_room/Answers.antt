@@ -14,16 +14,16 @@ use Rattle.connection_loop.proofs.visit.look_at_room.Goals as goal
 
 pub returns-then-client-bytes-clause-talk : goal.returns-then-client-bytes-clause-talk
 returns-then-client-bytes-clause-talk g c =
-    let options = g.F.Front.options c.args.front.now in
+    let options = g.F.Front.options c.args.hand.now.front in
     let client = c.args.client.now in
     let bytes = c.args.bytes.now in
     let more = c.if-client-bytes.true in (
       [],
-      these_none options g.F.Front.is_alone (g.F.Front.sessions c.args.front.now) (g.F.Front.left c.args.front.now) (g.K.Clock.view c.args.clock.now),
+      these_none options g.F.Front.is_alone (g.F.Front.sessions c.args.hand.now.front) (g.F.Front.left c.args.hand.now.front) c.args.hand.now.second c.args.hand.now.second (omega arith),
       (
         omega arith,
         (
-          looks_at_none options c.args.numbering.base client bytes (drop (length client.kept) bytes) c.requires.first c.requires.kept c.clear.new.self.items c.clear.ensures.items more
+          looks_at_none options c.args.hand.now.numbering.base client bytes (drop (length client.kept) bytes) c.requires.first c.requires.kept c.clear.new.self.items c.clear.ensures.items more
               (c.requires.client.dropped (omega (arith, more))),
           λ may enough. absurd (needs_on enough),
         ),
@@ -32,8 +32,8 @@ returns-then-client-bytes-clause-talk g c =
 
 pub returns-clause-talk : goal.returns-clause-talk
 returns-clause-talk g c =
-    let options = g.F.Front.options c.args.front.now in
-    let base = c.args.numbering.base in
+    let options = g.F.Front.options c.args.hand.now.front in
+    let base = c.args.hand.now.numbering.base in
     let client = c.args.client.now in
     let bytes = c.args.bytes.now in
     let more = drop (length client.kept) bytes in
@@ -45,7 +45,7 @@ returns-clause-talk g c =
         if_match _
             (λ halt. GoesOnTo options base (position_of client) r.0 [] c.look_at.new.replies.items
             (λ received given due. HaltsAs options base MAX_WAITING_LEN halt (position_of c.look_at.new.client) (received ++ more) given due)
-            × SpeaksWhere (MayAnswer c.args.numbering.partitions (g.F.Front.left c.args.front.now)) halt r.0 [] c.look_at.new.replies.items) _
+            × SpeaksWhere (MayAnswer c.args.hand.now.numbering.partitions (g.F.Front.left c.args.hand.now.front)) halt r.0 [] c.look_at.new.replies.items) _
             (λ _. SpokeBehind options base MAX_WAITING_LEN (position_of client) more r.0) c.look_at.result
             (λ halt goes. (
               looks_at options base client bytes more c.requires.first c.requires.kept c.look_at.new.client halt r.0 c.look_at.new.replies.items

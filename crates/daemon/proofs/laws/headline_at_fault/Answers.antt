@@ -5,5 +5,5 @@ use Rattle.daemon.proofs.Headlines.{promised}
 use Rattle.daemon.proofs.laws.headline_at_fault.Goals as goal
 
 pub returns : goal.returns
-returns c words service clocks base before after old new is enough kept =
-    promised service base clocks before after old new enough NetFault tt (subst (λ given. KeepsUp given clocks base before after old new NetFault) is kept).0
+returns c words service base before after old new is kept =
+    promised service base before after old new NetFault tt (subst (λ given. KeepsUp given base before after old new NetFault) is kept).0

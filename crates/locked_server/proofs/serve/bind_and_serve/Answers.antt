@@ -1,15 +1,16 @@
-use Rattle.std.proofs.Common.{◌≡◌, ◌≤◌, ℕ, inl, inr, [], length, vec_len, List, map, refl, sym, ap, ◌∙◌, subst, arith}
-use Rattle.std.specs.Prelude.{None, Ok, Err}
+use Rattle.std.proofs.Common.{◌≡◌, ◌≤◌, ℕ, [], length, vec_len, List, map, refl, sym, ap, ◌∙◌, subst, arith}
+use Rattle.std.specs.Prelude.{Ok, Err}
 use Rattle.std.proofs.lemmas.List.{length-map}
 use Rattle.served.specs.Ends.{EndFacts, AreNewEnds, end_facts}
 use Rattle.served.specs.NetRun.{NetFacts, net_facts}
 use Rattle.served.proofs.Whole.{Bound, run_failed, run_left, run_served}
 use Rattle.fronts.specs.declared.totals.ServeFault.TheVariants.{Net}
-use Rattle.locked_server.specs.declared.stop.Stop.TheVariants.{Unbound, Unannounced}
-use Rattle.locked_server.specs.Streams.{StreamFacts, AreNewStreams, KeepsListeners, listen_facts, stream_facts}
+use Rattle.locked_server.specs.declared.stop.Stop.TheVariants.{Unbound, Unheard, Unannounced}
+use Rattle.connections.specs.Shares.{ShareFacts}
+use Rattle.locked_server.specs.Streams.{AreUnserved, KeepsListeners, listen_facts, stream_facts}
 use Rattle.locked_server.specs.Causes.{PortFacts, ports_at}
 use Rattle.locked_server.proofs.Bound.{unbound, unserved, came_ok, came_err, silent}
-use Rattle.locked_server.proofs.Heard.{kept_unheard, new_untold}
+use Rattle.locked_server.proofs.Heard.{kept_unheard}
 use Rattle.locked_server.proofs.Stopped.{ended_with, fails_to_tell, fault_told}
 use Rattle.locked_server.proofs.serve.bind_and_serve.Given as given
 use Rattle.locked_server.proofs.serve.bind_and_serve.Goals.{After-bind_all, After-listen_all}
@@ -18,7 +19,7 @@ use Rattle.locked_server.proofs.serve.bind_and_serve.Goals as goal
 abbrev facts : (g : given.Over) → g.row.N-End.Denot → EndFacts
 facts g = end_facts g.N.End.Datagrams
 
-abbrev of_stream : (g : given.Over) → g.row.L-Port.Denot → StreamFacts
+abbrev of_stream : (g : given.Over) → g.row.L-Port.Denot → ShareFacts
 of_stream g = stream_facts g.L.Port.Connections
 
 abbrev net_at : (g : given.Over) → g.row.N.Denot → NetFacts
@@ -42,12 +43,12 @@ module _ (g : given.Over) (c : After-listen_all g) where
   heard_long : length (map (of_stream g) c.listen_all.new.connections.items) ≡ vec_len c.listen_all.new.connections
   heard_long = omega (arith, length-map c.listen_all.new.connections.items (of_stream g), c.listen_all.new.connections.ok)
 
-  heard_few : length (map (of_stream g) c.listen_all.new.connections.items) ≤ c.args.shared.now.service.streams.fronts
+  heard_few : length (map (of_stream g) c.listen_all.new.connections.items) ≤ c.args.shared.now.service.places
   heard_few = omega (arith, c.listen_all.ensures.few, heard_long)
 
   kept_then : (count : ℕ) → count ≡ length (map (of_stream g) c.listen_all.new.connections.items)
-      → KeepsListeners count c.args.shared.now.service.streams (listen_facts g.L.Listeners c.args.listeners.now) (listen_facts g.L.Listeners c.listen_all.new.listeners)
-  kept_then count is = subst (λ (n : ℕ). KeepsListeners n c.args.shared.now.service.streams (listen_facts g.L.Listeners c.args.listeners.now) (listen_facts g.L.Listeners c.listen_all.new.listeners))
+      → KeepsListeners count c.args.shared.now.service.places (listen_facts g.L.Listeners c.args.listeners.now) (listen_facts g.L.Listeners c.listen_all.new.listeners)
+  kept_then count is = subst (λ (n : ℕ). KeepsListeners n c.args.shared.now.service.places (listen_facts g.L.Listeners c.args.listeners.now) (listen_facts g.L.Listeners c.listen_all.new.listeners))
       (sym (is ∙ heard_long)) c.listen_all.ensures.kept
 
 pub serve_all-requires-clause-unserved : goal.serve_all-requires-clause-unserved
@@ -62,8 +63,8 @@ ready-requires-clause-new g c =
 
 pub ready-requires-clause-fresh : goal.ready-requires-clause-fresh
 ready-requires-clause-fresh g c =
-    subst (λ (l : List _). AreNewStreams None c.args.shared.now.service.streams.port (map (of_stream g) l)) (sym c.as_slice-2.ensures.value)
-    (new_untold (g.L.Listeners.ports c.args.listeners.now) c.args.shared.now.service.streams.port (map (of_stream g) c.listen_all.new.connections.items) c.listen_all.ensures.new)
+    subst (λ (l : List _). AreUnserved (map (of_stream g) l)) (sym c.as_slice-2.ensures.value)
+    (λ k s is. let new = c.listen_all.ensures.new k s is in record { unended = new.unended; fresh = new.fresh })
 
 -- A bind failed
 
@@ -71,36 +72,38 @@ pub returns-in-Err-clause-served : goal.returns-in-Err-clause-served
 returns-in-Err-clause-served g c =
     let z = (goal.at.returns-in-Err-clause-served g c).After-bind_all in
     let failed = c.in-Err.ensures in
-    unbound (Unbound _) Net refl (inl (refl, refl, refl)) tt c.requires.uncounted (sym (ap (map (of_stream g)) c.requires.no_streams))
-    (run_failed (bound g z) c.requires.filled refl c.requires.tables failed.cause (omega (arith, failed.refused)) (silent c.args.shared.now.service.streams [] []))
+    unbound (Unbound _) Net refl (refl, refl, refl) tt c.requires.uncounted (sym (ap (map (of_stream g)) c.requires.no_streams))
+    (run_failed (bound g z) c.requires.filled refl c.requires.tables failed.cause (omega (arith, failed.refused)) (silent c.args.shared.now.service.places [] []))
 
 pub returns-in-Err-clause-heard : goal.returns-in-Err-clause-heard
 returns-in-Err-clause-heard g c =
     let listens = listen_facts g.L.Listeners c.args.listeners.now in
     let none : 0 ≡ vec_len c.args.connections.now = omega (arith, ap length c.requires.no_streams, c.args.connections.now.ok) in
-    subst (λ (n : ℕ). KeepsListeners n c.args.shared.now.service.streams listens listens) none (kept_unheard c.args.shared.now.service.streams listens)
+    subst (λ (n : ℕ). KeepsListeners n c.args.shared.now.service.places listens listens) none (kept_unheard c.args.shared.now.service.places listens)
 
 pub returns-in-Err-clause-announced : goal.returns-in-Err-clause-announced
 returns-in-Err-clause-announced g c =
     let failed = c.in-Err.ensures in
     let ports = c.requires.service.ports in
     let first = c.bind_all.ensures.first (omega (arith, failed.tried)) in
-    (inl (failed.refused, omega (arith, failed.tried, failed.lacks, first, c.len.ensures, ports.port.1, ports.fronts.1)), refl)
+    ((failed.refused, omega (arith, failed.tried, failed.lacks, first, c.len.ensures, ports.port.1, ports.fronts.1)), refl)
 
--- A port could not be listened at
+-- A place could not be listened at
 
 pub returns-in-Err-listen_all-clause-served : goal.returns-in-Err-listen_all-clause-served
 returns-in-Err-listen_all-clause-served g c =
     let at = goal.at.returns-in-Err-listen_all-clause-served g c in
     let failed = c.in-Err-listen_all.ensures in
-    let streams = c.requires.service.streams in
     let long = heard_long g at.After-listen_all in
-    unserved (map (of_stream g) c.listen_all.new.connections.items) c.listen_all.ensures.new (heard_few g at.After-listen_all) (Unbound _) refl tt c.requires.uncounted
-    (inr (refl, failed.cause, (omega (arith, failed.lacks, long), omega (arith, failed.lacks, long, c.len-in-Err-listen_all.ensures, streams.numbers, streams.fronts)))) refl
+    let few = c.requires.service.few in
+    unserved (map (of_stream g) c.listen_all.new.connections.items) c.listen_all.ensures.new (heard_few g at.After-listen_all) (Unheard _) refl tt c.requires.uncounted
+    (refl, failed.cause, omega (arith, failed.lacks, long, few, c.len-in-Err-listen_all.ensures), omega (arith, failed.lacks, few, c.len-in-Err-listen_all.ensures)) refl
     (run_left (bound g at.After-bind_all) c.requires.filled c.requires.tables (ends_long g at.After-bind_all ∙ c.in-Ok.ensures.all))
 
 pub returns-in-Err-listen_all-clause-announced : goal.returns-in-Err-listen_all-clause-announced
-returns-in-Err-listen_all-clause-announced g c = (inr (c.in-Ok.ensures.none_refused, c.in-Err-listen_all.ensures.cause), refl)
+returns-in-Err-listen_all-clause-announced g c =
+    let failed = c.in-Err-listen_all.ensures in
+    ((c.in-Ok.ensures.none_refused, failed.cause, omega (arith, c.listen_all.ensures.kept.given, failed.lacks, c.requires.service.few, c.len-in-Err-listen_all.ensures)), refl)
 
 -- It could not be told
 
@@ -113,7 +116,7 @@ returns-in_err-ready-clause-served g c =
 pub returns-in_err-ready-clause-announced : goal.returns-in_err-ready-clause-announced
 returns-in_err-ready-clause-announced g c =
     let service = c.args.shared.now.service in
-    fails_to_tell (g.A.Announce.says service.ports service.streams) (g.A.Announce.fails service.ports service.streams) (ports_of g c.args.net.now c.args.listeners.now)
+    fails_to_tell (g.A.Announce.says service.ports service.places) (g.A.Announce.fails service.ports service.places) (ports_of g c.args.net.now c.args.listeners.now)
     (ports_of g c.bind_all.new.net c.listen_all.new.listeners) c.args.announce.now c.ready.new.self (ended_with c.from_residual.result c.from_residual.ensures.1) c.in_err-ready.ensures.failed
 
 -- A front failed
@@ -128,7 +131,7 @@ returns-in_err-totals-clause-served g c =
 pub returns-in_err-totals-clause-announced : goal.returns-in_err-totals-clause-announced
 returns-in_err-totals-clause-announced g c =
     let service = c.args.shared.now.service in
-    fault_told c.in_err-totals.field-0.0 (g.A.Announce.says service.ports service.streams) (g.A.Announce.fails service.ports service.streams) (ports_of g c.args.net.now c.args.listeners.now)
+    fault_told c.in_err-totals.field-0.0 (g.A.Announce.says service.ports service.places) (g.A.Announce.fails service.ports service.places) (ports_of g c.args.net.now c.args.listeners.now)
     (ports_of g c.bind_all.new.net c.listen_all.new.listeners) c.args.announce.now c.ready.new.self (ended_with c.from_residual-in_err-totals.result c.from_residual-in_err-totals.ensures.1)
     (c.in-Ok.ensures.none_refused, c.in-Ok-listen_all.ensures.steady) c.in_ok-ready.ensures.said
 

@@ -13,7 +13,8 @@ use Rattle.partition_model.specs.declared.options.Options.{Options}
 use Rattle.partition_model.specs.History.{IsHistory}
 use Rattle.locked_server.specs.declared.filling.OpenFault.TheVariants as open_fault
 use Rattle.locked_server.specs.Opening.{filled_view}
-use Rattle.locked_server.specs.Streams.{StreamFacts, ListenFacts, listen_facts, stream_facts, with_ports}
+use Rattle.connections.specs.Shares.{ShareFacts}
+use Rattle.locked_server.specs.Streams.{ListenFacts, listen_facts, stream_facts, with_shares}
 use Rattle.locked_server.specs.Causes.{PortFacts, ports_at}
 use Rattle.locked_server.proofs.Released.{kept_released}
 use Rattle.locked_server.proofs.Named.{accepted}
@@ -24,7 +25,7 @@ use Rattle.locked_server.proofs.serve.serve_named.Goals as goal
 abbrev facts : (g : given.Over) → g.row.N-End.Denot → EndFacts
 facts g = end_facts g.N.End.Datagrams
 
-abbrev of_stream : (g : given.Over) → g.row.L-Port.Denot → StreamFacts
+abbrev of_stream : (g : given.Over) → g.row.L-Port.Denot → ShareFacts
 of_stream g = stream_facts g.L.Port.Connections
 
 abbrev net_at : (g : given.Over) → g.row.N.Denot → NetFacts
@@ -64,7 +65,7 @@ pub returns-clause-cause : goal.returns-clause-cause
 returns-clause-cause g c =
     let service = c.args.shared.now.service in
     let listens = c.release_streams.ensures in
-    says_then listens.faults (λ news is. listens.released ∙ (λ i. option_map (with_ports (sym is i)) (c.bind_and_serve-answer.ensures.unreleased i))) (λ (others : Others) (came : Option (Result Totals ServeFault)).
+    says_then listens.faults (λ news is. listens.released ∙ (λ i. option_map (with_shares (sym is i)) (c.bind_and_serve-answer.ensures.unreleased i))) (λ (others : Others) (came : Option (Result Totals ServeFault)).
     cause others service.options c.requires.service.options.partitions.0 g.J.ServerPlan.plan.origin service.ports c.bind_and_serve-answer.new.left.tables (net_at g c.args.net.now)
     (net_at g c.bind_and_serve-answer.new.net) (net_at g c.release_all.new.net) (map (facts g) c.bind_and_serve-answer.new.ends.items) c.release_all.ensures came) c.bind_and_serve-answer.ensures.served
 
@@ -78,13 +79,13 @@ returns-clause-leaves g c =
       kept = keeps _ service.options c.requires.service.options.partitions.0 g.J.ServerPlan.plan.origin service.ports c.bind_and_serve-answer.new.left.tables (net_at g c.args.net.now)
           (net_at g c.bind_and_serve-answer.new.net) (net_at g c.release_all.new.net) (map (facts g) c.bind_and_serve-answer.new.ends.items) c.release_all.ensures served.came served.said;
       count = vec_len left;
-      all = subst (λ (n : ℕ). OnOk c.bind_and_serve-answer.result (n ≡ service.streams.fronts)) many
+      all = subst (λ (n : ℕ). OnOk c.bind_and_serve-answer.result (n ≡ service.places)) many
           (had_ports c.bind_and_serve-answer.result service served.answers served.olds served.news served.stopped);
-      heard = kept_released service.streams (map (of_stream g) left.items) (listens_at g c.args.listeners.now) (listens_at g c.bind_and_serve-answer.new.listeners)
+      heard = kept_released service.places (map (of_stream g) left.items) (listens_at g c.args.listeners.now) (listens_at g c.bind_and_serve-answer.new.listeners)
           (listens_at g c.release_streams.new.listeners) (omega (arith, ap length served.left, served.are.served.many, served.are.within)) c.bind_and_serve-answer.ensures.heard c.release_streams.ensures;
-      announced = still_told c.bind_and_serve-answer.result (g.A.Announce.says service.ports service.streams) (g.A.Announce.fails service.ports service.streams)
+      announced = still_told c.bind_and_serve-answer.result (g.A.Announce.says service.ports service.places) (g.A.Announce.fails service.ports service.places)
           (ports_of g c.args.net.now c.args.listeners.now) (ports_of g c.bind_and_serve-answer.new.net c.bind_and_serve-answer.new.listeners) (ports_of g c.release_all.new.net c.release_streams.new.listeners)
-          c.args.announce.now c.bind_and_serve-answer.new.announce c.release_all.ensures c.release_streams.ensures.faults c.bind_and_serve-answer.ensures.announced;
+          c.args.announce.now c.bind_and_serve-answer.new.announce c.release_all.ensures c.release_streams.ensures c.bind_and_serve-answer.ensures.announced;
     }
 
 pub returns-in_err-server-clause-cause : goal.returns-in_err-server-clause-cause

@@ -17,7 +17,7 @@ abbrev views : (g : given.Over) → List (FilledPart g.row.P.Denot) → List Fil
 views g parts = map (λ f. filled_view g.P.Partition.owner g.P.Partition.home f) parts
 
 abbrev fronts_of : Service → ℕ
-fronts_of service = service.streams.fronts + service.ports.fronts
+fronts_of service = service.places + service.ports.fronts
 
 pub serve_named-requires-clause-of : goal.serve_named-requires-clause-of
 serve_named-requires-clause-of g c κs within =
@@ -28,16 +28,16 @@ pub returns-clause-cause : goal.returns-clause-cause
 returns-clause-cause g c =
     let service = c.args.shared.now.service in
     let filled = subst (λ (w : List Write). AreFilled service.options w (views g c.in_ok-parts.parts.items)) c.as_slice.ensures.value c.in_ok-parts.ensures.filled in
-    cause_filled c.serve_named.result c.args.start.filling.items
-    (subst (λ (origin : ℕ → History). HasCause c.serve_named.result service origin (map g.K.Clock.view c.args.start.clocks.items) c.serve_named.new.left.tables c.serve_named.new.left.lacked
+    cause_filled c.serve_named.result c.args.filling.items
+    (subst (λ (origin : ℕ → History). HasCause c.serve_named.result service origin c.serve_named.new.left.tables c.serve_named.new.left.lacked
     (ports_at g.N.Net g.L.Listeners c.args.net.now c.args.listeners.now) (ports_at g.N.Net g.L.Listeners c.serve_named.new.net c.serve_named.new.listeners))
-    (origin_is service.options (fronts_of service) c.args.start.filling.items (views g c.in_ok-parts.parts.items) c.requires.service.options.partitions.0 filled) c.serve_named.ensures.cause)
+    (origin_is service.options (fronts_of service) c.args.filling.items (views g c.in_ok-parts.parts.items) c.requires.service.options.partitions.0 filled) c.serve_named.ensures.cause)
 
 pub returns-in_err-parts-clause-cause : goal.returns-in_err-parts-clause-cause
 returns-in_err-parts-clause-cause g c =
     let service = c.args.shared.now.service in
     let fault = c.in_err-parts.field-0.0 in
-    not_opened fault service c.args.start.filling.items (map g.K.Clock.view c.args.start.clocks.items) c.args.left.now.tables c.args.left.now.lacked (ports_at g.N.Net g.L.Listeners c.args.net.now c.args.listeners.now)
+    not_opened fault service c.args.filling.items c.args.left.now.tables c.args.left.now.lacked (ports_at g.N.Net g.L.Listeners c.args.net.now c.args.listeners.now)
     (ended_with c.from_residual-in_err-parts.result c.from_residual-in_err-parts.ensures.1) c.requires.tables c.requires.uncounted
     (λ (e : fault ≡ open_fault.Refused). subst (λ l. RefusesFilling service.options l) c.as_slice.ensures.value (c.in_err-parts.ensures.refused (ap Err e)))
 
@@ -47,7 +47,7 @@ returns-in_err-parts-clause-leaves g c =
 
 pub returns-in_err-rehearse-clause-cause : goal.returns-in_err-rehearse-clause-cause
 returns-in_err-rehearse-clause-cause g c =
-    not_opened open_fault.NoMemory c.args.shared.now.service c.args.start.filling.items (map g.K.Clock.view c.args.start.clocks.items) c.args.left.now.tables c.args.left.now.lacked
+    not_opened open_fault.NoMemory c.args.shared.now.service c.args.filling.items c.args.left.now.tables c.args.left.now.lacked
     (ports_at g.N.Net g.L.Listeners c.args.net.now c.args.listeners.now) (ended_with c.from_residual.result c.from_residual.ensures.1) c.requires.tables c.requires.uncounted (λ refused. absurd (cc refused))
 
 pub returns-in_err-rehearse-clause-leaves : goal.returns-in_err-rehearse-clause-leaves

@@ -2,7 +2,6 @@ use Rattle.std.proofs.Common.{◌≡◌, ◌<◌, ◌≤◌, ◌++◌, ℕ, List
 use Rattle.std.specs.Prelude.{Result, ⊤}
 use Rattle.std.proofs.lemmas.List.{length-map}
 use Rattle.std.proofs.lemmas.Simd.{map-map}
-use Rattle.outside.specs.Seconds.{ClockView}
 use Rattle.partition_model.specs.declared.options.Options.{Options}
 use Rattle.partition_model.specs.History.{IsHistory}
 use Rattle.partition_table.specs.Tabled.{kept_seat_in}
@@ -15,7 +14,8 @@ use Rattle.served.specs.Ends.{EndFacts, end_facts}
 use Rattle.locked_server.specs.declared.worker.FrontTask.{FrontTask}
 use Rattle.locked_server.specs.declared.streams.StreamTask.{StreamTask}
 use Rattle.locked_server.specs.Opening.{AreNewHands}
-use Rattle.locked_server.specs.Streams.{StreamFacts, stream_facts}
+use Rattle.connections.specs.Shares.{ShareFacts}
+use Rattle.locked_server.specs.Streams.{stream_facts}
 use Rattle.locked_server.specs.Running.{AreReadyTasks, TasksRan, RanBeside}
 use Rattle.locked_server.specs.Taking.{AreHands, TakesHands, left_view}
 use Rattle.locked_server.proofs.Joined.{hands_both}
@@ -28,7 +28,7 @@ use Rattle.locked_server.proofs.server.run_all.Goals as goal
 abbrev facts : (g : given.Over) → g.row.D.Denot → EndFacts
 facts g = end_facts g.D.Datagrams
 
-abbrev of_stream : (g : given.Over) → g.row.C.Denot → StreamFacts
+abbrev of_stream : (g : given.Over) → g.row.C.Denot → ShareFacts
 of_stream g = stream_facts g.C.Connections
 
 abbrev view : (g : given.Over) → Returned g.row.P.Denot → Owned
@@ -38,7 +38,7 @@ abbrev plan_of : given.Over → Plan
 plan_of g = g.J.ServerPlan.plan
 
 -- as many hands as before
-long : {C K D : Type 0} (olds news : List (StreamTask C K)) (fronts others : List (FrontTask D)) → length news ≡ length olds → length others ≡ length fronts
+long : {C D : Type 0} (olds news : List (StreamTask C)) (fronts others : List (FrontTask D)) → length news ≡ length olds → length others ≡ length fronts
     → length (map stream_hand news ++ map hand_of others) ≡ length (map stream_hand olds ++ map hand_of fronts)
 long olds news fronts others one two =
     omega (
@@ -57,7 +57,7 @@ long olds news fronts others one two =
 module _ (g : given.Over) (c : After-pair_up g) where
   stream_hands : map (λ own. own.items) c.args.server.stream_hands.items ≡ map stream_hand c.pair_streams.new.tasks.items
   stream_hands =
-      ap (map (λ own. own.items)) (sym c.pair_streams.ensures.hands) ∙ map-map (λ own. own.items) (λ (t : StreamTask g.row.C.Denot g.row.K.Denot). t.parts) c.pair_streams.new.tasks.items
+      ap (map (λ own. own.items)) (sym c.pair_streams.ensures.hands) ∙ map-map (λ own. own.items) (λ (t : StreamTask g.row.C.Denot). t.parts) c.pair_streams.new.tasks.items
 
   hands : map (λ own. own.items) c.args.server.hands.items ≡ map hand_of c.pair_up.new.tasks.items
   hands = ap (map (λ own. own.items)) (sym c.pair_up.ensures.hands) ∙ map-map (λ own. own.items) (λ (t : FrontTask g.row.D.Denot). t.parts) c.pair_up.new.tasks.items
@@ -71,24 +71,21 @@ module _ (g : given.Over) (c : After-pair_up g) where
   own : map (λ (t : FrontTask g.row.D.Denot). t.end) c.pair_up.new.tasks.items ≡ c.args.ends.now.items
   own = c.pair_up.ensures.ends ∙ (λ i. (c.replace-ends_before.ensures.value i).items)
 
-  own_streams : map (λ (t : StreamTask g.row.C.Denot g.row.K.Denot). t.port) c.pair_streams.new.tasks.items ≡ c.args.connections.now.items
-  own_streams = c.pair_streams.ensures.ports ∙ (λ i. (c.replace-ports_before.ensures.value i).items)
+  own_streams : map (λ (t : StreamTask g.row.C.Denot). t.share) c.pair_streams.new.tasks.items ≡ c.args.connections.now.items
+  own_streams = c.pair_streams.ensures.shares ∙ (λ i. (c.replace-shares_before.ensures.value i).items)
 
   streams_many : length c.pair_streams.new.tasks.items ≡ length c.args.connections.now.items
-  streams_many = sym (length-map c.pair_streams.new.tasks.items (λ (t : StreamTask g.row.C.Denot g.row.K.Denot). t.port)) ∙ ap length own_streams
+  streams_many = sym (length-map c.pair_streams.new.tasks.items (λ (t : StreamTask g.row.C.Denot). t.share)) ∙ ap length own_streams
 
   tasks_many : length c.pair_up.new.tasks.items ≡ length c.args.ends.now.items
   tasks_many = sym (length-map c.pair_up.new.tasks.items (λ (t : FrontTask g.row.D.Denot). t.end)) ∙ ap length own
 
 pub pair_streams-requires-clause-hands : goal.pair_streams-requires-clause-hands
 pair_streams-requires-clause-hands g c =
-    omega (arith, length-map c.args.server.stream_hands.items (λ own. own.items), c.requires.server.lent_streams.many, ap (λ v. length v.items) c.replace-ports_before.ensures.value)
-
-pub pair_streams-requires-clause-clocks : goal.pair_streams-requires-clause-clocks
-pair_streams-requires-clause-clocks g c = c.requires.clocks ∙ ap (λ v. length v.items) (sym c.replace-ports_before.ensures.value)
+    omega (arith, length-map c.args.server.stream_hands.items (λ own. own.items), c.requires.server.lent_streams.many, ap (λ v. length v.items) c.replace-shares_before.ensures.value)
 
 pub pair_streams-requires-clause-room : goal.pair_streams-requires-clause-room
-pair_streams-requires-clause-room g c = omega (arith, ap vec_len c.replace-ports_before.ensures.value, c.args.connections.now.ok, c.requires.server.has_room.streams_row.tasks.1)
+pair_streams-requires-clause-room g c = omega (arith, ap vec_len c.replace-shares_before.ensures.value, c.args.connections.now.ok, c.requires.server.has_room.streams_row.tasks.1)
 
 pub pair_up-requires-clause-many : goal.pair_up-requires-clause-many
 pair_up-requires-clause-many g c =
@@ -116,7 +113,7 @@ run_workers-requires-clause-many g c κs within =
 pub run_workers-requires-clause-ready_streams : goal.run_workers-requires-clause-ready_streams
 run_workers-requires-clause-ready_streams g c κs within =
     let z = (goal.at.run_workers-requires-clause-ready_streams g c).After-pair_up in
-    ready_streams (plan_of g) (of_stream g) g.K.Clock.view (length c.args.connections.now.items) c.args.connections.now.items c.pair_streams.new.tasks.items (opened_streams g z) (own_streams g z)
+    ready_streams (plan_of g) (of_stream g) (length c.args.connections.now.items) c.args.connections.now.items c.pair_streams.new.tasks.items (opened_streams g z) (own_streams g z)
     c.requires.fresh
 
 pub run_workers-requires-clause-ready : goal.run_workers-requires-clause-ready
@@ -126,10 +123,10 @@ run_workers-requires-clause-ready g c κs within =
     (ready (plan_of g) c.args.shared.now.service.ports.batches (facts g) c.requires.service.ports.batches.1 (length c.args.connections.now.items) (length c.args.ends.now.items) c.args.ends.now.items c.pair_up.new.tasks.items
     (opened g z) (own g z) c.requires.unserved)
 
-pub part_streams-lacked-requires-clause-ports : goal.part_streams-lacked-requires-clause-ports
-part_streams-lacked-requires-clause-ports g c =
-    let z = (goal.at.part_streams-lacked-requires-clause-ports g c).After-pair_up in
-    omega (arith, streams_many g z, c.run_workers.ensures.streams.0, c.run_workers.new.streams.ok, c.requires.server.has_room.ports.1, ap vec_capacity c.replace-ports_before.ensures.after)
+pub part_streams-lacked-requires-clause-shares : goal.part_streams-lacked-requires-clause-shares
+part_streams-lacked-requires-clause-shares g c =
+    let z = (goal.at.part_streams-lacked-requires-clause-shares g c).After-pair_up in
+    omega (arith, streams_many g z, c.run_workers.ensures.streams.0, c.run_workers.new.streams.ok, c.requires.server.has_room.shares.1, ap vec_capacity c.replace-shares_before.ensures.after)
 
 pub part_streams-lacked-requires-clause-hands : goal.part_streams-lacked-requires-clause-hands
 part_streams-lacked-requires-clause-hands g c =
@@ -170,13 +167,13 @@ module _ (g : given.Over) (c : After-part_fronts g) where
       (omega (arith, c.len-first.ensures, c.pair_streams.new.tasks.ok)) c.run_workers.ensures.fronts
 
   are : AreHands (plan_of g) (map stream_hand c.run_workers.new.streams.items ++ map hand_of c.run_workers.new.fronts.items)
-  are = both_are (plan_of g) (of_stream g) g.K.Clock.view c.args.shared.now.service.base c.pair_streams.new.tasks.items c.run_workers.new.streams.items c.args.shared.now.service.ports.batches (facts g)
+  are = both_are (plan_of g) (of_stream g) c.args.shared.now.service.base c.pair_streams.new.tasks.items c.run_workers.new.streams.items c.args.shared.now.service.ports.batches (facts g)
       c.pair_up.new.tasks.items c.run_workers.new.fronts.items c.run_workers.ensures.streams ran_fronts
 
   -- what is in hand then
   news : map (λ own. own.items) c.part_streams-lacked.new.hands.items ++ map (λ own. own.items) c.part_fronts.new.hands.items
       ≡ map stream_hand c.run_workers.new.streams.items ++ map hand_of c.run_workers.new.fronts.items
-  news = λ i. (ap (map (λ own. own.items)) c.part_streams-lacked.ensures.hands ∙ map-map (λ own. own.items) (λ (t : StreamTask g.row.C.Denot g.row.K.Denot). t.parts) c.run_workers.new.streams.items) i
+  news = λ i. (ap (map (λ own. own.items)) c.part_streams-lacked.ensures.hands ∙ map-map (λ own. own.items) (λ (t : StreamTask g.row.C.Denot). t.parts) c.run_workers.new.streams.items) i
       ++ (ap (map (λ own. own.items)) c.part_fronts.ensures.hands ∙ map-map (λ own. own.items) (λ (t : FrontTask g.row.D.Denot). t.parts) c.run_workers.new.fronts.items) i
 
 pub take_in_all-requires-clause-hands : goal.take_in_all-requires-clause-hands
@@ -220,23 +217,21 @@ returns-clause-ran g c =
     let streams = c.run_workers.new.streams.items in
     let stream_olds = c.pair_streams.new.tasks.items in
     let some = subst (λ (o : Options). 1 ≤ o.partitions) c.requires.plan.options c.requires.service.options.partitions.0 in
-    let it = ran_beside plan some (of_stream g) g.K.Clock.view c.args.shared.now.service.base stream_olds streams c.args.shared.now.service.ports.batches (facts g) c.pair_up.new.tasks.items c.run_workers.new.fronts.items c.run_workers.ensures.streams
+    let it = ran_beside plan some (of_stream g) c.args.shared.now.service.base stream_olds streams c.args.shared.now.service.ports.batches (facts g) c.pair_up.new.tasks.items c.run_workers.new.fronts.items c.run_workers.ensures.streams
     (ran_fronts g at.After-part_fronts)
     (all g at.After-take_in_all (opened_streams g at.After-pair_up) (opened g at.After-pair_up) (are g at.After-part_fronts) (news g at.After-part_fronts)) in
     let kept = map (λ (left : Owned). kept_seat_in left.owner) (map (view g) c.take_in_all.new.parts.items) in
-    let clocks : map (λ (t : StreamTask g.row.C.Denot g.row.K.Denot). g.K.Clock.view t.clock) stream_olds ≡ map g.K.Clock.view c.args.clocks.items =
-    sym (map-map g.K.Clock.view (λ (t : StreamTask g.row.C.Denot g.row.K.Denot). t.clock) stream_olds) ∙ ap (map g.K.Clock.view) c.pair_streams.ensures.clocks in
     let before : map (λ (t : FrontTask g.row.D.Denot). facts g t.end) c.pair_up.new.tasks.items ≡ map (facts g) c.args.ends.now.items =
     sym (map-map (facts g) (λ (t : FrontTask g.row.D.Denot). t.end) c.pair_up.new.tasks.items) ∙ ap (map (facts g)) (own g at.After-pair_up) in
     let after : map (λ (t : FrontTask g.row.D.Denot). facts g t.end) c.run_workers.new.fronts.items ≡ map (facts g) c.part_fronts.new.ends.items =
     sym (map-map (facts g) (λ (t : FrontTask g.row.D.Denot). t.end) c.run_workers.new.fronts.items) ∙ ap (map (facts g)) (sym c.part_fronts.ensures.ends) in
-    let ports : map (λ (t : StreamTask g.row.C.Denot g.row.K.Denot). of_stream g t.port) stream_olds ≡ map (of_stream g) c.args.connections.now.items =
-    sym (map-map (of_stream g) (λ (t : StreamTask g.row.C.Denot g.row.K.Denot). t.port) stream_olds) ∙ ap (map (of_stream g)) (own_streams g at.After-pair_up) in
-    let left : map (λ (t : StreamTask g.row.C.Denot g.row.K.Denot). of_stream g t.port) streams ≡ map (of_stream g) c.part_streams-lacked.new.ports.items =
-    sym (map-map (of_stream g) (λ (t : StreamTask g.row.C.Denot g.row.K.Denot). t.port) streams) ∙ ap (map (of_stream g)) (sym c.part_streams-lacked.ensures.ports) in
-    subst (λ (y : Options × List ClockView × List (Result ⊤ ServeFault) × List (Result Totals ServeFault) × List EndFacts × List EndFacts × List StreamFacts × List StreamFacts × ℕ).
-    RanBeside y.0 plan.origin c.args.shared.now.service.ports.batches c.args.shared.now.service.base y.1 kept y.8 y.2 y.3 y.4 y.5 y.6 y.7)
-    (λ i. (sym c.requires.plan.options i, clocks i, sym c.part_streams-lacked.ensures.answers i, sym c.part_fronts.ensures.answers i, before i, after i, ports i, left i, sym c.part_streams-lacked.ensures.lacked i)) it
+    let shares : map (λ (t : StreamTask g.row.C.Denot). of_stream g t.share) stream_olds ≡ map (of_stream g) c.args.connections.now.items =
+    sym (map-map (of_stream g) (λ (t : StreamTask g.row.C.Denot). t.share) stream_olds) ∙ ap (map (of_stream g)) (own_streams g at.After-pair_up) in
+    let left : map (λ (t : StreamTask g.row.C.Denot). of_stream g t.share) streams ≡ map (of_stream g) c.part_streams-lacked.new.shares.items =
+    sym (map-map (of_stream g) (λ (t : StreamTask g.row.C.Denot). t.share) streams) ∙ ap (map (of_stream g)) (sym c.part_streams-lacked.ensures.shares) in
+    subst (λ (y : Options × List (Result ⊤ ServeFault) × List (Result Totals ServeFault) × List EndFacts × List EndFacts × List ShareFacts × List ShareFacts × ℕ).
+    RanBeside y.0 plan.origin c.args.shared.now.service.ports.batches c.args.shared.now.service.base kept y.7 y.1 y.2 y.3 y.4 y.5 y.6)
+    (λ i. (sym c.requires.plan.options i, sym c.part_streams-lacked.ensures.answers i, sym c.part_fronts.ensures.answers i, before i, after i, shares i, left i, sym c.part_streams-lacked.ensures.lacked i)) it
 
 pub returns-clause-idle : goal.returns-clause-idle
 returns-clause-idle g c =

@@ -10,7 +10,8 @@ use Rattle.fronts.specs.Totals.{IsUpTo}
 use Rattle.locked_front.specs.declared.returned.Returned.{Returned}
 use Rattle.locked_front.specs.Owned.{Owned}
 use Rattle.locked_server.specs.Taking.{left_view}
-use Rattle.locked_server.specs.Streams.{StreamFacts, ServesBeside, stream_facts}
+use Rattle.connections.specs.Shares.{ShareFacts}
+use Rattle.locked_server.specs.Streams.{ServesBeside, stream_facts}
 use Rattle.locked_server.specs.Running.{SumsUpBeside}
 use Rattle.served.specs.Ends.{EndFacts, end_facts}
 use Rattle.served.proofs.Gathered.{few_answers, small_answers}
@@ -22,7 +23,7 @@ use Rattle.locked_server.proofs.server.serve_all.Goals as goal
 abbrev facts : (g : given.Over) → g.row.D.Denot → EndFacts
 facts g = end_facts g.D.Datagrams
 
-abbrev of_stream : (g : given.Over) → g.row.C.Denot → StreamFacts
+abbrev of_stream : (g : given.Over) → g.row.C.Denot → ShareFacts
 of_stream g = stream_facts g.C.Connections
 
 abbrev view : (g : given.Over) → Returned g.row.P.Denot → Owned
@@ -62,15 +63,15 @@ keep_all-requires-clause-room g c =
 
 pub returns-in_err-totals : goal.returns-in_err-totals
 returns-in_err-totals g c =
-    subst (λ (r : Result Totals ServeFault). ServesBeside c.args.shared.now.service.options g.J.ServerPlan.plan.origin c.args.shared.now.service.ports.batches c.args.shared.now.service.base (map g.K.Clock.view c.args.clocks.items) r c.args.left.now.tables c.run_all-parts.result.lacked
+    subst (λ (r : Result Totals ServeFault). ServesBeside c.args.shared.now.service.options g.J.ServerPlan.plan.origin c.args.shared.now.service.ports.batches c.args.shared.now.service.base r c.args.left.now.tables c.run_all-parts.result.lacked
     (map (facts g) c.args.ends.now.items) (map (facts g) c.run_all-parts.new.ends.items) (map (of_stream g) c.args.connections.now.items) (map (of_stream g) c.run_all-parts.new.connections.items)) (sym (ended_with c.from_residual.result c.from_residual.ensures.1))
-    (serves_beside _ c.requires.service.options.partitions.0 _ _ _ _ _ _ _ _ _ _ _ _ c.run_all-parts.ensures.ran c.args.left.now.tables (Err c.in_err-totals.field-0.0)
+    (serves_beside _ c.requires.service.options.partitions.0 _ _ _ _ _ _ _ _ _ _ _ c.run_all-parts.ensures.ran c.args.left.now.tables (Err c.in_err-totals.field-0.0)
     (subst (λ (y : List (Result ⊤ ServeFault) × List (Result Totals ServeFault)). SumsUpBeside y.0 y.1 (Err c.in_err-totals.field-0.0))
     (λ i. (c.as_slice.ensures.value i, c.as_slice-2.ensures.value i)) c.in_err-totals.ensures) c.requires.tables)
 
 pub returns : goal.returns
 returns g c =
-    serves_beside _ c.requires.service.options.partitions.0 _ _ _ _ _ _ _ _ _ _ _ _ c.run_all-parts.ensures.ran c.keep_all.new.tables (Ok c.in_ok-totals.totals)
+    serves_beside _ c.requires.service.options.partitions.0 _ _ _ _ _ _ _ _ _ _ _ c.run_all-parts.ensures.ran c.keep_all.new.tables (Ok c.in_ok-totals.totals)
     (subst (λ (y : List (Result ⊤ ServeFault) × List (Result Totals ServeFault)). SumsUpBeside y.0 y.1 (Ok c.in_ok-totals.totals))
     (λ i. (c.as_slice.ensures.value i, c.as_slice-2.ensures.value i)) c.in_ok-totals.ensures)
     (c.keep_all.ensures ∙ ap (λ (l : List KeptSeat). l ++ map entry (map (view g) c.run_all-parts.result.parts.items)) c.requires.tables)

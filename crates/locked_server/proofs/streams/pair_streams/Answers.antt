@@ -5,7 +5,7 @@ use Rattle.locked_server.proofs.streams.pair_streams.Goals as goal
 
 pub push_reserved-requires : goal.push_reserved-requires
 push_reserved-requires g c =
-    let began = c.into_iter-port-iterator.ensures.into_iter_gives in
-    let all = YieldsList-from_vec c.args.ports.items began.0 (omega (arith, began.1, c.args.ports.ok)) in
-    let turn = YieldsList-turn all c.loop-port.yielded c.loop-port.port-iterator c.loop-port.yielded_by c.next.result c.next.new.self c.in-Some.port c.in-Some.is c.next.ensures.steps in
-    omega (arith, turn.0, c.args.ports.ok, c.loop-port.invariant.len, c.loop-port.invariant.room)
+    let began = c.into_iter-share-iterator.ensures.into_iter_gives in
+    let all = YieldsList-from_vec c.args.shares.items began.0 (omega (arith, began.1, c.args.shares.ok)) in
+    let turn = YieldsList-turn all c.loop-share.yielded c.loop-share.share-iterator c.loop-share.yielded_by c.next.result c.next.new.self c.in-Some.share c.in-Some.is c.next.ensures.steps in
+    omega (arith, turn.0, c.args.shares.ok, c.loop-share.invariant.len, c.loop-share.invariant.room)

@@ -8,7 +8,7 @@ push_reserved-requires g c =
     let began = c.into_iter-stream-iterator.ensures.into_iter_gives in
     let all = YieldsList-from_vec c.args.streams.items began.0 (omega (arith, began.1, c.args.streams.ok)) in
     let turn = YieldsList-turn all c.loop-stream.yielded c.loop-stream.stream-iterator c.loop-stream.yielded_by c.next.result c.next.new.self c.in-Some.stream c.in-Some.is c.next.ensures.steps in
-    omega (arith, turn.0, c.args.streams.ok, c.loop-stream.invariant.ports_len, c.loop-stream.invariant.ports_room)
+    omega (arith, turn.0, c.args.streams.ok, c.loop-stream.invariant.shares_len, c.loop-stream.invariant.shares_room)
 
 pub push_reserved-requires-in-loop-stream : goal.push_reserved-requires-in-loop-stream
 push_reserved-requires-in-loop-stream g c =

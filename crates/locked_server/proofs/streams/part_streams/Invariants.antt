@@ -4,14 +4,14 @@ use Rattle.locked_server.proofs.streams.part_streams.Given as goal
 
 abbrev pub invariant-loop-stream : goal.invariant-loop-stream
 invariant-loop-stream g l = record {
-  ports : l.ports.items ≡ map (λ t. t.port) l.yielded;
+  shares : l.shares.items ≡ map (λ t. t.share) l.yielded;
   hands : l.hands.items ≡ map (λ t. t.parts) l.yielded;
   answers : l.answers.items ≡ map (λ t. t.answer) l.yielded;
   lacked : l.lacked ≡ counted_by_all (map (λ t. t.lacked) l.yielded);
-  ports_len : vec_len l.ports ≡ length l.yielded;
+  shares_len : vec_len l.shares ≡ length l.yielded;
   hands_len : vec_len l.hands ≡ length l.yielded;
   answers_len : vec_len l.answers ≡ length l.yielded;
-  ports_room : vec_len l.fn.streams ≤ vec_capacity l.ports;
+  shares_room : vec_len l.fn.streams ≤ vec_capacity l.shares;
   hands_room : vec_len l.fn.streams ≤ vec_capacity l.hands;
   answers_room : vec_len l.fn.streams ≤ vec_capacity l.answers;
 }

@@ -24,6 +24,6 @@ returns g c =
       locked = c.in_ok-locks.ensures ∙ sym (length-map c.lend_hands-2.new.parts.items (view g)) ∙ c.in_ok-hands.ensures.of.many;
       lent_streams = c.in_ok-stream_hands.ensures.lent;
       lent = c.in_ok-hands.ensures.lent;
-      has_room = subst (λ (n : ℕ). IsRoom c.args.service.now.streams.fronts c.args.service.now.ports.fronts n c.in_ok-room.room)
+      has_room = subst (λ (n : ℕ). IsRoom c.args.service.now.places c.args.service.now.ports.fronts n c.in_ok-room.room)
           (omega (arith, c.len.ensures, c.args.parts.ok, length-map c.args.parts.items (view g), c.requires.of.many)) c.in_ok-room.ensures;
     }

@@ -1,5 +1,7 @@
 use Rattle.std.proofs.Common.{refl, arith}
 use Rattle.memory_connections.proofs.Stages.{stays, closes_there}
+use Rattle.connections.specs.State.{closed}
+use Rattle.memory_connections.proofs.Timing.{timed_as, timed_on}
 use Rattle.memory_connections.proofs.stage.Stage.close.Goals as goal
 
 pub note-requires : goal.note-requires
@@ -15,4 +17,5 @@ invariant_of-self c =
       stays e i.owed.items c.close_at.new.all.items c.note.new.self.entries c.note.new.self.room refl c.close_at.ensures.after c.note.ensures.entries c.note.ensures.room,
       omega (arith, c.self.invariant.1, c.note.ensures.room),
       omega (arith, c.self.invariant.2, c.note.ensures.room, c.close_at.ensures.len, c.close_at.ensures.capacity),
+      timed_as (timed_on i.schedule.now i.log.entries i.log.room i.present i.told c.self.invariant.3 (closed c.args.place) _ refl refl) c.note.new.self.entries c.note.new.self.room i.present i.told c.note.ensures.entries c.note.ensures.room refl refl,
     )

@@ -1,5 +1,7 @@
 use Rattle.std.proofs.Common.{rules, ◌<◌, length, refl, arith}
-use Rattle.memory_connections.proofs.Stages.{stays, reads_there, gives_there, gives_all_there, fits_there}
+use Rattle.memory_connections.proofs.Stages.{stays_told, reads_there, gives_there, gives_all_there, fits_there}
+use Rattle.connections.specs.State.{received}
+use Rattle.memory_connections.proofs.Timing.{told_as}
 use Rattle.memory_connections.proofs.stage.Stage.read.Goals as goal
 
 pub invariant_of-self : goal.invariant_of-self
@@ -7,9 +9,10 @@ invariant_of-self c =
     let i = c.self.inside in
     let waits : 0 < length c.index-connection.result.now.waiting = search rules in
     let e = reads_there i.schedule.now i.at i.owed.items i.paid i.all.items i.log.entries i.log.room c.self.invariant.0 c.args.self.now c.self.view_is c.args.place c.requires.there c.index-connection.result.now c.index-connection.ensures c.args.most c.take_at-given.result.now c.requires.some waits c.take_at-given.ensures.count in (
-      stays e i.owed.items c.take_at-given.new.all.items c.note.new.self.entries c.note.new.self.room refl c.take_at-given.ensures.after c.note.ensures.entries c.note.ensures.room,
-      omega (arith, c.self.invariant.1, c.note.ensures.room),
-      omega (arith, c.self.invariant.2, c.note.ensures.room, c.take_at-given.ensures.len, c.take_at-given.ensures.capacity),
+      stays_told e i.present c.take_at-given.new.all.items c.note_at.new.self.entries c.note_at.new.self.room c.take_at-given.ensures.after c.note_at.ensures.entries c.note_at.ensures.room,
+      omega (arith, c.self.invariant.1, c.note_at.ensures.room),
+      omega (arith, c.self.invariant.2, c.note_at.ensures.room, c.take_at-given.ensures.len, c.take_at-given.ensures.capacity),
+      told_as c.self.invariant.3 (received c.args.place c.take_at-given.result.now) 0 refl (omega arith) e.room_for i.present c.note_at.new.self.entries c.note_at.new.self.room (omega arith) c.note_at.ensures.entries c.note_at.ensures.room,
     )
 
 pub invariant_of-self-2 : goal.invariant_of-self-2
@@ -17,9 +20,10 @@ invariant_of-self-2 c =
     let i = c.self.inside in
     let waits : 0 < length c.index-connection.result.now.waiting = search rules in
     let e = reads_there i.schedule.now i.at i.owed.items i.paid i.all.items i.log.entries i.log.room c.self.invariant.0 c.args.self.now c.self.view_is c.args.place c.requires.there c.index-connection.result.now c.index-connection.ensures c.args.most c.take_at-given.result.now c.requires.some waits c.take_at-given.ensures.count in (
-      stays e i.owed.items c.take_at-given.new.all.items c.note.new.self.entries c.note.new.self.room refl c.take_at-given.ensures.after c.note.ensures.entries c.note.ensures.room,
-      omega (arith, c.self.invariant.1, c.note.ensures.room),
-      omega (arith, c.self.invariant.2, c.note.ensures.room, c.take_at-given.ensures.len, c.take_at-given.ensures.capacity),
+      stays_told e i.present c.take_at-given.new.all.items c.note_at.new.self.entries c.note_at.new.self.room c.take_at-given.ensures.after c.note_at.ensures.entries c.note_at.ensures.room,
+      omega (arith, c.self.invariant.1, c.note_at.ensures.room),
+      omega (arith, c.self.invariant.2, c.note_at.ensures.room, c.take_at-given.ensures.len, c.take_at-given.ensures.capacity),
+      told_as c.self.invariant.3 (received c.args.place c.take_at-given.result.now) 0 refl (omega arith) e.room_for i.present c.note_at.new.self.entries c.note_at.new.self.room (omega arith) c.note_at.ensures.entries c.note_at.ensures.room,
     )
 
 pub returns-then-is_emptied-clause-gives : goal.returns-then-is_emptied-clause-gives

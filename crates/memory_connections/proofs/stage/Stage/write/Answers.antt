@@ -1,6 +1,8 @@
 use Rattle.std.proofs.Common.{rules, ◌≡◌, false, length, refl, arith}
-use Rattle.std.specs.Prelude.{min}
+use Rattle.std.specs.Prelude.{min, take}
 use Rattle.memory_connections.proofs.Stages.{stays, sends_there, takes_there}
+use Rattle.connections.specs.State.{sent}
+use Rattle.memory_connections.proofs.Timing.{timed_as, timed_on}
 use Rattle.memory_connections.proofs.stage.Stage.write.Goals as goal
 
 pub invariant_of-self : goal.invariant_of-self
@@ -11,6 +13,7 @@ invariant_of-self c =
       stays e i.owed.items c.narrow_at.new.all.items c.send.new.self.entries c.send.new.self.room refl c.narrow_at.ensures.after c.send.ensures.entries c.send.ensures.room,
       omega (arith, c.self.invariant.1, c.send.ensures.room),
       omega (arith, c.self.invariant.2, c.send.ensures.room, c.narrow_at.ensures.len, c.narrow_at.ensures.capacity),
+      timed_as (timed_on i.schedule.now i.log.entries i.log.room i.present i.told c.self.invariant.3 (sent c.args.place (take c.min-count.result c.args.piece.now)) _ refl refl) c.send.new.self.entries c.send.new.self.room i.present i.told c.send.ensures.entries c.send.ensures.room refl refl,
     )
 
 pub returns-clause-takes : goal.returns-clause-takes

@@ -1,4 +1,5 @@
-use Rattle.store_partition.proofs.Words.{AreBytes, Put, ap, arith, item_events, plays, refl, write_of, ◌+◌, ◌∙◌}
+use Rattle.store_partition.proofs.Words.{AreBytes, Put, ap, arith, item_events, item_size, plays, refl, write_of, ◌+◌, ◌∙◌, ◌≡◌}
+use Rattle.store_partition.proofs.Held.{fits_kept}
 use Rattle.store_partition.proofs.Puts.{HasPut, PutInRoom, in_room}
 use Rattle.store_partition.proofs.Parts.{held, known_at}
 use Rattle.store_partition.proofs.partition.StorePartition.put_in_room.Given.{Over}
@@ -6,13 +7,14 @@ use Rattle.store_partition.proofs.partition.StorePartition.put_in_room.Goals.{Af
 use Rattle.store_partition.proofs.partition.StorePartition.put_in_room.Goals as goal
 
 steps : (g : Over) (c : Start g) → AreBytes c.args.key.now → AreBytes c.args.value.now
-    → PutInRoom (g.W.OwnerWords.owner c.args.self.now.words) c.args.self.now.index c.args.self.now.heap (write_of Put c.args.key.now c.args.value.now)
+    → PutInRoom (g.W.OwnerWords.owner c.args.self.now.words) c.args.self.now.index (λ bs. bs ≡ c.args.self.now.heap) (write_of Put c.args.key.now c.args.value.now)
     c.args.bucket (c.args.self.now.accepted + 1) c.args.block.offset c.args.block.room
 steps g c key_bytes value_bytes =
     let s = c.args.self.now in
     let r = c.requires in
     in_room (held r.kept s.parts) Put tt c.args.key.now c.args.value.now (record { key = r.key; key_bytes = key_bytes; value = r.value; value_bytes = value_bytes }) r.unworn s.accepted s.counted
-    c.args.bucket r.sought.bucket tt c.args.spot (known_at r.kept s.parts r.sought key_bytes) c.args.block.offset c.args.block.room r.offset r.room r.fits
+    c.args.bucket r.sought.bucket tt c.args.spot (known_at r.kept s.parts r.sought key_bytes) c.args.block.offset c.args.block.room r.offset r.room
+    (fits_kept (item_size c.args.key.now c.args.value.now) c.args.block.room r.stays) r.stays
 
 put : (g : Over) (c : After-rewrite_item g) → HasPut (g.W.OwnerWords.owner c.args.self.now.words) (write_of Put c.args.key.now c.args.value.now) c.args.bucket
     (c.args.self.now.accepted + 1) c.args.block.offset c.args.block.room (g.W.OwnerWords.owner c.rewrite_item.new.words)
