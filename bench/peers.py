@@ -51,13 +51,12 @@ def started(command, ports):
 
 
 @contextlib.contextmanager
-def micad(*words, fronts=1, mode="store", memory="64M", build=MICAD):
-    """The process, and the ports of its fronts."""
-    port = free_port(fronts)
-    ports = range(port, port + fronts)
-    command = [build, "--mode", mode, "--memory", memory, "--memcached", port, "--memcached-fronts", fronts, *words]
-    with started(command, ports) as running:
-        yield running, ports
+def micad(*words, threads=1, mode="store", memory="64M", build=MICAD):
+    """The process, and its port."""
+    port = free_port()
+    command = [build, "--mode", mode, "--memory", memory, "--memcached", port, "--threads", threads, *words]
+    with started(command, [port]) as running:
+        yield running, range(port, port + 1)
 
 
 @contextlib.contextmanager

@@ -48,7 +48,7 @@ def rows_of_micad():
     for mode in ("store", "cache"):
         words = ["--mode", mode, *SMALL]
         yield Row(f"micad, datagrams, {mode}", [*words, "--fronts", "2"], is_server=True, program="micad", threads=2 * 2)
-        yield Row(f"micad, connections, {mode}", [*words, "--memcached-fronts", "2"], is_server=True, program="micad", over_tcp=True, threads=2 * 2)
+        yield Row(f"micad, connections, {mode}", [*words, "--threads", "2"], is_server=True, program="micad", over_tcp=True, threads=2 * 2)
 
 
 def rows_of_mica():

@@ -1,27 +1,26 @@
 -- What a server that stays up has written, by what it came to.
-use Rattle.std.proofs.Common.{◌≡◌, ℕ, ◌<◌, ◌⊎◌, inl, inr, List, Option, Some, None, refl, sym, ap, subst, arith}
+use Rattle.std.proofs.Common.{◌≡◌, ℕ, ◌⊎◌, inl, inr, List, Option, Some, None, refl, sym, ap, subst, arith}
 use Rattle.std.specs.Prelude.{Result, Ok, Err}
 use Rattle.partition_model.specs.declared.options.Options.{Options}
 use Rattle.partition_model.specs.declared.write.Write.{Write}
-use Rattle.partition_table.specs.declared.tables.KeptSeat.{KeptSeat}
 use Rattle.fronts.specs.declared.totals.Totals.{Totals}
 use Rattle.fronts.specs.declared.totals.ServeFault.TheVariants as faults
 use Rattle.server_words.specs.declared.ports.PortOptions.{PortOptions}
-use Rattle.server_words.specs.declared.stream_ports.StreamPorts.{StreamPorts}
 use Rattle.locked_server.specs.declared.service.Service.{Service as LockedService}
 use Rattle.locked_server.specs.declared.stop.Stop.{Stop}
 use Rattle.locked_server.specs.declared.stop.Stop.TheVariants.{Refused, Unbound, Unheard, Unannounced, Fault}
-use Rattle.locked_server.specs.Causes.{HasAnnounced, IsCauseOfStop, Leaves, PortFacts}
+use Rattle.locked_server.specs.Causes.{HasAnnounced, Leaves, PortFacts}
 use Rattle.daemon.specs.declared.status.DaemonStatus.{DaemonStatus}
-use Rattle.daemon.specs.declared.status.DaemonStatus.TheVariants.{Usage, UsedUp, Stopped, NetFault}
+use Rattle.daemon.specs.declared.status.DaemonStatus.TheVariants.{Usage, UsedUp, Stopped}
 use Rattle.option_words.specs.Words.{Text}
 use Rattle.daemon_words.specs.declared.streams.StreamOptions.{StreamOptions}
+use Rattle.daemon_words.specs.declared.streams.StreamPorts.{StreamPorts}
 use Rattle.daemon_words.specs.DaemonWords.{Service}
 use Rattle.server_words.specs.Output.{SinkFacts}
 use Rattle.daemon.specs.Written.{IsUnwritten, IsTold}
 use Rattle.daemon.specs.Files.{FilesFacts}
 use Rattle.daemon.specs.Filling.{KeepsFiles}
-use Rattle.daemon.specs.Daemon.{DaemonOutside, Says, FailsToSay, ready_text, unbound_text, WritesLast, ServesAloud, ServesPlaced, BindsNothing, KeepsUp, places_of, placed}
+use Rattle.daemon.specs.Daemon.{DaemonOutside, Says, FailsToSay, ready_text, WritesLast, ServesAloud, ServesPlaced, BindsNothing, KeepsUp, places_of, placed}
 
 -- what was announced by a sink with a line at hand was announced by the sink
 module _ {A : Type 0} (line_of : A → List ℕ) (sink_of : A → SinkFacts) (line : List ℕ) (old new : A) (same : line_of old ≡ line) where
@@ -61,16 +60,6 @@ pub totals_last : (text : List ℕ) {due status : DaemonStatus} (old new : SinkF
     → IsTold UsedUp text old new status ⊎ IsTold Stopped text old new status
 totals_last text {due} {status} old new (inl is) told = inl (subst (λ (d : DaemonStatus). IsTold d text old new status) is told)
 totals_last text {due} {status} old new (inr is) told = inr (subst (λ (d : DaemonStatus). IsTold d text old new status) is told)
-
--- a line that names a port names it by any number that is its own
-pub told_of : (n port : ℕ) (old new : SinkFacts) (status : DaemonStatus) → IsTold NetFault (unbound_text n) old new status → n ≡ port → IsTold NetFault (unbound_text port) old new status
-told_of n port old new status told same = subst (λ (k : ℕ). IsTold NetFault (unbound_text k) old new status) same told
-
--- a place that was not had is one of them
-pub place_within : (stop : Stop) (place : ℕ) (service : LockedService) (writes : List Write) (kept : List KeptSeat) (lacked : ℕ) (before after : PortFacts) → stop ≡ Unheard place
-    → IsCauseOfStop (Err stop) service writes kept lacked before after → place < service.places
-place_within stop place service writes kept lacked before after is cause =
-    (subst (λ (s : Stop). IsCauseOfStop (Err s) service writes kept lacked before after) is cause).came_is.3
 
 -- what is written last, by why it stopped short
 pub written_last : (first : ℕ) (stop cause : Stop) (old new : SinkFacts) (status : DaemonStatus) → stop ≡ cause → WritesLast first (Err cause) old new status → WritesLast first (Err stop) old new status

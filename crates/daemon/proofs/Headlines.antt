@@ -24,7 +24,7 @@ use Rattle.locked_server.specs.declared.stop.Stop.{Stop}
 use Rattle.locked_server.specs.declared.stop.Stop.TheVariants.{Refused, Unbound, Unheard, Unannounced, Fault}
 use Rattle.locked_server.specs.Filled.{origin_of}
 use Rattle.locked_server.specs.Streams.{ListenFacts, ServesClients, ServesFrom, AreStreams, HasFinished, HaveFinished, HaveStopped, counted_by_all, others_of, with_shares}
-use Rattle.locked_server.specs.Causes.{HasCause, IsCauseOfStop, Leaves}
+use Rattle.locked_server.specs.Causes.{HasCause, IsCauseOfStop, LacksPlace, Leaves}
 use Rattle.option_words.specs.Words.{Text}
 use Rattle.daemon_words.specs.DaemonWords.{Service}
 use Rattle.daemon.specs.declared.status.DaemonStatus.{DaemonStatus}
@@ -35,7 +35,7 @@ use Rattle.served.specs.TotalsText.{totals_text}
 use Rattle.daemon.specs.Files.{FilesFacts}
 use Rattle.daemon.specs.Filling.{Fills, IsDueOfFile}
 use Rattle.daemon.specs.Daemon.{DaemonOutside, Says, FailsToSay, ready_text, unbound_text, WritesLast, placed, places_of, FillsAndServes}
-use Rattle.daemon.specs.Headline.{OnShareLogs, TalksLawfully, HasTalkedOut, TalksToItsEnd, TalksToAStop, TalkAtPlaces, ServesLawfully, StopsLawfully, NamesPort}
+use Rattle.daemon.specs.Headline.{OnShareLogs, TalksLawfully, HasTalkedOut, TalksToItsEnd, TalksToAStop, TalkInShares, ServesLawfully, StopsLawfully, NamesPort}
 use Rattle.daemon.proofs.LeftLogs.{left_of}
 
 -- What follows from a fact that is told
@@ -128,7 +128,7 @@ module _ (options : Options) (base places lacked : ℕ) (before after : ListenFa
 
   -- each talked to its end, where all have finished
   pub talk_to_their_ends : length olds ≡ places → HaveFinished options answers news
-      → TalkAtPlaces (TalksToItsEnd options base lacked) places answers before after
+      → TalkInShares (TalksToItsEnd options base lacked) places answers before after
   talk_to_their_ends all finished = (
     are.fronts,
     λ f own own_at.
@@ -138,7 +138,7 @@ module _ (options : Options) (base places lacked : ℕ) (before after : ListenFa
 
   -- each talked to a stop, where all have stopped
   pub talk_to_a_stop : length olds ≡ places → HaveStopped options answers olds news
-      → TalkAtPlaces (TalksToAStop options base lacked) places answers before after
+      → TalkInShares (TalksToAStop options base lacked) places answers before after
   talk_to_a_stop all stopped = (
     are.fronts,
     λ f own own_at.
@@ -244,11 +244,11 @@ module _ (service : Service) (base : ℕ) (files after : FilesFacts) (old new : 
         printed = subst (λ (s : SinkFacts). Appends s.taken new.sink.taken (unbound_text port)) leaves.announced.1 is.1;
       }))
   by_answer writes filled status final said (Err (Unheard place)) cause leaves last =
-      let port = service.streams.ports.port + place in
+      let port = service.streams.ports.port in
       let is = is_told NetFault status (unbound_text port) said new.sink final last in
       subst Promised (sym is.0) (inl (record {
         port = port;
-        lacks = inr (place, refl, leaves.announced.0);
+        lacks = inr (refl, subst (λ (n : ℕ). LacksPlace n before.ports new.ports) cause.came_is.2 leaves.announced.0);
         printed = subst (λ (s : SinkFacts). Appends s.taken new.sink.taken (unbound_text port)) leaves.announced.1 is.1;
       }))
   by_answer writes filled status final said (Err (Fault faults.Net)) cause leaves last =

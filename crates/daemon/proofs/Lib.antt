@@ -1,5 +1,4 @@
 pub mod Exiting
 pub mod Announced
-pub mod Placed
 pub mod LeftLogs
 pub mod Headlines

@@ -1,5 +1,5 @@
 -- What a server that stays up writes, and what it leaves.
-use Rattle.std.specs.Prelude.{◌≡◌, ◌+◌, ◌-◌, ◌<◌, ◌≤◌, ◌==◌, ◌⊎◌, ◌++◌, ◌∷◌, [], ℕ, zero, suc, List, length, take, codes, Option, Some, None, IfSome, Result, Ok, Err, if◌then◌else◌}
+use Rattle.std.specs.Prelude.{◌≡◌, ◌+◌, ◌-◌, ◌<◌, ◌≤◌, ◌==◌, ◌⊎◌, ◌++◌, ◌∷◌, [], ℕ, List, length, take, codes, Option, Some, None, IfSome, Result, Ok, Err, if◌then◌else◌}
 use Rattle.std.specs.Fmt.{decimal}
 use Rattle.std.specs.Io.KnownBytes.{Appends}
 use Rattle.outside.specs.Faults.{Rose}
@@ -13,10 +13,10 @@ use Rattle.fronts.specs.declared.totals.ServeFault.TheVariants as faults
 use Rattle.server_words.specs.declared.ports.PortOptions.{PortOptions}
 use Rattle.locked_server.specs.declared.stop.Stop.{Stop}
 use Rattle.locked_server.specs.declared.stop.Stop.TheVariants.{Refused, Unbound, Unheard, Unannounced, Fault}
-use Rattle.server_words.specs.declared.stream_ports.StreamPorts.{StreamPorts}
 use Rattle.locked_server.specs.declared.service.Service.{Service as LockedService}
 use Rattle.locked_server.specs.Causes.{IsCauseOfStop, Leaves, PortFacts}
 use Rattle.daemon_words.specs.declared.streams.StreamOptions.{StreamOptions}
+use Rattle.daemon_words.specs.declared.streams.StreamPorts.{StreamPorts}
 use Rattle.daemon_words.specs.DaemonWords.{Service}
 use Rattle.daemon.specs.declared.status.DaemonStatus.{DaemonStatus}
 use Rattle.daemon.specs.declared.status.DaemonStatus.TheVariants.{Usage, NoMemory, NetFault, WriteFault, ImageRefused, UsedUp, Stopped}
@@ -30,9 +30,13 @@ use Rattle.daemon.specs.Filling.{Fills, IsDueOfFile, KeepsFiles}
 abbrev pub range_text : List ℕ → ℕ → ℕ → List ℕ
 range_text before first count = if count == 0 then [] else before ++ decimal first ++ codes " to " ++ decimal (first + count - 1)
 
--- the line that says that all ports are had: those of datagrams and those of connections
+-- the port of connections, where there are fronts behind it
+abbrev pub place_text : StreamPorts → List ℕ
+place_text streams = if streams.fronts == 0 then [] else codes " memcached " ++ decimal streams.port
+
+-- the line that says that all ports are had: those of datagrams and that of connections
 abbrev pub ready_text : PortOptions → StreamPorts → List ℕ
-ready_text ports streams = codes "ready" ++ range_text (codes " ") ports.port ports.fronts ++ range_text (codes " memcached ") streams.port streams.fronts ++ 10 ∷ []
+ready_text ports streams = codes "ready" ++ range_text (codes " ") ports.port ports.fronts ++ place_text streams ++ 10 ∷ []
 
 -- the sink took the line, or a proper beginning of it where a write failed
 abbrev pub Says : List ℕ → SinkFacts → SinkFacts → Type 0
@@ -56,19 +60,19 @@ daemon_outside sink ports tables lacked = record { sink = sink; ports = ports; t
 abbrev pub unbound_text : ℕ → List ℕ
 unbound_text port = codes "port " ++ decimal port ++ codes " not bound\n"
 
--- What is written last, by what the server came to, and the status. A place of connections is told by its port, from the first one on. Totals come where it is used up,
+-- What is written last, by what the server came to, and the status. The place of connections is told by its port. Totals come where it is used up,
 -- and where it was told to stop.
 abbrev pub WritesLast : ℕ → Result Totals Stop → SinkFacts → SinkFacts → DaemonStatus → Type 0
 WritesLast first (Ok totals) old new status = IsTold UsedUp (totals_text totals) old new status ⊎ IsTold Stopped (totals_text totals) old new status
 WritesLast first (Err (Unbound port)) old new status = IsTold NetFault (unbound_text port) old new status
-WritesLast first (Err (Unheard place)) old new status = IsTold NetFault (unbound_text (first + place)) old new status
+WritesLast first (Err (Unheard place)) old new status = IsTold NetFault (unbound_text first) old new status
 WritesLast first (Err (Fault faults.Net)) old new status = IsWritten NetFault (with_line_feed (codes "net fault")) old new status
 WritesLast first (Err (Fault faults.NoMemory)) old new status = (status ≡ NoMemory) × (new ≡ old)
 WritesLast first (Err Refused) old new status = IsWritten ImageRefused (with_line_feed (codes "pair refused")) old new status
 WritesLast first (Err Unannounced) old new status = (status ≡ WriteFault) × (new ≡ old)
 
 -- The server, which these writes filled, came to this answer, for the cause that it names. It said that its ports are had where they were, and wrote what is due at its end.
--- The ports of its places are those of the words. Unique numbers of values begin at the base.
+-- The port of its place is that of the words. Unique numbers of values begin at the base.
 pub record ServesAloud (service : LockedService) (streams : StreamPorts) (writes : List Write) (old new : DaemonOutside) (status : DaemonStatus) : Type 0 where
   pub answer : Result Totals Stop
   pub said : SinkFacts
@@ -82,24 +86,15 @@ pub record BindsNothing (old new : DaemonOutside) : Type 0 where
   pub tables : new.tables ≡ old.tables
   pub lacked : new.lacked ≡ old.lacked
 
--- the k-th place of connections that words name
-abbrev pub place_at : StreamOptions → ℕ → Place
-place_at streams k = record { address = streams.address; port = streams.ports.port + k }
-
--- the first of them, so many
-abbrev pub first_places : StreamOptions → ℕ → List Place
-first_places streams zero = []
-first_places streams (suc k) = first_places streams k ++ place_at streams k ∷ []
-
--- all of them: one for each front
+-- the places of connections that words name: one, where there are fronts behind it
 abbrev pub places_of : StreamOptions → List Place
-places_of streams = first_places streams streams.ports.fronts
+places_of streams = if streams.ports.fronts == 0 then [] else record { address = streams.address; port = streams.ports.port } ∷ []
 
--- the listeners were told places, none of which was listened at, and how many connections a share has at most
+-- the listeners were told places, none of which was listened at, and how many connections all shares have together at most
 abbrev pub placed : List Place → ℕ → DaemonOutside → DaemonOutside
 placed places most old = record old { ports = record old.ports { listens = record old.ports.listens { places = places; most = most; heard = [] } } }
 
--- It served, and listened at the places that the words name.
+-- It served, and listened at the place that the words name.
 abbrev pub ServesPlaced : Options → PortOptions → StreamOptions → ℕ → List Write → DaemonOutside → DaemonOutside → DaemonStatus → Type 0
 ServesPlaced options ports streams base writes old new status =
     ServesAloud (record { options = options; ports = ports; places = streams.ports.fronts; base = base }) streams.ports writes

@@ -77,9 +77,9 @@ TalksToItsEnd options base lacked answers before after = TalksLawfully options b
 abbrev pub TalksToAStop : Options → ℕ → ℕ → List Answered → Log → Log → Type 0
 TalksToAStop options base lacked answers before after = TalksLawfully options base lacked answers before after × (HasTalkedOut options answers after ⊎ LastFailed after)
 
--- this holds of the front behind each place of connections, which gave it one share, with what it answered
-abbrev pub TalkAtPlaces : (List Answered → Log → Log → Type 0) → ℕ → List (List Answered) → ListenFacts → ListenFacts → Type 0
-TalkAtPlaces talks places answers before after = OfEach places answers (λ f own. OnShareLogs (talks own) (before.given + f) before after)
+-- this holds of the front behind each share of the place of connections, with what it answered
+abbrev pub TalkInShares : (List Answered → Log → Log → Type 0) → ℕ → List (List Answered) → ListenFacts → ListenFacts → Type 0
+TalkInShares talks places answers before after = OfEach places answers (λ f own. OnShareLogs (talks own) (before.given + f) before after)
 
 -- each front over datagrams served its port by these dealings
 abbrev pub ServePorts : PortOptions → List (List Dealing) → PortStates → PortStates → Type 0
@@ -93,8 +93,8 @@ pub record ServesLawfully (service : Service) (base : ℕ) (files : FilesFacts) 
   pub dealings : List (List Dealing)
   -- All their answers are lawful: one run of each partition's machine has them all.
   pub lawful : AnswersFromFilling files service (answers ++ map answered_in dealings)
-  -- At each place of connections what was sent to each client is due to what it said, at each moment, until nothing more was to come.
-  pub connections : TalkAtPlaces (TalksToItsEnd service.options base new.lacked) service.streams.ports.fronts answers old.ports.listens new.ports.listens
+  -- In each share of the place of connections what was sent to each client is due to what it said, at each moment, until nothing more was to come.
+  pub connections : TalkInShares (TalksToItsEnd service.options base new.lacked) service.streams.ports.fronts answers old.ports.listens new.ports.listens
   -- At each port of datagrams all that waited was received, in order, and what was sent is what is due to each.
   pub datagrams : ServePorts service.ports dealings ports ports'
   -- The sink took the line that names the ports, then that of the totals, and nothing else.
@@ -114,8 +114,8 @@ pub record StopsLawfully (service : Service) (base : ℕ) (files : FilesFacts) (
   pub dealings : List (List Dealing)
   -- All their answers are lawful: one run of each partition's machine has them all.
   pub lawful : AnswersFromFilling files service (answers ++ map answered_in dealings)
-  -- At each place of connections what was sent to each client is due to what it said, at each moment, until there was a cause to stop.
-  pub connections : TalkAtPlaces (TalksToAStop service.options base new.lacked) service.streams.ports.fronts answers old.ports.listens new.ports.listens
+  -- In each share of the place of connections what was sent to each client is due to what it said, at each moment, until there was a cause to stop.
+  pub connections : TalkInShares (TalksToAStop service.options base new.lacked) service.streams.ports.fronts answers old.ports.listens new.ports.listens
   -- At each port of datagrams a beginning of what waited was received, and what was sent is a beginning of what is due to that.
   pub datagrams : LeavePorts service.ports dealings ports ports'
   -- The sink took the line that names the ports, then `net fault`, and nothing else.
@@ -124,5 +124,5 @@ pub record StopsLawfully (service : Service) (base : ℕ) (files : FilesFacts) (
 -- a port was not had, or a place of connections; and the sink took the line that names it, and nothing else
 pub record NamesPort (first : ℕ) (old new : DaemonOutside) : Type 0 where
   pub port : ℕ
-  pub lacks : LacksPort port old.ports new.ports ⊎ ((place : ℕ) × (port ≡ first + place) × LacksPlace place old.ports new.ports)
+  pub lacks : LacksPort port old.ports new.ports ⊎ ((port ≡ first) × LacksPlace 0 old.ports new.ports)
   pub printed : Appends old.sink.taken new.sink.taken (unbound_text port)

@@ -36,7 +36,7 @@ pub(crate) fn board_of<W, G>(
         pid: u64::from(process.pid),
         since: start.second,
         fronts: fronts.saturating_add(ports.fronts),
-        connections: u64::from(fronts) * u64::from(streams.connections),
+        connections: u64::from(streams.connections),
     };
     let board = Board::new(process.alloc, server, options, fronts.saturating_add(1))?;
     board.show(fronts, &mut tally_of(options.partitions, filling));

@@ -1,13 +1,13 @@
 //! The sink of a server that stays up, with the line that it is to write once it has its ports.
 ghost use Rattle.std.specs.Prelude.{◌≡◌, ◌+◌, ◌≤◌, string_bytes, IfOk};
 ghost use Rattle.server_words.specs.PossiblePorts.{IsPossiblePorts};
-ghost use Rattle.server_words.specs.StreamPorts.{IsPossibleStreams};
-ghost use Rattle.daemon.specs.Daemon.{range_text, ready_text, unbound_text};
+ghost use Rattle.daemon.specs.Daemon.{place_text, range_text, ready_text, unbound_text};
 
 use connections::Connections;
+use daemon_words::StreamPorts;
 use locked_server::{Announce, Untold};
 use outside::{Datagrams, NoMemory, Sink, write_all};
-use server_words::{PortOptions, StreamPorts};
+use server_words::PortOptions;
 use std::alloc::Global;
 use std::net::Ipv4Addr;
 
@@ -18,7 +18,7 @@ pub struct Unbound {
     pub port: u16,
     /// Whether it is of connections, and none of datagrams.
     pub is_tcp: bool,
-    /// How many descriptors are had before its own: those of the ports before it, each of connections with a second one, for what is ready there.
+    /// How many descriptors are had before its own: those of the ports before it, and for each thread of a port of connections two, for what is ready there and for calls.
     pub before: u32,
 }
 
@@ -33,13 +33,13 @@ impl Unbound {
         }
     }
 
-    /// One of connections, at the place of this number.
-    pub(crate) fn connections(address: Ipv4Addr, port: u16, place: u32) -> Unbound {
+    /// One of connections, before so many threads.
+    pub(crate) fn connections(address: Ipv4Addr, port: u16, threads: u32) -> Unbound {
         Unbound {
             address,
             port,
             is_tcp: true,
-            before: place.saturating_mul(2).saturating_add(1),
+            before: threads.saturating_mul(2),
         }
     }
 }
@@ -114,18 +114,31 @@ fn range_text(alloc: Global, before: &str, first: u16, count: u32) -> Result<Str
     }
 }
 
-/// The line that says that the ports are had: the first one and the last one of each kind.
+// The port of connections, where there are fronts behind it.
+fn place_text(alloc: Global, streams: &StreamPorts) -> Result<String, NoMemory>
+    ensures { IfOk result (λ text. string_bytes text ≡ place_text streams.now) }
+{
+    if streams.fronts == 0 {
+        return Ok(String::new(alloc));
+    }
+    let port = streams.port;
+    match format!(in alloc; " memcached {port}") {
+        Ok(text) => Ok(text),
+        Err(_) => Err(NoMemory),
+    }
+}
+
+/// The line that says that the ports are had: the first one and the last one of datagrams, and that of connections.
 pub(crate) fn ready_line(
     alloc: Global,
     ports: &PortOptions,
     streams: &StreamPorts,
 ) -> Result<String, NoMemory>
     requires ports { IsPossiblePorts ports.now }
-    requires streams { IsPossibleStreams streams.now }
     ensures { IfOk result (λ line. string_bytes line ≡ ready_text ports.now streams.now) }
 {
     let datagrams = range_text(alloc, " ", ports.port, ports.fronts)?;
-    let connections = range_text(alloc, " memcached ", streams.port, streams.fronts)?;
+    let connections = place_text(alloc, streams)?;
     match format!(in alloc; "ready{datagrams}{connections}\n") {
         Ok(line) => Ok(line),
         Err(_) => Err(NoMemory),

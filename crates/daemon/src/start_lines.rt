@@ -15,11 +15,10 @@ use std::fmt;
 // How many descriptors a server wants.
 fn descriptors_of(asked: &DaemonOptions<'_>) -> u64 {
     let fronts = u64::from(asked.streams.ports.fronts);
-    let clients = u64::from(asked.streams.connections).saturating_mul(fronts);
-    clients
+    u64::from(asked.streams.connections)
         .saturating_add(2u64.saturating_mul(fronts))
         .saturating_add(u64::from(asked.ports.fronts))
-        .saturating_add(3)
+        .saturating_add(4)
 }
 
 // How many items of 16 bytes of key and 64 of value its words have room for.
@@ -72,14 +71,12 @@ impl StartText<'_> {
             return Ok(());
         }
         let address = streams.address;
-        let first = u64::from(streams.ports.port);
-        let last = first
-            .saturating_add(u64::from(streams.ports.fronts))
-            .saturating_sub(1);
+        let port = streams.ports.port;
+        let threads = streams.ports.fronts;
         let most = streams.connections;
         write!(
             f,
-            "micad: memcached's clients at {address}:{first} to {last}, a thread and {most} connections at each\n"
+            "micad: memcached's clients at {address}:{port}, by {threads} threads, {most} connections in all\n"
         )
     }
 

@@ -5,7 +5,7 @@ ghost use Rattle.partition_model.specs.Write.{IsWrite};
 ghost use Rattle.locked_server.specs.declared.stop.Stop.TheVariants.{Fault};
 ghost use Rattle.locked_server.specs.Service.{IsPossibleService};
 ghost use Rattle.locked_server.specs.Causes.{ports_at};
-ghost use Rattle.server_words.specs.StreamPorts.{IsPossibleStreams};
+ghost use Rattle.locked_server.specs.Streams.{HasPlace};
 ghost use Rattle.daemon_words.specs.DaemonWords.{daemon_of, ArePossibleFronts};
 ghost use Rattle.server_words.specs.Output.{sink_facts};
 ghost use Rattle.daemon.specs.declared.status.DaemonStatus.TheVariants.{NetFault, Stopped, UsedUp};
@@ -78,9 +78,8 @@ fn serve_aloud<W: Threads + Wait + Sync, K: Sink + Drop, N: Net, L: Listeners, G
     left: &mut Left,
 ) -> DaemonStatus
     requires service { IsPossibleService shared.now.service }
-    requires streams { IsPossibleStreams streams.now.ports }
     requires fronts { shared.now.service.places ≡ streams.now.ports.fronts }
-    requires places { shared.now.service.places ≤ length (L.places listeners.old) }
+    requires places { HasPlace shared.now.service.places (L.places listeners.old) }
     requires filling { All IsWrite filling.items }
     requires line { string_bytes speaker.old.line ≡ ready_text shared.now.service.ports streams.now.ports }
     requires unbound { N.binds net.old ≡ 0 }
@@ -109,9 +108,9 @@ fn serve_aloud<W: Threads + Wait + Sync, K: Sink + Drop, N: Net, L: Listeners, G
             speaker.doubt = Doubt::Port(unbound);
             write_unbound(shared.alloc, port, &mut speaker.sink)
         }
-        Err(Stop::Unheard(place)) => {
-            let port = streams.ports.port + place as u16;
-            let unbound = Unbound::connections(streams.address, port, place);
+        Err(Stop::Unheard(_)) => {
+            let port = streams.ports.port;
+            let unbound = Unbound::connections(streams.address, port, streams.ports.fronts);
             speaker.reason = unbound_reason(shared.alloc, unbound);
             speaker.doubt = Doubt::Port(unbound);
             write_unbound(shared.alloc, port, &mut speaker.sink)

@@ -1,6 +1,5 @@
 -- What the words of a server that stays up give is possible.
 use Rattle.std.proofs.Common.{◌≡◌, ℕ, List, Option, Some, None, Err, sym, ◌∙◌, Bool, true, false, ◌&&◌, is_none, is_some, option_map, unwrap_or, ap, refl, subst, if◌then◌else◌, arith}
-use Rattle.std.proofs.lemmas.Bool.{leb-true}
 use Rattle.std.proofs.lemmas.Option.{none-some}
 use Rattle.partition_model.specs.declared.options.TheConstants.{MOST_PARTITIONS, MOST_SPARES, MOST_WORDS, MOST_WEAR}
 use Rattle.partition_model.specs.declared.options.Options.{Options}
@@ -18,8 +17,8 @@ use Rattle.option_words.specs.declared.words_fault.WordsFault.TheVariants.{Usage
 use Rattle.option_words.specs.Words.{Text, given_by, text_of}
 use Rattle.option_words.specs.Settings.{mode, tries, port, value_of, ◌>>=◌}
 use Rattle.daemon_words.specs.Memory.{memory_of}
-use Rattle.daemon_words.specs.StreamWords.{memcached, memcached_fronts, listen, connections, no_streams, gives_streams, some_streams, streams_by, streams_given}
-use Rattle.daemon_words.specs.DaemonWords.{Service, partitions, buckets, spares, words, wear, memory_name, sizes_by_words, sizes_by, sizes_given, mode_given, service_options, image_name, fronts, lasting_ports, no_ports, ports_by, ports_given, have_numbers, may_fill, daemon_names, daemon_given, daemon_of, gives_size, ArePossibleFronts, IsDaemonReading}
+use Rattle.daemon_words.specs.StreamWords.{memcached, threads, listen, connections, no_streams, gives_streams, some_streams, streams_by, streams_given}
+use Rattle.daemon_words.specs.DaemonWords.{Service, partitions, buckets, spares, words, wear, memory_name, sizes_by_words, sizes_by, sizes_given, mode_given, service_options, image_name, fronts, lasting_ports, no_ports, ports_by, ports_given, may_fill, daemon_names, daemon_given, daemon_of, gives_size, ArePossibleFronts, IsDaemonReading}
 use Rattle.option_words.proofs.ValueLemmas.{both_told, value_bounds, power_value, one_kilo, required_bounds}
 use Rattle.daemon_words.proofs.MemoryLemmas.{memory_bounds}
 
@@ -103,7 +102,6 @@ lasting_valid given ports is =
       port = required_bounds port.name 1024 65000 (given port.name) p.0 p.1;
       fronts = (omega arith, few.1);
       batches = (omega arith, omega arith);
-      stream_ports = record { numbers = omega arith; fronts = omega arith };
       all = (omega (arith, few.0), omega (arith, few.1));
     })
 
@@ -111,19 +109,18 @@ lasting_valid given ports is =
 some_streams_valid : (given : Text → Option Text) (streams : StreamOptions) → some_streams given ≡ Some streams → InRange 1 MOST_FRONTS streams.ports.fronts
 some_streams_valid given streams is =
     let p = both_told (value_of memcached given) _ streams is in
-    let f = both_told (value_of memcached_fronts given) _ streams p.2 in
+    let f = both_told (value_of threads given) _ streams p.2 in
     let l = both_told (value_of listen given) _ streams f.2 in
     let c = both_told (value_of connections given) _ streams l.2 in
     let made : StreamOptions = record { ports = record { port = p.0; fronts = f.0 }; address = l.0; connections = c.0 } in
     subst (λ (s : StreamOptions). InRange 1 MOST_FRONTS s.ports.fronts) (ap (λ o. unwrap_or o made) c.2)
-    (value_bounds memcached_fronts.name 1 MOST_FRONTS 1 (given memcached_fronts.name) f.0 (omega arith, omega arith) f.1)
+    (value_bounds threads.name 1 MOST_FRONTS 4 (given threads.name) f.0 (omega arith, omega arith) f.1)
 
-streams_alone : (streams : StreamOptions) → InRange 1 MOST_FRONTS streams.ports.fronts → have_numbers streams.ports ≡ true → ArePossibleFronts no_ports streams.ports
-streams_alone streams few is = record {
+streams_alone : (streams : StreamOptions) → InRange 1 MOST_FRONTS streams.ports.fronts → ArePossibleFronts no_ports streams.ports
+streams_alone streams few = record {
   port = (omega arith, omega arith);
   fronts = (omega arith, omega arith);
   batches = (omega arith, omega arith);
-  stream_ports = record { numbers = leb-true _ 65536 is; fronts = few.1 };
   all = (omega (arith, few.0), omega (arith, few.1));
 }
 
@@ -134,10 +131,10 @@ unless_given false made a same = ap (λ o. unwrap_or o made) same
 
 -- the ports of one protocol, by whether its first port is one of datagrams
 ports_valid : (given : Text → Option Text) (first : Option Text) (ports : PortOptions) (streams : StreamOptions) → ports_by given first ≡ Some ports
-    → streams_by given (is_none first) ≡ Some streams → have_numbers streams.ports ≡ true → ArePossibleFronts ports streams.ports
-ports_valid given None ports streams p s numbers =
-    subst (λ (o : PortOptions). ArePossibleFronts o streams.ports) (unless_given (is_some (given fronts.name)) no_ports ports p) (streams_alone streams (some_streams_valid given streams s) numbers)
-ports_valid given (Some text) ports streams p s numbers =
+    → streams_by given (is_none first) ≡ Some streams → ArePossibleFronts ports streams.ports
+ports_valid given None ports streams p s =
+    subst (λ (o : PortOptions). ArePossibleFronts o streams.ports) (unless_given (is_some (given fronts.name)) no_ports ports p) (streams_alone streams (some_streams_valid given streams s))
+ports_valid given (Some text) ports streams p s =
     subst (λ (o : StreamOptions). ArePossibleFronts ports o.ports) (unless_given (gives_streams given) no_streams streams s) (lasting_valid given ports p)
 
 pub service_valid : (given : Text → Option Text) (service : Service) → daemon_given given ≡ Some service → IsPossible service.options × ArePossibleFronts service.ports service.streams.ports
@@ -146,13 +143,12 @@ service_valid given service is =
     let p = both_told (ports_given given) _ service o.2 in
     let s = both_told (streams_given given) _ service p.2 in
     let made : Service = record { options = o.0; ports = p.0; streams = s.0; image = given image_name } in
-    told made (have_numbers s.0.ports) (may_fill o.0.mode (given image_name)) (service_possible given o.0 o.1) (ports_valid given (given port.name) p.0 s.0 p.1 s.1) s.2
+    told made (may_fill o.0.mode (given image_name)) (service_possible given o.0 o.1) (ports_valid given (given port.name) p.0 s.0 p.1 s.1) s.2
   where
-    told : (made : Service) (numbers fills : Bool) → IsPossible made.options → (numbers ≡ true → ArePossibleFronts made.ports made.streams.ports)
-        → (if numbers && fills then Some made else None) ≡ Some service → IsPossible service.options × ArePossibleFronts service.ports service.streams.ports
-    told made true true o p same = subst (λ (s : Service). IsPossible s.options × ArePossibleFronts s.ports s.streams.ports) (ap (λ s. unwrap_or s made) same) (o, p refl)
-    told made true false o p none = absurd (none-some service none)
-    told made false fills o p none = absurd (none-some service none)
+    told : (made : Service) (fills : Bool) → IsPossible made.options → ArePossibleFronts made.ports made.streams.ports
+        → (if fills then Some made else None) ≡ Some service → IsPossible service.options × ArePossibleFronts service.ports service.streams.ports
+    told made true o p same = subst (λ (s : Service). IsPossible s.options × ArePossibleFronts s.ports s.streams.ports) (ap (λ s. unwrap_or s made) same) (o, p)
+    told made false o p none = absurd (none-some service none)
 
 -- words that give nothing to the options give no such server
 pub daemon_none : (known : List Text) → known ≡ daemon_names → (words : List Text) (fault : WordsFault) → (fault ≡ Usage → given_by known words ≡ None)

@@ -1,5 +1,5 @@
 -- The words of a server that stays up: its partitions, by their sizes or by how much memory they may take, its ports, and an image.
-use Rattle.std.specs.Prelude.{◌≡◌, ⊤, ℕ, ◌+◌, Bool, ◌||◌, ◌&&◌, true, nat_le, List, ◌∷◌, Option, Some, None, is_none, is_some, option_map, codes, Result, Ok, Err, if◌then◌else◌}
+use Rattle.std.specs.Prelude.{◌≡◌, ⊤, ℕ, ◌+◌, Bool, ◌||◌, ◌&&◌, true, List, ◌∷◌, Option, Some, None, is_none, is_some, option_map, codes, Result, Ok, Err, if◌then◌else◌}
 use Rattle.partition_model.specs.declared.options.Options.{Options}
 use Rattle.partition_model.specs.declared.options.Mode.{Mode}
 use Rattle.partition_model.specs.declared.options.Mode.TheVariants.{Cache, Store}
@@ -10,12 +10,11 @@ use Rattle.partition_sizes.specs.declared.sizes.TheConstants.{LEAST_MEMORY}
 use Rattle.partition_sizes.specs.Sizes.{sizes_for}
 use Rattle.server_words.specs.declared.limits.TheConstants.{MAX_BATCHES, MOST_FRONTS}
 use Rattle.server_words.specs.declared.ports.PortOptions.{PortOptions}
-use Rattle.server_words.specs.declared.stream_ports.StreamPorts.{StreamPorts}
-use Rattle.server_words.specs.StreamPorts.{IsPossibleStreams}
 use Rattle.option_words.specs.declared.words_fault.WordsFault.{WordsFault}
 use Rattle.option_words.specs.declared.words_fault.WordsFault.TheVariants.{Usage, NoMemory}
 use Rattle.daemon_words.specs.declared.options.DaemonOptions.{DaemonOptions}
 use Rattle.daemon_words.specs.declared.streams.StreamOptions.{StreamOptions}
+use Rattle.daemon_words.specs.declared.streams.StreamPorts.{StreamPorts}
 use Rattle.option_words.specs.Words.{Text}
 use Rattle.daemon_words.specs.Memory.{memory_of}
 use Rattle.option_words.specs.Settings.{Setting, number, power_of_two, mode, tries, port, value_of, read_as, ◌>>=◌}
@@ -115,11 +114,7 @@ ports_by given (Some text) = lasting_ports given
 abbrev pub ports_given : (Text → Option Text) → Option PortOptions
 ports_given given = ports_by given (given port.name)
 
--- the last port of connections has a number
-abbrev pub have_numbers : StreamPorts → Bool
-have_numbers streams = nat_le (streams.port + streams.fronts) 65536
-
--- what it is to do: its partitions, its ports of datagrams and of connections, and the file whose image fills it, if one does
+-- what it is to do: its partitions, its ports of datagrams and its port of connections, and the file whose image fills it, if one does
 pub record Service : Type 0 where
   pub options : Options
   pub ports : PortOptions
@@ -136,7 +131,7 @@ daemon_given given =
     service_options given >>= λ options.
     ports_given given >>= λ ports.
     streams_given given >>= λ streams.
-    if have_numbers streams.ports && may_fill options.mode (given image_name)
+    if may_fill options.mode (given image_name)
     then Some (record { options = options; ports = ports; streams = streams; image = given image_name })
     else None
 
@@ -148,12 +143,11 @@ daemon_of words = read_as daemon_names daemon_given words
 abbrev pub service_of : DaemonOptions → Service
 service_of read = record { options = read.options; ports = read.ports; streams = read.streams; image = option_map (λ name. name.now) read.image }
 
--- the ranges of its ports: there is a front at least
+-- the ranges of its ports, and of how many fronts there are: one at least
 pub record ArePossibleFronts (ports : PortOptions) (streams : StreamPorts) : Type 0 where
   pub port : InRange 1024 65000 ports.port
   pub fronts : InRange 0 MOST_FRONTS ports.fronts
   pub batches : InRange 1 MAX_BATCHES ports.batches
-  pub stream_ports : IsPossibleStreams streams
   pub all : InRange 1 MOST_FRONTS (ports.fronts + streams.fronts)
 
 -- what is read of words that give this, or nothing: out of memory may come with any

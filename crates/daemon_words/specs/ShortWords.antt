@@ -38,7 +38,8 @@ spelt word =
     if bytes_eq word (codes "-p") then (codes "--memcached" ∷ [], Value)
     else (if bytes_eq word (codes "-c") then (codes "--connections" ∷ [], Value)
     else (if bytes_eq word (codes "-l") then (codes "--listen" ∷ [], Value)
-    else spelt_for_items word))
+    else (if bytes_eq word (codes "-t") then (codes "--threads" ∷ [], Value)
+    else spelt_for_items word)))
 
 -- no option takes this word
 abbrev pub untaken : List Text

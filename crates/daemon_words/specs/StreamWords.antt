@@ -1,4 +1,4 @@
--- The words of fronts behind connections: their ports, the address that these are of, and how many connections each has at most.
+-- The words of fronts behind connections: their port, the address that it is of, how many threads serve it, and how many connections all have at most.
 use Rattle.std.specs.Prelude.{ℕ, ◌==◌, ◌||◌, Bool, true, false, List, [], ◌∷◌, Option, Some, None, is_none, is_some, codes, if◌then◌else◌}
 use Rattle.std.specs.List.{before_first, after_first}
 use Rattle.std.specs.declared.net.ipv4_addr.Ipv4Addr.{Ipv4Addr}
@@ -33,24 +33,24 @@ address_of text =
     octet_of (behind_dot (behind_dot (behind_dot text))) >>= λ d.
     Some (address a b c d)
 
--- the first port, which is memcached's own where none is given, and how many fronts there are
+-- the port, which is memcached's own where none is given, and how many fronts there are, each in a thread
 abbrev pub memcached : Setting ℕ
 memcached = number (codes "memcached") 1 65535 11211
 
-abbrev pub memcached_fronts : Setting ℕ
-memcached_fronts = number (codes "memcached-fronts") 1 MOST_FRONTS 1
+abbrev pub threads : Setting ℕ
+threads = number (codes "threads") 1 MOST_FRONTS 4
 
--- the address that the ports are of, which is the machine's own where none is given
+-- the address that the port is of, which is the machine's own where none is given
 abbrev pub listen : Setting Ipv4Addr
 listen = record { name = codes "listen"; meaning = address_of; default = Some (address 127 0 0 1) }
 
--- the most connections that a front has at a time
+-- the most connections that all fronts have together at a time
 abbrev pub connections : Setting ℕ
 connections = number (codes "connections") 1 65536 1024
 
 -- the names of these options
 abbrev pub stream_names : List Text
-stream_names = memcached.name ∷ memcached_fronts.name ∷ listen.name ∷ connections.name ∷ []
+stream_names = memcached.name ∷ threads.name ∷ listen.name ∷ connections.name ∷ []
 
 -- there are no such fronts
 abbrev pub no_streams : StreamOptions
@@ -58,16 +58,16 @@ no_streams = record { ports = record { port = 0; fronts = 0 }; address = address
 
 -- one of the options is given that are of such fronts
 abbrev pub gives_streams : (Text → Option Text) → Bool
-gives_streams given = is_some (given memcached.name) || is_some (given memcached_fronts.name) || is_some (given listen.name) || is_some (given connections.name)
+gives_streams given = is_some (given memcached.name) || is_some (given threads.name) || is_some (given listen.name) || is_some (given connections.name)
 
--- fronts from the first port on
+-- fronts behind one port
 abbrev pub some_streams : (Text → Option Text) → Option StreamOptions
 some_streams given =
     value_of memcached given >>= λ port.
-    value_of memcached_fronts given >>= λ fronts.
+    value_of threads given >>= λ threads.
     value_of listen given >>= λ address.
     value_of connections given >>= λ connections.
-    Some (record { ports = record { port = port; fronts = fronts }; address = address; connections = connections })
+    Some (record { ports = record { port = port; fronts = threads }; address = address; connections = connections })
 
 -- a server is of one protocol: there are such fronts where no port of datagrams is given
 abbrev pub has_streams : (Text → Option Text) → Bool

@@ -14,11 +14,11 @@ const HELP: &str = "micad: an in-memory store that speaks memcached's text proto
 The first serves memcached's clients over TCP, the second batches of requests over UDP. An option's value stands behind
 it, or behind = as in --memory=1G. Defaults stand in brackets.
 
-Ports for memcached's clients
-  -p, --memcached PORT      the first TCP port, 1 to 65535 [11211]
-      --memcached-fronts N  so many ports in a row, each with its thread, 1 to 64 [1]
-  -l, --listen ADDRESS      their IPv4 address; 0.0.0.0 is every one [127.0.0.1]
-  -c, --connections N       the most connections at each, 1 to 65536 [1024]
+The port for memcached's clients
+  -p, --memcached PORT      the TCP port, 1 to 65535 [11211]
+  -t, --threads N           so many threads serve it, 1 to 64 [4]
+  -l, --listen ADDRESS      its IPv4 address; 0.0.0.0 is every one [127.0.0.1]
+  -c, --connections N       the most connections of all threads together, 1 to 65536 [1024]
   -U 0                      no port of memcached's datagrams, which there is not in any case
 
 Ports for batches of requests
@@ -47,7 +47,7 @@ The program
 
 Examples
   micad                                                    a cache of 64 MiB at 127.0.0.1:11211
-  micad -p 11211 -m 4096 --memcached-fronts 4 -l 0.0.0.0   a cache of 4 GiB: the same items at four ports of any address
+  micad -p 11211 -m 4096 -t 8 -l 0.0.0.0                   a cache of 4 GiB, served by eight threads at any address
   micad -p 11211 -m 1024 -M                                a store: for locks, counters and sessions
   micad --port 9000 --mode store --memory 1G               a store for batches of requests
 ";

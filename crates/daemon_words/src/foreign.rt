@@ -7,12 +7,7 @@ struct Foreign {
     instead: &'static str,
 }
 
-static FOREIGN: [Foreign; 32] = [
-    Foreign {
-        short: "-t",
-        long: "--threads",
-        instead: "each thread has a port of its own: take --memcached-fronts N",
-    },
+static FOREIGN: [Foreign; 31] = [
     Foreign {
         short: "-d",
         long: "--daemon",

@@ -24,5 +24,5 @@ pub use options::{DaemonOptions, read_daemon};
 pub use question::{Question, question_of};
 pub use refusal::refusal_text;
 pub use short_words::{Waiting, long_words};
-pub use streams::StreamOptions;
+pub use streams::{StreamOptions, StreamPorts};
 pub use wrong_together::value_given;

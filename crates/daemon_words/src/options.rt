@@ -1,7 +1,7 @@
 //! The words of a server that stays up.
 ghost use Rattle.std.specs.Prelude.{◌≡◌, map, string_bytes, option_map};
 ghost use Rattle.clap.specs.Matches.{first_value, found_of};
-ghost use Rattle.daemon_words.specs.DaemonWords.{sizes_by_words, gives_size, sizes_given, mode_given, service_options, lasting_ports, ports_given, have_numbers, daemon_given, daemon_of, service_of, IsDaemonReading};
+ghost use Rattle.daemon_words.specs.DaemonWords.{sizes_by_words, gives_size, sizes_given, mode_given, service_options, lasting_ports, ports_given, daemon_given, daemon_of, service_of, IsDaemonReading};
 
 use crate::memory::memory_of;
 use crate::streams::{StreamOptions, has_streams, streams_given};
@@ -9,7 +9,7 @@ use clap::ArgMatches;
 use option_words::{WordsFault, count, matches_of, mode, number, power_of_two, required};
 use partition_model::{MOST_PARTITIONS, MOST_SPARES, MOST_WEAR, MOST_WORDS, Mode, Options};
 use partition_sizes::{LEAST_MEMORY, Sizes, sizes_for};
-use server_words::{MAX_BATCHES, MOST_FRONTS, PortOptions, StreamPorts};
+use server_words::{MAX_BATCHES, MOST_FRONTS, PortOptions};
 use std::alloc::Global;
 
 /// What a server that stays up is asked to do.
@@ -18,7 +18,7 @@ pub struct DaemonOptions<'a> {
     pub options: Options,
     /// The ports of datagrams: none beside ports of connections.
     pub ports: PortOptions,
-    /// The ports of connections: none beside ports of datagrams.
+    /// The port of connections: none beside ports of datagrams.
     pub streams: StreamOptions,
     /// The file whose image fills the store.
     pub image: Option<&'a str>,
@@ -37,7 +37,7 @@ static DAEMON_OPTIONS: [&str; 15] = [
     "fronts",
     "image",
     "memcached",
-    "memcached-fronts",
+    "threads",
     "listen",
     "connections",
 ];
@@ -137,13 +137,6 @@ fn ports_given(found: &ArgMatches<'_>) -> Option<PortOptions>
     })
 }
 
-// Whether the last port of connections has a number.
-fn have_numbers(streams: &StreamPorts) -> bool
-    ensures { result ≡ have_numbers streams.now }
-{
-    u64::from(streams.port) + u64::from(streams.fronts) <= 65_536
-}
-
 // What a server that stays up is to do, by the texts of its options. An image fills a store, and no cache.
 fn daemon_options<'a>(found: &ArgMatches<'a>) -> Option<DaemonOptions<'a>>
     ensures { option_map service_of result ≡ daemon_given (first_value (found_of found.now)) }
@@ -152,7 +145,7 @@ fn daemon_options<'a>(found: &ArgMatches<'a>) -> Option<DaemonOptions<'a>>
     let ports = ports_given(found)?;
     let streams = streams_given(found)?;
     let image = found.get_str("image");
-    if !have_numbers(&streams.ports) || options.mode == Mode::Cache && image.is_some() {
+    if options.mode == Mode::Cache && image.is_some() {
         return None;
     }
     Some(DaemonOptions {

@@ -32,8 +32,6 @@ pub(crate) enum Refusal<'a> {
     FrontsAlone,
     NoMode,
     ImageInCache,
-    /// The last of the ports of connections would have no number.
-    HighPorts,
 }
 
 impl fmt::Display for Refusal<'_> {
@@ -68,13 +66,12 @@ impl fmt::Display for Refusal<'_> {
                 "{name} is of memcached's clients, and --port of batches over UDP: a server is for one of them, so start one for each"
             ),
             Refusal::FrontsAlone => f.write_str(
-                "--fronts wants --port PORT beside it; memcached's clients want --memcached-fronts",
+                "--fronts wants --port PORT beside it; memcached's clients want --threads",
             ),
             Refusal::NoMode => f.write_str(
                 "--port is of batches over UDP and wants --mode cache or --mode store beside it; memcached's clients want -p",
             ),
             Refusal::ImageInCache => f.write_str("--image fills a store: give --mode store"),
-            Refusal::HighPorts => f.write_str("the last of its TCP ports would be above 65535"),
         }
     }
 }

@@ -98,6 +98,7 @@ fn spell(alloc: Global, long: &mut Vec<String>, word: &str) -> Result<Waiting, N
         "-p" => add_before(alloc, long, "--memcached", Waiting::Value),
         "-c" => add_before(alloc, long, "--connections", Waiting::Value),
         "-l" => add_before(alloc, long, "--listen", Waiting::Value),
+        "-t" => add_before(alloc, long, "--threads", Waiting::Value),
         _ => spell_for_items(alloc, long, word),
     }
 }

@@ -6,10 +6,17 @@ ghost use Rattle.daemon_words.specs.StreamWords.{before_dot, behind_dot, octet_o
 
 use clap::ArgMatches;
 use option_words::{count, number_of};
-use server_words::{MOST_FRONTS, StreamPorts};
+use server_words::MOST_FRONTS;
 use std::net::Ipv4Addr;
 
-/// The fronts behind connections: their ports, the address that these are of, and the most connections that a front has at a time.
+/// A port of connections, and how many fronts share it, each in a thread. There may be none.
+#[derive(Clone, Copy)]
+pub struct StreamPorts {
+    pub port: u16,
+    pub fronts: u32,
+}
+
+/// The fronts behind connections: their port, the address that it is of, and the most connections that all have together at a time.
 #[derive(Clone, Copy)]
 pub struct StreamOptions {
     pub ports: StreamPorts,
@@ -44,7 +51,7 @@ pub(crate) fn address_of(text: &str) -> Option<Ipv4Addr>
     Some(Ipv4Addr::new(octet_of(a)?, octet_of(b)?, octet_of(c)?, octet_of(d)?))
 }
 
-// The address that the ports are of.
+// The address that the port is of.
 fn listen(found: &ArgMatches<'_>) -> Option<Ipv4Addr>
     ensures { result ≡ value_of listen (first_value (found_of found.now)) }
 {
@@ -59,17 +66,17 @@ fn gives_streams(found: &ArgMatches<'_>) -> bool
     ensures { result ≡ gives_streams (first_value (found_of found.now)) }
 {
     found.get_str("memcached").is_some()
-        || found.get_str("memcached-fronts").is_some()
+        || found.get_str("threads").is_some()
         || found.get_str("listen").is_some()
         || found.get_str("connections").is_some()
 }
 
-// Fronts from the first port on.
+// Fronts behind one port, each in a thread.
 fn some_streams(found: &ArgMatches<'_>) -> Option<StreamOptions>
     ensures { result ≡ some_streams (first_value (found_of found.now)) }
 {
     let port = count(found, "memcached", 1, 65_535, 11_211)? as u16;
-    let fronts = count(found, "memcached-fronts", 1, MOST_FRONTS, 1)?;
+    let fronts = count(found, "threads", 1, MOST_FRONTS, 4)?;
     let address = listen(found)?;
     let connections = count(found, "connections", 1, 65_536, 1_024)?;
     Some(StreamOptions {

@@ -59,12 +59,7 @@ fn of_another_protocol(words: &[String]) -> Option<Refusal<'static>> {
             None
         };
     }
-    for name in &[
-        "--memcached",
-        "--memcached-fronts",
-        "--listen",
-        "--connections",
-    ] {
+    for name in &["--memcached", "--threads", "--listen", "--connections"] {
         if gives(words, name) {
             return Some(Refusal::Apart(*name));
         }
@@ -100,8 +95,5 @@ pub(crate) fn wrong_together(words: &[String]) -> Refusal<'static> {
     if gives(words, "--port") && !gives(words, "--mode") {
         return Refusal::NoMode;
     }
-    if is_cache(words) && gives(words, "--image") {
-        return Refusal::ImageInCache;
-    }
-    Refusal::HighPorts
+    Refusal::ImageInCache
 }

@@ -62,9 +62,12 @@ fn wrong_name<'a>(alloc: Global, word: &'a str) -> Result<Refusal<'a>, NoMemory>
     }
     match word.as_bytes() {
         [b'-', b'-', _, ..] => unknown(alloc, name),
-        [b'-', b'p' | b'm' | b'c' | b'l' | b'U' | b'u' | b'P', _, ..] => Ok(Refusal::Attached(
-            word,
-        )),
+        [
+            b'-',
+            b'p' | b'm' | b'c' | b'l' | b't' | b'U' | b'u' | b'P',
+            _,
+            ..
+        ] => Ok(Refusal::Attached(word)),
         [b'-', _, ..] => Ok(Refusal::Unknown(name, "")),
         _ => Ok(Refusal::Stray(word)),
     }

@@ -31,13 +31,13 @@ pub record PortFacts : Type 0 where
 abbrev pub ports_at : {N E L C : Type 0} → NetTells N E → ListenersTell L C → N → L → PortFacts
 ports_at net listeners = λ n l. record { net = net_facts net n; listens = listen_facts listeners l }
 
--- What the fronts came to where a server came to this: nothing where they were not served. Where a port was not had, none of the places was listened at. Where a place could
--- not be listened at, it is the next one behind those that were, and the faults of what listens rose.
+-- What the fronts came to where a server came to this: nothing where they were not served. Where a port was not had, none of the places was listened at. Where the place
+-- of connections could not be listened at, it is the first one, and the faults of what listens rose.
 abbrev pub CameTo : Result Totals Stop → ℕ → List ShareFacts → ℕ → ℕ → Option (Result Totals ServeFault) → Type 0
 CameTo (Ok totals) places shares before after came = came ≡ Some (Ok totals)
 CameTo (Err (Fault fault)) places shares before after came = came ≡ Some (Err fault)
 CameTo (Err (Unbound port)) places shares before after came = (came ≡ Some (Err Net)) × (shares ≡ []) × (after ≡ before)
-CameTo (Err (Unheard place)) places shares before after came = (came ≡ None) × Rose before after × (place ≡ length shares) × (place < places)
+CameTo (Err (Unheard place)) places shares before after came = (came ≡ None) × Rose before after × (place ≡ 0) × (shares ≡ [])
 CameTo (Err Unannounced) places shares before after came = came ≡ None
 CameTo (Err Refused) places shares before after came = ⊥
 
@@ -85,7 +85,7 @@ stop_of open_fault.NoMemory = Fault NoMemory
 abbrev pub LacksPort : ℕ → PortFacts → PortFacts → Type 0
 LacksPort port before after = (after.net.refused ≡ before.net.refused + 1) × (port + 1 ≡ after.net.first + after.net.binds)
 
--- A place could not be listened at, once there were all ports: so many were before it.
+-- A place could not be listened at, once there were all ports: so many shares were had before it.
 abbrev pub LacksPlace : ℕ → PortFacts → PortFacts → Type 0
 LacksPlace place before after =
     (after.net.refused ≡ before.net.refused) × Rose before.listens.faults after.listens.faults × (after.listens.given ≡ before.listens.given + place)

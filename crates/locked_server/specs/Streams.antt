@@ -61,12 +61,16 @@ pub record IsUnserved (share : ShareFacts) : Type 0 where
 abbrev pub AreUnserved : List ShareFacts → Type 0
 AreUnserved shares = (k : ℕ) (share : ShareFacts) → slice_get shares k ≡ Some share → IsUnserved share
 
--- so many places were listened at, from the first one on, behind those before
+-- the first place was listened at behind those before, where it gave so many shares
 abbrev pub with_heard : ℕ → List ℕ → List ℕ
 with_heard zero before = before
-with_heard (suc count) before = with_heard count before ++ count ∷ []
+with_heard (suc count) before = before ++ 0 ∷ []
 
--- Whatever the answer: so many of the places were listened at, in order from the first one, and no others, and each gave one share.
+-- a place is named, where so many shares are to be had
+abbrev pub HasPlace : ℕ → List Place → Type 0
+HasPlace shares places = 0 < shares → 0 < length places
+
+-- Whatever the answer: the first place gave so many shares, and no other was listened at.
 pub record KeepsListeners (count places : ℕ) (before after : ListenFacts) : Type 0 where
   pub few : count ≤ places
   pub heard : after.heard ≡ with_heard count before.heard

@@ -1,18 +1,18 @@
-//! The places of connections, listened at one after another, and their shares let go.
-ghost use Rattle.std.specs.Prelude.{◌≡◌, ◌<◌, ◌≤◌, [], length, map, vec_len, vec_capacity, OnOk, OnErr};
+//! The place of connections, listened at, and its shares let go.
+ghost use Rattle.std.specs.Prelude.{◌≡◌, ◌<◌, ◌≤◌, [], map, vec_len, vec_capacity, OnOk, OnErr};
 ghost use Rattle.outside.specs.Faults.{Rose};
-ghost use Rattle.locked_server.specs.Streams.{AreNewShares, KeepsListeners, ReleasesStreams, listen_facts, stream_facts};
+ghost use Rattle.locked_server.specs.Streams.{AreNewShares, HasPlace, KeepsListeners, ReleasesStreams, listen_facts, stream_facts};
 
 use connections::Listeners;
 use outside::Failed;
 
-/// Listens at a place for each front of connections, in order, up to the first one that fails. Each front has a place of its own.
+/// Listens at the first place, where there are fronts of connections: each gets a share.
 pub(crate) fn listen_all<L: Listeners>(
     listeners: &mut L,
     places: u32,
     connections: &mut Vec<L::Port>,
 ) -> Result<(), Failed>
-    requires places { places ≤ length (L.places listeners.old) }
+    requires places { HasPlace places (L.places listeners.old) }
     requires none { connections.old.items ≡ [] }
     requires room { places ≤ vec_capacity connections.old }
     ensures new { AreNewShares (L.waits listeners.old) (L.given listeners.old) (map (stream_facts L.Port.Connections) connections.new.items) }
@@ -22,11 +22,13 @@ pub(crate) fn listen_all<L: Listeners>(
     ensures unreleased { L.released listeners.new ≡ L.released listeners.old }
     ensures steady { OnOk result (L.faults listeners.new ≡ L.faults listeners.old) }
     ensures cause { OnErr result (Rose (L.faults listeners.old) (L.faults listeners.new)) }
-    ensures lacks { OnErr result (vec_len connections.new < places) }
+    ensures lacks { OnErr result (0 < places) }
+    ensures none { OnErr result (connections.new.items ≡ []) }
 {
-    for place in 0..places {
-        listeners.listen(place, 1, connections)?;
+    if places == 0 {
+        return Ok(());
     }
+    listeners.listen(0, places, connections)?;
     Ok(())
 }
 

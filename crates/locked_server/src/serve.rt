@@ -7,7 +7,7 @@ ghost use Rattle.locked_front.specs.Owned.{NotesAre};
 ghost use Rattle.served.specs.Ends.{end_facts};
 ghost use Rattle.served.specs.NetRun.{BindsAndServes, net_facts};
 ghost use Rattle.locked_server.specs.Service.{IsPossibleService, IsPlanOf};
-ghost use Rattle.locked_server.specs.Streams.{KeepsListeners, listen_facts, stream_facts};
+ghost use Rattle.locked_server.specs.Streams.{HasPlace, KeepsListeners, listen_facts, stream_facts};
 ghost use Rattle.locked_server.specs.Causes.{ComesBeside, HasCause, IsCauseOfStop, HasAnnounced, Leaves, ports_at};
 ghost use Rattle.locked_server.specs.Opening.{ArePlanned, filled_view};
 ghost use Rattle.locked_server.specs.Server.{IsLockedServer};
@@ -34,7 +34,7 @@ use std::sync::Wait;
 use std::thread::Threads;
 use store_partition::StorePartition;
 
-/// Binds the ports of datagrams, listens at the places of connections, tells so where all could be had, and serves them.
+/// Binds the ports of datagrams, listens at the place of connections, tells so where all could be had, and serves them.
 fn bind_and_serve<
     W: Threads + Wait + Sync,
     J: ServerPlan + Send + Sync,
@@ -62,7 +62,7 @@ fn bind_and_serve<
     requires tables { left.old.tables ≡ [] }
     requires uncounted { left.old.lacked ≡ 0 }
     requires unbound { N.binds net.old ≡ 0 }
-    requires places { shared.now.service.places ≤ length (L.places listeners.old) }
+    requires places { HasPlace shared.now.service.places (L.places listeners.old) }
     requires none { ends.old.items ≡ [] }
     requires room { shared.now.service.ports.fronts ≤ vec_capacity ends.old }
     requires no_streams { connections.old.items ≡ [] }
@@ -84,7 +84,7 @@ fn bind_and_serve<
     }
     match listen_all(listeners, places, connections) {
         Ok(()) => {}
-        Err(_) => return Err(Stop::Unheard(connections.len() as u32)),
+        Err(_) => return Err(Stop::Unheard(0)),
     }
     announce.ready(ports, places, ends.as_slice(), connections.as_slice())?;
     let totals = serve_all(shared, server, ends, connections, left)?;
@@ -114,7 +114,7 @@ fn serve_named<
     requires plan { IsPlanOf shared.now.service J.plan }
     requires of { ArePlanned J.plan 0 (map (λ f. filled_view P.owner P.home f) parts.items) }
     requires unbound { N.binds net.old ≡ 0 }
-    requires places { shared.now.service.places ≤ length (L.places listeners.old) }
+    requires places { HasPlace shared.now.service.places (L.places listeners.old) }
     requires tables { left.old.tables ≡ [] }
     requires uncounted { left.old.lacked ≡ 0 }
     ensures cause { HasCause result shared.now.service J.plan.origin left.new.tables left.new.lacked
@@ -163,7 +163,7 @@ fn serve_on<
     requires mode { shared.now.service.options.mode ≡ P.mode }
     requires filling { All IsWrite filling.items }
     requires unbound { N.binds net.old ≡ 0 }
-    requires places { shared.now.service.places ≤ length (L.places listeners.old) }
+    requires places { HasPlace shared.now.service.places (L.places listeners.old) }
     requires tables { left.old.tables ≡ [] }
     requires uncounted { left.old.lacked ≡ 0 }
     ensures cause { IsCauseOfStop result shared.now.service filling.items left.new.tables left.new.lacked
@@ -185,7 +185,7 @@ fn serve_on<
     serve_named::<Brand, W, P, N, L, G, A>(shared, parts, net, listeners, announce, left)
 }
 
-/// Fills the partitions by these writes, binds a port for each front of datagrams and listens at a place for each front of connections, in order, and tells
+/// Fills the partitions by these writes, binds a port for each front of datagrams, listens at the place of connections for a share for each front of these, and tells
 /// so. Then all fronts run side by side, each in a thread of its own, and each is the owner of a partition for as long as one write takes. All ends and shares are released. The owners' seats are kept, in the order of the partitions, where no front failed. Whatever
 /// the answer, `left.lacked` says how many connections were closed since there was no memory for them.
 pub fn serve_locked<W: Threads + Wait + Sync, N: Net, L: Listeners, G: Gate, A: Announce>(
@@ -199,7 +199,7 @@ pub fn serve_locked<W: Threads + Wait + Sync, N: Net, L: Listeners, G: Gate, A: 
     requires service { IsPossibleService shared.now.service }
     requires filling { All IsWrite filling.items }
     requires unbound { N.binds net.old ≡ 0 }
-    requires places { shared.now.service.places ≤ length (L.places listeners.old) }
+    requires places { HasPlace shared.now.service.places (L.places listeners.old) }
     requires tables { left.old.tables ≡ [] }
     requires uncounted { left.old.lacked ≡ 0 }
 

@@ -12,7 +12,7 @@ pub struct Service {
     pub options: Options,
     /// The ports of datagrams.
     pub ports: PortOptions,
-    /// How many places of connections there are, numbered from 0. Behind each one stands a front.
+    /// How many shares the place of connections gives: a front stands behind each. There is none where there are no fronts of connections.
     pub places: u32,
     /// The unique number of the first value that a partition takes from a connection.
     pub base: u64,

@@ -1,7 +1,7 @@
 -- What is done to the keys of a part, one after another.
 use Rattle.std.specs.Prelude.{◌≡◌, ◌⊎◌, ◌≤◌, ℕ, Bool, true, false, ⊤, List, [], ◌∷◌, Option, None, if◌then◌else◌}
 use Rattle.partition_model.specs.declared.options.Mode.{Mode}
-use Rattle.partition_model.specs.declared.options.Mode.TheVariants.{Store}
+use Rattle.partition_model.specs.declared.options.Mode.TheVariants.{Cache}
 use Rattle.memcached_text.specs.declared.reply.Reply.TheVariants.{NoRoom, NoRoomToCount}
 use Rattle.memcached_commands.specs.declared.asks.Asked.{Asked}
 use Rattle.memcached_commands.specs.declared.ask.Says.{Says}
@@ -14,11 +14,12 @@ use Rattle.fronts.specs.declared.flushes.Flush.{Flush}
 use Rattle.memcached_page.specs.Shelf.{Shelf, at, there, with_item, becomes_of}
 
 -- What was done. At a second a command was carried out on a key, where a new value got this number, and this was said of it. All keys of a part were flushed, or it
--- took no more writes. The item of a key went by itself. Or it was written anew at the end of a cache's log, and is as it was.
+-- took no more writes. The item of a key went, as it was over at a second. A cache lost it. Or it was written anew at the end of a cache's log, and is as it was.
 pub data Deed : Type 0 where
   carried : (second number : ℕ) → Asked → Says → Deed
   flushed : (part number : ℕ) → Flush → (took : Bool) → Deed
   went : (second : ℕ) → List ℕ → Deed
+  lost : List ℕ → Deed
   moved : List ℕ → Deed
 
 -- what is decided of the item that is there
@@ -44,6 +45,7 @@ after (carried second number asked says) shelf =
     if is_no_room says then refused asked shelf else becomes_of (at second number shelf) asked.key (becoming second number asked shelf) shelf
 after (flushed part number flush took) shelf = if took then record shelf { flushes = flushes_then number flush shelf.flushes; free = number } else shelf
 after (went second key) shelf = with_item key None shelf
+after (lost key) shelf = with_item key None shelf
 after (moved key) shelf = shelf
 
 -- What was said is what is decided of the item that is there; or that there was no room, which is never said to a get.
@@ -51,12 +53,13 @@ abbrev pub IsCarried : ℕ → ℕ → Asked → Says → Shelf → Type 0
 IsCarried second number asked says shelf =
     (says ≡ (decided second number asked shelf).says) ⊎ ((says ≡ Line (no_room asked.ask)) × (only_gets asked.ask ≡ false))
 
--- A deed that may be done. Numbers rise, so that one says which value of its key it is. In a store an item goes by itself only where it is over or flushed; when it may in a
--- cache stands in `Kept`.
+-- A deed that may be done. Numbers rise, so that one says which value of its key it is. An item goes by itself only where it is over or flushed, and a cache alone may lose
+-- one that is not: when it may stands in `Kept`.
 abbrev pub IsDeed : Mode → Shelf → Deed → Type 0
 IsDeed mode shelf (carried second number asked says) = (shelf.free ≤ number) × IsCarried second number asked says shelf
 IsDeed mode shelf (flushed part number flush took) = shelf.free ≤ number
-IsDeed mode shelf (went second key) = mode ≡ Store → there (at second shelf.free shelf) (shelf.items key) ≡ None
+IsDeed mode shelf (went second key) = there (at second shelf.free shelf) (shelf.items key) ≡ None
+IsDeed mode shelf (lost key) = mode ≡ Cache
 IsDeed mode shelf (moved key) = ⊤
 
 -- a deed, with the share whose thread did it, and the client there whose command it carried out, if it is one's

@@ -11,7 +11,7 @@ use Rattle.memcached_commands.specs.declared.ask.Ask.TheVariants.{Get, Store, Co
 use Rattle.memcached_commands.specs.declared.ask.Left.{Left}
 use Rattle.memcached_commands.specs.declared.ask.Says.TheVariants.{Line, Stores, Number, Shows}
 use Rattle.memcached_commands.specs.Asks.{asked}
-use Rattle.memcached_page.specs.Course.{Deed, carried, went, Done}
+use Rattle.memcached_page.specs.Course.{Deed, carried, went, lost, Done}
 
 -- for a client of the one share
 abbrev pub for : ℕ → Deed → Done
@@ -60,17 +60,21 @@ shown_stale =
     ∷ for 0 (shows 3 (codes "n") (item 1 (codes "5")))
     ∷ []
 
--- it is set, and goes
-abbrev pub forgetting : List Done
-forgetting = for 0 (sets 1 (codes "n") (codes "5")) ∷ itself (went 100 (codes "n")) ∷ []
+-- it is set, and goes as if it were over
+abbrev pub going : List Done
+going = for 0 (sets 1 (codes "n") (codes "5")) ∷ itself (went 100 (codes "n")) ∷ []
 
--- it goes once two others were set behind it, each of which takes six words, as it does
-abbrev pub forgetting_old : List Done
-forgetting_old =
+-- it is set, and lost
+abbrev pub losing : List Done
+losing = for 0 (sets 1 (codes "n") (codes "5")) ∷ itself (lost (codes "n")) ∷ []
+
+-- it is lost once two others were set behind it, each of which takes six words, as it does
+abbrev pub losing_old : List Done
+losing_old =
     for 0 (sets 1 (codes "n") (codes "5"))
     ∷ for 0 (sets 2 (codes "o") (codes "5"))
     ∷ for 0 (sets 3 (codes "p") (codes "5"))
-    ∷ itself (went 100 (codes "n"))
+    ∷ itself (lost (codes "n"))
     ∷ []
 
 -- a store is refused with nothing there

@@ -1,16 +1,17 @@
 -- How long a cache keeps an item, and where something finds no room: by numbers of words.
-use Rattle.std.specs.Prelude.{◌≡◌, ◌≢◌, ◌⊎◌, ◌≤◌, ◌<◌, ◌+◌, ◌-◌, ◌*◌, ◌/◌, ◌==◌, ◌||◌, not, ◌∷◌, ◌++◌, ℕ, Bool, true, false, ⊤, List, [], length, min, sum_by, nat_lt, bytes_eq, is_some, AllPairs, None, option_map, unwrap_or, if◌then◌else◌}
+use Rattle.std.specs.Prelude.{◌≡◌, ◌≢◌, ◌⊎◌, ◌≤◌, ◌<◌, ◌+◌, ◌-◌, ◌*◌, ◌/◌, ◌==◌, ◌||◌, not, ◌∷◌, ◌++◌, ℕ, Bool, true, false, ⊤, List, [], length, min, sum_by, bytes_eq, is_some, AllPairs, option_map, unwrap_or, if◌then◌else◌}
 use Rattle.std.specs.List.{AllByRecursion, list_any}
 use Rattle.mica_words.specs.declared.entry.TheConstants.{SLOTS}
 use Rattle.mica_words.specs.Item.{item_size, largest_stored_item}
 use Rattle.partition_model.specs.declared.options.Mode.TheVariants.{Cache}
 use Rattle.partition_model.specs.declared.options.Options.{Options}
 use Rattle.partition_model.specs.Limits.{last_tail}
+use Rattle.partition_model.specs.Rooms.{keeps}
 use Rattle.memcached_text.specs.declared.item.Item.{Item}
 use Rattle.memcached_text.specs.Item.{item_text}
 use Rattle.memcached_commands.specs.Decide.{Becoming, becomes}
-use Rattle.memcached_page.specs.Shelf.{Shelf, at, there}
-use Rattle.memcached_page.specs.Course.{Deed, carried, flushed, went, moved, Done, becoming, is_no_room, after}
+use Rattle.memcached_page.specs.Shelf.{Shelf}
+use Rattle.memcached_page.specs.Course.{Deed, carried, flushed, lost, moved, Done, becoming, is_no_room, after}
 
 -- how many words an item takes under its key
 abbrev pub words_of : List ℕ → Item → ℕ
@@ -45,13 +46,13 @@ abbrev pub with_key : List ℕ → List (List ℕ) → List (List ℕ)
 with_key key keys = if list_any (bytes_eq key) keys then keys else key ∷ keys
 
 -- A deed wrote so many words under a key. The item of another key is so much further from the log's end; a deed that writes none counts 1. A new value of its own lies where
--- the old one lay, unless it needs more room or is written anew: then at the end.
+-- the old one lay, where it keeps that room; else, and where it is written anew, at the end.
 abbrev pub place_then : (List ℕ → ℕ) → List ℕ → Deed → List ℕ × ℕ → Place → Place
 place_then class key deed one place =
     if one.1 == 0 then record place { since = place.since + 1 }
     else (if not (bytes_eq one.0 key)
     then record place { since = place.since + 65536 * one.1; newer = if class one.0 == class key then with_key one.0 place.newer else place.newer }
-    else (if is_move deed || nat_lt place.room one.1 then record { room = one.1; since = 65536 * one.1; newer = [] }
+    else (if is_move deed || not (keeps one.1 place.room) then record { room = one.1; since = 65536 * one.1; newer = [] }
     else record place { since = place.since + 1 }))
 
 -- the place of a key's item behind these deeds; nowhere, where it has none
@@ -71,17 +72,15 @@ abbrev pub AtEach : (List Done → Deed → Type 0) → List Done → List Done 
 AtEach P earlier [] = ⊤
 AtEach P earlier (done ∷ later) = P earlier done.deed × AtEach P (earlier ++ done ∷ []) later
 
--- An item that goes by itself, in a cache whose log has so many words, is over or flushed; or the log was written round behind it; or as many other keys of its class were
--- written behind it as have room beside each other.
-abbrev pub GoesForCause : ℕ → (List ℕ → ℕ) → Shelf → List Done → Deed → Type 0
-GoesForCause words class from earlier (went second key) =
-    let shelf : Shelf = shelf_in from earlier in
-    let place : Place = place_in class key from nowhere earlier in
-    (there (at second shelf.free shelf) (shelf.items key) ≡ None) ⊎ (65536 * words < place.since) ⊎ (SLOTS ≤ length place.newer)
-GoesForCause words class from earlier _ = ⊤
+-- An item that a cache loses, whose log has so many words: the log was written round behind it, or as many other keys of its class were written behind it as have room beside
+-- each other.
+abbrev pub LostForCause : ℕ → (List ℕ → ℕ) → Shelf → List Done → Deed → Type 0
+LostForCause words class from earlier (lost key) =
+    let place : Place = place_in class key from nowhere earlier in (65536 * words < place.since) ⊎ (SLOTS ≤ length place.newer)
+LostForCause words class from earlier _ = ⊤
 
 abbrev pub KeepsItems : Options → (List ℕ → ℕ) → Shelf → List Done → Type 0
-KeepsItems options class from course = options.mode ≡ Cache → AtEach (GoesForCause options.words class from) [] course
+KeepsItems options class from course = AtEach (LostForCause options.words class from) [] course
 
 -- A part bears no more deeds, or its log no more words. Or so many words are to be stored, and beside the items of these keys some layout of their rooms leaves no block of
 -- them; or the keys are more than the spare buckets are for.

@@ -9,7 +9,7 @@ use Rattle.partition_model.specs.declared.options.Options.{Options}
 use Rattle.connections.specs.State.{Entry, turned_away as one_away}
 use Rattle.connections.specs.Log.{Log}
 use Rattle.memcached_page.specs.Shelf.{Shelf}
-use Rattle.memcached_page.specs.Course.{Deed, carried, flushed, went, moved, Done, IsCourse}
+use Rattle.memcached_page.specs.Course.{Deed, carried, flushed, went, lost, moved, Done, IsCourse}
 use Rattle.memcached_page.specs.Kept.{KeepsItems, RefusesWhereFull}
 use Rattle.memcached_page.specs.Talk.{Story, TalksThrough, ClosesForCause, SettlesAll, TellsSeconds}
 
@@ -18,9 +18,10 @@ abbrev pub part_of : (List ℕ → ℕ) → Deed → ℕ
 part_of part (carried second number asked says) = part asked.key
 part_of part (flushed own number flush took) = own
 part_of part (went second key) = part key
+part_of part (lost key) = part key
 part_of part (moved key) = part key
 
--- Commands are carried out and parts flushed for a client; items go and are moved for none.
+-- Commands are carried out and parts flushed for a client; items go, are lost and are moved for none.
 abbrev pub is_asked : Deed → Bool
 is_asked (carried second number asked says) = true
 is_asked (flushed part number flush took) = true
@@ -54,7 +55,7 @@ pub record ServesAsMemcached (options : Options) (shares lacked : ℕ) (from : �
   pub stories : ℕ → Story
   pub in_order : (p f : ℕ) → p < options.partitions → f < shares → filter (λ done. done.share == f) (courses p) ≡ filter (λ done. part_of part done.deed == p) (stories f).deeds
   pub no_others : (p : ℕ) → p < options.partitions → AllByRecursion (IsOwn shares) (courses p)
-  -- In a cache an item goes only once its part's log was written round behind it, or newer keys of its class took its place.
+  -- A cache loses an item only once its part's log was written round behind it, or newer keys of its class took its place.
   pub keeps : (p : ℕ) → p < options.partitions → KeepsItems options class (from p) (courses p)
   -- Something finds no room only where its part is full.
   pub refused : (p : ℕ) → p < options.partitions → RefusesWhereFull options (from p) (courses p)

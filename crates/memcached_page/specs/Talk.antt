@@ -1,5 +1,5 @@
 -- What the thread of a share and its clients said to each other.
-use Rattle.std.specs.Prelude.{◌≡◌, ◌≢◌, ◌≤◌, ◌<◌, ◌+◌, ◌-◌, ◌==◌, ◌⊎◌, ℕ, zero, suc, Bool, true, false, List, [], ◌∷◌, ◌++◌, length, take, drop, map, filter, filter_map, flat_map, slice_get, nat_lt, AllPairs, Option, Some, None, IfSome, if◌then◌else◌}
+use Rattle.std.specs.Prelude.{◌≡◌, ◌≢◌, ◌≤◌, ◌<◌, ◌+◌, ◌-◌, ◌==◌, ◌&&◌, ◌⊎◌, ℕ, zero, suc, Bool, true, false, List, [], ◌∷◌, ◌++◌, length, take, drop, map, filter, filter_map, flat_map, slice_get, nat_lt, AllPairs, Option, Some, None, is_some, IfSome, if◌then◌else◌}
 use Rattle.std.specs.List.{AllByRecursion, list_any, list_all}
 use Rattle.memcached_text.specs.declared.next.Next.TheVariants.{More}
 use Rattle.memcached_text.specs.Next.{next_of}
@@ -10,7 +10,7 @@ use Rattle.connections.specs.Connection.{Connection}
 use Rattle.connections.specs.State.{Entry, opened, reported, turned_away, received, closed, state_after}
 use Rattle.connections.specs.Log.{Log, state_of, connections_of, received_of, sent_of, second_of as told_second}
 use Rattle.command_answers.specs.Exchange.{is_flush_all}
-use Rattle.memcached_page.specs.Course.{Deed, carried, flushed, went, moved, Done}
+use Rattle.memcached_page.specs.Course.{Deed, carried, flushed, went, lost, moved, Done}
 use Rattle.memcached_page.specs.Exchange.{Exchange, CarryOut, is_done, due_to}
 
 -- One client
@@ -64,7 +64,8 @@ pub data RestsFor (parts : ℕ) (connection : Connection) (sent : List ℕ) (sai
 
 -- All clients of a share
 
--- What its thread did: its deeds, in order; how many of them were done by the n-th moment of its log; and the connections that memory lacked for.
+-- What its thread did: its deeds, in order; how many of those that its clients asked for were done by the n-th moment of its log; and the connections that memory lacked
+-- for.
 pub record Story : Type 0 where
   pub deeds : List Done
   pub reached : ℕ → ℕ
@@ -82,14 +83,18 @@ is_for c (Some client) = client == c
 abbrev pub done_for : ℕ → List Done → List Deed
 done_for c deeds = map (λ done. done.deed) (filter (λ done. is_for c done.client) deeds)
 
+-- what clients asked for; the rest is done for none
+abbrev pub asked_in : Story → List Done
+asked_in story = filter (λ done. is_some done.client) story.deeds
+
 -- the talk with the c-th client, at the n-th moment
 abbrev pub TalkAt : ℕ → Log → Story → ℕ → ℕ → Type 0
-TalkAt parts log story n c = Talks parts (received_of c (calls_by log n)) (sent_of c (calls_by log n)) (done_for c (take (story.reached n) story.deeds))
+TalkAt parts log story n c = Talks parts (received_of c (calls_by log n)) (sent_of c (calls_by log n)) (done_for c (take (story.reached n) (asked_in story)))
 
--- At each moment it had talked so with each client, and in the end all its deeds are done. So nothing is sent before the deed that it tells of.
+-- At each moment it had talked so with each client, and in the end all that they asked for is done. So nothing is sent before the deed that it tells of.
 pub record TalksThrough (parts : ℕ) (log : Log) (story : Story) : Type 0 where
   pub rises : (n m : ℕ) → n ≤ m → m ≤ length log.entries → story.reached n ≤ story.reached m
-  pub ends : story.reached (length log.entries) ≡ length story.deeds
+  pub ends : story.reached (length log.entries) ≡ length (asked_in story)
   pub talks : (n c : ℕ) → n ≤ length log.entries → TalkAt parts log story n c
 
 -- A connection is closed for a cause, or memory lacked for it.
@@ -118,17 +123,22 @@ abbrev pub SettlesAll : ℕ → Log → Story → Type 0
 SettlesAll parts log story = 0 < log.script.piece → (c : ℕ) → IfSome (slice_get (connections_of log) c) (λ connection.
     (list_any (reports c) (state_of log).later ≡ true) ⊎ IsAtRest parts log story c connection)
 
--- the second of a deed; a flush at once is of none
+-- The second of a deed. A flush at once is of none; that of another is told of its first part, for all.
 abbrev pub second_of : Deed → Option ℕ
 second_of (carried second number asked says) = Some second
-second_of (flushed part number flush took) = if nat_lt 0 flush.due then Some flush.asked else None
+second_of (flushed part number flush took) = if part == 0 && nat_lt 0 flush.due then Some flush.asked else None
 second_of (went second key) = Some second
+second_of (lost key) = None
 second_of (moved key) = None
 
--- what was done from the moment before to the n-th
+-- what was done for clients from the moment before to the n-th
 abbrev pub done_at : Story → ℕ → List Done
-done_at story zero = take (story.reached 0) story.deeds
-done_at story (suc n) = drop (story.reached n) (take (story.reached (suc n)) story.deeds)
+done_at story zero = take (story.reached 0) (asked_in story)
+done_at story (suc n) = drop (story.reached n) (take (story.reached (suc n)) (asked_in story))
+
+-- a second that the log told at some moment
+abbrev pub IsTold : Log → ℕ → Type 0
+IsTold log second = (n : ℕ) × (n ≤ length log.entries) × (second ≡ told_second (calls_by log n))
 
 -- the last call gave no bytes and no report, or the second behind them was told since
 abbrev pub is_timed : List Entry → Bool
@@ -138,9 +148,10 @@ is_timed (turned_away ∷ entries) = false
 is_timed (received c bytes ∷ entries) = false
 is_timed _ = true
 
--- At each moment a share's deeds are done at the second that its log told last, and none before it was told behind what came. These seconds never fall. So a command is carried out
--- at a second that is not before its bytes came.
+-- At each moment a share does what its clients ask at the second that its log told last, and nothing before it was told behind what came. So a command is carried out at a second
+-- that is not before its bytes came. An item goes by itself at a second that the log told, too; and from deed to deed these seconds never fall.
 pub record TellsSeconds (log : Log) (story : Story) : Type 0 where
   pub at : (n : ℕ) → n ≤ length log.entries → AllByRecursion (λ done. IfSome (second_of done.deed) (λ second. second ≡ told_second (calls_by log n))) (done_at story n)
   pub timed : (n : ℕ) → n ≤ length log.entries → is_timed (calls_by log n) ≡ false → done_at story n ≡ []
+  pub told : AllByRecursion (λ done. IfSome (second_of done.deed) (IsTold log)) story.deeds
   pub never_fall : AllPairs (λ earlier later. earlier ≤ later) (filter_map (λ done. second_of done.deed) story.deeds)

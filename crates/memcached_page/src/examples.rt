@@ -8,7 +8,7 @@ ghost use Rattle.memcached_page.specs.Shelf.{Shelf, empty};
 ghost use Rattle.memcached_page.specs.Course.{carried, IsCourse};
 ghost use Rattle.memcached_page.specs.Kept.{KeepsItems, RefusesWhereFull, shelf_in};
 ghost use Rattle.memcached_page.specs.Talk.{Talks, done_for};
-ghost use Rattle.memcached_page.specs.Examples.{counting, forgetting, forgetting_old, options, refusing, shown_behind_delete, shown_stale};
+ghost use Rattle.memcached_page.specs.Examples.{counting, going, losing, losing_old, options, refusing, shown_behind_delete, shown_stale};
 
 use partition_model::Mode;
 
@@ -29,15 +29,16 @@ pub fn newest_is_shown()
     ensures { (mode : OneMode) (left : Shelf) → IsCourse mode empty shown_stale left → ⊥ }
 {}
 
-/// In a store no item goes by itself that is there.
+/// No item goes as over that is there, and a store loses none.
 pub fn store_keeps()
-    ensures { (left : Shelf) → IsCourse Mode.Store empty forgetting left → ⊥ }
+    ensures there { (mode : OneMode) (left : Shelf) → IsCourse mode empty going left → ⊥ }
+    ensures none { (left : Shelf) → IsCourse Mode.Store empty losing left → ⊥ }
 {}
 
-/// In a cache none goes at once, whichever keys may take each other's place. One goes once the log was written round behind it.
+/// A cache loses none at once, whichever keys may take each other's place. It may lose one once the log was written round behind it.
 pub fn cache_keeps()
-    ensures at_once { (class : List ℕ → ℕ) → KeepsItems (options Mode.Cache 256) class empty forgetting → ⊥ }
-    ensures round { (class : List ℕ → ℕ) → KeepsItems (options Mode.Cache 12) class empty forgetting_old }
+    ensures at_once { (class : List ℕ → ℕ) → KeepsItems (options Mode.Cache 256) class empty losing → ⊥ }
+    ensures round { (class : List ℕ → ℕ) → KeepsItems (options Mode.Cache 12) class empty losing_old }
 {}
 
 /// Nothing is refused for want of room where nothing is stored.

@@ -43,7 +43,7 @@ pub(crate) struct Share<'a, R: Wait, K: Clock + Drop> {
 
 impl<'a, R: Wait, K: Clock + Drop> Share<'a, R, K> {
     /// The next report, or nothing once it has ended. It may wait.
-    fn next(&mut self) -> Option<Result<Event, Failed>> {
+    pub(crate) fn next(&mut self) -> Option<Result<Event, Failed>> {
         let mut connections = self.open.take()?.connections;
         let report = match connections.next() {
             Ok(Some(event)) => Ok(event),
@@ -200,4 +200,53 @@ pub(crate) fn new_share<
         }
     }
     panic!(rt; "no port is free");
+}
+
+/// Both shares of the only place, where they can be had.
+fn both_shares<L: Listeners>(listeners: &mut L, shares: Vec<L::Port>) -> Option<(L::Port, L::Port)>
+    requires there { 0 < length (L.places listeners.old) }
+    requires none { shares.items ≡ [] }
+    requires room { 2 ≤ vec_capacity shares }
+    ensures { IfSome result (λ both. (L.Port.has_ended both.0 ≡ false) × (L.Port.has_ended both.1 ≡ false)) }
+{
+    let mut shares = shares;
+    let Ok(()) = listeners.listen(0, 2, &mut shares) else {
+        return None;
+    };
+    match (shares.pop(), shares.pop()) {
+        (Some(second), Some(first)) => Some((first, second)),
+        _ => None,
+    }
+}
+
+/// Both shares of a place, where it can be had.
+pub(crate) fn shares_at<'a, R: AllocGlobal + Sockets + Wait + Sync, K: Clock + Copy + Drop + Send>(
+    rt: &'a R,
+    clock: K,
+    flags: &'a Flags,
+    port: u16,
+    most: u32,
+) -> Option<(Share<'a, R, K>, Share<'a, R, K>)> {
+    let address = Ipv4Addr::LOCALHOST;
+    let mut places = Vec::with_capacity(rt.alloc(), 1).ok()?;
+    places.push_reserved(Place { address, port });
+    let shares = Vec::with_capacity(rt.alloc(), 2).ok()?;
+    let mut listeners = TcpListeners::new(
+        rt,
+        rt.alloc(),
+        clock,
+        &flags.has_failed,
+        &flags.stopping,
+    );
+    listeners.set_places(places, most);
+    let (first, second) = both_shares(&mut listeners, shares)?;
+    let first = Share {
+        open: Some(Open { connections: first }),
+    };
+    let second = Share {
+        open: Some(Open {
+            connections: second,
+        }),
+    };
+    Some((first, second))
 }

@@ -1,6 +1,7 @@
 //! Places of connections in memory, and what is heard there, in the order in which it comes to pass.
-ghost use Rattle.std.specs.Prelude.{None, IfSome};
-ghost use Rattle.connections.specs.Shares.{IsNewShare, share_facts};
+ghost use Rattle.std.specs.Prelude.{◌≡◌, ◌+◌, ◌<◌, ◌≤◌, ◌++◌, [], None, IfSome, map, vec_len, vec_capacity};
+ghost use Rattle.connections.specs.Shares.{IsNewShare, GivesShares};
+ghost use Rattle.server_rows.specs.Heard.{facts_of};
 
 use connections::{Broken, Connections, Event, Input, Listeners, Place, Step};
 use memory_connections::MemConnections;
@@ -8,7 +9,7 @@ use outside::Failed;
 use row_parts::at_least_one;
 use std::alloc::Global;
 
-/// A port of connections: how many bytes a read or a write moves, and what happens there.
+/// A share of a port of connections: how many bytes a read or a write moves, and what happens there.
 #[derive(Drop)]
 pub struct Port {
     pub number: u16,
@@ -16,10 +17,9 @@ pub struct Port {
     pub schedule: Vec<Step>,
 }
 
-/// What became of the connections of a port: a line as `0: STORED` for what was sent under the number 0, and `0: closed`.
+/// What became of the connections of a share: a line as `0: STORED` for what was sent under the number 0, and `0: closed`.
 #[derive(Drop)]
 pub struct Overheard {
-    pub port: u16,
     pub bytes: Vec<u8>,
 }
 
@@ -86,7 +86,7 @@ pub struct OverheardListeners<'a> {
     places: Vec<Place>,
     most: u32,
     listened: Vec<u32>,
-    given: u16,
+    given: u32,
     faults: u64,
     heard: Vec<Overheard>,
 }
@@ -106,25 +106,58 @@ impl<'a> OverheardListeners<'a> {
         }
     }
 
-    /// What was heard at each port that was let go.
+    /// What was heard at each share that was let go.
     pub fn into_overheard(self) -> Vec<Overheard> {
         self.heard
     }
 
-    // The connections of a port, with which nothing was done, as the next share.
-    fn connections_at(&self, number: u16) -> Option<OverheardConnections<'a>>
-        ensures { IfSome result (λ c. IsNewShare None self.now.given (share_facts ⟦<OverheardConnections<'a> as Connections>⟧.share
-            ⟦<OverheardConnections<'a> as Connections>⟧.faults ⟦<OverheardConnections<'a> as Connections>⟧.has_ended ⟦<OverheardConnections<'a> as Connections>⟧.log c)) }
+    // The connections of a port that are so many behind the first, with which nothing was done, as the share of this number.
+    fn connections_at(
+        &self,
+        number: u16,
+        behind: u32,
+        share: u32,
+    ) -> Option<OverheardConnections<'a>>
+        ensures { IfSome result (λ c. IsNewShare None share (facts_of c)) }
     {
-        let port = self.ports.iter().find(|port| port.number == number)?;
+        let port = self.ports.get(behind as usize)?;
+        if port.number != number {
+            return None;
+        }
         let piece = at_least_one(port.piece);
         let schedule = port.schedule.as_slice();
-        let connections = MemConnections::new(self.alloc, self.given, schedule, piece, &[]).ok()?;
+        let share = u16::try_from(share).ok()?;
+        let connections = MemConnections::new(self.alloc, share, schedule, piece, &[]).ok()?;
         let heard = Overheard {
-            port: number,
             bytes: Vec::new(self.alloc),
         };
         Some(OverheardConnections { connections, heard })
+    }
+
+    // So many shares of a port, where all are had.
+    fn shares_at(&self, number: u16, shares: u32) -> Option<Vec<OverheardConnections<'a>>>
+        requires { self.now.given + shares < 4294967296 }
+        ensures { IfSome result (λ all. GivesShares None self.now.given shares [] (map facts_of all.items)) }
+    {
+        let mut all = Vec::with_capacity(self.alloc, shares as usize).ok()?;
+        for behind in 0..shares {
+            let Some(connections) = self.connections_at(number, behind, self.given + behind) else {
+                return None;
+            };
+            all.push_reserved(connections);
+        }
+        Some(all)
+    }
+}
+
+// Puts shares behind the others.
+fn put_all<'a>(all: Vec<OverheardConnections<'a>>, out: &mut Vec<OverheardConnections<'a>>)
+    requires room { vec_len out.old + vec_len all ≤ vec_capacity out.old }
+    ensures items { out.new.items ≡ out.old.items ++ all.entry.items }
+    ensures room { vec_capacity out.new ≡ vec_capacity out.old }
+{
+    for connections in all {
+        out.push_reserved(connections);
     }
 }
 
@@ -151,6 +184,7 @@ impl<'a> Listeners for OverheardListeners<'a> {
         self.most = limit;
     }
 
+    #[tactic(auto, using(crate::proofs::Shares::gives_behind))]
     fn listen(
         &mut self,
         place: u32,
@@ -158,11 +192,11 @@ impl<'a> Listeners for OverheardListeners<'a> {
         out: &mut Vec<OverheardConnections<'a>>,
     ) -> Result<(), Failed> {
         let number = self.places[place as usize].port;
-        if shares == 1 && self.given < u16::MAX {
-            if let Some(connections) = self.connections_at(number) {
+        if let Some(given) = self.given.checked_add(shares) {
+            if let Some(all) = self.shares_at(number, shares) {
                 if self.listened.push(place).is_ok() {
-                    out.push_reserved(connections);
-                    self.given += 1;
+                    put_all(all, out);
+                    self.given = given;
                     return Ok(());
                 }
             }

@@ -100,7 +100,7 @@ fn schedule_of(alloc: Global, window: u32, behind: &[Entry]) -> Result<Vec<Step>
     Ok(steps)
 }
 
-/// The ports of connections.
+/// The shares of the port of connections.
 fn ports_of(alloc: Global, row: &Row) -> Result<Vec<Port>, NoMemory> {
     let mut ports = Vec::new(alloc);
     let entries = row.entries.as_slice();
@@ -172,15 +172,17 @@ fn run(
     })
 }
 
-/// Whether at a port of connections was heard what must be.
-fn is_heard(end: &End, port: u16, behind: &[Entry]) -> bool {
+/// Whether at a share of connections was heard what must be.
+fn is_heard(end: &End, share: usize, behind: &[Entry]) -> bool {
     for entry in behind {
         if entry.is_place() {
             break;
         }
         if entry.is("hears") {
-            return end.heard.iter().any(|one| one.port == port
-                && one.bytes.as_slice() == entry.text());
+            return match end.heard.get(share) {
+                Some(one) => one.bytes.as_slice() == entry.text(),
+                None => false,
+            };
         }
     }
     true
@@ -189,6 +191,7 @@ fn is_heard(end: &End, port: u16, behind: &[Entry]) -> bool {
 /// What differs from the row, if anything does.
 fn difference(end: &End, row: &Row) -> Option<&'static str> {
     let entries = row.entries.as_slice();
+    let mut share = 0usize;
     for at in 0..entries.len() {
         let entry = &entries[at];
         let behind = &entries[at + 1..];
@@ -201,8 +204,11 @@ fn difference(end: &End, row: &Row) -> Option<&'static str> {
         if entry.is("why") && end.reason.as_bytes() != entry.text() {
             return Some("another reason");
         }
-        if entry.is("connections") && !is_heard(end, entry.port(1), behind) {
-            return Some("other replies");
+        if entry.is("connections") {
+            if !is_heard(end, share, behind) {
+                return Some("other replies");
+            }
+            share = share.saturating_add(1);
         }
         if entry.is("port") && !has_sent(&end.net, entry.port(1), behind) {
             return Some("other datagrams");

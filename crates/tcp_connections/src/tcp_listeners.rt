@@ -1,15 +1,22 @@
 //! The TCP places of this machine.
-ghost use Rattle.std.specs.Prelude.{◌≡◌, ◌≤◌, [], true, None};
+ghost use Rattle.std.specs.Prelude.{◌≡◌, ◌+◌, ◌<◌, ◌≤◌, [], true, None, IfOk, length, map, vec_len, vec_capacity};
+ghost use Rattle.connections.specs.Shares.{GivesShares};
+ghost use Rattle.tcp_connections.specs.Facts.{facts_of};
 ghost use Rattle.outside.specs.Faults.{Rose, faults_after};
 
 use crate::TcpConnections;
-use crate::tcp_port::TcpPort;
+use crate::hall::{Dealer, Entrance, Hall, MOST_DEALT, Seat};
+use crate::tcp_port::{Limits, TcpPort};
 use connections::{Listeners, Place};
+use mio::Poll;
+use mio::net::TcpListener;
 use outside::{Clock, Failed};
+use rtrb::RingBuffer;
 use std::alloc::Global;
-use std::net::Net as Sockets;
-use std::sync::Wait;
+use std::io;
+use std::net::{Net as Sockets, SocketAddr};
 use std::sync::atomic::AtomicBool;
+use std::sync::{Arc, Wait};
 
 /// The TCP places of this machine. They tell nothing of content. All shares fail together: once one has failed, which `has_failed` tells, each other one fails when it
 /// is next waited for, and at the latest a second later. All have this clock, and stop once `stopping` is set.
@@ -56,6 +63,90 @@ impl<'a, R: Sockets + Wait + Sync, K: Clock + Copy + Drop + Send> TcpListeners<'
     }
 }
 
+/// The shares of a place: all that it takes is had before it is listened at, and the first share does.
+fn open_shares<'a>(
+    rt: &impl Sockets,
+    alloc: Global,
+    place: Place,
+    shares: usize,
+    limits: Limits<'a>,
+) -> io::Result<Vec<TcpPort<'a>>>
+    ensures { IfOk result (λ ports. length ports.items ≡ shares) }
+{
+    let mut polls = Vec::with_capacity(alloc, shares)?;
+    let mut seats = Vec::with_capacity(alloc, shares)?;
+    let mut inboxes = Vec::with_capacity(alloc, shares)?;
+    let mut entrances = Vec::with_capacity(alloc, shares)?;
+    for seat in 0..shares {
+        let poll = Poll::new(rt)?;
+        seats.push(Seat::new(&poll)?)?;
+        polls.push(poll)?;
+        if seat > 0 {
+            let (inbox, entrance) = RingBuffer::new(alloc, MOST_DEALT)?;
+            inboxes.push(inbox)?;
+            entrances.push(Entrance::Inbox(entrance))?;
+        }
+    }
+    let hall = Arc::new(alloc, Hall::new(seats))?;
+    let mut ports = Vec::with_capacity(alloc, shares)?;
+    let listener = TcpListener::bind(rt, SocketAddr::from((place.address, place.port)))?;
+    let mut first = Some(Entrance::Listener(Dealer::new(listener, inboxes)));
+    let mut others = entrances.into_iter();
+    let mut rest = polls.into_iter();
+    for seat in 0..shares {
+        let Some(poll) = rest.next() else {
+            return Err(io::ErrorKind::Other.into());
+        };
+        let hall = Arc::try_clone(&hall)?;
+        let entrance = match first.take() {
+            Some(entrance) => entrance,
+            None => match others.next() {
+                Some(entrance) => entrance,
+                None => return Err(io::ErrorKind::Other.into()),
+            },
+        };
+        ports.push(TcpPort::open(alloc, poll, entrance, hall, seat, limits)?)?;
+    }
+    Ok(ports)
+}
+
+/// What each share is given beside its sockets.
+#[derive(Clone, Copy)]
+struct Hands<'a, R, K> {
+    rt: &'a R,
+    clock: K,
+    stopping: &'a AtomicBool,
+}
+
+/// Puts so many shares behind the others, numbered from the first on. Each has its sockets.
+fn give_all<'a, R: Wait, K: Clock + Copy + Drop>(
+    hands: Hands<'a, R, K>,
+    first: u32,
+    shares: u32,
+    ports: Vec<TcpPort<'a>>,
+    out: &mut Vec<TcpConnections<'a, R, K>>,
+)
+    requires many { length ports.items ≡ shares }
+    requires within { first + shares < 4294967296 }
+    requires room { vec_len out.old + shares ≤ vec_capacity out.old }
+    ensures all { GivesShares None first shares (map facts_of out.old.items) (map facts_of out.new.items) }
+    ensures room { vec_capacity out.new ≡ vec_capacity out.old }
+{
+    let mut left = ports.into_iter();
+    for k in 0..shares {
+        let Some(sockets) = left.next() else {
+            unreachable!()
+        };
+        out.push_reserved(TcpConnections::new(
+            hands.rt,
+            first + k,
+            sockets,
+            hands.clock,
+            hands.stopping,
+        ));
+    }
+}
+
 /// Counts a fault.
 fn fails(faults: &mut u64) -> Failed
     ensures counted { faults.new ≡ faults_after true faults.old }
@@ -90,32 +181,33 @@ impl<'a, R: Sockets + Wait + Sync, K: Clock + Copy + Drop + Send> Listeners
         self.heard.clear();
     }
 
-    // One share: to deal connections to several is the hall's.
     fn listen(
         &mut self,
         place: u32,
         shares: u32,
         out: &mut Vec<TcpConnections<'a, R, K>>,
     ) -> Result<(), Failed> {
-        if shares != 1 || self.given == u32::MAX {
+        let Some(given) = self.given.checked_add(shares) else {
             return Err(fails(&mut self.faults));
-        }
+        };
         let at = self.places[place as usize];
-        let most = self.most as usize;
-        let Ok(sockets) = TcpPort::open(self.rt, self.alloc, at, most, self.has_failed) else {
+        let limits = Limits {
+            most: self.most as usize,
+            has_failed: self.has_failed,
+        };
+        let Ok(ports) = open_shares(self.rt, self.alloc, at, shares as usize, limits) else {
             return Err(fails(&mut self.faults));
         };
         if self.heard.push(place).is_err() {
             return Err(fails(&mut self.faults));
         }
-        out.push_reserved(TcpConnections::new(
-            self.rt,
-            self.given,
-            sockets,
-            self.clock,
-            self.stopping,
-        ));
-        self.given += 1;
+        let hands = Hands {
+            rt: self.rt,
+            clock: self.clock,
+            stopping: self.stopping,
+        };
+        give_all(hands, self.given, shares, ports, out);
+        self.given = given;
         Ok(())
     }
 

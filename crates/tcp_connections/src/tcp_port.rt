@@ -2,16 +2,18 @@
 ghost use Rattle.std.specs.Prelude.{◌<◌, ◌≤◌, length, IfOk};
 ghost use Rattle.connections.specs.Calls.{FitsRoom};
 
+use crate::hall::{Dealt, Entrance, Hall, MOST_DEALT};
 use crate::patience::Patience;
-use connections::{Broken, Event, Input, Place};
+use crate::slot::{Slot, drop_unread, keep_alive, new_slot, read_from, turn_away, write_to};
+use connections::{Broken, Event, Input};
 use mio::event::Events;
-use mio::net::{TcpListener, TcpStream};
+use mio::net::TcpStream;
 use mio::{Interest, Poll, Token};
 use slab::Slab;
 use std::alloc::Global;
-use std::io::{self, ErrorKind, Read, Write};
+use std::io::{self, ErrorKind};
 use std::mem;
-use std::net::{Net as Sockets, Shutdown, SocketAddr};
+use std::sync::Arc;
 use std::sync::atomic::{AtomicBool, Ordering};
 use std::time::Duration;
 
@@ -27,29 +29,6 @@ const PAUSE_MILLIS: u64 = 100;
 /// How long a port waits before it looks whether another one has failed, or whether it is to stop.
 const LOOK_SECONDS: u64 = 1;
 
-/// How many bytes that nobody reads any more are dropped before a close, so that the replies before it are not lost to a reset.
-const MOST_DROPPED: usize = 64 * 1_024;
-
-/// So many of them are dropped at once.
-const SCRATCH_LEN: usize = 4_096;
-
-/// What a connection is told that is turned away.
-const TOO_MANY: &[u8] = b"ERROR Too many open connections\r\n";
-
-/// How often a read or a write that was interrupted is tried. A socket that never blocks is hardly interrupted at all.
-const MOST_TRIES: u32 = 64;
-
-#[derive(Drop)]
-struct Slot {
-    stream: TcpStream,
-    /// Whether a read may give more, as far as is known. Readiness is told once.
-    may_read: bool,
-    /// Whether the peer's end was told: it isn't told again, so a short read doesn't say that nothing is left.
-    half_closed: bool,
-    /// Whether it is among those to be reported.
-    queued: bool,
-}
-
 /// Whether a connection may wait to be accepted.
 #[derive(Clone, Copy, PartialEq, Eq)]
 enum Accepting {
@@ -59,7 +38,7 @@ enum Accepting {
     Refused,
 }
 
-/// A TCP port and its connections, at most so many at a time: more are turned away.
+/// A share of a place, and its connections. All shares of the place have at most so many at a time: more are turned away.
 #[derive(Drop)]
 pub(crate) struct TcpPort<'a> {
     most: usize,
@@ -67,15 +46,18 @@ pub(crate) struct TcpPort<'a> {
     has_failed: &'a AtomicBool,
     poll: Poll,
     events: Events,
-    listener: TcpListener,
+    entrance: Entrance,
+    hall: Arc<Hall, Global>,
+    /// Which share of the place it is, from 0.
+    seat: usize,
     accepting: Accepting,
     slots: Slab<Slot>,
     /// The connections to be reported in the next round, each once. There is room for all.
     queue: Vec<u32>,
     /// Those of this round that were not reported yet, by number.
     round: Vec<u32>,
-    /// Whether this round may still end with a connection that waits to be accepted.
-    may_open: bool,
+    /// How many connections may still be taken in or dealt before the next round.
+    may_open: usize,
     patience: Patience,
 }
 
@@ -109,103 +91,42 @@ fn put_events(events: &Events, slots: &mut Slab<Slot>, queue: &mut Vec<u32>) -> 
     listens
 }
 
-/// Reads once, and notes whether there may be more.
-fn read_from(slot: &mut Slot, out: &mut [u8]) -> Result<Input, Broken>
-    requires room { 0 < length out.old }
-    ensures fits { IfOk result (FitsRoom (length out.old)) }
-{
-    for _ in 0..MOST_TRIES {
-        match (&slot.stream).read(out) {
-            Ok(0) => return Ok(Input::Ended),
-            Ok(count) if slot.half_closed || count == out.len() => return Ok(Input::Bytes(count)),
-            Ok(count) => {
-                slot.may_read = false;
-                return Ok(Input::All(count));
-            }
-            Err(error) => match error.kind() {
-                ErrorKind::WouldBlock => {
-                    slot.may_read = false;
-                    return Ok(Input::Later);
-                }
-                ErrorKind::Interrupted => {}
-                _ => break,
-            },
-        }
-    }
-    Err(Broken)
-}
-
-/// Writes once. Where nothing is taken now, that is 0.
-fn write_to(stream: &TcpStream, piece: &[u8]) -> Result<usize, Broken>
-    ensures { IfOk result (λ n. n ≤ length piece.now) }
-{
-    for _ in 0..MOST_TRIES {
-        match (&*stream).write(piece) {
-            Err(error) => match error.kind() {
-                ErrorKind::WouldBlock => return Ok(0),
-                ErrorKind::Interrupted => {}
-                _ => break,
-            },
-            taken => return taken.map_err(|_| Broken),
-        }
-    }
-    Err(Broken)
-}
-
-/// A connection at which nothing was read yet.
-fn new_slot(stream: TcpStream) -> Slot {
-    Slot {
-        stream,
-        may_read: false,
-        half_closed: false,
-        queued: false,
-    }
-}
-
-/// Says that nothing more will be sent, and drops what the peer sent and nobody reads, up to a bound: a close with bytes unread loses replies.
-fn drop_unread(slot: &mut Slot) {
-    let _unheeded = slot.stream.shutdown(Shutdown::Write);
-    let mut scratch = [0; SCRATCH_LEN];
-    for _ in 0..MOST_DROPPED / SCRATCH_LEN {
-        match read_from(slot, &mut scratch) {
-            Ok(Input::Bytes(_)) => {}
-            _ => return,
-        }
-    }
-}
-
-/// Tells a connection that there are too many, and lets it go. What it is told may get lost.
-fn turn_away(stream: TcpStream) {
-    let _unheeded = write_to(&stream, TOO_MANY);
-    let mut slot = new_slot(stream);
-    drop_unread(&mut slot);
+/// What all shares of a place look at.
+#[derive(Clone, Copy)]
+pub(crate) struct Limits<'a> {
+    pub(crate) most: usize,
+    pub(crate) has_failed: &'a AtomicBool,
 }
 
 impl<'a> TcpPort<'a> {
-    /// Listens at a place.
+    /// The share of this seat, whose waker is at the poll.
     pub(crate) fn open(
-        rt: &impl Sockets,
         alloc: Global,
-        place: Place,
-        most: usize,
-        has_failed: &'a AtomicBool,
+        poll: Poll,
+        entrance: Entrance,
+        hall: Arc<Hall, Global>,
+        seat: usize,
+        limits: Limits<'a>,
     ) -> io::Result<TcpPort<'a>> {
-        let poll = Poll::new(rt)?;
         let events = Events::with_capacity(alloc, MOST_EVENTS)?;
-        let mut listener = TcpListener::bind(rt, SocketAddr::from((place.address, place.port)))?;
-        poll.registry()
-            .register(&mut listener, LISTENER, Interest::READABLE)?;
+        let mut entrance = entrance;
+        if let Entrance::Listener(dealer) = &mut entrance {
+            poll.registry()
+                .register(&mut dealer.listener, LISTENER, Interest::READABLE)?;
+        }
         Ok(TcpPort {
-            most,
-            has_failed,
+            most: limits.most,
+            has_failed: limits.has_failed,
             poll,
             events,
-            listener,
+            entrance,
+            hall,
+            seat,
             accepting: Accepting::Ready,
             slots: Slab::new(alloc),
             queue: Vec::new(alloc),
             round: Vec::new(alloc),
-            may_open: false,
+            may_open: 0,
             patience: Patience::new(),
         })
     }
@@ -213,6 +134,7 @@ impl<'a> TcpPort<'a> {
     /// Takes a connection in, and says its number. Where there is no memory for it, it is let go.
     fn take_in(&mut self, stream: TcpStream) -> Option<u32> {
         let _unheeded = stream.set_nodelay(true);
+        keep_alive(&stream);
         // Each that is open once, and each that was closed since the last round.
         let room = self.slots.len().saturating_add(1).saturating_mul(2);
         self.queue
@@ -236,31 +158,48 @@ impl<'a> TcpPort<'a> {
     }
 
     /// The next connection that waits, where there is one.
-    fn accept(&mut self) -> Option<TcpStream> {
-        if self.accepting != Accepting::Ready {
-            return None;
-        }
-        match self.listener.accept() {
-            Ok((stream, _)) => Some(stream),
-            Err(error) => {
-                match error.kind() {
+    fn next_stream(&mut self) -> Option<TcpStream> {
+        match &mut self.entrance {
+            Entrance::Inbox(inbox) => match inbox.pop() {
+                Ok(stream) => return Some(stream),
+                Err(_) => self.accepting = Accepting::Idle,
+            },
+            Entrance::Listener(dealer) => match dealer.listener.accept() {
+                Ok((stream, _)) => return Some(stream),
+                Err(error) => match error.kind() {
                     ErrorKind::WouldBlock => self.accepting = Accepting::Idle,
                     ErrorKind::Interrupted | ErrorKind::ConnectionAborted => {}
                     _ => self.accepting = Accepting::Refused,
-                }
-                None
-            }
+                },
+            },
         }
+        None
     }
 
-    /// Takes in the next connection that waits, or turns it away where there is no room.
-    fn open_next(&mut self) -> Option<Event> {
-        let stream = self.accept()?;
-        if self.slots.len() >= self.most {
-            turn_away(stream);
-            return Some(Event::TurnedAway);
+    /// Takes in a connection that is counted here.
+    fn take_own(&mut self, stream: TcpStream) -> Option<Event> {
+        let number = self.take_in(stream);
+        if number.is_none() {
+            self.hall.goes(self.seat);
         }
-        Some(Event::Opened(self.take_in(stream)?))
+        Some(Event::Opened(number?))
+    }
+
+    /// Takes in the next connection that waits, or deals it to another share, or turns it away.
+    fn open_next(&mut self) -> Option<Event> {
+        let stream = self.next_stream()?;
+        let dealt = match &mut self.entrance {
+            Entrance::Inbox(_) => Dealt::Own(stream),
+            Entrance::Listener(dealer) => dealer.deal(&self.hall, self.most, stream),
+        };
+        match dealt {
+            Dealt::Own(stream) => self.take_own(stream),
+            Dealt::Away => None,
+            Dealt::TooMany(stream) => {
+                turn_away(stream);
+                Some(Event::TurnedAway)
+            }
+        }
     }
 
     /// How long to wait: not at all where something is to be reported or accepted, and never for long.
@@ -304,7 +243,7 @@ impl<'a> TcpPort<'a> {
         }
         self.wait()?;
         let listens = put_events(&self.events, &mut self.slots, &mut self.queue);
-        if listens || self.accepting == Accepting::Refused {
+        if listens || self.accepting == Accepting::Refused || self.entrance.is_inbox() {
             self.accepting = Accepting::Ready;
         }
         mem::swap(&mut self.queue, &mut self.round);
@@ -334,7 +273,7 @@ impl<'a> TcpPort<'a> {
         None
     }
 
-    /// The next report, if there is one at hand or comes with one look: those of a round, and after each round one connection that waits to be accepted.
+    /// The next report, if there is one at hand or comes with one look: those of a round, and after each round a few connections that wait to be accepted.
     pub(crate) fn step(&mut self) -> io::Result<Option<Event>> {
         if !self.round.is_empty() {
             return Ok(match self.take_ready() {
@@ -342,18 +281,19 @@ impl<'a> TcpPort<'a> {
                 None => None,
             });
         }
-        if self.may_open {
-            self.may_open = false;
+        if self.may_open > 0 && self.accepting == Accepting::Ready {
+            self.may_open -= 1;
             return Ok(self.open_next());
         }
         self.ask()?;
-        self.may_open = true;
+        self.may_open = MOST_DEALT;
         Ok(None)
     }
 
-    /// The connections there have failed: so those at the other ports fail.
+    /// The connections there have failed: so those of the other shares fail, and need not wait for it.
     pub(crate) fn tell_failure(&self) {
         self.has_failed.store(true, Ordering::Relaxed);
+        self.hall.call_all();
     }
 
     /// Reads from a connection, where there may be more.
@@ -390,7 +330,9 @@ impl<'a> TcpPort<'a> {
                 drop_unread(slot);
             }
         }
-        let _gone = self.slots.try_remove(number as usize);
+        if self.slots.try_remove(number as usize).is_some() {
+            self.hall.goes(self.seat);
+        }
         if self.accepting == Accepting::Refused {
             self.accepting = Accepting::Ready;
         }

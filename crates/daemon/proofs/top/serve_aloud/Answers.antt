@@ -1,12 +1,11 @@
-use Rattle.std.proofs.Common.{◌+◌, ◌<◌, ℕ, List, refl, string_bytes, arith}
+use Rattle.std.proofs.Common.{ℕ, List, refl, string_bytes}
 use Rattle.std.specs.Prelude.{Ok, Err}
 use Rattle.locked_server.specs.declared.stop.Stop.TheVariants.{Refused, Unbound, Unheard, Fault, Unannounced}
 use Rattle.server_words.specs.Output.{SinkFacts, sink_facts}
 use Rattle.daemon.specs.declared.speaker.Speaker.{Speaker}
 use Rattle.served.specs.TotalsText.{totals_text}
-use Rattle.daemon.proofs.Announced.{leaves_by, place_within, told_of, totals_last, written_last}
+use Rattle.daemon.proofs.Announced.{leaves_by, totals_last, written_last}
 use Rattle.daemon.proofs.top.serve_aloud.Given as given
-use Rattle.daemon.proofs.top.serve_aloud.Goals.{In-Err-Unheard}
 use Rattle.daemon.proofs.top.serve_aloud.Goals as goal
 
 abbrev sink_at : (g : given.Over) → Speaker g.row.K.Denot → SinkFacts
@@ -42,29 +41,14 @@ returns-in-Err-Unbound g c = record {
   last = written_last c.args.streams.now.ports.port c.in-Err-Unbound.field-0 (Unbound c.in-Err-Unbound.port) (sink_at g c.serve_locked.new.announce) _ _ c.in-Err-Unbound.field-0-is c.write_unbound.ensures;
 }
 
--- its port is one of the words'
-low : (g : given.Over) (c : In-Err-Unheard g) → c.in-Err-Unheard.place < c.args.streams.now.ports.fronts
-low g c = omega (arith, place_within c.in-Err-Unheard.field-0 c.in-Err-Unheard.place c.args.shared.now.service _ _ _ _ _ c.in-Err-Unheard.field-0-is c.in-Err-Unheard.ensures.cause, c.requires.fronts)
-
-pub overflow_add-port : goal.overflow_add-port
-overflow_add-port g c = omega (arith, low g (goal.at.overflow_add-port g c).In-Err-Unheard, c.requires.streams.numbers)
-
-pub overflow_cast-port : goal.overflow_cast-port
-overflow_cast-port g c = omega (arith, low g (goal.at.overflow_cast-port g c).In-Err-Unheard, c.requires.streams.numbers)
-
 pub returns-in-Err-Unheard : goal.returns-in-Err-Unheard
-returns-in-Err-Unheard g c =
-    let first = c.args.streams.now.ports.port in
-    let place = c.in-Err-Unheard.place in
-    let less = low g (goal.at.returns-in-Err-Unheard g c).In-Err-Unheard in
-    record {
-      answer = Err c.in-Err-Unheard.field-0;
-      said = sink_at g c.serve_locked.new.announce;
-      cause = c.in-Err-Unheard.ensures.cause;
-      leaves = leaves_by (line_at g) (sink_at g) c.args.streams.now.ports c.requires.line c.in-Err-Unheard.ensures.leaves;
-      last = written_last first c.in-Err-Unheard.field-0 (Unheard place) (sink_at g c.serve_locked.new.announce) _ _ c.in-Err-Unheard.field-0-is
-          (told_of _ (first + place) _ _ _ c.write_unbound-in-Err-Unheard.ensures (omega (arith, less, c.requires.streams.numbers)));
-    }
+returns-in-Err-Unheard g c = record {
+  answer = Err c.in-Err-Unheard.field-0;
+  said = sink_at g c.serve_locked.new.announce;
+  cause = c.in-Err-Unheard.ensures.cause;
+  leaves = leaves_by (line_at g) (sink_at g) c.args.streams.now.ports c.requires.line c.in-Err-Unheard.ensures.leaves;
+  last = written_last c.args.streams.now.ports.port c.in-Err-Unheard.field-0 (Unheard _) (sink_at g c.serve_locked.new.announce) _ _ c.in-Err-Unheard.field-0-is c.write_unbound-in-Err-Unheard.ensures;
+}
 
 pub returns-in-Err-Unannounced : goal.returns-in-Err-Unannounced
 returns-in-Err-Unannounced g c = record {

@@ -1,15 +1,24 @@
-use Rattle.std.proofs.Common.{inl, length, ap, ◌∙◌, arith}
+use Rattle.std.proofs.Common.{◌≡◌, ◌<◌, ℕ, Bool, true, false, List, [], ◌∷◌, length, inl, refl, sym, ◌∙◌, subst, if◌then◌else◌, arith}
+use Rattle.std.specs.Prelude.{◌==◌}
+use Rattle.std.proofs.lemmas.Bool.{eqb-true}
+use Rattle.connections.specs.declared.listeners.Place.{Place}
 use Rattle.served.specs.NetRun.{net_facts}
 use Rattle.server_words.specs.Output.{sink_facts}
 use Rattle.locked_server.specs.Causes.{ports_at}
 use Rattle.daemon.specs.Daemon.{daemon_outside}
 use Rattle.daemon.proofs.Announced.{serves_placed}
-use Rattle.daemon.proofs.Placed.{places_long}
 use Rattle.daemon.proofs.top.stay_up.Goals as goal
 
+-- there is a place where there are fronts
+is_placed : (fronts : ℕ) (place : Place) (none : Bool) → (fronts == 0) ≡ none → 0 < fronts → 0 < length (if none then [] else place ∷ [])
+is_placed fronts place true is some = absurd (let same = eqb-true fronts 0 is in omega (arith, same, some))
+is_placed fronts place false is some = omega arith
+
 pub serve_aloud-requires-clause-places : goal.serve_aloud-requires-clause-places
-serve_aloud-requires-clause-places g c =
-    omega (arith, ap length (c.set_places.ensures.places ∙ c.in-Ok-places_of.ensures), places_long c.args.streams.now c.args.streams.now.ports.fronts)
+serve_aloud-requires-clause-places g c lifetimes outlive some =
+    let streams = c.args.streams.now in
+    subst (λ (all : List Place). 0 < length all) (sym (c.set_places.ensures.places ∙ c.in-Ok-places_of.ensures))
+    (is_placed streams.ports.fronts (record { address = streams.address; port = streams.ports.port }) (streams.ports.fronts == 0) refl some)
 
 pub returns : goal.returns
 returns g c =

@@ -8,3 +8,6 @@ returns-in-text-2 c = rw c.in-text-2.is c.add_before-in-text-2.ensures
 
 pub returns-in-text-3 : goal.returns-in-text-3
 returns-in-text-3 c = rw c.in-text-3.is c.add_before-in-text-3.ensures
+
+pub returns-in-text-4 : goal.returns-in-text-4
+returns-in-text-4 c = rw c.in-text-4.is c.add_before-in-text-4.ensures

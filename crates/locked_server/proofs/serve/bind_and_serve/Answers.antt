@@ -94,16 +94,14 @@ pub returns-in-Err-listen_all-clause-served : goal.returns-in-Err-listen_all-cla
 returns-in-Err-listen_all-clause-served g c =
     let at = goal.at.returns-in-Err-listen_all-clause-served g c in
     let failed = c.in-Err-listen_all.ensures in
-    let long = heard_long g at.After-listen_all in
-    let few = c.requires.service.few in
     unserved (map (of_stream g) c.listen_all.new.connections.items) c.listen_all.ensures.new (heard_few g at.After-listen_all) (Unheard _) refl tt c.requires.uncounted
-    (refl, failed.cause, omega (arith, failed.lacks, long, few, c.len-in-Err-listen_all.ensures), omega (arith, failed.lacks, few, c.len-in-Err-listen_all.ensures)) refl
+    (refl, failed.cause, refl, ap (map (of_stream g)) failed.none) refl
     (run_left (bound g at.After-bind_all) c.requires.filled c.requires.tables (ends_long g at.After-bind_all ∙ c.in-Ok.ensures.all))
 
 pub returns-in-Err-listen_all-clause-announced : goal.returns-in-Err-listen_all-clause-announced
 returns-in-Err-listen_all-clause-announced g c =
     let failed = c.in-Err-listen_all.ensures in
-    ((c.in-Ok.ensures.none_refused, failed.cause, omega (arith, c.listen_all.ensures.kept.given, failed.lacks, c.requires.service.few, c.len-in-Err-listen_all.ensures)), refl)
+    ((c.in-Ok.ensures.none_refused, failed.cause, omega (arith, c.listen_all.ensures.kept.given, ap length failed.none, c.listen_all.new.connections.ok)), refl)
 
 -- It could not be told
 
