@@ -1,0 +1,4 @@
+pub mod Firsts
+pub mod Nexts
+pub mod Merged
+pub mod Ordered
