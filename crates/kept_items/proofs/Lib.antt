@@ -1,0 +1,5 @@
+pub mod Seconds
+pub mod Pairs
+pub mod Goes
+pub mod Walked
+pub mod Filled

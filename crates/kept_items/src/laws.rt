@@ -1,0 +1,27 @@
+//! Laws of what is kept, each the contract of a function that does nothing.
+ghost use Rattle.kept_items.specs.GoesOn.{GoesOn};
+ghost use Rattle.kept_items.specs.Laws.{PartsAgain, KeepsWhatIsThere, FillsWhatLasts};
+
+/// Entries of parts are parted as they were put together.
+#[tactic(auto, using(crate::proofs::Walked::parts_again))]
+pub fn parts_again()
+    ensures { PartsAgain }
+{}
+
+/// What is there of a walk of a partition is what it leaves.
+#[tactic(auto, using(crate::proofs::Walked::keeps_what_is_there))]
+pub fn keeps_what_is_there()
+    ensures { KeepsWhatIsThere }
+{}
+
+/// A partition that begins with what is loaded has it.
+#[tactic(auto, using(crate::proofs::Filled::fills_what_lasts))]
+pub fn fills_what_lasts()
+    ensures { FillsWhatLasts }
+{}
+
+/// A command finds behind a stop and a start what it would have found had nothing happened; in a cache that, or nothing.
+#[tactic(auto, using(crate::proofs::Goes::goes_on))]
+pub fn goes_on()
+    ensures { GoesOn }
+{}
