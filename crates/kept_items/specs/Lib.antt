@@ -4,4 +4,5 @@ pub mod Walk
 pub mod Left
 pub mod Loaded
 pub mod GoesOn
+pub mod StopAndStart
 pub mod Laws

@@ -1,5 +1,6 @@
 //! Laws of what is kept, each the contract of a function that does nothing.
 ghost use Rattle.kept_items.specs.GoesOn.{GoesOn};
+ghost use Rattle.kept_items.specs.StopAndStart.{StopAndStart};
 ghost use Rattle.kept_items.specs.Laws.{PartsAgain, KeepsWhatIsThere, FillsWhatLasts};
 
 /// Entries of parts are parted as they were put together.
@@ -24,4 +25,10 @@ pub fn fills_what_lasts()
 #[tactic(auto, using(crate::proofs::Goes::goes_on))]
 pub fn goes_on()
     ensures { GoesOn }
+{}
+
+/// The same of all partitions, between what one server left in a file and what another begins with that read it.
+#[tactic(auto, using(crate::proofs::Stopped::stop_and_start))]
+pub fn stop_and_start()
+    ensures { StopAndStart }
 {}

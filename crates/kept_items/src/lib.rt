@@ -10,7 +10,7 @@ mod loading;
 mod saving;
 mod walk;
 
-pub use laws::{fills_what_lasts, goes_on, keeps_what_is_there, parts_again};
+pub use laws::{fills_what_lasts, goes_on, keeps_what_is_there, parts_again, stop_and_start};
 pub use loading::{Lasting, lasts};
 pub use saving::{is_kept, save_part};
 pub use walk::Walks;
