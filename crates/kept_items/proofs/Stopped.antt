@@ -1,6 +1,6 @@
 -- A stop and a start of a server.
-use Rattle.std.proofs.Common.{◌≡◌, ◌≤◌, ◌<◌, ℕ, zero, suc, List, [], ◌∷◌, Some, None, slice_get, refl, sym, ap, subst, arith}
-use Rattle.std.specs.Prelude.{get_or, max}
+use Rattle.std.proofs.Common.{◌≡◌, ◌≤◌, ◌<◌, ℕ, zero, suc, List, [], ◌∷◌, Some, None, get_or, slice_get, refl, sym, ap, subst, arith}
+use Rattle.std.specs.Prelude.{max}
 use Rattle.std.proofs.lemmas.Option.{slice_get-get_or, slice_get_within, same_Some}
 use Rattle.saved_items.specs.declared.items.Closing.{Closing}
 use Rattle.saved_items.specs.Items.{Pair, Entry, Keeps, Closes}
