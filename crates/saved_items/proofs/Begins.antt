@@ -4,7 +4,7 @@ use Rattle.std.specs.List.{AllByRecursion}
 use Rattle.std.proofs.lemmas.List.{length-append}
 use Rattle.saved_items.specs.declared.blocks.TheConstants.{FIRST_SUM}
 use Rattle.saved_items.specs.Blocks.{FillsBlock, joined, sum_behind}
-use Rattle.saved_items.specs.Reading.{Stream, AtEnd, head_at, stream_at}
+use Rattle.saved_items.specs.Reading.{Stream, Stop, AtEnd, head_at, stream_at}
 use Rattle.saved_items.specs.Laws.{NoBeginning}
 use Rattle.saved_items.proofs.Grows.{longer}
 use Rattle.saved_items.proofs.Words.{whole_file, no_bytes}
@@ -22,6 +22,7 @@ no_beginning file more head head' entries entries' is also =
     let second = whole_file (sum_behind FIRST_SUM first.contents) more stops in
     let longer_is : stream_at FIRST_SUM (file ++ more) ≡ longer (stream_at FIRST_SUM file) behind.content AtEnd =
     first.behind more ∙ ap (λ (c : List ℕ). let s : Stream = record { content = c ++ behind.content; stop = behind.stop } in s) (sym first.content)
-    ∙ ap (λ stop. let s : Stream = record { content = (stream_at FIRST_SUM file).content ++ behind.content; stop = stop } in s) stops in
+    ∙ ap (λ (stop : Stop). let s : Stream = record { content = (stream_at FIRST_SUM file).content ++ behind.content; stop = stop } in s) stops in
     let less = less_behind (stream_at FIRST_SUM file) behind.content head head' is.rest also.rest entries entries' is.begins is.goes_on (ap head_at (sym longer_is) ∙ also.begins) also.goes_on in
-    no_bytes more (omega (arith, less, ap length second.content, length-joined second.contents second.whole, second.len))
+    let count : length behind.content ≡ 65528 * length second.contents = ap length second.content ∙ length-joined second.contents second.whole in
+    no_bytes more (omega (arith, less, count, second.len))
