@@ -1,13 +1,13 @@
 -- A file that was cut is none.
 use Rattle.std.proofs.Common.{◌≡◌, ℕ, ◌+◌, ◌*◌, ◌<◌, List, [], ◌∷◌, ◌++◌, length, refl, sym, ap, subst, ◌∙◌, arith}
 use Rattle.std.specs.List.{AllByRecursion}
-use Rattle.std.proofs.lemmas.List.{length-append}
+use Rattle.std.proofs.lemmas.List.{length-append, nil_from_length}
 use Rattle.saved_items.specs.declared.blocks.TheConstants.{FIRST_SUM}
 use Rattle.saved_items.specs.Blocks.{FillsBlock, joined, sum_behind}
 use Rattle.saved_items.specs.Reading.{Stream, Stop, AtEnd, head_at, stream_at}
 use Rattle.saved_items.specs.Laws.{NoBeginning}
 use Rattle.saved_items.proofs.Grows.{longer}
-use Rattle.saved_items.proofs.Words.{whole_file, no_bytes}
+use Rattle.saved_items.proofs.Words.{whole_file}
 use Rattle.saved_items.proofs.Readings.{reads_whole, less_behind}
 
 length-joined : (contents : List (List ℕ)) → AllByRecursion FillsBlock contents → length (joined contents) ≡ 65528 * length contents
@@ -25,4 +25,4 @@ no_beginning file more head head' entries entries' is also =
     ∙ ap (λ (stop : Stop). let s : Stream = record { content = (stream_at FIRST_SUM file).content ++ behind.content; stop = stop } in s) stops in
     let less = less_behind (stream_at FIRST_SUM file) behind.content head head' is.rest also.rest entries entries' is.begins is.goes_on (ap head_at (sym longer_is) ∙ also.begins) also.goes_on in
     let count : length behind.content ≡ 65528 * length second.contents = ap length second.content ∙ length-joined second.contents second.whole in
-    no_bytes more (omega (arith, less, count, second.len))
+    nil_from_length more (omega (arith, less, count, second.len))

@@ -5,7 +5,7 @@ use Rattle.std.specs.List.{AllByRecursion}
 use Rattle.std.proofs.Math.Seq.{take-add}
 use Rattle.std.specs.Int.{w64, from_le_bytes}
 use Rattle.std.proofs.lemmas.Bool.{eqb-true, eq-eqb, ltb-false}
-use Rattle.std.proofs.lemmas.List.{length-append, length-drop, length-take, take-append-drop, take-append-le, drop-append-le}
+use Rattle.std.proofs.lemmas.List.{length-append, length-drop, length-take, take-append-drop, take-append-le, drop-append-le, nil_from_length}
 use Rattle.mica_words.specs.Item.{words_for}
 use Rattle.mica_words.specs.Packing.{packed, packed_words, little}
 use Rattle.saved_items.specs.Blocks.{content_sum, sum_behind, FillsBlock, joined}
@@ -55,17 +55,17 @@ packed_empty = refl
 
 -- ---- the words of blocks
 
-pub words_in : ℕ → List (List ℕ) → List ℕ
+unfoldable pub words_in : ℕ → List (List ℕ) → List ℕ
 words_in sum [] = []
 words_in sum (content ∷ contents) = packed content ++ content_sum sum content ∷ words_in (content_sum sum content) contents
 
 -- What is read to its end is these blocks; and what stands behind it is read behind them.
-pub record IsWhole (sum : ℕ) (file : List ℕ) (content : List ℕ) : Type 0 where
+pub record IsWhole (sum : ℕ) (file : List ℕ) (read : List ℕ) : Type 0 where
   pub contents : List (List ℕ)
   pub whole : AllByRecursion FillsBlock contents
   pub words : packed file ≡ words_in sum contents
   pub len : length file ≡ 65536 * length contents
-  pub content : content ≡ joined contents
+  pub content : read ≡ joined contents
   pub behind : (more : List ℕ) → stream_at sum (file ++ more) ≡ with_front (joined contents) (stream_at (sum_behind sum contents) more)
 
 abbrev pub blocks_step : ℕ → ℕ → List ℕ → Bool → Bool → Bool → Stream
@@ -76,10 +76,6 @@ blocks_step n sum file none short told =
 pub blocks_are : (n sum : ℕ) (file : List ℕ) → blocks_at (suc n) sum file ≡ blocks_step n sum file (eqb (length file) 0) (ltb (length file) 65536) (eqb (told_sum file) (content_sum sum (take 65528 file)))
 unfolding blocks_at
 blocks_are n sum file = refl
-
-pub no_bytes : (file : List ℕ) → length file ≡ 0 → file ≡ []
-no_bytes [] is = refl
-no_bytes (byte ∷ file) is = absurd (omega arith)
 
 whole_none : (sum : ℕ) (file : List ℕ) → file ≡ [] → IsWhole sum file []
 unfolding words_in
@@ -168,7 +164,7 @@ module _ (n sum : ℕ) (file : List ℕ) (rest : (blocks_at n (content_sum sum (
   whole_step : (none short told : Bool) → eqb (length file) 0 ≡ none → ltb (length file) 65536 ≡ short → eqb (told_sum file) (content_sum sum (take 65528 file)) ≡ told
       → (blocks_step n sum file none short told).stop ≡ AtEnd → IsWhole sum file (blocks_step n sum file none short told).content
   unfolding next front
-  whole_step true short told e f g stops = whole_none sum file (no_bytes file (eqb-true (length file) 0 e))
+  whole_step true short told e f g stops = whole_none sum file (nil_from_length file (eqb-true (length file) 0 e))
   whole_step false true told e f g stops = absurd cc
   whole_step false false true e f g stops =
       whole_more sum file (ltb-false (length file) 65536 f) (eqb-true (told_sum file) (content_sum sum (take 65528 file)) g) (blocks_at n (content_sum sum (take 65528 file)) (drop 65536 file)).content (rest stops)

@@ -23,7 +23,6 @@ impl SavedReader {
     ghost use Rattle.saved_items.specs.Reader.{IsAtFirst};
 
     /// A reader at the beginning of a file. It takes its memory here, a block and its words.
-    #[tactic(auto, using(crate::proofs::Streams::nothing_left))]
     pub fn new(alloc: Global) -> Result<Self, NoMemory>
         ensures { IfOk result IsAtFirst }
     {

@@ -9,7 +9,7 @@ use crate::{SavedFault, SavedReader};
 use outside::{NoMemory, Source};
 
 // The next block takes the place of one that was given whole.
-#[tactic(auto, using(crate::proofs::Streams::load_same, crate::proofs::Streams::load_short, crate::proofs::Streams::load_untold, crate::proofs::Streams::stops_failed))]
+#[tactic(auto, using(crate::proofs::Streams::stops_failed))]
 fn load<S: Source>(source: &mut S, reader: &mut SavedReader) -> Result<(), SavedFault>
     requires open { S.has_ended source.old ≡ false }
     requires given { reader.old.at ≡ CONTENT_LEN }

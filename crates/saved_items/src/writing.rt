@@ -174,7 +174,6 @@ pub fn close_partition<K: Sink>(
 }
 
 /// Puts what is held back, with zeros to the end of its block. The file is whole then.
-#[tactic(auto, using(crate::proofs::Spilled::finishes_held, crate::proofs::Spilled::finishes_none))]
 pub fn finish<K: Sink>(sink: &mut K, spiller: &mut Spiller) -> Result<(), SpillFault>
     ensures { OnOk result (Finishes (K.taken sink.old) (K.taken sink.new) spiller.old) }
 {
