@@ -1,6 +1,6 @@
 -- What a source's bytes give, a block at a time.
 use Rattle.std.proofs.Common.{◌≡◌, ℕ, suc, ◌+◌, ◌-◌, ◌/◌, ◌<◌, ◌≤◌, Bool, true, false, cond, ltb, eqb, List, [], ◌∷◌, ◌++◌, length, take, drop, refl, sym, ap, subst, ◌∙◌, arith, append_assoc}
-use Rattle.std.specs.Prelude.{Option, Some, None, option_map, Result, Ok, Err}
+use Rattle.std.specs.Prelude.{Option, Some, None, option_map, Result, Ok, Err, IsErrAnd}
 use Rattle.std.specs.Int.{w64, from_le_bytes}
 use Rattle.std.specs.Io.KnownBytes.{Consumes, IsAtEnd}
 use Rattle.std.proofs.lemmas.Bool.{le-ltb, lt-ltb, ne_eqb}
@@ -185,6 +185,12 @@ stops_reads view fault (Some old) (Some mid) new n bytes yields stops few = λ t
     let is : old ≡ with_front bytes (record { content = []; stop = mid.stop }) = yields ∙ ap (λ (l : List ℕ). let s : Stream = record { content = bytes ++ l; stop = mid.stop } in s) (stops told).0 in
     let lacks : ltb (length (bytes ++ [])) n ≡ true = lt-ltb (length (bytes ++ [])) n (omega (arith, length-append bytes [])) in
     ap (bytes_at n) is ∙ rw (lacks, (stops told).1) refl
+
+-- with the fault as `?` hands it on
+pub stops_result : {X : Type 0} (view : X → List ℕ) (fault : SavedFault) (result : Result X SavedFault) (old mid new : Option Stream) (n : ℕ) (bytes : List ℕ)
+    → IsErrAnd result (λ e. e ≡ fault) → Yields old mid bytes → Stops fault mid → length bytes < n → Reads view old new result (bytes_at n)
+stops_result view fault (Ok x) old mid new n bytes is yields stops few = absurd is
+stops_result view fault (Err e) old mid new n bytes is yields stops few = stops_reads view e old mid new n bytes yields (subst (λ (f : SavedFault). Stops f mid) (sym is) stops) few
 
 pub yields_none : (stream : Option Stream) → Yields stream stream []
 yields_none None = tt

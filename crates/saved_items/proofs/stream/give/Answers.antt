@@ -4,5 +4,5 @@ use Rattle.saved_items.proofs.stream.give.Goals as goal
 
 pub returns-clause-rest : goal.returns-clause-rest
 returns-clause-rest c =
-    let to = c.place_behind.ensures in
-    rest_splits c.args.reader.now.at c.place_behind.result 65528 c.args.reader.now.block.items (omega (arith, to.some)) to.within
+    let to = c.place_behind-to.ensures in
+    rest_splits c.args.reader.now.at c.place_behind-to.result 65528 c.args.reader.now.block.items (omega (arith, to.some)) to.within
