@@ -1,5 +1,5 @@
-use Rattle.std.proofs.Common.{List, ℕ, ◌++◌, take, drop, append_assoc, sym, ap, ◌∙◌}
-use Rattle.std.proofs.lemmas.List.{take-append-drop}
+use Rattle.std.proofs.Common.{List, ℕ, ◌-◌, ◌++◌, length, take, drop, append_assoc, sym, ap, ◌∙◌, arith}
+use Rattle.std.proofs.lemmas.List.{take-append-drop, take_all, length-drop}
 use Rattle.saved_items.proofs.Puts.{Puts_then}
 use Rattle.saved_items.proofs.writing.put_bytes.Goals as goal
 
@@ -14,7 +14,8 @@ loop-rest-preserved g c =
       close = c.put_front.ensures.close ∙ c.loop-rest.invariant.close;
       put = (
         so_far.0 ++ take n rest,
-        so_far.1 ∙ ap (λ (r : List ℕ). so_far.0 ++ r) (sym (take-append-drop n rest)) ∙ sym (append_assoc so_far.0 (take n rest) (drop n rest)),
+        so_far.1 ∙ ap (λ (r : List ℕ). so_far.0 ++ r) (sym (take-append-drop n rest)) ∙ sym (append_assoc so_far.0 (take n rest) (drop n rest))
+        ∙ ap (λ (r : List ℕ). (so_far.0 ++ take n rest) ++ r) (sym (take_all (length rest - n) (drop n rest) (omega (arith, length-drop n rest)))),
         Puts_then (g.K.Sink.taken c.args.sink.now) (g.K.Sink.taken c.loop-rest.sink) (g.K.Sink.taken c.put_front.new.sink) c.args.spiller.now.sum before.sum after.sum
         c.args.spiller.now.held.items before.held.items after.held.items so_far.0 (take n rest) so_far.2 c.in_ok-count.ensures.puts,
       );
