@@ -35,6 +35,7 @@ Items
       --mode cache          a set always finds room: the oldest items go [beside memcached's clients]
   -M, --mode store          none goes before its time: a set without room is refused
       --image FILE          a store begins with the pairs of this image
+      --save FILE           items of memcached's clients go on over a restart: they are saved here at its end, and loaded at its start
       --tries N             how often a get is tried beside a writer, 1 to 1000 [100]
       --wear N              the writes that a partition bears [4611686018427387904]
 

@@ -81,7 +81,7 @@ impl fmt::Display for Values {
 }
 
 /// The long names of all options, and of questions.
-pub(crate) static NAMES: [&str; 17] = [
+pub(crate) static NAMES: [&str; 18] = [
     "--mode",
     "--memcached",
     "--memory",
@@ -91,6 +91,7 @@ pub(crate) static NAMES: [&str; 17] = [
     "--port",
     "--fronts",
     "--image",
+    "--save",
     "--partitions",
     "--buckets",
     "--spares",
@@ -113,6 +114,7 @@ pub(crate) fn values_of(name: &str) -> Option<Values> {
         "--port" => Some(Values::Number("a port of datagrams", 1_024, 65_000)),
         "--fronts" => Some(Values::Number("it", 1, u64::from(MOST_FRONTS))),
         "--image" => Some(Values::File),
+        "--save" => Some(Values::File),
         "--partitions" => Some(Values::Number("it", 1, u64::from(MOST_PARTITIONS))),
         "--buckets" => Some(Values::PowerOfTwo(16_777_216)),
         "--spares" => Some(Values::Number("it", 0, u64::from(MOST_SPARES))),

@@ -32,6 +32,8 @@ pub(crate) enum Refusal<'a> {
     FrontsAlone,
     NoMode,
     ImageInCache,
+    /// A file of saved items beside a port of datagrams, or beside an image.
+    SaveApart(&'static str),
     /// The last of the ports of connections would have no number.
     HighPorts,
 }
@@ -74,6 +76,7 @@ impl fmt::Display for Refusal<'_> {
                 "--port is of batches over UDP and wants --mode cache or --mode store beside it; memcached's clients want -p",
             ),
             Refusal::ImageInCache => f.write_str("--image fills a store: give --mode store"),
+            Refusal::SaveApart(other) => write!(f, "--save keeps the items of memcached's clients, and goes with no {other}"),
             Refusal::HighPorts => f.write_str("the last of its TCP ports would be above 65535"),
         }
     }

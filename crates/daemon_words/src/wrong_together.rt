@@ -103,5 +103,12 @@ pub(crate) fn wrong_together(words: &[String]) -> Refusal<'static> {
     if is_cache(words) && gives(words, "--image") {
         return Refusal::ImageInCache;
     }
+    if gives(words, "--save") {
+        for name in &["--port", "--image"] {
+            if gives(words, name) {
+                return Refusal::SaveApart(*name);
+            }
+        }
+    }
     Refusal::HighPorts
 }

@@ -15,6 +15,7 @@ mod returned;
 mod taking;
 
 pub use counts::{HistoryCounts, Learned};
+pub use flush_keys::make_key;
 pub use flushes::write_counted;
 pub use front::LockedFront;
 pub use owned::{OwnedPartition, ServerPlan, Step, Written};

@@ -13,6 +13,7 @@ use host_outside::{StdClock, StdSink, UdpNet};
 use locked_server::Left;
 use outside::{FreeGate, NoMemory, rehearse};
 use std::env::Args;
+use std::fs::File;
 use std::net::Net as Sockets;
 use std::process::ExitCode;
 use std::rt::{Env, Files};
@@ -23,7 +24,7 @@ use std::{io, time};
 use tcp_connections::TcpListeners;
 
 /// Says on standard error why the program ends, where there is a reason. What can't be said is left out.
-fn say_why<R: AllocGlobal + Eprint + Sockets + Files, K>(rt: &R, speaker: &Speaker<K>) {
+fn say_why<R: AllocGlobal + Eprint + Sockets + Files, K, P, C>(rt: &R, speaker: &Speaker<K, P, C>) {
     if speaker.reason.is_empty() {
         return;
     }
@@ -75,7 +76,7 @@ pub fn refused_on_host<R: Threads + Wait + Sync + AllocGlobal + Env + Eprint + F
 /// Answers the words that the program was started with, or serves by them, and then says why that ended. It ends with 0 where these ask a question, and where a
 /// signal asked for its end. `main` runs it beside the look for signals: a handle that opens files goes to a thread only there.
 pub fn run_on_host<
-    R: Threads + Wait + Sync + AllocGlobal + Eprint + Files + Print + Sockets + time::Clock,
+    R: Threads + Wait + Sync + AllocGlobal + Eprint + Files<File = File> + Print + Sockets + time::Clock,
 >(rt: &R, args: io::Result<Args>, pid: u32, flags: &Flags) -> ExitCode
     ensures { EndsBy (words_of string_bytes args) (exit_status result) }
 {
@@ -90,7 +91,7 @@ pub fn run_on_host<
         stopping: &flags.stopping,
         pid,
     };
-    let mut speaker = Speaker::new(alloc, StdSink::new(io::writer(rt)));
+    let mut speaker = Speaker::new(alloc, StdSink::new(io::writer(rt)), clock);
     let code = run_daemon(
         &process,
         args,

@@ -1,7 +1,7 @@
 //! What is done and told before the words are read as a server's.
 
 use crate::host_files::HostFiles;
-use crate::host_stop::say_unseen;
+use crate::host_stop::{has_stop, say_unseen};
 use daemon::{is_run_by, start_text};
 use daemon_words::value_given;
 use option_words::{all_words, behind_name};
@@ -55,6 +55,9 @@ pub fn begin<R: AllocGlobal + Env + Eprint + Files>(rt: &R, process: u32) -> boo
         return true;
     };
     if !has_user(rt, alloc, &system, words) {
+        return false;
+    }
+    if value_given(words, "--save").is_some() && !has_stop(rt, alloc) {
         return false;
     }
     write_process(rt, alloc, words, process);

@@ -12,6 +12,20 @@ use std::time::{self, Duration};
 /// How long it is from one look to the next.
 const LOOK_MILLIS: u64 = 100;
 
+/// Whether INT and TERM are blocked, as they must be where items are to be saved at the end. Else it says so.
+pub fn has_stop<R: Eprint + Files>(rt: &R, alloc: Global) -> bool {
+    let are_blocked = match stop_signals(alloc, &HostFiles::new(rt)) {
+        Some(signals) => signals.are_blocked,
+        None => false,
+    };
+    if !are_blocked {
+        let _ = eprintln!(rt;
+            "micad: --save: INT and TERM are not blocked, so nothing would be saved: start it by micad-launch"
+        );
+    }
+    are_blocked
+}
+
 /// Says so where INT and TERM are not blocked: then they end the process at once, and nobody sees them come.
 pub fn say_unseen<R: Eprint + Files>(rt: &R, alloc: Global) {
     let are_blocked = match stop_signals(alloc, &HostFiles::new(rt)) {
