@@ -94,6 +94,8 @@ pub(crate) fn load<R: Wait, S: Source>(
 ) -> Result<Loaded, SavedFault> {
     let mut reader = SavedReader::new(alloc)?;
     let head = read_head(alloc, source, &mut reader)?;
+    // by the server's clock no second passed twice, whatever the machine's says
+    let second = second.max(head.second);
     let mut pair = SavedPair::new(alloc);
     let mut lasting = Lasting {
         taker: Loading {
