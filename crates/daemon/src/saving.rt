@@ -3,6 +3,7 @@
 use locked_front::HistoryCounts;
 use memcached_decisions::{LAST_UNIQUE, moment_at};
 use kept_items::save_part;
+use mica_words::SLOTS;
 use named_files::{Beside, Place, put_in_place, use_up};
 use outside::{Clock, Failed, NoMemory};
 use partition_model::{Mode, Options};
@@ -37,9 +38,11 @@ fn saved_mode(mode: Mode) -> SavedMode {
     }
 }
 
-// As many items as a partition may have.
+// As many items as a partition may have: no more than its index has entries, each of at least four words.
 fn most_items(options: &Options) -> usize {
-    (options.buckets as usize + options.spares as usize).saturating_mul(7)
+    let buckets = options.buckets as usize + options.spares as usize;
+    let entries = buckets.saturating_mul(SLOTS as usize);
+    entries.min(options.words as usize / 4 + 1)
 }
 
 impl<P: Place> Saving<P> {

@@ -88,7 +88,7 @@ impl<K: Sink + Drop, P: Place, C: Clock + Drop> Speaker<K, P, C> {
     }
 }
 
-impl<K: Sink + Drop, P: Place, C: Clock + Drop> Announce for Speaker<K, P, C> {
+impl<K: Sink + Drop, P: Place, T: Clock + Drop> Announce for Speaker<K, P, T> {
     ghost use Rattle.std.specs.Prelude.{string_bytes};
     ghost use Rattle.server_words.specs.Output.{sink_facts};
     ghost use Rattle.daemon.specs.Daemon.{Says, FailsToSay};

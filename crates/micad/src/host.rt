@@ -58,7 +58,7 @@ impl Flags {
 }
 
 /// What the program ends with before it serves: where it may not begin, or there is no thread for the look for signals.
-pub fn refused_on_host<R: Threads + Wait + Sync + AllocGlobal + Env + Eprint + Files + Sockets>(
+pub fn refused_on_host<R: Threads + Wait + Sync + AllocGlobal + Env + Eprint + Files<File = File> + Sockets>(
     rt: &R,
     pid: u32,
 ) -> Option<ExitCode>

@@ -16,7 +16,7 @@ pub struct HostFiles<'a, R> {
     faults: u64,
 }
 
-impl<'a, R: FileSystem> HostFiles<'a, R> {
+impl<'a, R: FileSystem<File = File>> HostFiles<'a, R> {
     /// The files of this machine.
     pub fn new(rt: &'a R) -> HostFiles<'a, R>
         ensures { ⟦<HostFiles<'a, R> as Files>⟧.faults result ≡ 0 }

@@ -8,10 +8,11 @@ use option_words::{all_words, behind_name};
 use outside::NoMemory;
 use std::alloc::Global;
 use std::rt::{Env, Files};
-use std::{env, fs};
+use std::env;
+use std::fs::{self, File};
 
 // Whether the process has the rights of the user that words name, where they name one. Else it says so.
-fn has_user<R: Eprint + Files>(
+fn has_user<R: Eprint + Files<File = File>>(
     rt: &R,
     alloc: Global,
     system: &HostFiles<'_, R>,
@@ -29,7 +30,7 @@ fn has_user<R: Eprint + Files>(
 }
 
 // Writes the number of the process into the file that words name for it.
-fn write_process<R: Eprint + Files>(rt: &R, alloc: Global, words: &[String], process: u32) {
+fn write_process<R: Eprint + Files<File = File>>(rt: &R, alloc: Global, words: &[String], process: u32) {
     let Some(name) = value_given(words, "-P") else {
         return;
     };
@@ -43,7 +44,7 @@ fn write_process<R: Eprint + Files>(rt: &R, alloc: Global, words: &[String], pro
 }
 
 /// Says what a server begins with, where words give one, and writes its number where they want it. Whether it may begin.
-pub fn begin<R: AllocGlobal + Env + Eprint + Files>(rt: &R, process: u32) -> bool {
+pub fn begin<R: AllocGlobal + Env + Eprint + Files<File = File>>(rt: &R, process: u32) -> bool {
     let alloc = rt.alloc();
     let words = match all_words(alloc, env::args(rt)) {
         Ok(words) => words,
