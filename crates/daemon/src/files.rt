@@ -10,7 +10,7 @@ use std::alloc::Global;
 /// What reads files by their names.
 pub trait Files {
     /// A file that has to survive a crash.
-    type Place: Place;
+    type Place: Place + Drop;
 
     /// The bytes of the file of a name, where they are told.
     ghost file: { Self → List ℕ → Option (List ℕ) };

@@ -31,7 +31,7 @@ fn refuse<K: Sink>(alloc: Global, sink: &mut K, fault: SavedFault) -> DaemonStat
 }
 
 // What the file has, where there is one.
-fn loaded_of<R: Wait, S: Source, K: Sink>(
+fn loaded_of<R: Wait, S: Source + Drop, K: Sink>(
     rt: &R,
     alloc: Global,
     opened: Option<S>,
@@ -116,7 +116,7 @@ pub(crate) fn begin_kept<W: Wait, G, F: Files, K: Sink + Drop, C: Clock + Drop>(
 }
 
 /// Saves at an orderly end. Writes what is due, and says the status.
-pub(crate) fn end_kept<P: Place, K: Sink + Drop, C: Clock + Drop>(
+pub(crate) fn end_kept<P: Place + Drop, K: Sink + Drop, C: Clock + Drop>(
     status: DaemonStatus,
     speaker: &mut Speaker<K, P, C>,
 ) -> DaemonStatus {

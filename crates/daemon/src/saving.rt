@@ -45,7 +45,7 @@ fn most_items(options: &Options) -> usize {
     entries.min(options.words as usize / 4 + 1)
 }
 
-impl<P: Place> Saving<P> {
+impl<P: Place + Drop> Saving<P> {
     /// For partitions of these options, whose unique numbers begin at the base.
     pub(crate) fn new(
         alloc: Global,

@@ -71,7 +71,7 @@ pub struct Speaker<K, P, C> {
     pub doubt: Doubt,
 }
 
-impl<K: Sink + Drop, P: Place, C: Clock + Drop> Speaker<K, P, C> {
+impl<K: Sink + Drop, P: Place + Drop, C: Clock + Drop> Speaker<K, P, C> {
     /// One that has said nothing.
     pub fn new(alloc: Global, sink: K, clock: C) -> Speaker<K, P, C>
         ensures { result.sink ≡ sink }
@@ -88,7 +88,7 @@ impl<K: Sink + Drop, P: Place, C: Clock + Drop> Speaker<K, P, C> {
     }
 }
 
-impl<K: Sink + Drop, P: Place, T: Clock + Drop> Announce for Speaker<K, P, T> {
+impl<K: Sink + Drop, P: Place + Drop, T: Clock + Drop> Announce for Speaker<K, P, T> {
     ghost use Rattle.std.specs.Prelude.{string_bytes};
     ghost use Rattle.server_words.specs.Output.{sink_facts};
     ghost use Rattle.daemon.specs.Daemon.{Says, FailsToSay};

@@ -69,7 +69,7 @@ fn status_at_totals(stopping: &AtomicBool) -> DaemonStatus
 }
 
 // Serves, with the line to be written at hand.
-fn serve_aloud<W: Threads + Wait + Sync, K: Sink + Drop, P: Place, C: Clock + Drop, N: Net, L: Listeners, G: Gate>(
+fn serve_aloud<W: Threads + Wait + Sync, K: Sink + Drop, P: Place + Drop, C: Clock + Drop, N: Net, L: Listeners, G: Gate>(
     shared: &Shared<W, G>,
     stopping: &AtomicBool,
     streams: &StreamOptions,
@@ -124,7 +124,7 @@ fn serve_aloud<W: Threads + Wait + Sync, K: Sink + Drop, P: Place, C: Clock + Dr
 }
 
 // Serves at the places that the words give, where there is memory for these and for the line.
-fn stay_up<W: Threads + Wait + Sync, K: Sink + Drop, P: Place, C: Clock + Drop, N: Net, L: Listeners, G: Gate>(
+fn stay_up<W: Threads + Wait + Sync, K: Sink + Drop, P: Place + Drop, C: Clock + Drop, N: Net, L: Listeners, G: Gate>(
     process: &Process<W, G>,
     start: Start,
     options: &Options,
