@@ -49,12 +49,20 @@ impl TakesEntries for Loading {
 
     fn pair(&mut self, pair: &SavedPair) -> Result<(), Refused> {
         self.has_memory = self.add(pair).is_ok();
-        if self.has_memory { Ok(()) } else { Err(Refused) }
+        if self.has_memory {
+            Ok(())
+        } else {
+            Err(Refused)
+        }
     }
 
     fn close(&mut self, closing: Closing) -> Result<(), Refused> {
         self.has_memory = self.untils.push(closing.until).is_ok();
-        if self.has_memory { Ok(()) } else { Err(Refused) }
+        if self.has_memory {
+            Ok(())
+        } else {
+            Err(Refused)
+        }
     }
 }
 
@@ -107,7 +115,13 @@ pub(crate) fn load<R: Wait, S: Source>(
         second,
         next: 0,
     };
-    let read = read_entries(source, &mut reader, head.partitions, &mut pair, &mut lasting);
+    let read = read_entries(
+        source,
+        &mut reader,
+        head.partitions,
+        &mut pair,
+        &mut lasting,
+    );
     let Lasting {
         taker: Loading {
             mut writes,

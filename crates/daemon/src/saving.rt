@@ -1,8 +1,8 @@
 //! What a server has at hand that keeps its items from one run to the next.
 
+use kept_items::save_part;
 use locked_front::HistoryCounts;
 use memcached_decisions::{LAST_UNIQUE, moment_at};
-use kept_items::save_part;
 use mica_words::SLOTS;
 use named_files::{Beside, Place, put_in_place, use_up};
 use outside::{Clock, Failed, NoMemory};

@@ -26,8 +26,8 @@ use connections::Listeners;
 use daemon_words::{DaemonOptions, StreamOptions, read_daemon};
 use fronts::ServeFault;
 use locked_server::{Left, Service, Shared, Stop, serve_locked};
-use option_words::WordsFault;
 use named_files::Place;
+use option_words::WordsFault;
 use outside::{Clock, Gate, Net, NoMemory, Sink};
 use partition_model::{Options, Write};
 use partition_sizes::start_bytes;
@@ -69,7 +69,15 @@ fn status_at_totals(stopping: &AtomicBool) -> DaemonStatus
 }
 
 // Serves, with the line to be written at hand.
-fn serve_aloud<W: Threads + Wait + Sync, K: Sink + Drop, P: Place + Drop, C: Clock + Drop, N: Net, L: Listeners, G: Gate>(
+fn serve_aloud<
+    W: Threads + Wait + Sync,
+    K: Sink + Drop,
+    P: Place + Drop,
+    C: Clock + Drop,
+    N: Net,
+    L: Listeners,
+    G: Gate,
+>(
     shared: &Shared<W, G>,
     stopping: &AtomicBool,
     streams: &StreamOptions,
@@ -124,7 +132,15 @@ fn serve_aloud<W: Threads + Wait + Sync, K: Sink + Drop, P: Place + Drop, C: Clo
 }
 
 // Serves at the places that the words give, where there is memory for these and for the line.
-fn stay_up<W: Threads + Wait + Sync, K: Sink + Drop, P: Place + Drop, C: Clock + Drop, N: Net, L: Listeners, G: Gate>(
+fn stay_up<
+    W: Threads + Wait + Sync,
+    K: Sink + Drop,
+    P: Place + Drop,
+    C: Clock + Drop,
+    N: Net,
+    L: Listeners,
+    G: Gate,
+>(
     process: &Process<W, G>,
     start: Start,
     options: &Options,
@@ -198,7 +214,15 @@ fn has_memory<F: Files>(alloc: Global, files: &F, options: &Options) -> bool
 /// counted, and each connection until it ends. It writes one line once it has all ports, and one at its end. Where they take more memory than is free, it ends at once.
 /// `start` has the unique number of the first value that a partition takes from a connection. `left.lacked` says how many connections were closed since there was no
 /// memory for them.
-pub fn daemon<W: Threads + Wait + Sync, F: Files, K: Sink + Drop, C: Clock + Drop, N: Net, L: Listeners, G: Gate>(
+pub fn daemon<
+    W: Threads + Wait + Sync,
+    F: Files,
+    K: Sink + Drop,
+    C: Clock + Drop,
+    N: Net,
+    L: Listeners,
+    G: Gate,
+>(
     process: &Process<W, G>,
     start: Start,
     words: &[String],
@@ -234,8 +258,16 @@ pub fn daemon<W: Threads + Wait + Sync, F: Files, K: Sink + Drop, C: Clock + Dro
         return match begin_kept(process, start, files, name, &options, speaker) {
             Ok(begun) => {
                 let status = stay_up(
-                    process, begun.start, &options, &ports, &streams, begun.filling, speaker, net,
-                    listeners, left,
+                    process,
+                    begun.start,
+                    &options,
+                    &ports,
+                    &streams,
+                    begun.filling,
+                    speaker,
+                    net,
+                    listeners,
+                    left,
                 );
                 end_kept(status, speaker)
             }

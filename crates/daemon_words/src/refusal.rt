@@ -76,7 +76,10 @@ impl fmt::Display for Refusal<'_> {
                 "--port is of batches over UDP and wants --mode cache or --mode store beside it; memcached's clients want -p",
             ),
             Refusal::ImageInCache => f.write_str("--image fills a store: give --mode store"),
-            Refusal::SaveApart(other) => write!(f, "--save keeps the items of memcached's clients, and goes with no {other}"),
+            Refusal::SaveApart(other) => write!(
+                f,
+                "--save keeps the items of memcached's clients, and goes with no {other}"
+            ),
             Refusal::HighPorts => f.write_str("the last of its TCP ports would be above 65535"),
         }
     }

@@ -58,10 +58,9 @@ impl Flags {
 }
 
 /// What the program ends with before it serves: where it may not begin, or there is no thread for the look for signals.
-pub fn refused_on_host<R: Threads + Wait + Sync + AllocGlobal + Env + Eprint + Files<File = File> + Sockets>(
-    rt: &R,
-    pid: u32,
-) -> Option<ExitCode>
+pub fn refused_on_host<
+    R: Threads + Wait + Sync + AllocGlobal + Env + Eprint + Files<File = File> + Sockets,
+>(rt: &R, pid: u32) -> Option<ExitCode>
     ensures { IfSome result (λ code. (words : Option (List (List ℕ))) → EndsBy words (exit_status code)) }
 {
     if !begin(rt, pid) {
@@ -76,7 +75,15 @@ pub fn refused_on_host<R: Threads + Wait + Sync + AllocGlobal + Env + Eprint + F
 /// Answers the words that the program was started with, or serves by them, and then says why that ended. It ends with 0 where these ask a question, and where a
 /// signal asked for its end. `main` runs it beside the look for signals: a handle that opens files goes to a thread only there.
 pub fn run_on_host<
-    R: Threads + Wait + Sync + AllocGlobal + Eprint + Files<File = File> + Print + Sockets + time::Clock,
+    R: Threads
+        + Wait
+        + Sync
+        + AllocGlobal
+        + Eprint
+        + Files<File = File>
+        + Print
+        + Sockets
+        + time::Clock,
 >(rt: &R, args: io::Result<Args>, pid: u32, flags: &Flags) -> ExitCode
     ensures { EndsBy (words_of string_bytes args) (exit_status result) }
 {

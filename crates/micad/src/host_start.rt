@@ -7,9 +7,9 @@ use daemon_words::value_given;
 use option_words::{all_words, behind_name};
 use outside::NoMemory;
 use std::alloc::Global;
-use std::rt::{Env, Files};
 use std::env;
 use std::fs::{self, File};
+use std::rt::{Env, Files};
 
 // Whether the process has the rights of the user that words name, where they name one. Else it says so.
 fn has_user<R: Eprint + Files<File = File>>(
@@ -30,7 +30,12 @@ fn has_user<R: Eprint + Files<File = File>>(
 }
 
 // Writes the number of the process into the file that words name for it.
-fn write_process<R: Eprint + Files<File = File>>(rt: &R, alloc: Global, words: &[String], process: u32) {
+fn write_process<R: Eprint + Files<File = File>>(
+    rt: &R,
+    alloc: Global,
+    words: &[String],
+    process: u32,
+) {
     let Some(name) = value_given(words, "-P") else {
         return;
     };
