@@ -4,7 +4,7 @@ ghost use Rattle.memcached_text.specs.declared.limits.TheConstants.{MAX_FRAME_LE
 ghost use Rattle.memcached_commands.specs.Answers.{shown_len};
 ghost use Rattle.memcached_commands.specs.Fit.{IsFitAsked};
 ghost use Rattle.fronts.specs.Answered.{Answered, count_of_writes};
-ghost use Rattle.command_answers.specs.AskAnswers.{said_of};
+ghost use Rattle.command_answers.specs.AskAnswers.{is_refused, said_of};
 ghost use Rattle.command_answers.specs.Counting.{count_of_accepted, noted_if, tally_after};
 ghost use Rattle.command_answers.specs.Going.{AnswersAt, ask_text, value_found};
 
@@ -12,7 +12,7 @@ use crate::buffers::Buffers;
 use crate::noted::Noted;
 use crate::plain::Style;
 use fronts::{Changed, Changes};
-use memcached_commands::{Ask, Asked, Says, put_part, put_whole};
+use memcached_commands::{Ask, Asked, Says, gives_way, put_part, put_whole};
 use memcached_decisions::CommandOrder;
 use memcached_stats::{Tally, counter_of};
 use mica_words::{key_hash, partition_of};

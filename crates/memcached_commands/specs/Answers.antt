@@ -6,7 +6,8 @@ use Rattle.memcached_text.specs.declared.reply.Reply.TheVariants.{Stored, End, N
 use Rattle.memcached_text.specs.Answer.{Part, value, Last, line, refusal, number, Answer}
 use Rattle.memcached_text.specs.Replies.{FoundValue}
 use Rattle.memcached_commands.specs.declared.ask.Ask.{Ask}
-use Rattle.memcached_commands.specs.declared.ask.Ask.TheVariants.{Count}
+use Rattle.memcached_commands.specs.declared.ask.Ask.TheVariants.{Count, Store}
+use Rattle.memcached_text.specs.declared.command.Wants.TheVariants.{Whatever}
 use Rattle.memcached_commands.specs.declared.ask.Says.{Says}
 use Rattle.memcached_commands.specs.declared.ask.Says.TheVariants.{Line, Refusal, Stores, Number, Shows, Leases, Nothing}
 
@@ -14,6 +15,11 @@ use Rattle.memcached_commands.specs.declared.ask.Says.TheVariants.{Line, Refusal
 abbrev pub no_room : Ask → Reply
 no_room (Count direction delta unique lifetime initial) = NoRoomToCount
 no_room _ = NoRoom
+
+-- the old item of its key goes where the new one finds no room
+abbrev pub gives_way : Ask → Bool
+gives_way (Store Whatever flags lifetime value) = true
+gives_way _ = false
 
 -- what a get tells of the item of a key, with its number where that is asked for
 abbrev pub found_of : Bool → List ℕ → Item → FoundValue

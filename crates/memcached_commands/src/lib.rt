@@ -26,4 +26,4 @@ pub use laws::{
     counts, fits, in_time, leases, leaves_alike, one_value, tells_number, what_is_meant,
 };
 pub use moment::{LAST_SECOND, Moment, end_of, ended_by, found_in, is_there};
-pub use says::{no_room, says_of};
+pub use says::{gives_way, no_room, says_of};

@@ -2,7 +2,7 @@
 ghost use Rattle.std.specs.Prelude.{◌≡◌, ◌≤◌, ℕ, List, length, MatchOption, IfSome, option_copied, if◌then◌else◌};
 ghost use Rattle.memcached_text.specs.declared.limits.TheConstants.{MAX_TEXT_LEN};
 ghost use Rattle.memcached_text.specs.declared.command.Side.{Side};
-ghost use Rattle.memcached_commands.specs.Answers.{no_room, shown_len};
+ghost use Rattle.memcached_commands.specs.Answers.{gives_way, no_room, shown_len};
 ghost use Rattle.memcached_commands.specs.Counting.{number_in};
 ghost use Rattle.memcached_commands.specs.Decide.{has_number, number_until, count_from, begun, vivified, decide};
 
@@ -145,6 +145,16 @@ pub fn no_room(ask: &Ask) -> Reply
     match ask {
         Ask::Count { .. } => Reply::NoRoomToCount,
         _ => Reply::NoRoom,
+    }
+}
+
+/// Whether the old item of its key goes where the new one finds no room.
+pub fn gives_way(ask: &Ask) -> bool
+    ensures { result ≡ gives_way ask.now }
+{
+    match ask {
+        Ask::Store { wants: Wants::Whatever, .. } => true,
+        _ => false,
     }
 }
 
