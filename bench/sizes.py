@@ -16,7 +16,8 @@ def constant(name):
 
 
 HEAP_BYTES, LISTS_BYTES, SPARE_BYTES = map(constant, ("HEAP_BYTES", "LISTS_BYTES", "SPARE_BYTES"))
-FEW_PARTITIONS_MEMORY, PROGRAM_BYTES, ITEM_WORDS, INDEX_BYTES = map(constant, ("FEW_PARTITIONS_MEMORY", "PROGRAM_BYTES", "ITEM_WORDS", "INDEX_BYTES"))
+FEW_PARTITIONS_MEMORY, PARTITION_MEMORY = map(constant, ("FEW_PARTITIONS_MEMORY", "PARTITION_MEMORY"))
+PROGRAM_BYTES, ITEM_WORDS, INDEX_BYTES = map(constant, ("PROGRAM_BYTES", "ITEM_WORDS", "INDEX_BYTES"))
 MOST_WORDS = 1 << 30
 # words of a main bucket and of a spare, and the word of the stamp
 BUCKET_WORDS, SPARE_WORDS, STAMP_WORDS = 17, 16, 1
@@ -38,7 +39,7 @@ def items_for(mode, share):
 def sizes_for(mode, memory):
     """How many partitions there are, and the buckets, spares and words of each."""
     memory = bytes_of(memory)
-    partitions = 16 if memory <= FEW_PARTITIONS_MEMORY else 64
+    partitions = min(memory // PARTITION_MEMORY, 16) if memory <= FEW_PARTITIONS_MEMORY else 64
     share = (memory - PROGRAM_BYTES) // partitions
     buckets = 1 << max(0, -(-items_for(mode, share) // 10) - 1).bit_length()
     spares = buckets // 8 if mode == "store" else 0

@@ -21,6 +21,9 @@ NOBODYS = b"18446744073709551615"
 SHORT = b"3"
 LIVES = [b"0"] * 6 + [b"100"] * 3 + [b"2592000", b"2592001", b"-1", b"-0", b"2147483648", b"4294967295", b"4294967296"]
 PASSED = 4
+# Room for the longest value, as it is stored and as it is replied.
+MOST = 1_100_000
+LARGE = 1_050_000
 
 
 class Decided(ctypes.Structure):
@@ -37,15 +40,14 @@ class Commands(Grammar):
         self.decide = ctypes.CDLL(path).text_decide
         place = [ctypes.c_char_p, ctypes.c_size_t]
         self.decide.argtypes = [*place, ctypes.POINTER(Decided), *place, *place, *place]
-        self.item = ctypes.create_string_buffer(8_192)
-        self.reply = ctypes.create_string_buffer(16_384)
+        self.item, self.reply = (ctypes.create_string_buffer(MOST) for _ in range(2))
 
     def decided(self, text, at, stored):
         at.stored = stored is not None
         old = stored or b""
-        self.decide(text, len(text), ctypes.byref(at), old, len(old), self.item, 8_192, self.reply, 16_384)
-        part, last = at.part_len, at.last_len
-        return at.change, self.item.raw[: at.next_len], self.reply.raw[:part], self.reply.raw[part : part + last]
+        self.decide(text, len(text), ctypes.byref(at), old, len(old), self.item, MOST, self.reply, MOST)
+        reply = ctypes.string_at(self.reply, at.part_len + at.last_len)
+        return at.change, ctypes.string_at(self.item, at.next_len), reply[: at.part_len], reply[at.part_len :]
 
 
 class Items(Model):
@@ -117,7 +119,7 @@ def command(draw, own, short):
     if kind == "delete":
         return b"delete %s%s\r\n" % (name, quiet)
     if kind == "large":
-        return b"%s %s 0 0 9000%s\r\n%s\r\n" % (draw.choice([b"set", b"add", b"append"]), name, quiet, b"z" * 9_000)
+        return b"%s %s 0 0 %d%s\r\n%s\r\n" % (draw.choice([b"set", b"add", b"append"]), name, LARGE, quiet, b"z" * LARGE)
     return b"flush_all%s\r\n" % quiet
 
 

@@ -2,7 +2,7 @@
 import ctypes
 import time
 
-MAX_TEXT = 8_176
+MAX_TEXT = 1_048_576
 COMMANDS = "get store join count delete touch flush stats version verbosity mn quit".split()
 WHITE = b" \t\n\v\f\r"
 

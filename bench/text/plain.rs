@@ -1,8 +1,9 @@
 //! Plain Rust of the rules of memcached's text protocol, by memchr and without memory.
 
 pub const MAX_KEY: usize = 250;
-pub const MAX_TEXT: usize = 8_176;
+pub const MAX_TEXT: usize = 1_048_576;
 const MAX_LINE: usize = 65_536;
+const MAX_GET_LINE: usize = 1_048_576;
 
 unsafe extern "C" {
     fn memchr(bytes: *const u8, byte: i32, len: usize) -> *const u8;
@@ -291,8 +292,9 @@ pub fn next_command(from: &[u8]) -> Next<'_> {
     if let [128, ..] = from {
         return Next::Command { command: Command::Quit, len: 1 };
     }
-    let Some(end) = find(&from[..from.len().min(MAX_LINE + 1)], b'\n') else {
-        return if from.len() > MAX_LINE { Next::LongLine } else { Next::More };
+    let most = if from.starts_with(b"get ") || from.starts_with(b"gets ") { MAX_GET_LINE } else { MAX_LINE };
+    let Some(end) = find(&from[..from.len().min(most + 1)], b'\n') else {
+        return if from.len() > most { Next::LongLine } else { Next::More };
     };
     let text = from[..end].strip_suffix(b"\r").unwrap_or(&from[..end]);
     let len = end + 1;

@@ -31,7 +31,7 @@ def storage(draw, prefix):
     words = [verb, prefix(draw), b"%d" % draw.choice([0, 5, 4294967295]), draw.choice(LIVES), length]
     large = draw.random() < 0.02
     if large:
-        data, words[4] = (b"y" * 98 + b"\r\n") * 90, b"9000"
+        data, words[4] = (b"y" * 98 + b"\r\n") * 10_500, b"1050000"
     elif draw.random() < 0.04:
         words[4] = draw.choice([b"-1", b"x", b"1x", b"4294967295"])
     if verb == b"cas":

@@ -22,11 +22,12 @@ status_byte LongHit = 10
 status_byte Exists = 11
 status_byte Touched = 12
 
--- whether a version has the status of this byte: 9 and 10 are of the first alone, 11 and 12 of the second
+-- whether a version has the status of this byte: 9 is of the first alone, 11 and 12 of the second
 abbrev pub is_status : ℕ → ℕ → Bool
 is_status version byte =
     nat_lt byte 8
-    || (version == 1 && (byte == 9 || byte == 10))
+    || byte == 10
+    || (version == 1 && byte == 9)
     || (version == 2 && (byte == 11 || byte == 12))
 
 -- the bytes that a value of this status may have: a hit alone has one

@@ -16,7 +16,7 @@ pub enum Status {
     Worn,
     /// The datagram is no batch. Of version 1.
     BadBatch,
-    /// A hit of a value that is too long for the version. Of version 1.
+    /// A hit of a value that is too long for the version.
     LongHit,
     /// Of version 2.
     Exists,
@@ -43,7 +43,7 @@ impl Status {
             6 => Some(Status::FullBlock),
             7 => Some(Status::Worn),
             9 if version == 1 => Some(Status::BadBatch),
-            10 if version == 1 => Some(Status::LongHit),
+            10 => Some(Status::LongHit),
             11 if version == 2 => Some(Status::Exists),
             12 if version == 2 => Some(Status::Touched),
             _ => None,
@@ -56,7 +56,7 @@ impl Status {
         ensures { result ≡ is_status version (status_byte self) }
     {
         match self {
-            Status::BadBatch | Status::LongHit => version == 1,
+            Status::BadBatch => version == 1,
             Status::Exists | Status::Touched => version == 2,
             _ => true,
         }

@@ -2,20 +2,17 @@
 use Rattle.std.proofs.Common.{◌≡◌, ◌<◌, ◌≤◌, ◌==◌, ℕ, Bool, true, false, true≢false, cond, List, [], ◌∷◌, ◌++◌, length, drop, Option, Some, None, refl, sym, ap, ◌∙◌, subst, arith, append_assoc}
 use Rattle.std.specs.Prelude.{IfSome, MatchOption}
 use Rattle.std.proofs.Math.Dec.{eqb-suc-zero}
-use Rattle.std.proofs.Math.Seq.{drop-nil}
 use Rattle.std.proofs.lemmas.List.{append-nil}
 use Rattle.std.specs.List.{AllByRecursion}
 use Rattle.partition_model.specs.declared.options.Options.{Options}
-use Rattle.memcached_text.specs.declared.next.Next.{Next}
 use Rattle.memcached_commands.specs.declared.asks.Asked.{Asked}
-use Rattle.memcached_commands.specs.Answers.{unless_quiet}
+use Rattle.memcached_requests.specs.declared.request.Next.{Next}
+use Rattle.memcached_requests.specs.declared.request.Style.{Style}
+use Rattle.memcached_requests.specs.Replies.{said_text}
 use Rattle.fronts.specs.Answered.{Answered}
 use Rattle.command_answers.specs.Seconds.{second_in, IsAt}
-use Rattle.command_answers.specs.AskAnswers.{AnswersAsks, said_of, quiet_of, shown_text, line_text, asks_text}
-use Rattle.command_answers.specs.declared.plain.Style.{Style}
-use Rattle.command_answers.specs.declared.plain.Style.TheVariants.{Classic}
-use Rattle.command_answers.specs.Exchange.{is_quiet, flush_text}
-use Rattle.command_answers.specs.Going.{ask_text}
+use Rattle.command_answers.specs.AskAnswers.{AnswersAsks, said_of, asks_text}
+use Rattle.command_answers.specs.Exchange.{style_of, flush_text}
 
 pub all_append : {X : Type 0} (P : X → Type 0) (xs ys : List X) → AllByRecursion P xs → AllByRecursion P ys → AllByRecursion P (xs ++ ys)
 all_append P [] ys first then = then
@@ -48,33 +45,18 @@ module _ (base : ℕ) where
       → asks_text base style asks (one ++ two) ≡ asks_text base style asks one ++ asks_text base style (drop (length one) asks) two
   more_text style asks [] two = refl
   more_text style [] (a ∷ one) two = sym (no_text style two)
-  more_text style (asked ∷ []) (a ∷ one) two =
-      let here = shown_text style asked.key (said_of base asked a) ++ line_text style (said_of base asked a) in
-      sym (ap (λ asks. here ++ asks_text base style asks two) (drop-nil (length one)) ∙ ap (λ text. here ++ text) (no_text style two) ∙ append-nil here)
-  more_text style (asked ∷ next ∷ asks) (a ∷ one) two =
-      ap (λ text. shown_text style asked.key (said_of base asked a) ++ text) (more_text style (next ∷ asks) one two)
-      ∙ sym (append_assoc (shown_text style asked.key (said_of base asked a)) (asks_text base style (next ∷ asks) one) (asks_text base style (drop (length one) (next ∷ asks)) two))
+  more_text style (asked ∷ asks) (a ∷ one) two =
+      let here = said_text style (length asks == 0) asked.key (said_of base asked a) in
+      ap (λ text. here ++ text) (more_text style asks one two) ∙ sym (append_assoc here (asks_text base style asks one) (asks_text base style (drop (length one) asks) two))
 
   pub one_text : (style : Style) (asked : Asked) (asks : List Asked) (a : Answered)
-      → ask_text style (length asks == 0) asked.key (said_of base asked a) ≡ unless_quiet (quiet_of style) (asks_text base style (asked ∷ asks) (a ∷ []))
-  one_text (Classic true unique) asked asks a = refl
-  one_text (Classic false unique) asked [] a = refl
-  one_text (Classic false unique) asked (next ∷ asks) a =
-      let style : Style = Classic false unique in
-      ap (λ t. shown_text style asked.key (said_of base asked a) ++ cond t (line_text style (said_of base asked a)) []) (eqb-suc-zero (length asks))
-
-pub quiet_none : (quiet : Bool) → unless_quiet quiet [] ≡ []
-quiet_none true = refl
-quiet_none false = refl
+      → said_text style (length asks == 0) asked.key (said_of base asked a) ≡ asks_text base style (asked ∷ asks) (a ∷ [])
+  one_text style asked asks a = sym (append-nil (said_text style (length asks == 0) asked.key (said_of base asked a)))
 
 -- nothing is due of a flush before it was answered
-pub none_flushed_yet : (next : Next) (t : Bool) → cond t [] (unless_quiet (is_quiet next) (flush_text t [])) ≡ []
+pub none_flushed_yet : (next : Next) (t : Bool) → cond t [] (flush_text (style_of next) t []) ≡ []
 none_flushed_yet next true = refl
-none_flushed_yet next false = quiet_none (is_quiet next)
-
-pub quiet_both : (quiet : Bool) (one two : List ℕ) → unless_quiet quiet (one ++ two) ≡ unless_quiet quiet one ++ unless_quiet quiet two
-quiet_both true one two = refl
-quiet_both false one two = refl
+none_flushed_yet next false = refl
 
 -- what is left once one was taken
 pub left_of : (old new : List Asked) (taken : Option Asked) → MatchOption taken ((old ≡ []) × (new ≡ [])) (λ asked. old ≡ asked ∷ new) → new ≡ drop 1 old

@@ -3,15 +3,15 @@ use Rattle.std.proofs.Common.{◌≡◌, ◌==◌, ◌+◌, ℕ, Bool, List, [],
 use Rattle.std.proofs.lemmas.List.Elements.{filter_map-append}
 use Rattle.partition_model.specs.declared.options.Options.{Options}
 use Rattle.memcached_commands.specs.declared.asks.Asked.{Asked}
-use Rattle.memcached_commands.specs.Answers.{unless_quiet}
 use Rattle.fronts.specs.Answered.{Answered, step_in, steps_of, count_of_writes}
 use Rattle.fronts.specs.Session.{Sessions}
 use Rattle.fronts.proofs.InOrder.{answers_append}
-use Rattle.command_answers.specs.AskAnswers.{AnswersAsks, said_of, quiet_of, asks_text}
-use Rattle.command_answers.specs.declared.plain.Style.{Style}
-use Rattle.command_answers.specs.Going.{AnswersAt, AnswersFirst, ask_text}
+use Rattle.command_answers.specs.AskAnswers.{AnswersAsks, said_of, asks_text}
+use Rattle.memcached_requests.specs.declared.request.Style.{Style}
+use Rattle.memcached_requests.specs.Replies.{said_text}
+use Rattle.command_answers.specs.Going.{AnswersAt, AnswersFirst}
 use Rattle.command_answers.specs.Seconds.{IsAt}
-use Rattle.command_answers.proofs.AskLaws.{all_append, is_at, more_answers, more_text, one_text, quiet_both}
+use Rattle.command_answers.proofs.AskLaws.{all_append, is_at, more_answers, more_text, one_text}
 
 pub none_yet : (options : Options) (is_alone : Bool) (base second : ℕ) (asks : List Asked) (old : Sessions) → AnswersFirst options is_alone base second asks old old []
 none_yet options is_alone base second asks old = record { in_order = λ q. refl; seconds = tt; to_asks = tt }
@@ -27,15 +27,14 @@ module _ {options : Options} {is_alone : Bool} {base second : ℕ} {asks : List 
 
 -- and the text that is due to one more
 pub text_more : (base : ℕ) (style : Style) (asks left : List Asked) (answers : List Answered) (asked : Asked) (a : Answered) (before here after : List ℕ)
-    → drop (length answers) asks ≡ asked ∷ left → here ≡ before ++ unless_quiet (quiet_of style) (asks_text base style asks answers)
-    → after ≡ here ++ ask_text style (length left == 0) asked.key (said_of base asked a)
-    → after ≡ before ++ unless_quiet (quiet_of style) (asks_text base style asks (answers ++ a ∷ []))
+    → drop (length answers) asks ≡ asked ∷ left → here ≡ before ++ asks_text base style asks answers
+    → after ≡ here ++ said_text style (length left == 0) asked.key (said_of base asked a)
+    → after ≡ before ++ asks_text base style asks (answers ++ a ∷ [])
 text_more base style asks left answers asked a before here after left_is first then =
-    let so_far = unless_quiet (quiet_of style) (asks_text base style asks answers) in
-    then ∙ ap (λ text. text ++ ask_text style (length left == 0) asked.key (said_of base asked a)) first
-    ∙ append_assoc before so_far (ask_text style (length left == 0) asked.key (said_of base asked a)) ∙ ap (λ text. before ++ text)
-    (ap (λ text. so_far ++ text) (one_text base style asked left a ∙ ap (λ l. unless_quiet (quiet_of style) (asks_text base style l (a ∷ []))) (sym left_is))
-    ∙ sym (quiet_both (quiet_of style) (asks_text base style asks answers) (asks_text base style (drop (length answers) asks) (a ∷ []))) ∙ ap (unless_quiet (quiet_of style)) (sym (more_text base style asks answers (a ∷ []))))
+    let so_far = asks_text base style asks answers in
+    let one = said_text style (length left == 0) asked.key (said_of base asked a) in
+    then ∙ ap (λ text. text ++ one) first ∙ append_assoc before so_far one ∙ ap (λ text. before ++ text)
+    (ap (λ text. so_far ++ text) (one_text base style asked left a ∙ ap (λ l. asks_text base style l (a ∷ [])) (sym left_is)) ∙ sym (more_text base style asks answers (a ∷ [])))
 
 -- how many writes are among one answer more
 pub writes_more : (answers : List Answered) (a : Answered) → count_of_writes (answers ++ a ∷ []) ≡ count_of_writes answers + count_of_writes (a ∷ [])

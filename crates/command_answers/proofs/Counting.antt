@@ -1,9 +1,9 @@
 -- What is counted of answers that are given one after another.
 use Rattle.std.proofs.Common.{◌≡◌, ℕ, Bool, true, false, List, [], ◌∷◌, ◌++◌, length, drop, refl, ap}
 use Rattle.std.specs.Prelude.{if◌then◌else◌}
-use Rattle.memcached_text.specs.declared.next.Next.{Next}
 use Rattle.memcached_commands.specs.declared.asks.Asked.{Asked}
-use Rattle.memcached_commands.specs.Asks.{asks_in}
+use Rattle.memcached_requests.specs.declared.request.Next.{Next}
+use Rattle.memcached_requests.specs.Requests.{asks_in}
 use Rattle.memcached_stats.specs.Counted.{counter_by}
 use Rattle.memcached_stats.specs.Tallies.{Numbers, counted}
 use Rattle.fronts.specs.Answered.{Answered}

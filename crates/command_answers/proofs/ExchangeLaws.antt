@@ -3,26 +3,23 @@ use Rattle.std.proofs.Common.{◌≡◌, ◌<◌, ◌≤◌, ◌+◌, ◌-◌, �
 use Rattle.std.proofs.lemmas.List.{append-nil, length-drop, nil_from_length}
 use Rattle.std.proofs.lemmas.Bool.{eqb-true, eq-eqb, ne_eqb, ltb-true, ltb-false}
 use Rattle.partition_model.specs.declared.options.Options.{Options}
-use Rattle.memcached_text.specs.declared.command.Command.{Command}
-use Rattle.memcached_text.specs.declared.command.Command.TheVariants as commands
-use Rattle.memcached_text.specs.declared.command.Topic.TheVariants.{Server, NoPart}
-use Rattle.memcached_text.specs.declared.next.Next.{Next}
-use Rattle.memcached_text.specs.declared.next.Next.TheVariants as nexts
+use Rattle.memcached_requests.specs.declared.request.Next.{Next}
+use Rattle.memcached_requests.specs.declared.request.Next.TheVariants.{Whole, More}
+use Rattle.memcached_requests.specs.declared.request.Request.TheVariants.{Keys, Flush, Stats, Said}
+use Rattle.memcached_requests.specs.Requests.{asks_in}
 use Rattle.memcached_commands.specs.declared.asks.Asked.{Asked}
-use Rattle.memcached_commands.specs.Asks.{asks_in, asks_of}
-use Rattle.memcached_commands.specs.Answers.{unless_quiet}
 use Rattle.fronts.specs.Answered.{Answered}
 use Rattle.memcached_stats.specs.Stats.{Told, stats_text}
 use Rattle.memcached_stats.proofs.Untold.{untold}
 use Rattle.command_answers.specs.AskAnswers.{AnswersAsks, asks_text}
 use Rattle.command_answers.specs.FlushAnswers.{FlushesFrom, flush_at}
-use Rattle.command_answers.specs.Exchange.{Exchange, AnswersBy, AnswersNext, asks_stats, is_flush_all, flush_due, count_of_answers, is_answered, is_quiet, style_of, plain_text, keyed_text, flush_text, text_by, due_to, due_before, IsOpenAt, longer}
+use Rattle.command_answers.specs.Exchange.{Exchange, AnswersBy, AnswersNext, asks_stats, is_flush_all, flush_due, count_of_answers, is_answered, style_of, plain_text, keyed_text, flush_text, text_by, due_to, due_before, IsOpenAt, longer}
 use Rattle.fronts.specs.Session.{Sessions, AnswersInOrder}
 use Rattle.command_answers.specs.declared.answer.Limits.{Limits}
 use Rattle.command_answers.specs.declared.answer.Progress.{Progress}
 use Rattle.command_answers.specs.Going.{StandsAt, AnswersFirst, RepliesFirst, GoesOn, Replies}
 use Rattle.command_answers.proofs.Flushing.{flushed_at}
-use Rattle.command_answers.proofs.AskLaws.{none_flushed_yet, more_answers, few_answers, more_text, quiet_both}
+use Rattle.command_answers.proofs.AskLaws.{none_flushed_yet, more_answers, few_answers, more_text}
 
 not_all : (n m : ℕ) → n ≤ m → (n == m) ≡ false → n < m
 not_all n m few is = go (ltb n m) refl
@@ -47,7 +44,7 @@ module _ (options : Options) (base : ℕ) (next : Next) (done : ℕ) where
   text_is : (told : Told) (answers : List Answered) → is_flush_all next ≡ false → 0 < length (asks_in next)
       → text_by options base told next answers ≡ asks_text base (style_of next) (asks_in next) answers
   text_is told answers keyed some =
-      ap (λ t. cond t (flush_text (length answers == options.partitions) answers) (keyed_text options.partitions base told next (asks_in next) answers)) keyed
+      ap (λ t. cond t (flush_text (style_of next) (length answers == options.partitions) answers) (keyed_text options.partitions base told next (asks_in next) answers)) keyed
       ∙ keyed_is told (asks_in next) answers some
 
   module _ (told : Told) (answers : List Answered) (keyed : is_flush_all next ≡ false) where
@@ -62,22 +59,19 @@ module _ (options : Options) (base : ℕ) (next : Next) (done : ℕ) where
 
     pub asks_are_due : IsOpenAt next done → 0 < length (asks_in next) → (e : Exchange) → StandsAt options base next done e
         → due_to options base (longer e answers told)
-        ≡ due_before options base e ++ unless_quiet (is_quiet next) (asks_text base (style_of next) (drop done (asks_in next)) answers)
+        ≡ due_before options base e ++ asks_text base (style_of next) (drop done (asks_in next)) answers
     asks_are_due stands some e at =
-        let quiet = is_quiet next in
         let style = style_of next in
         let less = is_below next done stands some in
         let not_yet : is_answered options e ≡ false =
         ap (λ n. length e.answers == count_of_answers options n) at.next_is ∙ ap (λ t. length e.answers == cond t options.partitions (length (asks_in next))) keyed
         ∙ ne_eqb (length e.answers) (length (asks_in next)) (λ all. absurd (omega (arith, less, at.count, all))) in
-        let before : due_before options base e ≡ unless_quiet quiet (asks_text base style (asks_in next) e.answers) =
-        ap (λ t. cond t [] (due_to options base e)) not_yet ∙ ap (λ n. unless_quiet (is_quiet n) (text_by options base e.told n e.answers)) at.next_is
-        ∙ ap (unless_quiet quiet) (text_is e.told e.answers keyed some) in
-        let after : due_to options base (longer e answers told) ≡ unless_quiet quiet (asks_text base style (asks_in next) (e.answers ++ answers)) =
-        ap (λ n. unless_quiet (is_quiet n) (text_by options base told n (e.answers ++ answers))) at.next_is ∙ ap (unless_quiet quiet) (text_is told (e.answers ++ answers) keyed some) in
-        after ∙ ap (unless_quiet quiet) (more_text base style (asks_in next) e.answers answers) ∙ quiet_both quiet (asks_text base style (asks_in next) e.answers) (asks_text base style (drop (length e.answers) (asks_in next)) answers)
-        ∙ ap (λ n. unless_quiet quiet (asks_text base style (asks_in next) e.answers) ++ unless_quiet quiet (asks_text base style (drop n (asks_in next)) answers)) at.count
-        ∙ ap (λ text. text ++ unless_quiet quiet (asks_text base style (drop done (asks_in next)) answers)) (sym before)
+        let before : due_before options base e ≡ asks_text base style (asks_in next) e.answers =
+        ap (λ t. cond t [] (due_to options base e)) not_yet ∙ ap (λ n. text_by options base e.told n e.answers) at.next_is ∙ text_is e.told e.answers keyed some in
+        let after : due_to options base (longer e answers told) ≡ asks_text base style (asks_in next) (e.answers ++ answers) =
+        ap (λ n. text_by options base told n (e.answers ++ answers)) at.next_is ∙ text_is told (e.answers ++ answers) keyed some in
+        after ∙ more_text base style (asks_in next) e.answers answers ∙ ap (λ n. asks_text base style (asks_in next) e.answers ++ asks_text base style (drop n (asks_in next)) answers) at.count
+        ∙ ap (λ text. text ++ asks_text base style (drop done (asks_in next)) answers) (sym before)
 
   -- Nothing is asked
 
@@ -85,39 +79,26 @@ module _ (options : Options) (base : ℕ) (next : Next) (done : ℕ) where
   nothing_more e at = subst (AnswersNext options base e.next) (sym (append-nil e.answers)) at.answers
 
   pub plain_is_due : (told : Told) → is_flush_all next ≡ false → asks_in next ≡ [] → done ≡ 0 → (e : Exchange) → StandsAt options base next done e
-      → due_to options base (longer e [] told) ≡ due_before options base e ++ unless_quiet (is_quiet next) (plain_text options.partitions told next)
+      → due_to options base (longer e [] told) ≡ due_before options base e ++ plain_text options.partitions told next
   plain_is_due told keyed none first e at =
       let whole : is_answered options e ≡ true =
       ap (λ n. length e.answers == count_of_answers options n) at.next_is ∙ ap (λ t. length e.answers == cond t options.partitions (length (asks_in next))) keyed
       ∙ ap (λ asks. length e.answers == length asks) none ∙ ap (λ n. n == 0) (at.count ∙ first) in
       let text : text_by options base told next (e.answers ++ []) ≡ plain_text options.partitions told next =
-      ap (λ t. cond t (flush_text (length (e.answers ++ []) == options.partitions) (e.answers ++ [])) (keyed_text options.partitions base told next (asks_in next) (e.answers ++ []))) keyed
+      ap (λ t. cond t (flush_text (style_of next) (length (e.answers ++ []) == options.partitions) (e.answers ++ [])) (keyed_text options.partitions base told next (asks_in next) (e.answers ++ []))) keyed
       ∙ ap (λ asks. keyed_text options.partitions base told next asks (e.answers ++ [])) none in
-      ap (λ n. unless_quiet (is_quiet n) (text_by options base told n (e.answers ++ []))) at.next_is ∙ ap (unless_quiet (is_quiet next)) text
-      ∙ ap (λ t. cond t [] (due_to options base e) ++ unless_quiet (is_quiet next) (plain_text options.partitions told next)) (sym whole)
+      ap (λ n. text_by options base told n (e.answers ++ [])) at.next_is ∙ text
+      ∙ ap (λ t. cond t [] (due_to options base e) ++ plain_text options.partitions told next) (sym whole)
 
 -- Flushes
 
 -- a flush asks nothing of keys
 pub no_asks : (next : Next) → is_flush_all next ≡ true → asks_in next ≡ []
-no_asks (nexts.Command command len) is = go command is
-  where
-    go : (command : Command) → is_flush_all (nexts.Command command len) ≡ true → asks_of command ≡ []
-    go (commands.Get keys unique lifetime) is = absurd (true≢false (sym is))
-    go (commands.Store wants key flags lifetime value quiet) is = absurd (true≢false (sym is))
-    go (commands.Join side key value quiet) is = absurd (true≢false (sym is))
-    go (commands.Count direction key delta quiet) is = absurd (true≢false (sym is))
-    go (commands.Delete key quiet) is = absurd (true≢false (sym is))
-    go (commands.Touch key lifetime quiet) is = absurd (true≢false (sym is))
-    go (commands.Flush due quiet) is = refl
-    go (commands.Stats topic) is = refl
-    go commands.Version is = refl
-    go (commands.Verbosity quiet) is = refl
-    go commands.Noop is = refl
-    go commands.Quit is = refl
-no_asks (nexts.Refused fault stale quiet len) is = absurd (true≢false (sym is))
-no_asks nexts.More is = refl
-no_asks nexts.LongLine is = refl
+no_asks (Whole (Keys asks) style len last) is = absurd (true≢false (sym is))
+no_asks (Whole (Flush due) style len last) is = refl
+no_asks (Whole Stats style len last) is = refl
+no_asks (Whole (Said says) style len last) is = refl
+no_asks More is = refl
 
 -- how many bytes are due before a flush, and after it
 module _ (options : Options) (base : ℕ) (next : Next) (flushes : is_flush_all next ≡ true) (e : Exchange) (at : StandsAt options base next 0 e) (told : Told) (answers : List Answered) where
@@ -129,21 +110,19 @@ module _ (options : Options) (base : ℕ) (next : Next) (flushes : is_flush_all 
       subst (λ given. AnswersNext options base e.next (given ++ answers)) (sym empty)
       (subst (λ n. AnswersNext options base n answers) (sym at.next_is) (subst (λ t. AnswersBy t options base (flush_due next) (asks_in next) answers) (sym flushes) is))
 
-  pub flush_is_due : length answers ≡ options.partitions → due_to options base (longer e answers told) ≡ due_before options base e ++ unless_quiet (is_quiet next) (flush_text true answers)
+  pub flush_is_due : length answers ≡ options.partitions → due_to options base (longer e answers told) ≡ due_before options base e ++ flush_text (style_of next) true answers
   flush_is_due many =
-      let quiet = is_quiet next in
-      let text : (t : Told) (given : List Answered) → text_by options base t next given ≡ flush_text (length given == options.partitions) given =
-      λ t given. ap (λ is. cond is (flush_text (length given == options.partitions) given) (keyed_text options.partitions base t next (asks_in next) given)) flushes in
-      let after : due_to options base (longer e answers told) ≡ unless_quiet quiet (flush_text true answers) =
-      ap (λ n. unless_quiet (is_quiet n) (text_by options base told n (e.answers ++ answers))) at.next_is
-      ∙ ap (λ given. unless_quiet quiet (text_by options base told next (given ++ answers))) empty
-      ∙ ap (unless_quiet quiet) (text told answers ∙ ap (λ t. flush_text t answers) (eq-eqb (length answers) options.partitions many)) in
+      let text : (t : Told) (given : List Answered) → text_by options base t next given ≡ flush_text (style_of next) (length given == options.partitions) given =
+      λ t given. ap (λ is. cond is (flush_text (style_of next) (length given == options.partitions) given) (keyed_text options.partitions base t next (asks_in next) given)) flushes in
+      let after : due_to options base (longer e answers told) ≡ flush_text (style_of next) true answers =
+      ap (λ n. text_by options base told n (e.answers ++ answers)) at.next_is ∙ ap (λ given. text_by options base told next (given ++ answers)) empty ∙ text told answers
+      ∙ ap (λ t. flush_text (style_of next) t answers) (eq-eqb (length answers) options.partitions many) in
       let before : due_before options base e ≡ [] =
-      ap (λ n. cond (length e.answers == count_of_answers options n) [] (unless_quiet (is_quiet n) (text_by options base e.told n e.answers))) at.next_is
-      ∙ ap (λ given. cond (length given == count_of_answers options next) [] (unless_quiet quiet (text_by options base e.told next given))) empty
-      ∙ ap (λ t. cond (0 == cond t options.partitions (length (asks_in next))) [] (unless_quiet quiet (text_by options base e.told next []))) flushes
-      ∙ ap (λ text. cond (0 == options.partitions) [] (unless_quiet quiet text)) (text e.told []) ∙ none_flushed_yet next (0 == options.partitions) in
-      after ∙ ap (λ text. text ++ unless_quiet quiet (flush_text true answers)) (sym before)
+      ap (λ n. cond (length e.answers == count_of_answers options n) [] (text_by options base e.told n e.answers)) at.next_is
+      ∙ ap (λ given. cond (length given == count_of_answers options next) [] (text_by options base e.told next given)) empty
+      ∙ ap (λ t. cond (0 == cond t options.partitions (length (asks_in next))) [] (text_by options base e.told next [])) flushes
+      ∙ ap (λ text. cond (0 == options.partitions) [] text) (text e.told []) ∙ none_flushed_yet next (0 == options.partitions) in
+      after ∙ ap (λ text. text ++ flush_text (style_of next) true answers) (sym before)
 
 -- What the server tells of itself
 
@@ -151,25 +130,14 @@ module _ (options : Options) (base : ℕ) (next : Next) (flushes : is_flush_all 
 pub record AsksStats (next : Next) : Type 0 where
   pub keyed : is_flush_all next ≡ false
   pub none : asks_in next ≡ []
-  pub due : (partitions : ℕ) (told : Told) → unless_quiet (is_quiet next) (plain_text partitions told next) ≡ stats_text partitions told
+  pub due : (partitions : ℕ) (told : Told) → plain_text partitions told next ≡ stats_text (style_of next) partitions told
 
 pub of_stats : (next : Next) → asks_stats next ≡ true → AsksStats next
-of_stats (nexts.Command (commands.Stats Server) len) is = record { keyed = refl; none = refl; due = λ partitions told. refl }
-of_stats (nexts.Command (commands.Stats NoPart) len) is = absurd (true≢false (sym is))
-of_stats (nexts.Command (commands.Get keys unique lifetime) len) is = absurd (true≢false (sym is))
-of_stats (nexts.Command (commands.Store wants key flags lifetime value quiet) len) is = absurd (true≢false (sym is))
-of_stats (nexts.Command (commands.Join side key value quiet) len) is = absurd (true≢false (sym is))
-of_stats (nexts.Command (commands.Count direction key delta quiet) len) is = absurd (true≢false (sym is))
-of_stats (nexts.Command (commands.Delete key quiet) len) is = absurd (true≢false (sym is))
-of_stats (nexts.Command (commands.Touch key lifetime quiet) len) is = absurd (true≢false (sym is))
-of_stats (nexts.Command (commands.Flush due quiet) len) is = absurd (true≢false (sym is))
-of_stats (nexts.Command commands.Version len) is = absurd (true≢false (sym is))
-of_stats (nexts.Command (commands.Verbosity quiet) len) is = absurd (true≢false (sym is))
-of_stats (nexts.Command commands.Noop len) is = absurd (true≢false (sym is))
-of_stats (nexts.Command commands.Quit len) is = absurd (true≢false (sym is))
-of_stats (nexts.Refused fault stale quiet len) is = absurd (true≢false (sym is))
-of_stats nexts.More is = absurd (true≢false (sym is))
-of_stats nexts.LongLine is = absurd (true≢false (sym is))
+of_stats (Whole Stats style len last) is = record { keyed = refl; none = refl; due = λ partitions told. refl }
+of_stats (Whole (Keys asks) style len last) is = absurd (true≢false (sym is))
+of_stats (Whole (Flush due) style len last) is = absurd (true≢false (sym is))
+of_stats (Whole (Said says) style len last) is = absurd (true≢false (sym is))
+of_stats More is = absurd (true≢false (sym is))
 
 -- What one call makes
 
@@ -196,10 +164,10 @@ module _ (options : Options) (is_alone : Bool) (base second : ℕ) (next : Next)
     }
 
     pub flush_replies : (limits : Limits) (before after : List ℕ) (progress : Progress) → length answers ≡ options.partitions
-        → progress ≡ record { done = options.partitions; is_whole = true } → after ≡ before ++ unless_quiet (is_quiet next) (flush_text true answers)
+        → progress ≡ record { done = options.partitions; is_whole = true } → after ≡ before ++ flush_text (style_of next) true answers
         → Replies options base next done limits answers before after progress
     flush_replies limits before after progress many is_all text = record {
-      text = unless_quiet (is_quiet next) (flush_text true answers);
+      text = flush_text (style_of next) true answers;
       told = untold;
       appended = text;
       due = λ e at. flush_is_due options base next flushes e (here e at) untold answers many;
@@ -216,11 +184,11 @@ module _ (options : Options) (is_alone : Bool) (base second : ℕ) (next : Next)
     pub plain_goes : GoesOn options is_alone base second next done old old []
     plain_goes = record { in_order = λ q. refl; seconds = tt; next_ones = nothing_more options base next done }
 
-    pub plain_replies : (said : Told) (limits : Limits) (before after : List ℕ) → after ≡ before ++ unless_quiet (is_quiet next) (plain_text options.partitions said next)
+    pub plain_replies : (said : Told) (limits : Limits) (before after : List ℕ) → after ≡ before ++ plain_text options.partitions said next
         → Replies options base next done limits [] before after (record { done = done; is_whole = true })
     plain_replies said limits before after text =
         let first = at_first next done stands none in record {
-          text = unless_quiet (is_quiet next) (plain_text options.partitions said next);
+          text = plain_text options.partitions said next;
           told = said;
           appended = text;
           due = plain_is_due options base next done said keyed none first;
@@ -265,7 +233,7 @@ module _ (options : Options) (is_alone : Bool) (base second : ℕ) (next : Next)
         let len = length-drop done (asks_in next) in
         let fits : done + count ≤ length (asks_in next) = let many = r.many in omega (arith, few, len, less, many) in
         let end : (length left == 0) ≡ (done + count == length (asks_in next)) = ap (λ l. length l == 0) r.left_is ∙ same_end count fits in record {
-          text = unless_quiet (is_quiet next) (asks_text base (style_of next) (drop done (asks_in next)) answers);
+          text = asks_text base (style_of next) (drop done (asks_in next)) answers;
           told = untold;
           appended = r.text;
           due = asks_are_due options base next done untold answers keyed stands some;

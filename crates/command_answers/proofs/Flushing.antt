@@ -1,22 +1,16 @@
 -- Partitions that are flushed one after another.
-use Rattle.std.proofs.Common.{◌≡◌, ◌<◌, ◌≤◌, ◌+◌, ◌*◌, ◌%◌, ◌^◌, ◌&&◌, ◌==◌, ℕ, suc, Bool, true, false, cond, List, [], ◌∷◌, ◌++◌, length, drop, nat_lt, Option, Some, None, refl, sym, ap, ◌∙◌, subst, arith, append_assoc, length-append}
-use Rattle.std.specs.Prelude.{bit_xor, IfSome, if◌then◌else◌}
-use Rattle.std.specs.Int.{w64, to_le_bytes, from_le_bytes}
+use Rattle.std.proofs.Common.{◌≡◌, ◌≤◌, ◌+◌, ◌&&◌, ◌==◌, ℕ, suc, Bool, true, false, cond, List, [], ◌∷◌, ◌++◌, length, nat_lt, Option, Some, None, refl, sym, ap, ◌∙◌, subst, arith, length-append}
+use Rattle.std.specs.Prelude.{IfSome, if◌then◌else◌}
 use Rattle.std.specs.List.{list_all}
 use Rattle.std.proofs.Math.Bool.{and-true}
-use Rattle.std.proofs.lemmas.Bool.{le-ltb}
-use Rattle.std.proofs.lemmas.Nat.{from_le_bytes-to_le_bytes_8}
 use Rattle.std.proofs.lemmas.List.Folds.{list_all-append}
-use Rattle.std.proofs.lemmas.List.Sums.{fold-append}
-use Rattle.mica_words.specs.Hash.{fnv1a, hash_partition, hash_bucket, partition_of, bucket_of}
-use Rattle.mica_words.proofs.Hashes.{partition_of_hash, bucket_of_hash}
+use Rattle.mica_words.specs.Hash.{partition_of, bucket_of}
 use Rattle.partition_model.specs.declared.options.Options.{Options}
 use Rattle.partition_model.specs.declared.write.Outcome.{Outcome}
 use Rattle.partition_model.specs.declared.write.Op.TheVariants.{Del}
 use Rattle.partition_model.specs.Write.{write_of, is_accepted}
 use Rattle.partition_model.specs.Run.{RunStep}
 use Rattle.fronts.specs.Answered.{Answered, wrote, got, changed, kept, accepts, count_of_writes}
-use Rattle.fronts.specs.declared.flushes.TheConstants.{FLUSH_LEN}
 use Rattle.fronts.specs.declared.flushes.Flush.{Flush}
 use Rattle.fronts.specs.Flushes.{begins_with_feed, flush_in}
 use Rattle.fronts.specs.Session.{Sessions, Answers, AnswersInOrder, ChangesOnly, Writes}

@@ -5,22 +5,14 @@ use Rattle.std.proofs.lemmas.Bool.{ltb-true, ltb-false}
 use Rattle.std.proofs.lemmas.Grind.{flat_map-append}
 use Rattle.std.proofs.lemmas.List.{append-nil, drop-append-le, drop-drop, drop_all}
 use Rattle.partition_model.specs.declared.options.Options.{Options}
-use Rattle.memcached_text.specs.declared.next.Next.{Next}
-use Rattle.memcached_text.specs.declared.next.Next.TheVariants.{More}
-use Rattle.memcached_text.specs.Next.{next_of}
-use Rattle.memcached_text.specs.Stream.{len_of, is_last}
-use Rattle.memcached_text.proofs.NextLaws.{no_line_short, stays}
+use Rattle.memcached_requests.specs.declared.request.Next.{Next}
+use Rattle.memcached_requests.specs.Requests.{asks_in, is_last, len_of}
+use Rattle.memcached_requests.proofs.NextLaws.{next_stays, nothing}
 use Rattle.memcached_commands.specs.declared.asks.Asked.{Asked}
-use Rattle.memcached_commands.specs.Asks.{asks_in}
-use Rattle.memcached_commands.specs.Answers.{unless_quiet}
 use Rattle.memcached_stats.specs.Stats.{Told}
-use Rattle.command_answers.specs.Exchange.{Exchange, is_flush_all, is_answered, is_quiet, keyed_text, flush_text, due_to, due_before}
-use Rattle.command_answers.proofs.AskLaws.{quiet_none, none_flushed_yet}
+use Rattle.command_answers.specs.Exchange.{Exchange, is_flush_all, is_answered, style_of, keyed_text, flush_text, due_to, due_before}
+use Rattle.command_answers.proofs.AskLaws.{none_flushed_yet}
 use Rattle.command_answers.specs.Spells.{Begins, MayFollow, Spells, taken_by, MayGoOn, due_to_all, answers_to_all}
-
--- nothing stands in no bytes
-nothing : next_of [] ≡ More
-nothing = no_line_short [] refl (omega arith) tt
 
 module _ (options : Options) (base : ℕ) where
   -- More bytes
@@ -41,7 +33,7 @@ module _ (options : Options) (base : ℕ) where
 
       begins : Begins options base (bytes ++ more) e
       begins = record {
-        next = stays bytes more (λ waits. is.0.some (sym is.0.next ∙ waits)) ∙ is.0.next;
+        next = next_stays bytes more (λ waits. is.0.some (sym is.0.next ∙ waits)) ∙ is.0.next;
         some = is.0.some;
         answers = is.0.answers;
       }
@@ -97,10 +89,10 @@ module _ (options : Options) (base : ℕ) where
     where
       go : (flushes : Bool) (asks : List Asked)
           → cond (0 == cond flushes options.partitions (length asks)) []
-          (unless_quiet (is_quiet next) (cond flushes (flush_text (0 == options.partitions) []) (keyed_text options.partitions base told next asks []))) ≡ []
+          (cond flushes (flush_text (style_of next) (0 == options.partitions) []) (keyed_text options.partitions base told next asks [])) ≡ []
       go true asks = none_flushed_yet next (0 == options.partitions)
       go false [] = refl
-      go false (asked ∷ asks) = ap (λ t. cond t [] (unless_quiet (is_quiet next) [])) (eqb-zero-suc (length asks)) ∙ quiet_none (is_quiet next)
+      go false (asked ∷ asks) = ap (λ t. cond t [] []) (eqb-zero-suc (length asks))
 
   -- what is not answered had due what it has
   pub due_still : (e : Exchange) → is_answered options e ≡ false → due_before options base e ≡ due_to options base e

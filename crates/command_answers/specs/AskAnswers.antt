@@ -1,15 +1,13 @@
 -- What is answered to what a command asks of its keys.
-use Rattle.std.specs.Prelude.{◌≡◌, ⊤, ℕ, Bool, List, [], ◌∷◌, ◌++◌, flat_map, Some, None}
-use Rattle.memcached_text.specs.Answer.{part_text, last_text}
+use Rattle.std.specs.Prelude.{◌≡◌, ◌==◌, ⊤, ℕ, List, [], ◌∷◌, ◌++◌, length, Some, None}
 use Rattle.memcached_commands.specs.declared.asks.Asked.{Asked}
 use Rattle.memcached_commands.specs.declared.ask.Says.{Says}
 use Rattle.memcached_commands.specs.declared.ask.Says.TheVariants.{Nothing}
-use Rattle.memcached_commands.specs.Answers.{parts_of, last_of}
+use Rattle.memcached_requests.specs.declared.request.Style.{Style}
+use Rattle.memcached_requests.specs.Replies.{said_text}
 use Rattle.memcached_decisions.specs.Numbered.{Order, becoming_by, says_by}
 use Rattle.fronts.specs.Answered.{Answered, changed, kept}
 use Rattle.fronts.specs.Changing.{write_by}
-use Rattle.command_answers.specs.declared.plain.Style.{Style}
-use Rattle.command_answers.specs.declared.plain.Style.TheVariants.{Classic}
 
 -- what is asked, where the first value that a partition accepts has this unique number
 abbrev pub order_of : ℕ → Asked → Order
@@ -33,22 +31,9 @@ said_of base asked (changed step look) = says_by (order_of base asked) look.when
 said_of base asked (kept key stamp look) = says_by (order_of base asked) look.when look.value None
 said_of base asked _ = Nothing
 
--- whether no reply is wanted
-abbrev pub quiet_of : Style → Bool
-quiet_of (Classic quiet unique) = quiet
-
--- the item that was found, where it is shown, with its unique number where that is wanted
-abbrev pub shown_text : Style → List ℕ → Says → List ℕ
-shown_text (Classic quiet unique) key says = flat_map part_text (parts_of unique key says)
-
-abbrev pub line_text : Style → Says → List ℕ
-line_text (Classic quiet unique) says = last_text (last_of says)
-
--- The text that is due to what was answered of this: each item that is shown, and behind the last answer the last line.
+-- The text that is due to what was answered of this: what is said of each, and behind the last one the end.
 abbrev pub asks_text : ℕ → Style → List Asked → List Answered → List ℕ
 asks_text base style asks [] = []
 asks_text base style [] (answered ∷ later) = []
-asks_text base style (asked ∷ []) (answered ∷ later) =
-    shown_text style asked.key (said_of base asked answered) ++ line_text style (said_of base asked answered)
-asks_text base style (asked ∷ next ∷ asks) (answered ∷ later) =
-    shown_text style asked.key (said_of base asked answered) ++ asks_text base style (next ∷ asks) later
+asks_text base style (asked ∷ asks) (answered ∷ later) =
+    said_text style (length asks == 0) asked.key (said_of base asked answered) ++ asks_text base style asks later

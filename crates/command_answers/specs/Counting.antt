@@ -4,9 +4,9 @@ use Rattle.outside.specs.Faults.{LAST_COUNT}
 use Rattle.mica_words.specs.Hash.{partition_of}
 use Rattle.partition_model.specs.declared.write.Outcome.{Outcome}
 use Rattle.partition_model.specs.Write.{is_accepted}
-use Rattle.memcached_text.specs.declared.next.Next.{Next}
 use Rattle.memcached_commands.specs.declared.asks.Asked.{Asked}
-use Rattle.memcached_commands.specs.Asks as asks
+use Rattle.memcached_requests.specs.declared.request.Next.{Next}
+use Rattle.memcached_requests.specs.Requests.{asks_in}
 use Rattle.memcached_stats.specs.Counted.{counter_of, counter_by}
 use Rattle.memcached_stats.specs.Tallies.{Numbers, counted, noted}
 use Rattle.fronts.specs.declared.changing.When.{When}
@@ -41,4 +41,4 @@ tally_after_all base partitions (asked ∷ asks) (answered ∷ later) tally = ta
 abbrev pub tally_after_next : ℕ → ℕ → Next → ℕ → List Answered → Numbers → Numbers
 tally_after_next base partitions next done answers tally =
     if is_flush_all next then counted (counter_by next) tally
-    else tally_after_all base partitions (drop done (asks.asks_in next)) answers (counted (counter_by next) tally)
+    else tally_after_all base partitions (drop done (asks_in next)) answers (counted (counter_by next) tally)

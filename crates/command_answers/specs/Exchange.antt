@@ -2,25 +2,24 @@
 use Rattle.std.specs.Prelude.{◌≡◌, ℕ, ◌==◌, ◌⊎◌, ◌<◌, Bool, true, false, List, [], ◌∷◌, ◌++◌, length, if◌then◌else◌}
 use Rattle.std.specs.List.{list_all}
 use Rattle.partition_model.specs.declared.options.Options.{Options}
-use Rattle.memcached_text.specs.declared.command.Command.{Command}
-use Rattle.memcached_text.specs.declared.command.Command.TheVariants as commands
 use Rattle.memcached_text.specs.declared.lifetime.Due.{Due}
-use Rattle.memcached_text.specs.declared.command.Topic.TheVariants.{Server, NoPart}
 use Rattle.memcached_text.specs.declared.lifetime.Due.TheVariants.{Now}
-use Rattle.memcached_text.specs.declared.reply.Reply.TheVariants as replies
-use Rattle.memcached_text.specs.declared.next.Next.{Next}
-use Rattle.memcached_text.specs.declared.next.Next.TheVariants as nexts
-use Rattle.memcached_text.specs.Replies.{reply_text, fault_text}
-use Rattle.memcached_text.specs.Quiet as quiets
+use Rattle.memcached_text.specs.declared.reply.Reply.TheVariants.{Done, NoRoom}
 use Rattle.memcached_commands.specs.declared.asks.Asked.{Asked}
-use Rattle.memcached_commands.specs.Asks as asks
-use Rattle.memcached_commands.specs.Answers.{unless_quiet}
-use Rattle.fronts.specs.Answered.{Answered, accepts}
-use Rattle.command_answers.specs.AskAnswers.{AnswersAsks, quiet_of, asks_text}
-use Rattle.command_answers.specs.declared.plain.Style.{Style}
-use Rattle.command_answers.specs.declared.plain.Style.TheVariants.{Classic}
-use Rattle.command_answers.specs.FlushAnswers.{FlushesFrom, flush_at}
+use Rattle.memcached_commands.specs.declared.ask.Says.{Says}
+use Rattle.memcached_commands.specs.declared.ask.Says.TheVariants.{Line}
+use Rattle.memcached_requests.specs.declared.request.Request.{Request}
+use Rattle.memcached_requests.specs.declared.request.Request.TheVariants.{Flush, Stats, Said}
+use Rattle.memcached_requests.specs.declared.request.Style.{Style}
+use Rattle.memcached_requests.specs.declared.request.Style.TheVariants.{Classic}
+use Rattle.memcached_requests.specs.declared.request.Next.{Next}
+use Rattle.memcached_requests.specs.declared.request.Next.TheVariants.{Whole, More}
+use Rattle.memcached_requests.specs.Requests.{asks_in}
+use Rattle.memcached_requests.specs.Replies.{said_text}
 use Rattle.memcached_stats.specs.Stats.{Told, stats_text}
+use Rattle.fronts.specs.Answered.{Answered, accepts}
+use Rattle.command_answers.specs.AskAnswers.{AnswersAsks, asks_text}
+use Rattle.command_answers.specs.FlushAnswers.{FlushesFrom, flush_at}
 
 -- what a client said, what partitions answered to it so far, in order, and what the server tells of itself where that is what the client wants to know
 pub record Exchange : Type 0 where
@@ -32,12 +31,12 @@ pub record Exchange : Type 0 where
 
 -- whether it is a flush of all partitions, and when that is to take place
 abbrev pub is_flush_all : Next → Bool
-is_flush_all (nexts.Command (commands.Flush due quiet) len) = true
+is_flush_all (Whole (Flush due) style len last) = true
 is_flush_all _ = false
 
 -- when the flush is due that a client asks for
 abbrev pub flush_due : Next → Due
-flush_due (nexts.Command (commands.Flush due quiet) len) = due
+flush_due (Whole (Flush due) style len last) = due
 flush_due _ = Now
 
 -- a flush of each partition, asked for at one second; or the asks of keys
@@ -47,11 +46,11 @@ AnswersBy false options base due asked answers = AnswersAsks base asked answers
 
 -- These are answers to what was said, in order.
 abbrev pub AnswersNext : Options → ℕ → Next → List Answered → Type 0
-AnswersNext options base next answers = AnswersBy (is_flush_all next) options base (flush_due next) (asks.asks_in next) answers
+AnswersNext options base next answers = AnswersBy (is_flush_all next) options base (flush_due next) (asks_in next) answers
 
 -- how many answers there are once all is answered
 abbrev pub count_of_answers : Options → Next → ℕ
-count_of_answers options next = if is_flush_all next then options.partitions else length (asks.asks_in next)
+count_of_answers options next = if is_flush_all next then options.partitions else length (asks_in next)
 
 -- whether all answers to what was said are there
 abbrev pub is_answered : Options → Exchange → Bool
@@ -60,70 +59,53 @@ is_answered options e = length e.answers == count_of_answers options e.next
 -- Texts
 
 -- a client wants to know what the server counts
-abbrev pub is_command_stats : Command → Bool
-is_command_stats (commands.Stats Server) = true
-is_command_stats _ = false
-
 abbrev pub asks_stats : Next → Bool
-asks_stats (nexts.Command command len) = is_command_stats command
+asks_stats (Whole Stats style len last) = true
 asks_stats _ = false
 
--- whether unique numbers are wanted
-abbrev pub wants_numbers : Next → Bool
-wants_numbers (nexts.Command command len) = asks.wants_numbers command
-wants_numbers _ = false
-
--- how what was said is replied to
+-- how what was said is replied to; what has not all come is not
 abbrev pub style_of : Next → Style
-style_of (nexts.Command command len) = Classic (quiets.is_quiet command) (asks.wants_numbers command)
-style_of (nexts.Refused fault stale quiet len) = Classic quiet false
-style_of _ = Classic false false
+style_of (Whole request style len last) = style
+style_of More = Classic true false
 
--- whether no reply is wanted
-abbrev pub is_quiet : Next → Bool
-is_quiet next = quiet_of (style_of next)
-
--- what is due to a command that asks nothing: it is carried out by its reply alone
-abbrev pub plain_command_text : ℕ → Told → Command → List ℕ
-plain_command_text partitions told (commands.Get keys unique lifetime) = reply_text replies.End
-plain_command_text partitions told (commands.Stats Server) = stats_text partitions told
-plain_command_text partitions told (commands.Stats NoPart) = reply_text replies.End
-plain_command_text partitions told commands.Version = reply_text replies.Version
-plain_command_text partitions told (commands.Verbosity quiet) = reply_text replies.Done
-plain_command_text partitions told commands.Noop = reply_text replies.Noop
-plain_command_text partitions told _ = []
+-- what is due to a request that asks no key: it is carried out by its reply alone
+abbrev pub plain_request : ℕ → Told → Style → Request → List ℕ
+plain_request partitions told style Stats = stats_text style partitions told
+plain_request partitions told style (Said says) = said_text style true [] says
+plain_request partitions told style _ = []
 
 -- what is due where nothing is asked
 abbrev pub plain_text : ℕ → Told → Next → List ℕ
-plain_text partitions told (nexts.Command command len) = plain_command_text partitions told command
-plain_text partitions told (nexts.Refused fault stale quiet len) = fault_text fault
-plain_text partitions told nexts.More = []
-plain_text partitions told nexts.LongLine = reply_text replies.LongLine
+plain_text partitions told (Whole request style len last) = plain_request partitions told style request
+plain_text partitions told More = []
 
 -- what is due where this is asked, or nothing
 abbrev pub keyed_text : ℕ → ℕ → Told → Next → List Asked → List Answered → List ℕ
 keyed_text partitions base told next [] answers = plain_text partitions told next
 keyed_text partitions base told next (asked ∷ later) answers = asks_text base (style_of next) (asked ∷ later) answers
 
--- what is due to a flush of all partitions; one that takes no more writes has no room for it
-abbrev pub flush_text : Bool → List Answered → List ℕ
-flush_text false answers = []
-flush_text true answers = reply_text (if list_all accepts answers then replies.Done else replies.NoRoom)
+-- what is said of a flush of all partitions; one that takes no more writes has no room for it
+abbrev pub said_of_flush : List Answered → Says
+said_of_flush answers = Line (if list_all accepts answers then Done else NoRoom)
+
+abbrev pub flush_text : Style → Bool → List Answered → List ℕ
+flush_text style false answers = []
+flush_text style true answers = said_text style true [] (said_of_flush answers)
 
 abbrev pub text_by : Options → ℕ → Told → Next → List Answered → List ℕ
 text_by options base told next answers =
-    if is_flush_all next then flush_text (length answers == options.partitions) answers
-    else keyed_text options.partitions base told next (asks.asks_in next) answers
+    if is_flush_all next then flush_text (style_of next) (length answers == options.partitions) answers
+    else keyed_text options.partitions base told next (asks_in next) answers
 
 -- What is due so far.
 abbrev pub due_to : Options → ℕ → Exchange → List ℕ
-due_to options base e = unless_quiet (is_quiet e.next) (text_by options base e.told e.next e.answers)
+due_to options base e = text_by options base e.told e.next e.answers
 
 -- Going on
 
 -- no answer was given to it yet; or so many were, and more are to come; a flush is not left halfway
 abbrev pub IsOpenAt : Next → ℕ → Type 0
-IsOpenAt next done = (done ≡ 0) ⊎ (done < length (asks.asks_in next))
+IsOpenAt next done = (done ≡ 0) ⊎ (done < length (asks_in next))
 
 -- what was due before more is answered: nothing at first
 abbrev pub due_before : Options → ℕ → Exchange → List ℕ

@@ -1,19 +1,17 @@
 -- What one call makes of an exchange.
-use Rattle.std.specs.Prelude.{◌≡◌, ◌≤◌, ◌⊎◌, ◌+◌, ◌==◌, ℕ, Bool, false, List, ◌++◌, length, drop, Option, Some, None, if◌then◌else◌, []}
+use Rattle.std.specs.Prelude.{◌≡◌, ◌≤◌, ◌⊎◌, ◌+◌, ◌==◌, ℕ, Bool, false, List, ◌++◌, length, drop, Option, Some, None, []}
 use Rattle.partition_model.specs.declared.options.Options.{Options}
 use Rattle.partition_model.specs.declared.write.Answer.{Answer}
 use Rattle.partition_model.specs.declared.write.Answer.TheVariants.{Hit}
-use Rattle.memcached_text.specs.declared.next.Next.{Next}
 use Rattle.memcached_commands.specs.declared.asks.Asked.{Asked}
-use Rattle.memcached_commands.specs.declared.ask.Says.{Says}
-use Rattle.memcached_commands.specs.Answers.{unless_quiet}
+use Rattle.memcached_requests.specs.declared.request.Next.{Next}
+use Rattle.memcached_requests.specs.declared.request.Style.{Style}
 use Rattle.fronts.specs.Answered.{Answered}
 use Rattle.fronts.specs.Session.{Sessions, Answers, AnswersInOrder}
 use Rattle.command_answers.specs.declared.answer.Limits.{Limits}
 use Rattle.command_answers.specs.declared.answer.Progress.{Progress}
-use Rattle.command_answers.specs.declared.plain.Style.{Style}
 use Rattle.command_answers.specs.Seconds.{second_in, AreAt}
-use Rattle.command_answers.specs.AskAnswers.{AnswersAsk, AnswersAsks, quiet_of, shown_text, line_text, asks_text}
+use Rattle.command_answers.specs.AskAnswers.{AnswersAsk, AnswersAsks, asks_text}
 use Rattle.memcached_stats.specs.Stats.{Told}
 use Rattle.command_answers.specs.Exchange.{Exchange, AnswersNext, IsOpenAt, count_of_answers, due_before, due_to, longer}
 
@@ -31,10 +29,6 @@ abbrev pub value_found : Option Answer → List ℕ → Option (List ℕ)
 value_found (Some Hit) buffer = Some buffer
 value_found _ buffer = None
 
--- the text that is due to it: the item that is shown, and behind the last ask the last line
-abbrev pub ask_text : Style → Bool → List ℕ → Says → List ℕ
-ask_text style is_last key says = unless_quiet (quiet_of style) (shown_text style key says ++ (if is_last then line_text style says else []))
-
 -- These asks were answered, as far as the answers go, at this second.
 pub record AnswersFirst (options : Options) (is_alone : Bool) (base : ℕ) (second : ℕ) (asks : List Asked) (old new : Sessions)
     (answers : List Answered) : Type 0 where
@@ -47,7 +41,7 @@ pub record RepliesFirst (base : ℕ) (style : Style) (asks : List Asked) (limits
     : Type 0 where
   pub many : count ≡ length answers
   pub left_is : left ≡ drop count asks
-  pub text : new ≡ old ++ unless_quiet (quiet_of style) (asks_text base style asks answers)
+  pub text : new ≡ old ++ asks_text base style asks answers
   pub stops : (left ≡ []) ⊎ ((count ≡ limits.asks) ⊎ (limits.bytes ≤ length new))
 
 -- An exchange

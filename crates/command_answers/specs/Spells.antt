@@ -1,9 +1,9 @@
 -- Which exchanges a client's bytes are.
 use Rattle.std.specs.Prelude.{◌≡◌, ◌≢◌, ⊤, ℕ, ◌+◌, ◌⊎◌, true, false, List, [], ◌∷◌, drop, flat_map}
 use Rattle.partition_model.specs.declared.options.Options.{Options}
-use Rattle.memcached_text.specs.declared.next.Next.TheVariants.{More}
-use Rattle.memcached_text.specs.Next.{next_of}
-use Rattle.memcached_text.specs.Stream.{len_of, is_last}
+use Rattle.memcached_requests.specs.declared.request.Next.TheVariants.{More}
+use Rattle.memcached_requests.specs.Next.{next_of}
+use Rattle.memcached_requests.specs.Requests.{len_of, is_last}
 use Rattle.fronts.specs.Answered.{Answered}
 use Rattle.command_answers.specs.Exchange.{Exchange, AnswersNext, is_answered, due_to}
 

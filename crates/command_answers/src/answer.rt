@@ -1,27 +1,26 @@
 //! What a client said, answered.
-ghost use Rattle.std.specs.Prelude.{◌≡◌, ◌<◌, ◌≤◌, ◌+◌, ◌^◌, ◌++◌, ℕ, true, List, length, drop, max, IfOk, OnErr};
+ghost use Rattle.std.specs.Prelude.{◌≡◌, ◌==◌, ◌<◌, ◌≤◌, ◌+◌, ◌^◌, ◌++◌, ℕ, true, false, List, length, drop, max, IfOk, OnOk, OnErr};
 ghost use Rattle.std.specs.List.{AllByRecursion, list_all};
-ghost use Rattle.memcached_text.specs.declared.limits.TheConstants.{MAX_FRAME_LEN, MAX_REPLY_LEN};
-ghost use Rattle.memcached_text.specs.Fit.{IsFitNext};
-ghost use Rattle.memcached_commands.specs.Answers.{unless_quiet};
-ghost use Rattle.memcached_commands.specs.Asks.{asks_in};
+ghost use Rattle.memcached_text.specs.declared.limits.TheConstants.{MAX_REPLY_LEN};
+ghost use Rattle.memcached_commands.specs.Answers.{shown_len};
 ghost use Rattle.memcached_commands.specs.Fit.{IsFitAsked};
 ghost use Rattle.fronts.specs.Answered.{Answered, accepts, count_of_writes};
 ghost use Rattle.fronts.specs.Session.{AnswersInOrder};
+ghost use Rattle.memcached_requests.specs.Requests.{IsFitNext, asks_in};
 ghost use Rattle.memcached_stats.specs.Stats.{Told, stats_text};
 ghost use Rattle.command_answers.specs.Counting.{tally_after_all, tally_after_next};
-ghost use Rattle.command_answers.specs.Exchange.{IsOpenAt, asks_stats, flush_due, flush_text, is_flush_all};
+ghost use Rattle.command_answers.specs.Exchange.{IsOpenAt, asks_stats, flush_due, flush_text, is_flush_all, plain_text, said_of_flush, style_of};
 ghost use Rattle.command_answers.specs.FlushAnswers.{FlushesFrom, flush_at};
 ghost use Rattle.command_answers.specs.Going.{AnswersFirst, RepliesFirst, GoesOn, Replies};
 
 use crate::ask::answer_ask;
 use crate::buffers::Buffers;
 use crate::flush::{ask_flush, flush_all};
-use crate::plain::{Style, plain_line, put_line, style_of};
 use fronts::Changes;
-use memcached_commands::Asks;
+use memcached_commands::{Asks, Says};
+use memcached_requests::{Next, Request, Style, put_said};
 use memcached_stats::counter_by;
-use memcached_text::{Command, Due, Next, Reply, Topic, reply_line};
+use memcached_text::{Due, Reply};
 use outside::NoMemory;
 use partition_model::ItemBuf;
 
@@ -52,10 +51,10 @@ fn is_stats(next: &Next) -> bool
     ensures { result ≡ asks_stats next.now }
 {
     match next {
-        Next::Command {
-            command: Command::Stats { topic },
+        Next::Whole {
+            request: Request::Stats,
             ..
-        } => *topic == Topic::Server,
+        } => true,
         _ => false,
     }
 }
@@ -65,17 +64,18 @@ fn answer_stats(
     second: u64,
     partitions: u32,
     buffers: &mut Buffers,
+    style: Style,
     done: usize,
     out: &mut Vec<u8>,
 ) -> Result<Progress, NoMemory>
     ensures told { IfOk result (λ progress. (progress ≡ record { done = done; is_whole = true })
-        × ((told : Told) × (out.new.items ≡ out.old.items ++ stats_text partitions told))) }
+        × ((told : Told) × (out.new.items ≡ out.old.items ++ stats_text style partitions told))) }
     ensures err { OnErr result (out.new.items ≡ out.old.items) }
     ensures short { length out.new.items ≤ length out.old.items + MAX_REPLY_LEN }
     ensures tally { buffers.new.tally ≡ buffers.old.tally }
 {
     buffers.show();
-    buffers.board.put_stats(second, partitions, out)?;
+    buffers.board.put_stats(style, second, partitions, out)?;
     Ok(Progress {
         done,
         is_whole: true,
@@ -86,8 +86,8 @@ fn is_flush_all(next: &Next) -> bool
     ensures { result ≡ is_flush_all next.now }
 {
     match next {
-        Next::Command {
-            command: Command::Flush { .. },
+        Next::Whole {
+            request: Request::Flush(_),
             ..
         } => true,
         _ => false,
@@ -99,34 +99,43 @@ fn flush_due(next: &Next) -> Due
     ensures { result ≡ flush_due next.now }
 {
     match next {
-        Next::Command {
-            command: Command::Flush { due, .. },
+        Next::Whole {
+            request: Request::Flush(due),
             ..
         } => *due,
         _ => Due::Now,
     }
 }
 
-// The line of a flush, by whether all partitions took it.
-fn flush_line(took: bool) -> &'static [u8]
-    ensures text { (answers : List Answered) → took ≡ list_all accepts answers → result.now ≡ flush_text true answers }
-    ensures short { length result.now ≤ MAX_FRAME_LEN }
+// How what was said is replied to.
+fn style_of(next: &Next) -> Style
+    ensures { result ≡ style_of next.now }
 {
-    if took {
-        reply_line(Reply::Done)
-    } else {
-        reply_line(Reply::NoRoom)
+    match next {
+        Next::Whole { style, .. } => *style,
+        Next::More => Style::Classic {
+            quiet: true,
+            unique: false,
+        },
     }
 }
 
-// Flushes all partitions, and appends the line that is due to it.
+// What is said of a flush, by whether all partitions took it.
+fn said_of_flush<'a>(took: bool) -> Says<'a>
+    ensures said { (answers : List Answered) → took ≡ list_all accepts answers → result ≡ said_of_flush answers }
+    ensures none { shown_len result ≡ 0 }
+{
+    Says::Line(if took { Reply::Done } else { Reply::NoRoom })
+}
+
+// Flushes all partitions, and appends the text that is due to it.
 fn answer_flush<F: Changes>(
     front: &mut F,
     second: u64,
     partitions: u32,
     due: Due,
     key: &mut ItemBuf,
-    quiet: bool,
+    style: Style,
     out: &mut Vec<u8>,
 ) -> Result<Progress, NoMemory>
     requires partitions { partitions ≡ (F.options front.old).partitions }
@@ -134,7 +143,7 @@ fn answer_flush<F: Changes>(
     ensures flushed { (answers : List Answered) × AnswersInOrder (F.options front.old) F.is_alone (F.sessions front.old) answers (F.sessions front.new)
         × FlushesFrom (F.options front.old) (flush_at second due) 0 answers × (length answers ≡ partitions)
         × IfOk result (λ progress. (progress ≡ record { done = partitions; is_whole = true })
-        × (out.new.items ≡ out.old.items ++ unless_quiet quiet (flush_text true answers)))
+        × (out.new.items ≡ out.old.items ++ flush_text style true answers))
         × (F.left front.old ≤ F.left front.new + count_of_writes answers) }
     ensures err { OnErr result (out.new.items ≡ out.old.items) }
     ensures short { length out.new.items ≤ length out.old.items + MAX_REPLY_LEN }
@@ -145,13 +154,60 @@ fn answer_flush<F: Changes>(
 {
     let flush = ask_flush(second, due);
     let took = flush_all(front, partitions, flush, key);
-    let Ok(()) = put_line(out, quiet, flush_line(took)) else {
+    let Ok(()) = put_said(out, style, true, b"", &said_of_flush(took)) else {
         return Err(NoMemory);
     };
     Ok(Progress {
         done: partitions as usize,
         is_whole: true,
     })
+}
+
+// Whether no key is asked.
+#[inline(always)]
+fn has_none(next: &Next) -> bool
+    ensures { result ≡ (length (asks_in next.now) == 0) }
+{
+    match next {
+        Next::Whole {
+            request: Request::Keys(asks),
+            ..
+        } => asks.is_empty(),
+        _ => true,
+    }
+}
+
+// Appends what is replied where no key is asked, but for what the server counts. When out of memory, nothing is appended.
+fn put_plain(out: &mut Vec<u8>, next: &Next) -> Result<(), NoMemory>
+    requires fit { IsFitNext next.now }
+    requires plain { asks_stats next.now ≡ false }
+    ensures ok { OnOk result ((partitions : ℕ) (told : Told) → out.new.items ≡ out.old.items ++ plain_text partitions told next.now) }
+    ensures err { OnErr result (out.new.items ≡ out.old.items) }
+    ensures short { length out.new.items ≤ length out.old.items + MAX_REPLY_LEN }
+{
+    match next {
+        Next::Whole {
+            request: Request::Said(says),
+            style,
+            ..
+        } => put_said(out, *style, true, b"", says),
+        _ => Ok(()),
+    }
+}
+
+// What is asked of keys.
+#[inline(always)]
+fn asks_of<'a>(next: Next<'a>) -> Asks<'a>
+    ensures is { result ≡ asks_in next.entry }
+    ensures fit { IsFitNext next.entry → AllByRecursion IsFitAsked result }
+{
+    match next {
+        Next::Whole {
+            request: Request::Keys(asks),
+            ..
+        } => asks,
+        _ => Asks::none(),
+    }
 }
 
 // Leaves so many out.
@@ -242,7 +298,6 @@ pub fn answer_next<'a, F: Changes>(
     ensures stands { F.stands front.new ≡ F.stands front.old }
 {
     let style = style_of(&next);
-    let quiet = style.is_quiet();
     buffers.tally.count(counter_by(&next));
     if is_flush_all(&next) {
         return answer_flush(
@@ -251,17 +306,15 @@ pub fn answer_next<'a, F: Changes>(
             numbering.partitions,
             flush_due(&next),
             &mut buffers.next,
-            quiet,
+            style,
             out,
         );
     }
     if is_stats(&next) {
-        return answer_stats(second, numbering.partitions, buffers, done, out);
+        return answer_stats(second, numbering.partitions, buffers, style, done, out);
     }
-    let line = plain_line(&next);
-    let mut asks = Asks::by(next);
-    if asks.is_empty() {
-        let Ok(()) = put_line(out, quiet, line) else {
+    if has_none(&next) {
+        let Ok(()) = put_plain(out, &next) else {
             return Err(NoMemory);
         };
         return Ok(Progress {
@@ -269,6 +322,7 @@ pub fn answer_next<'a, F: Changes>(
             is_whole: true,
         });
     }
+    let mut asks = asks_of(next);
     skip(&mut asks, done);
     let start = out.len();
     match answer_asks(

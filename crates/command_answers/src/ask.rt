@@ -1,43 +1,23 @@
 //! One ask of a command.
 ghost use Rattle.std.specs.Prelude.{◌≡◌, ◌<◌, ◌≤◌, ◌+◌, ◌++◌, ◌∷◌, [], length, option_copied, OnOk, OnErr};
-ghost use Rattle.memcached_text.specs.declared.limits.TheConstants.{MAX_FRAME_LEN, MAX_REPLY_LEN};
-ghost use Rattle.memcached_commands.specs.Answers.{shown_len};
+ghost use Rattle.memcached_text.specs.declared.limits.TheConstants.{MAX_REPLY_LEN};
 ghost use Rattle.memcached_commands.specs.Fit.{IsFitAsked};
 ghost use Rattle.fronts.specs.Answered.{Answered, count_of_writes};
 ghost use Rattle.command_answers.specs.AskAnswers.{said_of};
 ghost use Rattle.command_answers.specs.Counting.{count_of_accepted, noted_if, tally_after};
-ghost use Rattle.command_answers.specs.Going.{AnswersAt, ask_text, value_found};
+ghost use Rattle.memcached_requests.specs.Replies.{said_text};
+ghost use Rattle.command_answers.specs.Going.{AnswersAt, value_found};
 
 use crate::buffers::Buffers;
 use crate::noted::Noted;
-use crate::plain::Style;
 use fronts::{Changed, Changes};
-use memcached_commands::{Ask, Asked, Says, put_part, put_whole};
+use memcached_commands::{Ask, Asked};
 use memcached_decisions::CommandOrder;
+use memcached_requests::{Style, put_said};
 use memcached_stats::{Tally, counter_of};
 use mica_words::{key_hash, partition_of};
 use outside::NoMemory;
 use partition_model::{Answer, ItemBuf, Outcome};
-
-// Appends the text that is due to one ask. When out of memory, nothing is appended.
-#[inline(always)]
-fn put_said(
-    out: &mut Vec<u8>,
-    style: Style,
-    is_last: bool,
-    key: &[u8],
-    says: &Says,
-) -> Result<(), NoMemory>
-    ensures ok { OnOk result (out.new.items ≡ out.old.items ++ ask_text style is_last key.now says.now) }
-    ensures err { OnErr result (out.new.items ≡ out.old.items) }
-    ensures short { length out.new.items ≤ length out.old.items + length key.now + shown_len says.now + MAX_FRAME_LEN }
-{
-    match style {
-        Style::Classic { quiet: true, .. } => Ok(()),
-        Style::Classic { unique, .. } if is_last => put_whole(out, unique, key, says),
-        Style::Classic { unique, .. } => put_part(out, unique, key, says),
-    }
-}
 
 // The value in the buffer, where one was found.
 fn value_found(found: Option<Answer>, buffer: &ItemBuf) -> Option<&[u8]>
@@ -96,7 +76,7 @@ pub fn answer_ask<F: Changes>(
     requires left { 0 < F.left front.old }
     ensures answered { (answered : Answered)
         × AnswersAt (F.options front.old) F.is_alone base second (F.sessions front.old) asked.now (F.sessions front.new) answered
-        × OnOk result (out.new.items ≡ out.old.items ++ ask_text style is_last asked.now.key (said_of base asked.now answered))
+        × OnOk result (out.new.items ≡ out.old.items ++ said_text style is_last asked.now.key (said_of base asked.now answered))
         × (F.left front.old ≤ F.left front.new + count_of_writes (answered ∷ []))
         × (buffers.new.tally ≡ tally_after base partitions asked.now answered buffers.old.tally) }
     ensures err { OnErr result (out.new.items ≡ out.old.items) }

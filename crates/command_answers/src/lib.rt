@@ -17,7 +17,6 @@ mod flush;
 mod laws;
 mod noted;
 mod pace;
-mod plain;
 mod sweeper;
 
 pub use ahead::load_ahead;

@@ -6,23 +6,21 @@ use Rattle.std.proofs.lemmas.Bool.{eq-eqb}
 use Rattle.partition_model.specs.declared.options.Options.{Options}
 use Rattle.partition_model.specs.declared.write.Outcome.TheVariants.{Stored}
 use Rattle.memcached_text.specs.declared.limits.TheConstants.{MAX_WAITING_LEN}
-use Rattle.memcached_text.specs.declared.next.Next.{Next}
-use Rattle.memcached_text.specs.declared.next.Next.TheVariants.{Command, Refused, More, LongLine}
-use Rattle.memcached_text.specs.Next.{next_of, IsWithin}
-use Rattle.memcached_text.specs.Stream.{len_of, is_last}
-use Rattle.memcached_text.proofs.NextLaws.{within, waits_within}
+use Rattle.memcached_requests.specs.declared.request.Next.{Next}
+use Rattle.memcached_requests.specs.declared.request.Next.TheVariants.{More}
+use Rattle.memcached_requests.specs.Next.{next_of}
+use Rattle.memcached_requests.specs.Requests.{len_of, is_last}
+use Rattle.memcached_requests.proofs.NextLaws.{next_waits, takes_some}
 use Rattle.memcached_commands.specs.declared.asks.Asked.{Asked}
-use Rattle.memcached_commands.specs.Asks.{asks_in}
-use Rattle.memcached_commands.specs.Answers.{unless_quiet}
+use Rattle.memcached_requests.specs.Requests.{asks_in}
 use Rattle.fronts.specs.Answered.{Answered, changed, kept}
 use Rattle.fronts.specs.Looks.{Look}
 use Rattle.memcached_stats.specs.Stats.{Told}
 use Rattle.command_answers.specs.AskAnswers.{AnswersAsk, AnswersAsks}
-use Rattle.command_answers.specs.Exchange.{Exchange, AnswersBy, IsOpenAt, count_of_answers, due_before, due_to, flush_due, flush_text, is_flush_all, is_quiet, keyed_text, longer}
+use Rattle.command_answers.specs.Exchange.{Exchange, AnswersBy, IsOpenAt, count_of_answers, due_before, due_to, flush_due, flush_text, is_flush_all, keyed_text, longer, style_of}
 use Rattle.command_answers.specs.declared.answer.Limits.{Limits}
 use Rattle.command_answers.specs.declared.answer.Progress.{Progress}
 use Rattle.command_answers.specs.Going.{Replies, StandsAt}
-use Rattle.command_answers.proofs.AskLaws.{quiet_none}
 use Rattle.command_answers.proofs.ExchangeLaws.{asks_are_due, at_first, is_below, no_asks}
 use Rattle.connections.specs.declared.connections.Input.{Input}
 use Rattle.connections.specs.declared.connections.Input.TheVariants.{Bytes, All, Later, Ended}
@@ -34,7 +32,7 @@ use Rattle.connection_loop.specs.declared.client.Client.{Client}
 use Rattle.connection_loop.specs.Reached.{Position, position_at, position_in, position_of}
 use Rattle.connection_loop.specs.Held.{IsAtRest, KeepsWhole, leaves_by}
 use Rattle.connection_loop.specs.Paid.{Advances, AnswersOn, IsPaid, PaysFor, Speaks, SpeaksAs, unanswered}
-use Rattle.connection_loop.proofs.Few.{few_asks}
+use Rattle.connection_loop.proofs.FewAsks.{few_asks}
 use Rattle.connection_loop.proofs.Reaching.{no_answers, nothing_next}
 
 -- One call answers something
@@ -69,8 +67,8 @@ module _ (options : Options) (base : ℕ) (next : Next) (done : ℕ) (stands : I
           let e : Exchange = record { next = next; answers = []; told = told } in
           let none : (0 == options.partitions) ≡ false = ap (λ t. 0 == cond t options.partitions (length (asks_in next))) (sym flushes) ∙ ap (λ n. n == count_of_answers options next) (sym first) ∙ part in
           let empty : due_to options base (longer e [] told) ≡ [] =
-          ap (λ t. unless_quiet (is_quiet next) (cond t (flush_text (0 == options.partitions) []) (keyed_text options.partitions base told next (asks_in next) []))) flushes
-          ∙ ap (λ t. unless_quiet (is_quiet next) (flush_text t [])) none ∙ quiet_none (is_quiet next) in
+          ap (λ t. cond t (flush_text (style_of next) (0 == options.partitions) []) (keyed_text options.partitions base told next (asks_in next) [])) flushes
+          ∙ ap (λ t. flush_text (style_of next) t []) none in
           let same = ap length (sym empty ∙ due e (record { next_is = refl; count = sym first; answers = no_answers options base next })) in
           omega (arith, same, length-append (due_before options base e) text)
       by false keyed [] is =
@@ -85,8 +83,7 @@ module _ (options : Options) (base : ℕ) (next : Next) (done : ℕ) (stands : I
           let at : StandsAt options base next done e =
           record { next_is = refl; count = made.2; answers = subst (λ t. AnswersBy t options base (flush_due next) (asks_in next) made.0) (sym keyed) made.1 } in
           let same = ap length (sym (due e at) ∙ asks_are_due options base next done told [] keyed stands some e at) in
-          let none = ap length (quiet_none (is_quiet next)) in
-          omega (arith, same, none, length-append (due_before options base e) text, length-append (due_before options base e) (unless_quiet (is_quiet next) []))
+          omega (arith, same, length-append (due_before options base e) text, length-append (due_before options base e) [])
 
   goes_further : {limits : Limits} {answers : List Answered} {old new : List ℕ} {progress : Progress} → Replies options base next done limits answers old new progress → 0 < limits.asks
       → length old < limits.bytes → progress.is_whole ≡ false → done < progress.done
@@ -126,12 +123,6 @@ module _ {options : Options} {base : ℕ} {next : Next} {done : ℕ} {limits : L
 
 -- The command that bytes begin with takes more than it had answers
 
-takes_some : (come : ℕ) (next : Next) → IsWithin come next → next ≢ More → is_last next ≡ false → 0 < len_of next
-takes_some come (Command command len) within some on = within.0
-takes_some come (Refused fault stale quiet len) within some on = within
-takes_some come More within some on = absurd (some refl)
-takes_some come LongLine within some on = absurd (true≢false on)
-
 module _ (bytes : List ℕ) (done : ℕ) (next : Next) (is : next ≡ next_of bytes) (some : next ≢ More) (stands : IsOpenAt (next_of bytes) done) where
   pub few_given : done < length bytes
   few_given = elim stands as (λ _. done < length bytes) [
@@ -152,7 +143,7 @@ module _ (bytes : List ℕ) (done : ℕ) (next : Next) (is : next ≡ next_of by
   pub whole_on : is_last next ≡ false → (len : ℕ) (spoke : Bool) → len ≡ len_of next → AnswersOn bytes done (Whole len spoke)
   whole_on on len spoke len_is =
       let taken : len ≡ len_of (next_of bytes) = len_is ∙ ap len_of is in
-      let there = takes_some (length bytes) (next_of bytes) (within bytes) (λ more. some (is ∙ more)) (ap is_last (sym is) ∙ on) in (
+      let there = takes_some bytes (λ more. some (is ∙ more)) (ap is_last (sym is) ∙ on) in (
         elim stands as (λ _. done < len) [ inl none ↦ omega (arith, none, taken, there) | inr less ↦ let few = (few_asks bytes).taken in omega (arith, less, few, taken) ],
         few_given,
       )
@@ -216,7 +207,7 @@ looks_behind {may} {halt} {now} client bytes more rest all rest_is none a =
     record {
       no_more = let no_more = a.no_more in omega (arith, no_more, len);
       less = λ m. elim (a.less m) as (λ _. (halt ≡ Needs) × (length client.kept < MAX_WAITING_LEN) ⊎ (unanswered now < length bytes - 0)) [
-        | inl waits ↦ inl (waits.0, let fits = waits_within rest waits.1 in room client.dropping none (λ zero_is. omega (arith, fits, len, whole, zero_is)))
+        | inl waits ↦ inl (waits.0, let fits = next_waits rest waits.1 in room client.dropping none (λ zero_is. omega (arith, fits, len, whole, zero_is)))
         | inr less ↦ inr (omega (arith, less, len))
       ];
       dropped = a.dropped;
@@ -272,7 +263,7 @@ pub earns_reading : (halt : Halt) (input : Option Input) (client now : Client) (
 earns_reading Leaves input client now bytes count answers replies pays len waits speaks whole = inl (inl refl)
 earns_reading Enough input client now bytes count answers replies pays len waits speaks whole = let some = speaks refl in inr (omega (arith, some))
 earns_reading Needs None client now bytes count answers replies pays len waits speaks whole =
-    let fits = waits_within client.kept (whole (waits refl)) in let full = pays.1 in absurd (omega (arith, fits, full))
+    let fits = next_waits client.kept (whole (waits refl)) in let full = pays.1 in absurd (omega (arith, fits, full))
 earns_reading Needs (Some (Bytes some)) client now bytes count answers replies pays len waits speaks whole = let more = pays.1 in inr (omega (arith, more, len))
 earns_reading Needs (Some (All some)) client now bytes count answers replies pays len waits speaks whole = inl (inr (refl, refl))
 earns_reading Needs (Some Later) client now bytes count answers replies pays len waits speaks whole = inl (inr (refl, refl))

@@ -5,7 +5,7 @@ use Rattle.std.proofs.Math.Nat.{add-mul, mul-le-mul_right, one-mul}
 use Rattle.std.proofs.lemmas.List.{append-nil, drop-drop, drop_all}
 use mir.Val.{bool_byte}
 use Rattle.partition_model.specs.declared.options.Options.{Options}
-use Rattle.memcached_text.specs.Next.{next_of}
+use Rattle.memcached_requests.specs.Next.{next_of}
 use Rattle.fronts.specs.Answered.{Answered}
 use Rattle.fronts.specs.Session.{Sessions}
 use Rattle.connection_loop.specs.declared.answer.TheConstants.{MOST_COMMANDS}

@@ -4,7 +4,7 @@ use Rattle.std.specs.Prelude.{Option, Ok}
 use Rattle.std.specs.List.{AllByRecursion}
 use Rattle.std.proofs.lemmas.Bool.{eq-eqb}
 use Rattle.partition_model.specs.declared.options.Options.{Options}
-use Rattle.memcached_text.specs.Next.{next_of}
+use Rattle.memcached_requests.specs.Next.{next_of}
 use Rattle.connections.specs.declared.connections.Input.{Input}
 use Rattle.connections.specs.State.{Entry, opened, reported, turned_away, met, second, received, sent, asked, closed}
 use Rattle.connections.specs.Log.{Log, received_of, sent_of}

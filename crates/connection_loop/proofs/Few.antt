@@ -1,5 +1,5 @@
 -- A command asks of no more keys than its line has words, so of no more than the line has bytes.
-use Rattle.std.proofs.Common.{◌≡◌, ℕ, ◌+◌, ◌^◌, ◌<◌, ◌≤◌, Bool, true, false, ◌&&◌, ◌||◌, cond, List, [], ◌∷◌, ◌++◌, length, Option, Some, None, nat_lt, refl, sym, ap, subst, arith, codes, length-append}
+use Rattle.std.proofs.Common.{◌≡◌, ℕ, ◌+◌, ◌≤◌, Bool, true, false, ◌&&◌, ◌||◌, cond, List, [], ◌∷◌, ◌++◌, length, Option, Some, None, nat_lt, refl, sym, ap, subst, arith, codes, length-append}
 use Rattle.std.specs.Prelude.{⊤, ◌==◌, bytes_eq, find, option_map, option_and_then}
 use Rattle.std.specs.Option.{IfSome}
 use Rattle.std.specs.List.{AllByRecursion, list_all, slice_split}
@@ -7,7 +7,7 @@ use Rattle.std.proofs.lemmas.Bool.{ltb-false, cond_both}
 use Rattle.std.proofs.lemmas.List.{length-map}
 use Rattle.std.proofs.lemmas.List.Splits.{length-slice_split}
 use Rattle.std.proofs.lemmas.List.Sums.{count_by-le-length, length-filter}
-use Rattle.memcached_text.specs.declared.limits.TheConstants.{MAX_TEXT_LEN, MAX_LINE_LEN}
+use Rattle.memcached_text.specs.declared.limits.TheConstants.{MAX_TEXT_LEN, MAX_GET_LINE_LEN}
 use Rattle.memcached_text.specs.declared.lifetime.Lifetime.{Lifetime}
 use Rattle.memcached_text.specs.declared.command.Command.TheVariants as commands
 use Rattle.memcached_text.specs.declared.command.Wants.TheVariants.{Whatever, Absent, Present, Numbered, AtLeast}
@@ -35,10 +35,10 @@ use Rattle.memcached_text.specs.KeyLine.{got, get_line, got_by, get_touch_line, 
 use Rattle.memcached_text.specs.ServerLine.{flushed, flush_line, is_part, stats_line, verbosity_by, verbosity_line}
 use Rattle.memcached_text.specs.Forms.{Form, forms, line_by, ends_as_http, or_unknown, line_of}
 use Rattle.memcached_text.specs.Block.{block_at}
-use Rattle.memcached_text.specs.Next.{blocked, storing_at, says_at, next_in, is_binary, next_of}
+use Rattle.memcached_text.specs.Next.{blocked, storing_at, says_at, next_in, is_binary, most_line, next_of}
 use Rattle.memcached_text.specs.Stream.{len_of}
 use Rattle.memcached_text.proofs.LineLaws.{IsFound, line_found}
-use Rattle.memcached_text.proofs.NextLaws.{binary_is, next_is}
+use Rattle.memcached_text.proofs.NextLaws.{binary_is, next_is, may_be_most}
 use Rattle.memcached_commands.specs.Asks.{asked, get_ask, asks_of, asks_in}
 
 -- Words
@@ -280,10 +280,10 @@ line_says line rest some =
     let less = shorter line in
     says_few (length line + 1) some (line_of (words_of (without_return line))) rest (line_few (length line + 1) some (words_of (without_return line)) (omega (arith, words, less)))
 
--- What bytes begin with asks of no more keys than there are bytes, than a line has, and than it takes.
+-- What a line asks is of no more keys than there are bytes, than a line has, and than it takes.
 pub record AsksFew (come : ℕ) (next : Next) : Type 0 where
   pub within : length (asks_in next) ≤ come
-  pub counted : length (asks_in next) ≤ MAX_LINE_LEN + 1
+  pub counted : length (asks_in next) ≤ MAX_GET_LINE_LEN + 1
   pub taken : length (asks_in next) ≤ len_of next
 
 asks_none : (come : ℕ) (next : Next) → asks_in next ≡ [] → AsksFew come next
@@ -291,21 +291,17 @@ asks_none come next is = let none = ap length is in record { within = omega (ari
 
 next_few : (bytes : List ℕ) (o : Option (List ℕ × List ℕ)) → IsFound bytes o → AsksFew (length bytes) (next_in bytes o)
 unfolding next_in
-next_few bytes None found = cond_both (nat_lt MAX_LINE_LEN (length bytes)) LongLine More (AsksFew (length bytes)) (λ is. asks_none _ LongLine refl) (λ is. asks_none _ More refl)
-next_few bytes (Some x) has = cond_both (nat_lt MAX_LINE_LEN (length x.0)) LongLine _ (AsksFew (length bytes)) (λ is. asks_none _ LongLine refl) (λ is.
+next_few bytes None found = cond_both (nat_lt (most_line bytes) (length bytes)) LongLine More (AsksFew (length bytes)) (λ is. asks_none _ LongLine refl) (λ is. asks_none _ More refl)
+next_few bytes (Some x) has = cond_both (nat_lt (most_line x.0) (length x.0)) LongLine _ (AsksFew (length bytes)) (λ is. asks_none _ LongLine refl) (λ is.
     let short = ltb-false _ _ is in
     let few = line_says x.0 x.1 (omega arith) in
     let whole : length bytes ≡ length (x.0 ++ 10 ∷ x.1) = ap length has.whole in
     let line = few.0 in
-    record { within = omega (arith, line, whole, length-append x.0 (10 ∷ x.1)); counted = omega (arith, line, short); taken = few.1 })
+    record { within = omega (arith, line, whole, length-append x.0 (10 ∷ x.1)); counted = omega (arith, line, short, may_be_most x.0); taken = few.1 })
 
-pub few_asks : (bytes : List ℕ) → AsksFew (length bytes) (next_of bytes)
-few_asks bytes = either (is_binary bytes) refl
+pub few_asked : (bytes : List ℕ) → AsksFew (length bytes) (next_of bytes)
+few_asked bytes = either (is_binary bytes) refl
   where
     either : (t : Bool) → is_binary bytes ≡ t → AsksFew (length bytes) (next_of bytes)
     either true binary = subst (AsksFew (length bytes)) (sym (binary_is bytes binary)) (asks_none _ _ refl)
     either false text = subst (AsksFew (length bytes)) (sym (next_is bytes (line_at bytes) text refl)) (next_few bytes (line_at bytes) (line_found bytes))
-
--- the keys of what bytes begin with can be counted
-pub few_asks_of : (next : Next) (bytes : List ℕ) → next ≡ next_of bytes → length (asks_in next) < 2 ^ 64
-few_asks_of next bytes is = subst (λ n. length (asks_in n) < 2 ^ 64) (sym is) (let few = (few_asks bytes).counted in omega (arith, few))

@@ -7,7 +7,7 @@ use Rattle.partition_model.specs.declared.options.Options.{Options}
 use Rattle.fronts.specs.Answered.{Answered, step_in, steps_of, count_of_writes}
 use Rattle.fronts.specs.Session.{Sessions}
 use Rattle.fronts.proofs.InOrder.{answers_append}
-use Rattle.memcached_text.specs.declared.next.Next.{Next}
+use Rattle.memcached_requests.specs.declared.request.Next.{Next}
 use Rattle.command_answers.specs.Going.{GoesOn}
 use Rattle.command_answers.specs.Seconds.{second_in, AreAt}
 use Rattle.connection_loop.specs.declared.hand.Hand.{Hand}

@@ -3,6 +3,7 @@ pub mod Opening
 pub mod Going
 pub mod Sweeping
 pub mod Few
+pub mod FewAsks
 pub mod Holding
 pub mod Reaching
 pub mod Answering

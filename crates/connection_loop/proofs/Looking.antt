@@ -1,35 +1,63 @@
 -- One look at what is kept of a client, and at what was read behind it.
-use Rattle.std.proofs.Common.{◌≡◌, ℕ, zero, suc, ◌-◌, ◌≤◌, ◌<◌, inl, inr, List, [], ◌++◌, length, drop, refl, sym, ap, ◌∙◌, subst, arith, length-drop}
+use Rattle.std.proofs.Common.{◌≡◌, ℕ, zero, suc, ◌-◌, ◌≤◌, ◌<◌, ◌==◌, inl, inr, Bool, true, false, List, [], ◌∷◌, ◌++◌, length, drop, refl, sym, ap, ◌∙◌, subst, arith, length-drop}
 use Rattle.std.specs.Prelude.{Option, Some, None, IfSome, MatchResult, Result, Ok, Err}
 use Rattle.std.proofs.lemmas.List.{append-nil, drop_all}
 use Rattle.partition_model.specs.declared.options.Options.{Options}
 use Rattle.memcached_text.specs.declared.limits.TheConstants.{MAX_WAITING_LEN}
-use Rattle.memcached_text.specs.Next.{next_of}
+use Rattle.memcached_requests.specs.declared.request.Next.TheVariants.{More}
+use Rattle.memcached_text.specs.declared.next.Next.TheVariants as of_lines
+use Rattle.memcached_text.specs.Next as text
+use Rattle.memcached_text.proofs.NextLaws.{binary_is}
+use Rattle.memcached_frames.specs.declared.header.TheConstants.{REQUEST}
+use Rattle.memcached_requests.specs.Lines.{of_line}
+use Rattle.memcached_requests.specs.Next.{next_of}
+use Rattle.memcached_requests.proofs.NextLaws.{as_line}
 use Rattle.connections.specs.State.{held}
 use Rattle.connections.specs.Log.{Log, connections_of}
 use Rattle.fronts.specs.Answered.{Answered}
 use Rattle.connection_loop.specs.declared.answer.Halt.{Halt}
-use Rattle.connection_loop.specs.declared.answer.Halt.TheVariants.{Needs}
+use Rattle.connection_loop.specs.declared.answer.Halt.TheVariants.{Enough, Needs}
 use Rattle.connection_loop.specs.declared.client.Client.{Client}
 use Rattle.connection_loop.specs.Clients.{IsClient}
 use Rattle.connection_loop.specs.Open.{OnLogs}
 use Rattle.connection_loop.specs.Traffic.{OnHeld}
 use Rattle.connection_loop.specs.Reached.{Position, position_at, position_of, Reaches, GoesOnTo, SpokeFrom, SpokeBehind, HaltsAs}
-use Rattle.connection_loop.proofs.Few.{few_asks}
-use Rattle.connection_loop.proofs.Reaching.{read_more, halts_more, nothing_next}
+use Rattle.connection_loop.proofs.FewAsks.{few_asks}
+use Rattle.connection_loop.proofs.Reaching.{on_none, read_more, halts_more, nothing_next}
+use Rattle.connection_loop.proofs.Talking.{spoke_halts}
 
--- of a command that was answered in part something is kept, so nothing is to be dropped
-none_dropped : (client : Client) → IsClient client → 0 < client.done → client.dropping ≡ 0
-none_dropped client fit some = by client.dropping fit.dropped
+-- where something is kept, nothing is to be dropped
+pub kept_none : (client : Client) → IsClient client → 0 < length client.kept → client.dropping ≡ 0
+kept_none client fit there = by client.dropping fit.dropped
   where
-    there : 0 < length client.kept
-    there =
-        let few = (few_asks client.kept).within in
-        elim fit.begun as (λ _. 0 < length client.kept) [ inl first ↦ absurd (omega (arith, first, some)) | inr less ↦ omega (arith, less, few) ]
-
     by : (n : ℕ) → (0 < n → client.kept ≡ []) → n ≡ 0
     by zero none = refl
     by (suc n) none = let empty = ap length (none (omega arith)) in absurd (omega (arith, empty, there))
+
+-- more is kept of a client, and is paid for
+pub grown_client : (client : Client) (kept : List ℕ) (asks : ℕ) → IsClient client → client.done ≡ 0 → 0 < length client.kept → length kept ≤ MAX_WAITING_LEN → length kept ≤ asks
+    → IsClient (record { kept = kept; done = client.done; dropping = client.dropping; leaving = client.leaving; unsent = client.unsent; asks = asks })
+grown_client client kept asks fit first some short paid = record {
+  short = short;
+  begun = inl first;
+  dropped = λ more. let none = kept_none client fit some in absurd (omega (arith, none, more));
+  paid = omega (arith, first, paid);
+}
+
+-- of a command that was answered in part something is kept
+none_dropped : (client : Client) → IsClient client → 0 < client.done → client.dropping ≡ 0
+none_dropped client fit some =
+    let few = (few_asks client.kept).within in
+    kept_none client fit (elim fit.begun as (λ _. 0 < length client.kept) [ inl first ↦ absurd (omega (arith, first, some)) | inr less ↦ omega (arith, less, few) ])
+
+-- a line that waits is no frame
+pub line_waits : (bytes : List ℕ) → text.next_of bytes ≡ of_lines.More → next_of bytes ≡ More
+line_waits [] waits = nothing_next
+line_waits (byte ∷ bytes) waits = go (byte == REQUEST) refl
+  where
+    go : (t : Bool) → (byte == REQUEST) ≡ t → next_of (byte ∷ bytes) ≡ More
+    go true is = let quit = binary_is (byte ∷ bytes) is in cc
+    go false is = as_line (byte ∷ bytes) is ∙ ap of_line waits
 
 module _ (options : Options) (base : ℕ) where
   -- A command that was answered in part is answered further.
@@ -52,6 +80,10 @@ module _ (options : Options) (base : ℕ) where
       let at = subst (λ n. Reaches options base (record { bytes = client.kept; done = client.done; dropping = n }) received given due) none r in
       let s = spoke received given due at in
       record { talk = s.talk; few = let f = s.few in let short = fit.short in omega (arith, f, short) }
+
+  -- Nothing is answered.
+  pub lacks_none : (client : Client) → IsClient client → SpokeFrom options base MAX_WAITING_LEN (position_of client) []
+  lacks_none client fit = spoke_halts options base Enough (position_of client) (position_of client) [] [] [] MAX_WAITING_LEN fit.begun fit.short (on_none options base (position_of client) [])
 
   -- Bytes were read, and what is to be dropped of them is left out.
   module _ (client : Client) (bytes more : List ℕ) (first : client.done ≡ 0) (all : bytes ≡ client.kept ++ more) where

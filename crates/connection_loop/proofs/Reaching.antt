@@ -3,13 +3,13 @@ use Rattle.std.proofs.Common.{◌≡◌, ◌≢◌, ℕ, ◌+◌, ◌-◌, ◌==
 use Rattle.std.proofs.lemmas.List.{append-nil, drop-append-le, drop-drop, drop_all, drop_at, nil_from_length}
 use Rattle.std.proofs.lemmas.Bool.{ltb-true, ltb-false}
 use Rattle.partition_model.specs.declared.options.Options.{Options}
-use Rattle.memcached_text.specs.declared.next.Next.{Next}
-use Rattle.memcached_text.specs.declared.next.Next.TheVariants.{More}
-use Rattle.memcached_text.specs.Next.{next_of}
-use Rattle.memcached_text.specs.Stream.{len_of, is_last}
-use Rattle.memcached_text.proofs.NextLaws.{no_line_short}
+use Rattle.memcached_requests.specs.declared.request.Next.{Next}
+use Rattle.memcached_requests.specs.declared.request.Next.TheVariants.{More}
+use Rattle.memcached_requests.specs.Next.{next_of}
+use Rattle.memcached_requests.specs.Requests.{len_of, is_last}
+use Rattle.memcached_requests.proofs.NextLaws.{nothing}
 use Rattle.memcached_commands.specs.declared.asks.Asked.{Asked}
-use Rattle.memcached_commands.specs.Asks.{asks_in}
+use Rattle.memcached_requests.specs.Requests.{asks_in}
 use Rattle.fronts.specs.Answered.{Answered}
 use Rattle.fronts.specs.Session.{Sessions}
 use Rattle.memcached_stats.specs.Stats.{Told}
@@ -333,4 +333,4 @@ module _ (options : Options) (base : ℕ) where
   }
 
 pub nothing_next : next_of [] ≡ More
-nothing_next = no_line_short [] refl (omega arith) tt
+nothing_next = nothing

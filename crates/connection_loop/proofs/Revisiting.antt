@@ -2,9 +2,9 @@
 use Rattle.std.proofs.Common.{◌≡◌, ◌≢◌, ◌⊎◌, inl, inr, ℕ, ◌+◌, ◌*◌, ◌<◌, ◌≤◌, true, List, ◌++◌, length, refl, sym, ap, ◌∙◌, subst, arith, append_assoc, length-append}
 use Rattle.std.proofs.lemmas.List.{map-append}
 use Rattle.partition_model.specs.declared.options.Options.{Options}
-use Rattle.memcached_text.specs.declared.next.Next.{Next}
-use Rattle.memcached_text.specs.declared.next.Next.TheVariants.{Command, Refused, More, LongLine}
-use Rattle.memcached_text.specs.Next.{next_of}
+use Rattle.memcached_requests.specs.declared.request.Next.{Next}
+use Rattle.memcached_requests.specs.declared.request.Next.TheVariants.{Whole, More}
+use Rattle.memcached_requests.specs.Next.{next_of}
 use Rattle.connections.specs.declared.schedule.Step.{Step}
 use Rattle.connections.specs.Log.{Log}
 use Rattle.fronts.specs.Answered.{Answered}
@@ -23,9 +23,7 @@ use Rattle.connection_loop.proofs.Staying.{passes_fewer, passes_then}
 -- a whole command stands there, or none does
 more_or : (next : Next) → (next ≡ More) ⊎ (next ≢ More)
 more_or More = inl refl
-more_or (Command command len) = inr (λ is. cc)
-more_or (Refused fault stale quiet len) = inr (λ is. cc)
-more_or LongLine = inr (λ is. cc)
+more_or (Whole request style len last) = inr (λ is. cc)
 
 module _ (options : Options) (base c : ℕ) where
   -- one look is not more than two

@@ -4,8 +4,8 @@ use Rattle.std.specs.Prelude.{slice_get, Option, None, Some, IfSome}
 use Rattle.std.proofs.lemmas.List.{append-nil}
 use Rattle.std.proofs.lemmas.Option.{none-some}
 use Rattle.partition_model.specs.declared.options.Options.{Options}
-use Rattle.memcached_text.specs.declared.next.Next.TheVariants.{More}
-use Rattle.memcached_text.specs.Next.{next_of}
+use Rattle.memcached_requests.specs.declared.request.Next.TheVariants.{More}
+use Rattle.memcached_requests.specs.Next.{next_of}
 use Rattle.connections.specs.declared.connections.Event.TheVariants.{Opened}
 use Rattle.connections.specs.State.{closed, held}
 use Rattle.connections.specs.Log.{Log, state_of, connections_of, sent_of, logged}

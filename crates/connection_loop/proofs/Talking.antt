@@ -3,11 +3,11 @@ use Rattle.std.proofs.Common.{◌≡◌, ◌≢◌, ℕ, suc, ◌<◌, ◌≤◌
 use Rattle.std.proofs.lemmas.List.{append-nil}
 use Rattle.std.proofs.lemmas.Bool.{eqb-true}
 use Rattle.partition_model.specs.declared.options.Options.{Options}
-use Rattle.memcached_text.specs.declared.next.Next.{Next}
-use Rattle.memcached_text.specs.declared.next.Next.TheVariants.{More}
-use Rattle.memcached_text.specs.Next.{next_of}
-use Rattle.memcached_text.specs.Stream.{len_of}
-use Rattle.memcached_commands.specs.Asks.{asks_in}
+use Rattle.memcached_requests.specs.declared.request.Next.{Next}
+use Rattle.memcached_requests.specs.declared.request.Next.TheVariants.{More}
+use Rattle.memcached_requests.specs.Next.{next_of}
+use Rattle.memcached_requests.specs.Requests.{len_of}
+use Rattle.memcached_requests.specs.Requests.{asks_in}
 use Rattle.fronts.specs.Answered.{Answered}
 use Rattle.memcached_stats.specs.Stats as stats
 use Rattle.command_answers.specs.Exchange.{IsOpenAt, is_flush_all, count_of_answers, is_answered, due_before}

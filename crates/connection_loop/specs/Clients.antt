@@ -1,7 +1,7 @@
 -- What a front holds of its connections.
 use Rattle.std.specs.Prelude.{◌≡◌, ℕ, ◌<◌, ◌≤◌, List, [], length, slice_get, Option, None, Some, IfSome}
 use Rattle.memcached_text.specs.declared.limits.TheConstants.{MAX_WAITING_LEN}
-use Rattle.memcached_text.specs.Next.{next_of}
+use Rattle.memcached_requests.specs.Next.{next_of}
 use Rattle.command_answers.specs.Exchange.{IsOpenAt}
 use Rattle.connections.specs.Log.{Log}
 use Rattle.connection_loop.specs.declared.client.Client.{Client}

@@ -14,5 +14,6 @@ pub mod Paid
 pub mod Clients
 pub mod Resting
 pub mod Held
+pub mod Lying
 pub mod Standing
 pub mod Counting

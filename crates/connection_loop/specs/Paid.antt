@@ -3,9 +3,9 @@
 -- A read allows two asks for each byte that it gives. One pays for the visit that read it; the other is kept until the byte is answered. So what is left with
 -- more to do may always be asked for again.
 use Rattle.std.specs.Prelude.{◌≡◌, ◌⊎◌, ℕ, ◌+◌, ◌-◌, ◌<◌, ◌≤◌, ⊤, true, false, List, [], length, Option, Some, None}
-use Rattle.memcached_text.specs.declared.next.Next.TheVariants.{More}
+use Rattle.memcached_requests.specs.declared.request.Next.TheVariants.{More}
 use Rattle.memcached_text.specs.declared.limits.TheConstants.{MAX_WAITING_LEN}
-use Rattle.memcached_text.specs.Next.{next_of}
+use Rattle.memcached_requests.specs.Next.{next_of}
 use Rattle.command_answers.specs.Exchange.{IsOpenAt}
 use Rattle.connections.specs.declared.connections.Input.{Input}
 use Rattle.connections.specs.declared.connections.Input.TheVariants.{Bytes, All}
@@ -62,8 +62,12 @@ IsPaid more client = unanswered (position_of client) + more ≤ client.asks
 
 -- So many bytes lie there after a read: each is paid for. Where it gave some, one ask more is, and more lie there than were kept. No read was made where there
 -- was no room for any.
+abbrev pub PaysThese : ℕ → ℕ → ℕ → Option Input → Type 0
+PaysThese asks had count None = (count ≤ asks) × (had ≡ MAX_WAITING_LEN)
+PaysThese asks had count (Some (Bytes some)) = (count < asks) × (had < count)
+PaysThese asks had count (Some (All some)) = (count < asks) × (had < count)
+PaysThese asks had count (Some _) = count ≤ asks
+
+-- so, behind what is kept of a client
 abbrev pub PaysFor : Client → ℕ → Option Input → Type 0
-PaysFor client count None = (count ≤ client.asks) × (length client.kept ≡ MAX_WAITING_LEN)
-PaysFor client count (Some (Bytes some)) = (count < client.asks) × (length client.kept < count)
-PaysFor client count (Some (All some)) = (count < client.asks) × (length client.kept < count)
-PaysFor client count (Some _) = count ≤ client.asks
+PaysFor client count input = PaysThese client.asks (length client.kept) count input

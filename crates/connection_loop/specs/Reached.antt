@@ -1,8 +1,8 @@
 -- How far a front and one of its clients have come in their talk.
 use Rattle.std.specs.Prelude.{◌≡◌, ℕ, ◌-◌, ◌≤◌, Bool, true, false, List, ◌++◌, length, drop}
 use Rattle.partition_model.specs.declared.options.Options.{Options}
-use Rattle.memcached_text.specs.declared.next.Next.TheVariants.{More}
-use Rattle.memcached_text.specs.Next.{next_of}
+use Rattle.memcached_requests.specs.declared.request.Next.TheVariants.{More}
+use Rattle.memcached_requests.specs.Next.{next_of}
 use Rattle.fronts.specs.Answered.{Answered}
 use Rattle.memcached_stats.specs.Stats.{Told}
 use Rattle.command_answers.specs.Exchange.{Exchange, AnswersNext, due_before}

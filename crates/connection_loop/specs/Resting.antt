@@ -1,7 +1,7 @@
 -- Which connections wait for their peers, and how they go on doing so.
 use Rattle.std.specs.Prelude.{◌≡◌, ◌≢◌, ◌⊎◌, ◌<◌, ⊤, ℕ, ◌==◌, Bool, true, false, List, [], slice_get, Option, None, Some, is_some, IfSome}
-use Rattle.memcached_text.specs.declared.next.Next.TheVariants.{More}
-use Rattle.memcached_text.specs.Next.{next_of}
+use Rattle.memcached_requests.specs.declared.request.Next.TheVariants.{More}
+use Rattle.memcached_requests.specs.Next.{next_of}
 use Rattle.connections.specs.declared.connections.Event.{Event}
 use Rattle.connections.specs.declared.connections.Event.TheVariants.{Opened, TurnedAway, Ready}
 use Rattle.connections.specs.Connection.{Connection}

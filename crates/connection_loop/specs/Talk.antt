@@ -4,10 +4,10 @@
 -- nothing is read.
 use Rattle.std.specs.Prelude.{◌≡◌, ℕ, ◌≤◌, ◌+◌, Bool, false, List, [], ◌∷◌, ◌++◌, length}
 use Rattle.partition_model.specs.declared.options.Options.{Options}
-use Rattle.memcached_text.specs.declared.next.Next.TheVariants.{More}
+use Rattle.memcached_requests.specs.declared.request.Next.TheVariants.{More}
 use Rattle.memcached_text.specs.declared.limits.TheConstants.{MAX_WAITING_LEN}
-use Rattle.memcached_text.specs.Next.{next_of}
-use Rattle.memcached_text.specs.Stream.{is_last}
+use Rattle.memcached_requests.specs.Next.{next_of}
+use Rattle.memcached_requests.specs.Requests.{is_last}
 use Rattle.fronts.specs.Answered.{Answered}
 use Rattle.command_answers.specs.Exchange.{Exchange}
 use Rattle.command_answers.specs.Spells.{Spells, MayGoOn, due_to_all, answers_to_all}

@@ -1,8 +1,8 @@
 //! What is answered at one look at a connection.
 ghost use Rattle.std.specs.Prelude.{◌≡◌, ◌⊎◌, ◌<◌, ◌≤◌, ◌+◌, true, false, length, drop, max, IfOk, MatchResult};
 ghost use Rattle.memcached_text.specs.declared.limits.TheConstants.{MAX_REPLY_LEN};
-ghost use Rattle.memcached_text.specs.declared.next.Next.TheVariants.{More};
-ghost use Rattle.memcached_text.specs.Next.{next_of};
+ghost use Rattle.memcached_requests.specs.declared.request.Next.TheVariants.{More};
+ghost use Rattle.memcached_requests.specs.Next.{next_of};
 ghost use Rattle.command_answers.specs.Exchange.{IsOpenAt};
 ghost use Rattle.connection_loop.specs.Calls.{KeepsHand};
 ghost use Rattle.connection_loop.specs.declared.answer.TheConstants.{LIMITS};
@@ -12,10 +12,10 @@ ghost use Rattle.connection_loop.specs.Going.{GoesBySome};
 ghost use Rattle.connection_loop.specs.Reached.{GoesOnTo, ReachesAfter, SpokeFrom, HaltsAs, position_at, position_in};
 
 use crate::hand::Hand;
-use crate::next::{is_last, len_of, said_next};
+use crate::next::said_next;
 use command_answers::{Buffers, Limits, Numbering, answer_next};
 use fronts::CountsWrites;
-use memcached_text::Next;
+use memcached_requests::Next;
 use outside::NoMemory;
 
 /// The most commands that are answered at one look, so that no connection holds up the others. One that gets no answer and no reply is not counted.
@@ -58,7 +58,7 @@ pub struct HowFar {
 
 impl HowFar {
     /// Where all that was taken has come.
-    fn at(taken: usize, done: usize, halt: Halt) -> HowFar
+    pub fn at(taken: usize, done: usize, halt: Halt) -> HowFar
         ensures { (result.taken ≡ taken) × (result.done ≡ done) × (result.dropping ≡ 0) × (result.halt ≡ halt) }
     {
         HowFar {
@@ -117,7 +117,7 @@ fn answer_one<F: CountsWrites>(
     if let Next::More = next {
         return Ok(Said::Nothing);
     }
-    let (len, last) = (len_of(&next), is_last(&next));
+    let (len, last) = (next.taken(), next.is_last());
     let before = out.len();
     let progress = answer_next(
         &mut hand.front,

@@ -18,7 +18,8 @@
 //! just the answers that it gave, the front's sessions went on by these and no others, and the text that it appends is what is due to them
 //! (`specs/Reached`). `look_at` keeps what is left of a connection's bytes, no more than the longest that waits. The calls of a connection keep open what is
 //! open, ask for a connection again no more often than its bytes allow, and tell what was received and sent (`specs/Traffic`). `visit_once` sends what waits,
-//! receives once and answers; `visit_on` does so twice at most. What is held under a number is what was held there last, and of a client of whom nothing is
+//! receives once and answers: by the room of the front, or, behind the beginning of a command of some length, into a buffer of its own (`Client::read_on`), which
+//! is copied only once some of it was answered; `visit_on` does so twice at most. What is held under a number is what was held there last, and of a client of whom nothing is
 //! kept and nothing is unsent there is no buffer (`KeptBytes`, `Unsent`).
 //!
 //! Which bytes a client gets is proved, too (`specs/Serving`). Where nothing had been done with the port before, all answers of the front are one list, each
@@ -47,14 +48,15 @@ mod serve;
 mod unsent;
 mod visit;
 mod visits;
+mod waiting;
 
 pub use answer::{Halt, HowFar, LIMITS, MOST_COMMANDS, answer_bytes, most_writes};
 pub use calls::{ask_again, close, receive, send};
 pub use client::Client;
 pub use clients::Clients;
-pub use desk::{Desk, MOST_UNSENT};
+pub use desk::{Desk, MOST_UNSENT, ROOM_LEN};
 pub use hand::Hand;
-pub use kept::KeptBytes;
+pub use kept::{Filled, KeptBytes, MOST_READ};
 pub use serve::serve_connections;
 pub use unsent::Unsent;
 pub use visit::After;

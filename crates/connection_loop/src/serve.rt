@@ -3,8 +3,7 @@ ghost use Rattle.std.specs.Prelude.{◌≡◌, ◌<◌, ◌≤◌, ℕ, false, [
 ghost use Rattle.partition_model.specs.declared.options.Options.{Options};
 ghost use Rattle.outside.specs.Faults.{Rose};
 ghost use Rattle.connections.specs.Log.{LastFailed};
-ghost use Rattle.memcached_text.specs.declared.limits.TheConstants.{MAX_WAITING_LEN};
-ghost use Rattle.connection_loop.specs.declared.desk.TheConstants.{MOST_UNSENT};
+ghost use Rattle.connection_loop.specs.declared.desk.TheConstants.{MOST_UNSENT, ROOM_LEN};
 ghost use Rattle.connections.specs.Calls.{Leaves};
 ghost use Rattle.connection_loop.specs.Calls.{KeepsHand};
 ghost use Rattle.connection_loop.specs.Clients.{AreOpen};
@@ -38,11 +37,11 @@ fn visit_held<F: CountsWrites, C: Connections>(
     clients: &mut Clients,
     desk: &mut Desk,
 ) -> u64
-    requires room { vec_len desk.old.room ≡ MAX_WAITING_LEN }
+    requires room { vec_len desk.old.room ≡ ROOM_LEN }
     requires clients { AreOpen clients.old.held.items (C.log connections.old) }
     requires partitions { hand.old.numbering.partitions ≡ (F.options hand.old.front).partitions }
     requires left { MayAnswer hand.old.numbering.partitions (F.left hand.old.front) }
-    ensures room { vec_len desk.new.room ≡ MAX_WAITING_LEN }
+    ensures room { vec_len desk.new.room ≡ ROOM_LEN }
     ensures clients { AreOpen clients.new.held.items (C.log connections.new) }
     ensures port { Leaves C.log C.has_ended C.faults C.share C.reports connections.old connections.new }
     ensures same { KeepsHand F.options F.number F.stands hand.old hand.new }
@@ -127,12 +126,12 @@ fn serve_event<F: CountsWrites, C: Connections>(
     clients: &mut Clients,
     desk: &mut Desk,
 ) -> u64
-    requires room { vec_len desk.old.room ≡ MAX_WAITING_LEN }
+    requires room { vec_len desk.old.room ≡ ROOM_LEN }
     requires clients { AreOpen clients.old.held.items (C.log connections.old) }
     requires event { IfSome (C.log connections.old) (IsOpened event) }
     requires partitions { hand.old.numbering.partitions ≡ (F.options hand.old.front).partitions }
     requires left { MayAnswer hand.old.numbering.partitions (F.left hand.old.front) }
-    ensures room { vec_len desk.new.room ≡ MAX_WAITING_LEN }
+    ensures room { vec_len desk.new.room ≡ ROOM_LEN }
     ensures clients { AreOpen clients.new.held.items (C.log connections.new) }
     ensures port { Leaves C.log C.has_ended C.faults C.share C.reports connections.old connections.new }
     ensures same { KeepsHand F.options F.number F.stands hand.old hand.new }

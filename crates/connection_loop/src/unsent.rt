@@ -60,7 +60,7 @@ impl Unsent {
         ensures ok { OnOk result (self.new ≡ text.now) }
         ensures err { OnErr result (self.new ≡ self.old) }
     {
-        self.text = KeptBytes::copy_of(alloc, text)?;
+        self.text = KeptBytes::copy_of(alloc, text, 0)?;
         self.sent = 0;
         Ok(())
     }

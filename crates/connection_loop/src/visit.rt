@@ -1,13 +1,13 @@
 //! One visit of a connection.
 ghost use Rattle.std.specs.Prelude.{◌≡◌, ◌≢◌, ◌⊎◌, ◌<◌, ◌≤◌, ◌+◌, ◌++◌, true, false, [], length, take, drop, Some, IfOk, IfSome, MatchResult, vec_len};
 ghost use Rattle.memcached_text.specs.declared.limits.TheConstants.{MAX_WAITING_LEN};
-ghost use Rattle.connection_loop.specs.declared.desk.TheConstants.{MOST_UNSENT};
+ghost use Rattle.connection_loop.specs.declared.desk.TheConstants.{MOST_UNSENT, ROOM_LEN};
 ghost use Rattle.connections.specs.Calls.{Leaves};
 ghost use Rattle.connection_loop.specs.Calls.{KeepsHand};
 ghost use Rattle.connection_loop.specs.Clients.{IsClient};
 ghost use Rattle.connection_loop.specs.Going.{GoesBySome};
-ghost use Rattle.memcached_text.specs.declared.next.Next.TheVariants.{More};
-ghost use Rattle.memcached_text.specs.Next.{next_of};
+ghost use Rattle.memcached_requests.specs.declared.request.Next.TheVariants.{More};
+ghost use Rattle.memcached_requests.specs.Next.{next_of};
 ghost use Rattle.connection_loop.specs.Paid.{Advances, IsPaid, MayAnswer, PaysFor, SpeaksWhere};
 ghost use Rattle.connection_loop.specs.Turns.{most_answers};
 ghost use Rattle.connection_loop.specs.Reached.{GoesOnTo, SpokeBehind, HaltsAs, leaves, position_at, position_of};
@@ -21,7 +21,7 @@ use crate::client::Client;
 use crate::desk::Desk;
 use crate::hand::Hand;
 use crate::kept::KeptBytes;
-use crate::look::look_at;
+use crate::look::{Lying, look_at};
 use command_answers::Buffers;
 use connections::{Broken, Connections, Input};
 use fronts::CountsWrites;
@@ -112,7 +112,7 @@ fn count_input(input: Option<Input>, tally: &mut Tally) {
     }
 }
 
-/// Reads once behind what was kept, into the room. Says how many bytes lie there, and what the read gave, where there was room for it.
+/// Reads once behind what was kept, into the room. Says how many bytes lie there, and what the read gave.
 #[tactic(auto, using(crate::proofs::Opening::same_keeps, crate::proofs::Opening::fewer_asks))]
 fn fill<C: Connections>(
     connections: &mut C,
@@ -120,12 +120,13 @@ fn fill<C: Connections>(
     client: &mut Client,
     room: &mut [u8],
 ) -> Result<(usize, Option<Input>), Broken>
-    requires room { length room.old ≡ MAX_WAITING_LEN }
+    requires room { length room.old ≡ ROOM_LEN }
+    requires fits { length client.old.kept < ROOM_LEN }
     requires client { IsClient client.old }
     requires first { client.old.done ≡ 0 }
     requires open { IfSome (C.log connections.old) (IsOpen number client.old.asks) }
-    ensures room { length room.new ≡ MAX_WAITING_LEN }
-    ensures fits { IfOk result (λ filled. filled.0 ≤ MAX_WAITING_LEN) }
+    ensures room { length room.new ≡ ROOM_LEN }
+    ensures fits { IfOk result (λ filled. filled.0 ≤ ROOM_LEN) }
     ensures kept { IfOk result (λ filled. take filled.0 room.new ≡ client.old.kept ++ drop (length client.old.kept) (take filled.0 room.new)) }
     ensures reads { OnLogs (OnHeld number (ReadsTo (λ filled. filled.1) (filled_bytes (length client.old.kept) room.new result) result))
         (C.log connections.old) (C.log connections.new) }
@@ -142,9 +143,6 @@ fn fill<C: Connections>(
     let kept = client.kept.bytes();
     let had = kept.len();
     room[..had].copy_from_slice(kept);
-    if had == room.len() {
-        return Ok((had, None));
-    }
     let input = receive(connections, number, client.asks, &mut room[had..])?;
     if let Input::Bytes(count) | Input::All(count) = input {
         client.asks = client.asks.saturating_add(2 * count as u64);
@@ -191,7 +189,48 @@ fn look_at_room<F: CountsWrites>(
         return Ok(Halt::Needs);
     }
     let bytes = &bytes[client.dropping..];
-    look_at(hand, client, bytes, 0, buffers, replies)
+    look_at(hand, client, Lying::Room(bytes), 0, buffers, replies)
+}
+
+/// Reads once behind what is kept, into its own buffer, and answers. Says why no more was answered, and what the read gave.
+#[tactic(auto, using(crate::proofs::Opening::still_open, crate::proofs::Opening::same_keeps))]
+fn answer_own<F: CountsWrites, C: Connections>(
+    hand: &mut Hand<F>,
+    connections: &mut C,
+    number: u32,
+    client: &mut Client,
+    buffers: &mut Buffers,
+    replies: &mut Vec<u8>,
+) -> Result<Result<(Halt, Option<Input>), Broken>, NoMemory>
+    requires client { IsClient client.old }
+    requires first { client.old.done ≡ 0 }
+    requires some { 0 < length client.old.kept }
+    requires open { IfSome (C.log connections.old) (IsOpen number client.old.asks) }
+    requires partitions { hand.old.numbering.partitions ≡ (F.options hand.old.front).partitions }
+    requires left { MayAnswer hand.old.numbering.partitions (F.left hand.old.front) }
+    ensures client { IfOk result (λ _. IsClient client.new) }
+    ensures leaving { IfOk result (λ r. IfOk r (λ stood. client.new.leaving ≡ leaves stood.0)) }
+    ensures unsent { IfOk result (λ _. client.new.unsent ≡ client.old.unsent) }
+    ensures again { IfOk result (λ r. IfOk r (λ stood. IsAtRest stood.0 stood.1 ⊎ IsPaid 1 client.new)) }
+    ensures talk { GoesBySome (F.options hand.old.front) F.is_alone (F.sessions hand.old.front) (F.left hand.old.front) (C.last connections.old) (F.sessions hand.new.front) (F.left hand.new.front) (C.last connections.new)
+        (λ answers. MatchResult result
+        (λ r. OnLogs (OnHeld number (Looks (F.options hand.old.front) hand.old.numbering.base client.old answers replies.new.items client.new r)) (C.log connections.old) (C.log connections.new))
+        (λ _. OnLogs (OnHeld number (Lacks (F.options hand.old.front) hand.old.numbering.base client.old answers)) (C.log connections.old) (C.log connections.new))) }
+    ensures open { IfSome (C.log connections.new) (IsOpen number client.new.asks) }
+    ensures keeps { OnLogs Keeps (C.log connections.old) (C.log connections.new) }
+    ensures port { Leaves C.log C.has_ended C.faults C.share C.reports connections.old connections.new }
+    ensures same { KeepsHand F.options F.number F.stands hand.old hand.new }
+{
+    let read = client.read_on(connections, number)?;
+    let input = match read {
+        Ok(input) => input,
+        Err(Broken) => return Ok(Err(Broken)),
+    };
+    count_input(input, &mut buffers.tally);
+    hand.second = connections.second();
+    let kept = mem::replace(&mut client.kept, KeptBytes::nothing());
+    let halt = look_at(hand, client, Lying::Own(kept), 0, buffers, replies)?;
+    Ok(Ok((halt, input)))
 }
 
 /// Goes on with a command that was answered in part, or reads once and answers. Says why no more was answered, and what the read gave.
@@ -203,13 +242,13 @@ fn answer_more<F: CountsWrites, C: Connections>(
     client: &mut Client,
     desk: &mut Desk,
 ) -> Result<Result<(Halt, Option<Input>), Broken>, NoMemory>
-    requires room { vec_len desk.old.room ≡ MAX_WAITING_LEN }
+    requires room { vec_len desk.old.room ≡ ROOM_LEN }
     requires client { IsClient client.old }
     requires reading { client.old.leaving ≡ false }
     requires open { IfSome (C.log connections.old) (IsOpen number client.old.asks) }
     requires partitions { hand.old.numbering.partitions ≡ (F.options hand.old.front).partitions }
     requires left { MayAnswer hand.old.numbering.partitions (F.left hand.old.front) }
-    ensures room { vec_len desk.new.room ≡ MAX_WAITING_LEN }
+    ensures room { vec_len desk.new.room ≡ ROOM_LEN }
     ensures client { IfOk result (λ _. IsClient client.new) }
     ensures leaving { IfOk result (λ r. IfOk r (λ stood. client.new.leaving ≡ leaves stood.0)) }
     ensures unsent { IfOk result (λ _. client.new.unsent ≡ client.old.unsent) }
@@ -231,10 +270,12 @@ fn answer_more<F: CountsWrites, C: Connections>(
     if client.done > 0 {
         let kept = mem::replace(&mut client.kept, KeptBytes::nothing());
         let done = client.done;
-        let bytes = kept.bytes();
         hand.second = connections.second();
-        let halt = look_at(hand, client, bytes, done, buffers, replies)?;
+        let halt = look_at(hand, client, Lying::Own(kept), done, buffers, replies)?;
         return Ok(Ok((halt, None)));
+    }
+    if client.kept.reads_on() {
+        return answer_own(hand, connections, number, client, buffers, replies);
     }
     let (len, input) = match fill(connections, number, client, room.as_mut_slice()) {
         Ok(filled) => filled,
@@ -283,12 +324,12 @@ pub(crate) fn visit_once<F: CountsWrites, C: Connections>(
     client: &mut Client,
     desk: &mut Desk,
 ) -> Result<After, NoMemory>
-    requires room { vec_len desk.old.room ≡ MAX_WAITING_LEN }
+    requires room { vec_len desk.old.room ≡ ROOM_LEN }
     requires client { IsClient client.old }
     requires open { IfSome (C.log connections.old) (IsOpen number client.old.asks) }
     requires partitions { hand.old.numbering.partitions ≡ (F.options hand.old.front).partitions }
     requires left { MayAnswer hand.old.numbering.partitions (F.left hand.old.front) }
-    ensures room { vec_len desk.new.room ≡ MAX_WAITING_LEN }
+    ensures room { vec_len desk.new.room ≡ ROOM_LEN }
     ensures client { IfOk result (λ _. IsClient client.new) }
     ensures again { IfOk result (λ after. after ≡ After.Again → IsPaid 1 client.new) }
     ensures talks { GoesBySome (F.options hand.old.front) F.is_alone (F.sessions hand.old.front) (F.left hand.old.front) (C.last connections.old) (F.sessions hand.new.front) (F.left hand.new.front) (C.last connections.new)

@@ -1,9 +1,9 @@
 //! What is done for a connection that was reported.
 ghost use Rattle.std.specs.Prelude.{◌≡◌, IfOk, IfSome, MatchResult, vec_len};
-ghost use Rattle.memcached_text.specs.declared.limits.TheConstants.{MAX_WAITING_LEN};
 ghost use Rattle.connections.specs.Calls.{Leaves};
 ghost use Rattle.connection_loop.specs.Calls.{KeepsHand};
 ghost use Rattle.connection_loop.specs.Clients.{IsClient};
+ghost use Rattle.connection_loop.specs.declared.desk.TheConstants.{ROOM_LEN};
 ghost use Rattle.connection_loop.specs.Going.{GoesBySome};
 ghost use Rattle.connection_loop.specs.Held.{VisitLacks, Visits};
 ghost use Rattle.connection_loop.specs.Open.{IsOpen, Keeps, OnLogs};
@@ -29,13 +29,13 @@ pub(crate) fn visit_on<F: CountsWrites, C: Connections>(
     client: &mut Client,
     desk: &mut Desk,
 ) -> Result<After, NoMemory>
-    requires room { vec_len desk.old.room ≡ MAX_WAITING_LEN }
+    requires room { vec_len desk.old.room ≡ ROOM_LEN }
     requires client { IsClient client.old }
     requires open { IfSome (C.log connections.old) (IsOpen number client.old.asks) }
     requires partitions { hand.old.numbering.partitions ≡ (F.options hand.old.front).partitions }
     requires left { MayAnswer hand.old.numbering.partitions (F.left hand.old.front) }
     ensures again { IfOk result (λ after. after ≡ After.Again → IsPaid 1 client.new) }
-    ensures room { vec_len desk.new.room ≡ MAX_WAITING_LEN }
+    ensures room { vec_len desk.new.room ≡ ROOM_LEN }
     ensures client { IfOk result (λ _. IsClient client.new) }
     ensures talks { GoesBySome (F.options hand.old.front) F.is_alone (F.sessions hand.old.front) (F.left hand.old.front) (C.last connections.old) (F.sessions hand.new.front) (F.left hand.new.front) (C.last connections.new)
         (λ answers. MatchResult result

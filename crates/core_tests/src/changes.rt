@@ -12,17 +12,17 @@ use crate::change_rows::{DISPLACED, ROWS, Row};
 use any_partition::OnTable;
 use cache_partition::CachePartition;
 use fronts::{Changes, Decide, Front, When};
-use locked_front::{LockedFront, LockedPart, OwnedPartition, ServerPlan};
+use locked_front::{LockedFront, LockedPart, PartitionLocks, ServerPlan};
 use locked_server::{FilledPart, lend_hand, lock_parts, open_parts};
-use mica_words::{key_fits, value_fits};
+use mica_words::{key_fits, stored_fits};
 use partition_model::{Answer, Change, ItemBuf, Mode, Op, Options, Outcome};
 use partition_table::{Note, OwnerSeat, ReaderSeat};
 use partition_words::LendPartition;
 use std::alloc::Global;
 use std::marker::Brand;
 use std::process::Abort;
+use std::sync::Wait;
 use std::sync::atomic::AtomicBool;
-use std::sync::{Mutex, Wait};
 use std::test::Fail;
 use std::thread::{Threads, join};
 use store_partition::StorePartition;
@@ -139,7 +139,7 @@ fn put_long<R: Abort + AllocGlobal, F: Changes>(
     ensures { F.left front.old ≤ F.left front.new + length keys.now }
 {
     for i in 0..keys.len() {
-        assert!(rt; key_fits(keys[i]) && value_fits(&LONG));
+        assert!(rt; key_fits(keys[i]) && stored_fits(&LONG));
         front.write(rt.alloc(), Op::Put, keys[i], &LONG)?;
     }
     Ok(())
@@ -154,13 +154,13 @@ fn expect_row<R: Abort + AllocGlobal, F: Changes>(
     requires { 8 ≤ F.left front.old }
     ensures { F.left front.old ≤ F.left front.new + 8 }
 {
-    assert!(rt; key_fits(KEY) && value_fits(row.value) && row.later.len() <= 6);
+    assert!(rt; key_fits(KEY) && stored_fits(row.value) && row.later.len() <= 6);
     let alloc = rt.alloc();
     let mut found = ItemBuf::new(alloc)?;
     let mut next = ItemBuf::new(alloc)?;
     match row.before {
         Some(value) => {
-            assert!(rt; value_fits(value));
+            assert!(rt; stored_fits(value));
             front.write(alloc, Op::Put, KEY, value)?;
         }
         None => {
@@ -233,7 +233,7 @@ pub(crate) fn front_of<
 >(
     rt: &'a R,
     options: &Options,
-    locks: &'a [Mutex<OwnedPartition<J, P>>],
+    locks: &'a PartitionLocks<J, P>,
     number: u32,
     hand: Vec<LockedPart>,
     ended: &'a AtomicBool,
@@ -241,7 +241,7 @@ pub(crate) fn front_of<
     requires valid { IsPossible options.now }
     requires named { options.now ≡ J.plan.options }
     requires low { number < J.plan.fronts }
-    requires locks { length locks.now ≡ options.now.partitions }
+    requires locks { locks.now ≡ options.now.partitions }
     requires hand { AreNewParts J.plan number hand.items }
     ensures { turns_left result.parts ≡ most_turns }
 {
@@ -267,8 +267,8 @@ fn change_by_two<
     let second = lend_hand::<J, P>(alloc, &mut parts, 1)?;
     let locks = lock_parts::<J, P>(alloc, parts)?;
     let ended = AtomicBool::new(false);
-    let mut first = front_of(rt, options, locks.as_slice(), 0, first, &ended);
-    let second = front_of(rt, options, locks.as_slice(), 1, second, &ended);
+    let mut first = front_of(rt, options, &locks, 0, first, &ended);
+    let second = front_of(rt, options, &locks, 1, second, &ended);
     expect_rows(rt, &mut first, rows)?;
     let (one, two) = (Room::new(alloc)?, Room::new(alloc)?);
     let (mut first, _) = join(

@@ -10,16 +10,16 @@ use crate::changes::{KEY, Room, SMALL, TIMES, count_in, count_up, front_of};
 use any_partition::OnTable;
 use cache_partition::CachePartition;
 use fronts::{Changes, Decide, Front, When};
-use locked_front::ServerPlan;
+use locked_front::{PartitionLock, ServerPlan};
 use locked_server::{FilledPart, lend_hand, lock_parts, open_parts};
-use mica_words::{key_fits, value_fits};
+use mica_words::{key_fits, stored_fits};
 use partition_model::{Answer, Change, ItemBuf, Mode, Op, Options};
 use partition_table::{Note, OwnerSeat, ReaderSeat};
 use partition_words::LendPartition;
 use std::marker::Brand;
 use std::process::Abort;
+use std::sync::Wait;
 use std::sync::atomic::AtomicBool;
-use std::sync::{Mutex, Wait};
 use std::test::Fail;
 use std::thread::{Threads, join};
 use store_partition::StorePartition;
@@ -99,7 +99,7 @@ fn write_one<R: Abort + AllocGlobal, F: Changes>(
     ensures { F.left front.old ≤ F.left front.new + 1 }
 {
     assert!(rt;
-        key_fits(key) && value_fits(value) && (op == Op::Put || op == Op::Del && value.is_empty())
+        key_fits(key) && stored_fits(value) && (op == Op::Put || op == Op::Del && value.is_empty())
     );
     front.write(rt.alloc(), op, key, value)?;
     Ok(())
@@ -137,38 +137,34 @@ fn look_in_turn<R: Abort + AllocGlobal, F: Changes>(
 }
 
 // Looks while the lock is held: a look that waited for it would wait for ever.
-fn look_while_held<R: Abort + Wait, T: Drop, F: Changes>(
-    rt: &R,
-    lock: &Mutex<T>,
-    front: &mut F,
-    room: &mut Room,
-)
+fn look_while_held<
+    R: Abort + Wait,
+    J: ServerPlan,
+    P: LendPartition<Reader = ReaderSeat, Note = Note> + Drop,
+    F: Changes,
+>(rt: &R, lock: &PartitionLock<J, P>, front: &mut F, room: &mut Room)
     requires { 0 < F.left front.old }
     ensures { F.left front.old ≤ F.left front.new }
 {
-    let held = lock.lock(rt);
+    let held = lock.hold(rt);
     expect_look(rt, front, room, Some(b"held"), 4);
-    drop(held);
+    lock.let_go(held);
 }
 
 // One front looks at what the other wrote, while the lock is held.
-fn look_beside<R: Abort + AllocGlobal + Wait, T: Drop, F: Changes>(
-    rt: &R,
-    lock: Option<&Mutex<T>>,
-    one: &mut F,
-    two: &mut F,
-    room: &mut Room,
-) -> Result<(), Fail>
+fn look_beside<
+    R: Abort + AllocGlobal + Wait,
+    J: ServerPlan,
+    P: LendPartition<Reader = ReaderSeat, Note = Note> + Drop,
+    F: Changes,
+>(rt: &R, lock: &PartitionLock<J, P>, one: &mut F, two: &mut F, room: &mut Room) -> Result<(), Fail>
     requires one { 0 < F.left one.old }
     requires two { 2 ≤ F.left two.old }
     ensures one { F.left one.old ≤ F.left one.new }
     ensures two { F.left two.old ≤ F.left two.new + 2 }
 {
     write_one(rt, two, Op::Put, KEY, b"held")?;
-    match lock {
-        Some(lock) => look_while_held(rt, lock, one, room),
-        None => assert!(rt; false),
-    }
+    look_while_held(rt, lock, one, room);
     write_one(rt, two, Op::Del, KEY, b"")
 }
 
@@ -216,12 +212,12 @@ fn look_by_two<
     let first = lend_hand::<J, P>(alloc, &mut parts, 0)?;
     let second = lend_hand::<J, P>(alloc, &mut parts, 1)?;
     let locks = lock_parts::<J, P>(alloc, parts)?;
+    let lock = locks.of(0);
     let ended = AtomicBool::new(false);
-    let mut first = front_of(rt, options, locks.as_slice(), 0, first, &ended);
-    let mut second = front_of(rt, options, locks.as_slice(), 1, second, &ended);
+    let mut first = front_of(rt, options, &locks, 0, first, &ended);
+    let mut second = front_of(rt, options, &locks, 1, second, &ended);
     let (one, mut two) = (Room::new(alloc)?, Room::new(alloc)?);
     look_in_turn(rt, &mut first, &mut second, &mut two)?;
-    let lock = locks.as_slice().get(0);
     look_beside(rt, lock, &mut first, &mut second, &mut two)?;
     let (_, rose) = join(
         rt,

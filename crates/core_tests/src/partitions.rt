@@ -2,7 +2,7 @@
 ghost use Rattle.std.specs.Prelude.{◌≡◌};
 
 use cache_partition::CachePartition;
-use mica_words::{key_fits, value_fits};
+use mica_words::{key_fits, stored_fits};
 use partition_model::{Answer, ItemBuf, Mode, Op, Options, Outcome};
 use partition_words::{Partition, PlainWords, Shape};
 use std::alloc::AllocGlobal;
@@ -40,7 +40,7 @@ pub(crate) fn write<P: Partition>(
 ) -> Option<Outcome>
     ensures { P.home partition.new ≡ P.home partition.old }
 {
-    if !key_fits(key) || !value_fits(value) {
+    if !key_fits(key) || !stored_fits(value) {
         return None;
     }
     match op {

@@ -14,7 +14,7 @@ use locked_front::ServerPlan;
 use locked_server::{FilledPart, lend_hand, lock_parts, open_parts};
 use memcached_commands::Ask;
 use memcached_text::Lifetime;
-use mica_words::{key_fits, key_hash, tail_of, value_fits};
+use mica_words::{key_fits, key_hash, stored_fits, tail_of};
 use partition_model::{Answer, ItemBuf, Mode, Op, Options, Outcome};
 use partition_table::{Note, OwnerSeat, ReaderSeat};
 use partition_words::LendPartition;
@@ -43,7 +43,7 @@ fn put<R: Abort + AllocGlobal, F: Front>(
     ensures left { F.left front.old ≤ F.left front.new + 1 }
     ensures options { F.options front.new ≡ F.options front.old }
 {
-    assert!(rt; key_fits(key) && value_fits(value));
+    assert!(rt; key_fits(key) && stored_fits(value));
     Ok(front.write(rt.alloc(), Op::Put, key, value)?)
 }
 
@@ -149,7 +149,7 @@ fn sweep_by_one<
     let hand = lend_hand::<J, P>(alloc, &mut parts, 0)?;
     let locks = lock_parts::<J, P>(alloc, parts)?;
     let ended = AtomicBool::new(false);
-    let mut front = front_of(rt, options, locks.as_slice(), 0, hand, &ended);
+    let mut front = front_of(rt, options, &locks, 0, hand, &ended);
     match options.mode {
         Mode::Cache => what_is_used_stays(rt, &mut front),
         Mode::Store => what_is_over_goes(rt, &mut front),

@@ -11,7 +11,7 @@ use cache_partition::CachePartition;
 use fronts::{Changes, Front};
 use locked_front::ServerPlan;
 use locked_server::{FilledPart, lend_hand, lock_parts, open_parts};
-use mica_words::{key_fits, value_fits};
+use mica_words::{key_fits, stored_fits};
 use partition_model::{Mode, Op, Options, Outcome};
 use partition_table::{Note, OwnerSeat, ReaderSeat};
 use partition_words::LendPartition;
@@ -43,7 +43,7 @@ fn write_by<R: Abort + AllocGlobal, F: Changes>(
     requires { 0 < F.left front.old }
     ensures { F.left front.old ≤ F.left front.new + 1 }
 {
-    assert!(rt; key_fits(KEY) && value_fits(b"1"));
+    assert!(rt; key_fits(KEY) && stored_fits(b"1"));
     let alloc = rt.alloc();
     match call {
         Call::Write => Ok(Some(front.write(alloc, Op::Put, KEY, b"1")?.0)),
@@ -74,7 +74,7 @@ fn wear_by_one<
     let ended = AtomicBool::new(false);
     let hand = lend_hand::<J, P>(alloc, &mut parts, 0)?;
     let locks = lock_parts::<J, P>(alloc, parts)?;
-    let mut front = front_of(rt, options, locks.as_slice(), 0, hand, &ended);
+    let mut front = front_of(rt, options, &locks, 0, hand, &ended);
     let mut room = Room::new(alloc)?;
     let first = write_by(rt, &mut front, Call::Write)?;
     expect_value(rt, &mut front, &mut room.found, Some(b"1"));

@@ -22,7 +22,7 @@ use Rattle.daemon.proofs.Announced.{unwritten}
 
 -- a question of the words was answered
 pub asked_comes : (asked : Option Question) (question : Question) (words : List Text) (base : ℕ) (files : FilesFacts) (old new : DaemonOutside) (ending : Ending)
-    → asked ≡ Some question → AnswersAlone old.sink new.sink ending → BindsNothing old new → ComesTo asked words base files files old new ending
+    → asked ≡ Some question → AnswersAlone question old.sink new.sink ending → BindsNothing old new → ComesTo asked words base files files old new ending
 asked_comes asked question words base files old new ending is answers same =
     subst (λ (o : Option Question). ComesTo o words base files files old new ending) (sym is) (answers, same, refl)
 

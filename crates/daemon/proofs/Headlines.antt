@@ -1,5 +1,5 @@
 -- What a server that stays up has done, by its contract.
-use Rattle.std.proofs.Common.{◌≡◌, ℕ, ◌+◌, ◌<◌, ◌≤◌, ◌⊎◌, inl, inr, List, ◌++◌, length, Option, Some, None, slice_get, refl, sym, ap, ◌∙◌, subst, arith}
+use Rattle.std.proofs.Common.{◌≡◌, ℕ, ◌+◌, ◌<◌, ◌≤◌, ◌⊎◌, inl, inr, zero, suc, List, [], ◌∷◌, ◌++◌, length, Option, Some, None, slice_get, refl, sym, ap, ◌∙◌, subst, arith}
 use Rattle.std.specs.Prelude.{⊤, Result, Ok, Err, IfSome, option_map, sum, codes}
 use Rattle.std.specs.Io.KnownBytes.{Appends}
 use Rattle.std.proofs.KnownBytes.{Appends-trans}
@@ -17,6 +17,7 @@ use Rattle.fronts.specs.declared.totals.ServeFault.{ServeFault}
 use Rattle.fronts.specs.declared.totals.ServeFault.TheVariants as faults
 use Rattle.connection_loop.specs.declared.desk.TheConstants.{MOST_UNSENT}
 use Rattle.connection_loop.specs.Open.{OnLogs}
+use Rattle.connection_loop.specs.Given.{given_to}
 use Rattle.connection_loop.specs.Turns.{TakesTurns}
 use Rattle.served.specs.NetRun.{OnPorts, IsCauseOnceBound}
 use Rattle.locked_server.specs.declared.service.Service.{Service as LockedService}
@@ -35,8 +36,9 @@ use Rattle.served.specs.TotalsText.{totals_text}
 use Rattle.daemon.specs.Files.{FilesFacts}
 use Rattle.daemon.specs.Filling.{Fills, IsDueOfFile}
 use Rattle.daemon.specs.Daemon.{DaemonOutside, Says, FailsToSay, ready_text, unbound_text, WritesLast, placed, places_of, FillsAndServes}
-use Rattle.daemon.specs.Headline.{OnShareLogs, TalksLawfully, HasTalkedOut, TalksToItsEnd, TalksToAStop, TalkInShares, ServesLawfully, StopsLawfully, NamesPort}
+use Rattle.daemon.specs.Headline.{GoesForward, OnShareLogs, TalksLawfully, HasTalkedOut, TalksToItsEnd, TalksToAStop, TalkInShares, ServesLawfully, StopsLawfully, NamesPort}
 use Rattle.daemon.proofs.LeftLogs.{left_of}
+use Rattle.daemon.proofs.Forward.{goes_forward}
 
 -- What follows from a fact that is told
 
@@ -58,10 +60,16 @@ if_any : {X : Type 0} {Q : X → Type 0} (o : Option X) → ((x : X) → Q x) �
 if_any None h = tt
 if_any (Some x) h = h x
 
+in_both : {X : Type 0} (xs ys : List X) (k : ℕ) (x : X) → slice_get xs k ≡ Some x → slice_get (xs ++ ys) k ≡ Some x
+in_both [] ys k x is = cc
+in_both (y ∷ xs) ys zero x is = is
+in_both (y ∷ xs) ys (suc k) x is = in_both xs ys k x is
+
 -- Connections
 
 module _ (options : Options) (base places lacked : ℕ) (before after : ListenFacts) (counts : List ℕ) (answers : List (List Answered)) (olds news : List ShareFacts)
-    (are : AreStreams options base places before counts answers olds news) (lacked_is : lacked ≡ counted_by_all counts) (left : after.released ≡ option_map (with_shares news) before.released) where
+    (are : AreStreams options base places before counts answers olds news) (lacked_is : lacked ≡ counted_by_all counts) (left : after.released ≡ option_map (with_shares news) before.released)
+    (order : (k : ℕ) (own : List Answered) → slice_get answers k ≡ Some own → GoesForward options own) where
   -- a front that had a share
   record Heard (k : ℕ) (own : List Answered) : Type 0 where
     pub count : ℕ
@@ -94,8 +102,8 @@ module _ (options : Options) (base places lacked : ℕ) (before after : ListenFa
       let h = heard k own.0 own.1 low in
       ap (λ (s : ShareFacts). s.share) (same_Some new h.new (sym is ∙ h.is)) ∙ h.serves.serves.share ∙ (are.are_new k h.old h.was).share_is
 
-  talks : (k : ℕ) (own : List Answered) (h : Heard k own) (x y : Log) → ServesClients options base h.serves.old h.serves.new own x y → TalksLawfully options base lacked own x y
-  talks k own h x y it = record {
+  talks : (k : ℕ) (own : List Answered) → slice_get answers k ≡ Some own → (h : Heard k own) (x y : Log) → ServesClients options base h.serves.old h.serves.new own x y → TalksLawfully options base lacked own x y
+  talks k own own_at h x y it = record {
     same = it.0.same;
     given = it.0.all;
     lacking = it.0.serves.lacking;
@@ -103,6 +111,8 @@ module _ (options : Options) (base places lacked : ℕ) (before after : ListenFa
     turns = subst (TakesTurns options base MOST_UNSENT y.schedule y.script.piece it.0.serves.lacking y.entries it.0.all) it.1 it.0.serves.turns;
     through = it.0.serves.through;
     caught_up = it.0.serves.caught_up;
+    forward = λ c. subst (λ given. GoesForward options (given_to c given)) it.0.serves.turns.given
+        (goes_forward options c it.0.serves.turns.turns (subst (GoesForward options) (sym (it.0.serves.turns.answered ∙ it.1)) (order k own own_at)));
   }
 
   -- what is told of shares once these were let go
@@ -133,7 +143,7 @@ module _ (options : Options) (base places lacked : ℕ) (before after : ListenFa
     are.fronts,
     λ f own own_at.
         let h = each all f own own_at in
-        on_share (TalksToItsEnd options base lacked own) (λ _. ⊤) f own h (if_any h.new.log (λ _. tt)) (λ x y it _. (talks f own h x y it, talked_out f own h (finished f own h.new own_at h.is) x y it)),
+        on_share (TalksToItsEnd options base lacked own) (λ _. ⊤) f own h (if_any h.new.log (λ _. tt)) (λ x y it _. (talks f own own_at h x y it, talked_out f own h (finished f own h.new own_at h.is) x y it)),
   )
 
   -- each talked to a stop, where all have stopped
@@ -144,8 +154,8 @@ module _ (options : Options) (base places lacked : ℕ) (before after : ListenFa
     λ f own own_at.
         let h = each all f own own_at in
         elim (stopped f own h.old h.new own_at h.was h.is) [
-          | inl finished ↦ on_share (TalksToAStop options base lacked own) (λ _. ⊤) f own h (if_any h.new.log (λ _. tt)) (λ x y it _. (talks f own h x y it, inl (talked_out f own h finished x y it)))
-          | inr failed ↦ on_share (TalksToAStop options base lacked own) LastFailed f own h failed.last (λ x y it last. (talks f own h x y it, inr last))
+          | inl finished ↦ on_share (TalksToAStop options base lacked own) (λ _. ⊤) f own h (if_any h.new.log (λ _. tt)) (λ x y it _. (talks f own own_at h x y it, inl (talked_out f own h finished x y it)))
+          | inr failed ↦ on_share (TalksToAStop options base lacked own) LastFailed f own h failed.last (λ x y it last. (talks f own own_at h x y it, inr last))
         ],
   )
 
@@ -207,7 +217,8 @@ module _ (service : Service) (base : ℕ) (files after : FilesFacts) (old new : 
         answers = c.answers;
         dealings = s.fronts;
         lawful = record { writes = writes; filled = filled; runs = s.runs; lawful = s.served.answered };
-        connections = talk_to_their_ends service.options base service.streams.ports.fronts new.lacked before.ports.listens new.ports.listens c.counts c.answers c.olds c.news c.are c.lacked_is c.left c.stopped.0 c.stopped.1;
+        connections = talk_to_their_ends service.options base service.streams.ports.fronts new.lacked before.ports.listens new.ports.listens c.counts c.answers c.olds c.news c.are c.lacked_is c.left
+            (λ k own at p low. s.served.answered.order p k own low (in_both c.answers _ k own at)) c.stopped.0 c.stopped.1;
         datagrams = (s.served.many, s.served.datagrams);
         printed = (totals, s.counted, printed);
       })
@@ -221,7 +232,8 @@ module _ (service : Service) (base : ℕ) (files after : FilesFacts) (old new : 
         answers = c.answers;
         dealings = s.fronts;
         lawful = record { writes = writes; filled = filled; runs = s.runs; lawful = s.answered };
-        connections = talk_to_a_stop service.options base service.streams.ports.fronts new.lacked before.ports.listens new.ports.listens c.counts c.answers c.olds c.news c.are c.lacked_is c.left c.stopped.0 c.stopped.1;
+        connections = talk_to_a_stop service.options base service.streams.ports.fronts new.lacked before.ports.listens new.ports.listens c.counts c.answers c.olds c.news c.are c.lacked_is c.left
+            (λ k own at p low. s.answered.order p k own low (in_both c.answers _ k own at)) c.stopped.0 c.stopped.1;
         datagrams = (s.many, s.each);
         printed = printed;
       }))

@@ -1,4 +1,5 @@
 pub mod Exiting
 pub mod Announced
 pub mod LeftLogs
+pub mod Forward
 pub mod Headlines

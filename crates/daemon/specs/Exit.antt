@@ -6,6 +6,7 @@ use Rattle.outside.specs.Seconds.{ClockView, IsReading, once_read}
 use Rattle.option_words.specs.Words.{Text}
 use Rattle.server_words.specs.Output.{SinkFacts}
 use Rattle.daemon_words.specs.declared.question.Question.{Question}
+use Rattle.daemon_words.specs.About.{answer_text}
 use Rattle.daemon_words.specs.Questions.{question_of}
 use Rattle.daemon_words.specs.ShortWords.{long_words}
 use Rattle.daemon_words.specs.DaemonWords.{daemon_of}
@@ -32,14 +33,14 @@ BeginsAbove = (before later written : ℕ) → later ≤ 2 ^ 39 → written < NU
 abbrev pub BeginsExact : Type 0
 BeginsExact = (second : ℕ) → second < NUMBERS_SINCE + 2 ^ 31 → first_number second < 2 ^ 53
 
--- The sink took an answer, or a write of it failed; or there was no memory for words.
-abbrev pub AnswersAlone : SinkFacts → SinkFacts → Ending → Type 0
-AnswersAlone old new Answered = (text : List ℕ) × Appends old.taken new.taken text
-AnswersAlone old new (Ended status) = IsUnwritten old new status ⊎ ((status ≡ WriteFault) × Rose old.faults new.faults)
+-- The sink took the text that answers the question, or a write of it failed; or there was no memory for words.
+abbrev pub AnswersAlone : Question → SinkFacts → SinkFacts → Ending → Type 0
+AnswersAlone question old new Answered = Appends old.taken new.taken (answer_text question)
+AnswersAlone question old new (Ended status) = IsUnwritten old new status ⊎ ((status ≡ WriteFault) × Rose old.faults new.faults)
 
 -- What words came to. A question of theirs was answered, and nothing was served; or their server ran, with each short word as the long one that it stands for.
 abbrev pub ComesTo : Option Question → List Text → ℕ → FilesFacts → FilesFacts → DaemonOutside → DaemonOutside → Ending → Type 0
-ComesTo (Some question) words base before after old new ending = AnswersAlone old.sink new.sink ending × BindsNothing old new × (after ≡ before)
+ComesTo (Some question) words base before after old new ending = AnswersAlone question old.sink new.sink ending × BindsNothing old new × (after ≡ before)
 ComesTo None words base before after old new Answered = ⊥
 ComesTo None words base before after old new (Ended status) = KeepsUp (daemon_of (long_words words)) base before after old new status
 

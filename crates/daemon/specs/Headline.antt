@@ -1,6 +1,7 @@
 -- The headline of a server: what one has done that ended with the status UsedUp, as nothing more was to come, or was told to stop; and what one that a fault of the net stopped. `laws.rt`
 -- says that each one has.
-use Rattle.std.specs.Prelude.{◌≡◌, ◌⊎◌, ◌+◌, ◌-◌, ◌≤◌, ◌++◌, ℕ, List, [], codes, length, map, min, slice_get, Some, IfSome}
+use Rattle.std.specs.Prelude.{◌≡◌, ◌⊎◌, ◌+◌, ◌-◌, ◌<◌, ◌≤◌, ◌++◌, ℕ, List, [], codes, length, map, min, slice_get, Some, IfSome}
+use Rattle.std.specs.List.{AllPairs}
 use Rattle.std.specs.Io.KnownBytes.{Appends}
 use Rattle.outside.specs.Faults.{LAST_COUNT}
 use Rattle.outside.specs.PortStates.{PortStates}
@@ -9,18 +10,18 @@ use Rattle.partition_model.specs.declared.options.Options.{Options}
 use Rattle.partition_model.specs.declared.write.Write.{Write}
 use Rattle.server_words.specs.declared.ports.PortOptions.{PortOptions}
 use Rattle.fronts.specs.declared.totals.Totals.{Totals}
-use Rattle.fronts.specs.Answered.{Answered, count_of_writes}
+use Rattle.fronts.specs.Answered.{Answered, answers_of, count_of_writes}
 use Rattle.datagram_answers.specs.Dealing.{Dealing, answered_in}
 use Rattle.fronts.specs.Placed.{Placed}
 use Rattle.datagram_answers.specs.DealingTotals.{AreTotalsOf}
 use Rattle.connection_loop.specs.declared.desk.TheConstants.{MOST_UNSENT}
-use Rattle.connection_loop.specs.Given.{Given}
+use Rattle.connection_loop.specs.Given.{Given, given_to}
 use Rattle.connection_loop.specs.Moments.{TalksThrough, IsCaughtUp}
 use Rattle.connection_loop.specs.Open.{OnLogs}
 use Rattle.connection_loop.specs.Serving.{IsSpent}
 use Rattle.connection_loop.specs.Turns.{TakesTurns}
 use Rattle.locked_front.specs.Parts.{most_turns}
-use Rattle.served.specs.Served.{AnswersLawfully, ServesPort, LeavesPort}
+use Rattle.served.specs.Served.{NoFall, AnswersLawfully, ServesPort, LeavesPort}
 use Rattle.locked_server.specs.Filled.{origin_of}
 use Rattle.locked_server.specs.Streams.{ListenFacts}
 use Rattle.locked_server.specs.Causes.{LacksPort, LacksPlace}
@@ -48,6 +49,10 @@ pub record AnswersFromFilling (files : FilesFacts) (service : Service) (answers 
   pub runs : ℕ → List Placed
   pub lawful : AnswersLawfully service.options (origin_of service.options writes) answers runs
 
+-- of each partition no answer is older than one before it, and an accepted write is behind all before it
+abbrev pub GoesForward : Options → List Answered → Type 0
+GoesForward options answers = (p : ℕ) → p < options.partitions → AllPairs NoFall (answers_of options p answers)
+
 -- a front talked so with the clients of its share, whose log was this one before and that one after
 pub record TalksLawfully (options : Options) (base lacked : ℕ) (answers : List Answered) (before after : Log) : Type 0 where
   -- what clients do is as it was foretold;
@@ -62,8 +67,10 @@ pub record TalksLawfully (options : Options) (base lacked : ℕ) (answers : List
   -- at each moment what was sent to each client is due to what it had said, by the answers until then, and each close had a cause; and what was answered since the
   -- second was told last is answered at it, which is not before what it answers came;
   pub through : TalksThrough options base MOST_UNSENT after.schedule lacking after.entries given
-  -- and in the end each connection is settled, or a report of it is to come
+  -- in the end each connection is settled, or a report of it is to come;
   pub caught_up : IsCaughtUp options base after.schedule after.script.piece after.entries given
+  -- and no client was shown what is older than what it was shown, or wrote, before
+  pub forward : (c : ℕ) → GoesForward options (given_to c given)
 
 -- nothing more was to come, or too few writes were left to it for one command
 abbrev pub HasTalkedOut : Options → List Answered → Log → Type 0

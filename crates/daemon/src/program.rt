@@ -65,7 +65,7 @@ pub fn exit_code(ending: Ending) -> ExitCode
 
 // Writes the answer to a question of the words.
 fn answer<K: Sink>(question: Question, sink: &mut K) -> Ending
-    ensures { AnswersAlone (sink_facts K.Sink sink.old) (sink_facts K.Sink sink.new) result }
+    ensures { AnswersAlone question (sink_facts K.Sink sink.old) (sink_facts K.Sink sink.new) result }
 {
     match write_all(sink, answer_to(question).as_bytes()) {
         Ok(()) => Ending::Answered,

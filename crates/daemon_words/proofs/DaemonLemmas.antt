@@ -17,10 +17,10 @@ use Rattle.option_words.specs.declared.words_fault.WordsFault.TheVariants.{Usage
 use Rattle.option_words.specs.Words.{Text, given_by, text_of}
 use Rattle.option_words.specs.Settings.{mode, tries, port, value_of, ◌>>=◌}
 use Rattle.daemon_words.specs.Memory.{memory_of}
-use Rattle.daemon_words.specs.StreamWords.{memcached, threads, listen, connections, no_streams, gives_streams, some_streams, streams_by, streams_given}
+use Rattle.daemon_words.specs.StreamWords.{memcached, threads, listen, connections, item_size, no_streams, gives_streams, some_streams, streams_by, streams_given}
 use Rattle.daemon_words.specs.DaemonWords.{Service, partitions, buckets, spares, words, wear, memory_name, sizes_by_words, sizes_by, sizes_given, mode_given, service_options, image_name, fronts, lasting_ports, no_ports, ports_by, ports_given, may_fill, daemon_names, daemon_given, daemon_of, gives_size, ArePossibleFronts, IsDaemonReading}
 use Rattle.option_words.proofs.ValueLemmas.{both_told, value_bounds, power_value, one_kilo, required_bounds}
-use Rattle.daemon_words.proofs.MemoryLemmas.{memory_bounds}
+use Rattle.daemon_words.proofs.MemoryLemmas.{amounts_within}
 
 -- options that are possible but for their sizes
 abbrev base : Mode → ℕ → ℕ → Options
@@ -67,7 +67,7 @@ for_amount (Some n) sizes options between is rest = subst (λ z. IsPossible (wit
 by_memory : (given : Text → Option Text) (text : Text) (sizes : Sizes) (options : Options) (one : Bool) → (if one then None else option_map (sizes_for options.mode) (memory_of text)) ≡ Some sizes
     → IsPossible options → IsPossible (with_sizes sizes options)
 by_memory given text sizes options true is rest = absurd (none-some sizes is)
-by_memory given text sizes options false is rest = for_amount (memory_of text) sizes options (memory_bounds text) is rest
+by_memory given text sizes options false is rest = for_amount (memory_of text) sizes options (amounts_within LEAST_MEMORY MOST_MEMORY text) is rest
 
 by_default : (given : Text → Option Text) (sizes : Sizes) (options : Options) (one : Bool) → (if one then sizes_by_words given else Some (sizes_for options.mode LEAST_MEMORY)) ≡ Some sizes
     → IsPossible options → IsPossible (with_sizes sizes options)
@@ -112,8 +112,9 @@ some_streams_valid given streams is =
     let f = both_told (value_of threads given) _ streams p.2 in
     let l = both_told (value_of listen given) _ streams f.2 in
     let c = both_told (value_of connections given) _ streams l.2 in
+    let i = both_told (value_of item_size given) _ streams c.2 in
     let made : StreamOptions = record { ports = record { port = p.0; fronts = f.0 }; address = l.0; connections = c.0 } in
-    subst (λ (s : StreamOptions). InRange 1 MOST_FRONTS s.ports.fronts) (ap (λ o. unwrap_or o made) c.2)
+    subst (λ (s : StreamOptions). InRange 1 MOST_FRONTS s.ports.fronts) (ap (λ o. unwrap_or o made) i.2)
     (value_bounds threads.name 1 MOST_FRONTS 4 (given threads.name) f.0 (omega arith, omega arith) f.1)
 
 streams_alone : (streams : StreamOptions) → InRange 1 MOST_FRONTS streams.ports.fronts → ArePossibleFronts no_ports streams.ports

@@ -1,14 +1,13 @@
--- What the text of an amount of memory means.
+-- What the text of an amount of bytes means.
 use Rattle.std.proofs.Common.{◌≡◌, ◌≢◌, ◌==◌, ℕ, ◌≤◌, ◌<◌, ◌*◌, ◌/◌, [], ◌∷◌, ◌++◌, Option, Some, None, Bool, true, false, nat_le, option_map, unwrap_or, ap, refl, sym, ◌∙◌, subst, if◌then◌else◌, arith, Bor, MatchOption}
 use Rattle.std.proofs.Math.Nat.{le-div_iff_mul-le}
 use Rattle.std.proofs.lemmas.Bool.{leb-true}
 use Rattle.std.proofs.lemmas.Bool.Decides.{nat_tests}
 use Rattle.std.proofs.lemmas.Option.{none-some}
 use Rattle.partition_model.specs.Options.{InRange}
-use Rattle.partition_sizes.specs.declared.sizes.TheConstants.{LEAST_MEMORY, MOST_MEMORY}
 use Rattle.option_words.specs.Words.{Text}
 use Rattle.option_words.specs.Settings.{number_of}
-use Rattle.daemon_words.specs.Memory.{before_letter, before_unit, amount_in, amount_or, memory_of}
+use Rattle.daemon_words.specs.Memory.{before_letter, before_unit, amount_in, amount_or, amount_of}
 use Rattle.option_words.proofs.ValueLemmas.{both_told, number_bounds}
 
 -- a text that ends with the letter
@@ -35,24 +34,25 @@ before_by letter text None never = sym (no_last_letter letter text never)
 before_by letter text (Some x) is = sym (ap (before_letter letter) is ∙ before_last_letter letter x.now)
 
 -- so many units are no more than the most
-pub units_few : (unit count : ℕ) → 0 < unit → count ≤ MOST_MEMORY / unit → count * unit ≤ MOST_MEMORY
-units_few unit count some few = (le-div_iff_mul-le {k = unit} {x = count} {y = MOST_MEMORY} some).0 few
+pub units_few : (unit count most : ℕ) → 0 < unit → count ≤ most / unit → count * unit ≤ most
+units_few unit count most some few = (le-div_iff_mul-le {k = unit} {x = count} {y = most} some).0 few
 
-amount_bounds : (unit : ℕ) (digits : Text) (n : ℕ) → 0 < unit → amount_in unit digits ≡ Some n → InRange LEAST_MEMORY MOST_MEMORY n
-amount_bounds unit digits n some is =
-    let c = both_told (number_of 1 (MOST_MEMORY / unit) digits) _ n is in
-    let few = units_few unit c.0 some (number_bounds 1 (MOST_MEMORY / unit) digits c.0 c.1).1 in
-    elim (nat_le LEAST_MEMORY (c.0 * unit)) as (λ b. nat_le LEAST_MEMORY (c.0 * unit) ≡ b → (if b then Some (c.0 * unit) else None) ≡ Some n → InRange LEAST_MEMORY MOST_MEMORY n) [
-      | true ↦ λ low same. subst (InRange LEAST_MEMORY MOST_MEMORY) (ap (λ o. unwrap_or o 0) same) (leb-true LEAST_MEMORY (c.0 * unit) low, few)
-      | false ↦ λ _ none. absurd (none-some n none)
-    ] refl c.2
+module _ (least most : ℕ) where
+  amount_bounds : (unit : ℕ) (digits : Text) (n : ℕ) → 0 < unit → amount_in least most unit digits ≡ Some n → InRange least most n
+  amount_bounds unit digits n some is =
+      let c = both_told (number_of 1 (most / unit) digits) _ n is in
+      let few = units_few unit c.0 most some (number_bounds 1 (most / unit) digits c.0 c.1).1 in
+      elim (nat_le least (c.0 * unit)) as (λ b. nat_le least (c.0 * unit) ≡ b → (if b then Some (c.0 * unit) else None) ≡ Some n → InRange least most n) [
+        | true ↦ λ low same. subst (InRange least most) (ap (λ o. unwrap_or o 0) same) (leb-true least (c.0 * unit) low, few)
+        | false ↦ λ _ none. absurd (none-some n none)
+      ] refl c.2
 
-either_bounds : (unit : ℕ) (digits : Option Text) (other : Option ℕ) (n : ℕ) → 0 < unit → ((m : ℕ) → other ≡ Some m → InRange LEAST_MEMORY MOST_MEMORY m) → amount_or unit digits other ≡ Some n → InRange LEAST_MEMORY MOST_MEMORY n
-either_bounds unit None other n some rest is = rest n is
-either_bounds unit (Some digits) other n some rest is = amount_bounds unit digits n some is
+  either_bounds : (unit : ℕ) (digits : Option Text) (other : Option ℕ) (n : ℕ) → 0 < unit → ((m : ℕ) → other ≡ Some m → InRange least most m) → amount_or least most unit digits other ≡ Some n → InRange least most n
+  either_bounds unit None other n some rest is = rest n is
+  either_bounds unit (Some digits) other n some rest is = amount_bounds unit digits n some is
 
-pub memory_bounds : (text : Text) (n : ℕ) → memory_of text ≡ Some n → InRange LEAST_MEMORY MOST_MEMORY n
-memory_bounds text n = either_bounds 1024 (before_unit 75 107 text) _ n (omega arith)
-    (λ m. either_bounds 1048576 (before_unit 77 109 text) _ m (omega arith)
-    (λ k. either_bounds 1073741824 (before_unit 71 103 text) _ k (omega arith)
-    (λ j. amount_bounds 1 text j (omega arith))))
+  pub amounts_within : (text : Text) (n : ℕ) → amount_of least most text ≡ Some n → InRange least most n
+  amounts_within text n = either_bounds 1024 (before_unit 75 107 text) _ n (omega arith)
+      (λ m. either_bounds 1048576 (before_unit 77 109 text) _ m (omega arith)
+      (λ k. either_bounds 1073741824 (before_unit 71 103 text) _ k (omega arith)
+      (λ j. amount_bounds 1 text j (omega arith))))

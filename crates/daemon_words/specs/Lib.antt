@@ -1,3 +1,4 @@
+pub mod About
 pub mod Memory
 pub mod StreamWords
 pub mod DaemonWords

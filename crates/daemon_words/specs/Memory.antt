@@ -1,4 +1,4 @@
--- The text of an amount of memory: a number of bytes, or of as many times 1024 of them as the unit behind it says.
+-- The text of an amount of bytes: a number of them, or of as many times 1024 of them as the unit behind it says.
 use Rattle.std.specs.Prelude.{ℕ, ◌*◌, ◌/◌, ◌==◌, nat_le, [], ◌∷◌, Option, Some, None, option_map, unwrap_or, if◌then◌else◌}
 use Rattle.partition_sizes.specs.declared.sizes.TheConstants.{LEAST_MEMORY, MOST_MEMORY}
 use Rattle.option_words.specs.Words.{Text}
@@ -30,19 +30,23 @@ without_bytes text = front_of text (before_either 66 98 text)
 abbrev pub before_unit : ℕ → ℕ → Text → Option Text
 before_unit letter small text = before_either letter small (without_bytes text)
 
--- so many units, where they are an amount that sizes are made for
-abbrev pub amount_in : ℕ → Text → Option ℕ
-amount_in unit digits = number_of 1 (MOST_MEMORY / unit) digits >>= λ count. if nat_le LEAST_MEMORY (count * unit) then Some (count * unit) else None
+-- so many units, where they are an amount from the least to the most
+abbrev pub amount_in : ℕ → ℕ → ℕ → Text → Option ℕ
+amount_in least most unit digits = number_of 1 (most / unit) digits >>= λ count. if nat_le least (count * unit) then Some (count * unit) else None
 
 -- the amount in this unit, where its letter stands last
-abbrev pub amount_or : ℕ → Option Text → Option ℕ → Option ℕ
-amount_or unit None other = other
-amount_or unit (Some digits) other = amount_in unit digits
+abbrev pub amount_or : ℕ → ℕ → ℕ → Option Text → Option ℕ → Option ℕ
+amount_or least most unit None other = other
+amount_or least most unit (Some digits) other = amount_in least most unit digits
 
 -- `K` is 75, `M` 77 and `G` 71, and the small letters are 32 above these
+abbrev pub amount_of : ℕ → ℕ → Text → Option ℕ
+amount_of least most text =
+    amount_or least most 1024 (before_unit 75 107 text)
+    (amount_or least most 1048576 (before_unit 77 109 text)
+    (amount_or least most 1073741824 (before_unit 71 103 text)
+    (amount_in least most 1 text)))
+
+-- of memory, for which sizes are made
 abbrev pub memory_of : Text → Option ℕ
-memory_of text =
-    amount_or 1024 (before_unit 75 107 text)
-    (amount_or 1048576 (before_unit 77 109 text)
-    (amount_or 1073741824 (before_unit 71 103 text)
-    (amount_in 1 text)))
+memory_of text = amount_of LEAST_MEMORY MOST_MEMORY text

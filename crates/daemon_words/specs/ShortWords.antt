@@ -25,12 +25,13 @@ spelt_plainly word =
     else (if bytes_eq word (codes "-vvv") then ([], Nothing)
     else (if wants_value word then (word ∷ [], Value) else (word ∷ [], Nothing)))))))
 
--- what a word stands for that says how much memory there is, or the mode
+-- what a word stands for that says how much memory there is, how long a value may be, or the mode
 abbrev pub spelt_for_items : Text → List Text × Waiting
 spelt_for_items word =
     if bytes_eq word (codes "-m") then (codes "--memory" ∷ [], Mebibytes)
+    else (if bytes_eq word (codes "-I") then (codes "--item-size" ∷ [], Value)
     else (if bytes_eq word (codes "-M") then (codes "--mode=store" ∷ [], Nothing)
-    else spelt_plainly word)
+    else spelt_plainly word))
 
 -- what a word stands for that is no value, and what the next one is
 abbrev pub spelt : Text → List Text × Waiting

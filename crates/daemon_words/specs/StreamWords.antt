@@ -4,6 +4,8 @@ use Rattle.std.specs.List.{before_first, after_first}
 use Rattle.std.specs.declared.net.ipv4_addr.Ipv4Addr.{Ipv4Addr}
 use Rattle.server_words.specs.declared.limits.TheConstants.{MOST_FRONTS}
 use Rattle.daemon_words.specs.declared.streams.StreamOptions.{StreamOptions}
+use Rattle.daemon_words.specs.declared.memory.TheConstants.{MOST_ITEM_SIZE}
+use Rattle.daemon_words.specs.Memory.{amount_of}
 use Rattle.option_words.specs.Words.{Text}
 use Rattle.option_words.specs.Settings.{Setting, number, port, number_of, value_of, ◌>>=◌}
 
@@ -48,9 +50,13 @@ listen = record { name = codes "listen"; meaning = address_of; default = Some (a
 abbrev pub connections : Setting ℕ
 connections = number (codes "connections") 1 65536 1024
 
+-- the longest value that is taken: a bound below that of the protocol is not served, so it is this one
+abbrev pub item_size : Setting ℕ
+item_size = record { name = codes "item-size"; meaning = amount_of MOST_ITEM_SIZE MOST_ITEM_SIZE; default = Some MOST_ITEM_SIZE }
+
 -- the names of these options
 abbrev pub stream_names : List Text
-stream_names = memcached.name ∷ threads.name ∷ listen.name ∷ connections.name ∷ []
+stream_names = memcached.name ∷ threads.name ∷ listen.name ∷ connections.name ∷ item_size.name ∷ []
 
 -- there are no such fronts
 abbrev pub no_streams : StreamOptions
@@ -58,7 +64,7 @@ no_streams = record { ports = record { port = 0; fronts = 0 }; address = address
 
 -- one of the options is given that are of such fronts
 abbrev pub gives_streams : (Text → Option Text) → Bool
-gives_streams given = is_some (given memcached.name) || is_some (given threads.name) || is_some (given listen.name) || is_some (given connections.name)
+gives_streams given = is_some (given memcached.name) || is_some (given threads.name) || is_some (given listen.name) || is_some (given connections.name) || is_some (given item_size.name)
 
 -- fronts behind one port
 abbrev pub some_streams : (Text → Option Text) → Option StreamOptions
@@ -67,6 +73,7 @@ some_streams given =
     value_of threads given >>= λ threads.
     value_of listen given >>= λ address.
     value_of connections given >>= λ connections.
+    value_of item_size given >>= λ longest.
     Some (record { ports = record { port = port; fronts = threads }; address = address; connections = connections })
 
 -- a server is of one protocol: there are such fronts where no port of datagrams is given

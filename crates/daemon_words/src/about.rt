@@ -1,4 +1,6 @@
 //! What the program says of itself.
+ghost use Rattle.std.specs.Prelude.{◌≡◌};
+ghost use Rattle.daemon_words.specs.About.{answer_text};
 
 use crate::question::Question;
 
@@ -32,6 +34,7 @@ Memory
                             four sizes in place of it [4, 1024, 1024, 65536]
 
 Items
+  -I, --item-size SIZE      the longest value: 1M, and no other bound is served [1M]
       --mode cache          a set always finds room: the oldest items go [beside memcached's clients]
   -M, --mode store          none goes before its time: a set without room is refused
       --image FILE          a store begins with the pairs of this image
@@ -53,7 +56,9 @@ Examples
 ";
 
 /// What is said to a question.
-pub fn answer_to(question: Question) -> &'static str {
+pub fn answer_to(question: Question) -> &'static str
+    ensures { result.now ≡ answer_text question }
+{
     match question {
         Question::Help => HELP,
         Question::Version => VERSION,

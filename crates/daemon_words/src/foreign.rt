@@ -34,9 +34,9 @@ static FOREIGN: [Foreign; 31] = [
         instead: "flush_all is always taken: keep its ports to those who may",
     },
     Foreign {
-        short: "-I",
+        short: "--max-item-size",
         long: "--max-item-size",
-        instead: "a value has 8176 bytes at most: leave it out",
+        instead: "take --item-size SIZE, or -I",
     },
     Foreign {
         short: "-r",
@@ -101,7 +101,7 @@ static FOREIGN: [Foreign; 31] = [
     Foreign {
         short: "-B",
         long: "--protocol",
-        instead: "the text protocol is the only one: leave it out",
+        instead: "a connection speaks the text protocol or the binary one, as it begins: leave it out",
     },
     Foreign {
         short: "-C",

@@ -1,7 +1,7 @@
 //! The options of `micad`, for whoever is told which words it knows.
 
 use crate::memory::memory_of;
-use crate::streams::address_of;
+use crate::streams::{address_of, item_size_of};
 use option_words::number_of;
 use partition_model::{MOST_PARTITIONS, MOST_SPARES, MOST_WEAR, MOST_WORDS};
 use server_words::MOST_FRONTS;
@@ -15,6 +15,7 @@ pub(crate) enum Values {
     Number(&'static str, u64, u64),
     PowerOfTwo(u64),
     Memory,
+    ItemSize,
     Address,
     File,
     /// The number that says that there is no port of memcached's datagrams.
@@ -33,6 +34,7 @@ impl Values {
                 None => false,
             },
             Values::Memory => memory_of(text).is_some(),
+            Values::ItemSize => item_size_of(text).is_some(),
             Values::Address => address_of(text).is_some(),
             Values::File => true,
             Values::NoPort => text == "0",
@@ -51,6 +53,7 @@ impl Values {
             },
             Values::PowerOfTwo(_) => "1024",
             Values::Memory => "1G",
+            Values::ItemSize => "1M",
             Values::Address => "127.0.0.1",
             Values::File => "items.image",
             Values::NoPort => "0",
@@ -68,6 +71,9 @@ impl fmt::Display for Values {
             Values::Memory => f.write_str(
                 "it is 64M to 512G: a number of bytes, or with K, M or G behind it of KiB, MiB or GiB",
             ),
+            Values::ItemSize => f.write_str(
+                "every value of up to 1M is taken, and no shorter bound is served: give 1M, or leave it out",
+            ),
             Values::Address => f.write_str(
                 "it is one IPv4 address, as 127.0.0.1 or 0.0.0.0; names and IPv6 are not taken",
             ),
@@ -81,13 +87,14 @@ impl fmt::Display for Values {
 }
 
 /// The long names of all options, and of questions.
-pub(crate) static NAMES: [&str; 17] = [
+pub(crate) static NAMES: [&str; 18] = [
     "--mode",
     "--memcached",
     "--memory",
     "--threads",
     "--listen",
     "--connections",
+    "--item-size",
     "--port",
     "--fronts",
     "--image",
@@ -110,6 +117,7 @@ pub(crate) fn values_of(name: &str) -> Option<Values> {
         "--threads" => Some(Values::Number("it", 1, u64::from(MOST_FRONTS))),
         "--listen" => Some(Values::Address),
         "--connections" => Some(Values::Number("it", 1, 65_536)),
+        "--item-size" => Some(Values::ItemSize),
         "--port" => Some(Values::Number("a port of datagrams", 1_024, 65_000)),
         "--fronts" => Some(Values::Number("it", 1, u64::from(MOST_FRONTS))),
         "--image" => Some(Values::File),
@@ -132,6 +140,7 @@ pub(crate) fn long_of(name: &str) -> &str {
         "-t" => "--threads",
         "-m" => "--memory",
         "-M" => "--mode",
+        "-I" => "--item-size",
         _ => name,
     }
 }

@@ -24,7 +24,7 @@ pub struct DaemonOptions<'a> {
     pub image: Option<&'a str>,
 }
 
-static DAEMON_OPTIONS: [&str; 15] = [
+static DAEMON_OPTIONS: [&str; 16] = [
     "mode",
     "partitions",
     "buckets",
@@ -40,6 +40,7 @@ static DAEMON_OPTIONS: [&str; 15] = [
     "threads",
     "listen",
     "connections",
+    "item-size",
 ];
 
 // The sizes that are given one by one.

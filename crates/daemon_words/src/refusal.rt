@@ -21,9 +21,9 @@ pub(crate) enum Refusal<'a> {
     /// An option without its value.
     NoValue(&'a str, &'static str),
     BadValue(&'a str, &'a str, Values),
-    /// An amount that is too small, or too large.
-    Small(&'a str, &'a str),
-    Large(&'a str, &'a str),
+    /// An amount that is too small, and the least; or too large, and the most.
+    Small(&'a str, &'a str, &'static str),
+    Large(&'a str, &'a str, &'static str),
     Twice(&'static str),
     /// The second stands in place of the first.
     Beside(&'static str, &'static str),
@@ -55,8 +55,12 @@ impl fmt::Display for Refusal<'_> {
                 write!(f, "{word} wants a value, as in {word} {example}")
             }
             Refusal::BadValue(word, value, values) => write!(f, "{word} {value}: {values}"),
-            Refusal::Small(word, value) => write!(f, "{word} {value} is below 64M, the least"),
-            Refusal::Large(word, value) => write!(f, "{word} {value} is above 512G, the most"),
+            Refusal::Small(word, value, least) => {
+                write!(f, "{word} {value} is below {least}, the least")
+            }
+            Refusal::Large(word, value, most) => {
+                write!(f, "{word} {value} is above {most}, the most")
+            }
             Refusal::Twice(name) => write!(f, "{name} is given twice"),
             Refusal::Beside(name, other) => {
                 write!(f, "{other} stands in place of {name}: give one of them")

@@ -79,12 +79,13 @@ fn spell_plainly(alloc: Global, long: &mut Vec<String>, word: &str) -> Result<Wa
     }
 }
 
-// Adds what a word stands for that says how much memory there is, or the mode.
+// Adds what a word stands for that says how much memory there is, how long a value may be, or the mode.
 fn spell_for_items(alloc: Global, long: &mut Vec<String>, word: &str) -> Result<Waiting, NoMemory>
     ensures { IfOk result (λ next. (map string_bytes long.new.items ≡ map string_bytes long.old.items ++ (spelt_for_items word.now).0) × (next ≡ (spelt_for_items word.now).1)) }
 {
     match word {
         "-m" => add_before(alloc, long, "--memory", Waiting::Mebibytes),
+        "-I" => add_before(alloc, long, "--item-size", Waiting::Value),
         "-M" => add_before(alloc, long, "--mode=store", Waiting::Nothing),
         _ => spell_plainly(alloc, long, word),
     }

@@ -2,8 +2,9 @@
 ghost use Rattle.std.specs.Prelude.{◌≡◌};
 ghost use Rattle.clap.specs.Matches.{first_value, found_of};
 ghost use Rattle.option_words.specs.Settings.{value_of};
-ghost use Rattle.daemon_words.specs.StreamWords.{before_dot, behind_dot, octet_of, address_of, listen, gives_streams, some_streams, has_streams, streams_given};
+ghost use Rattle.daemon_words.specs.StreamWords.{before_dot, behind_dot, octet_of, address_of, listen, item_size, gives_streams, some_streams, has_streams, streams_given};
 
+use crate::memory::{MOST_ITEM_SIZE, amount_of};
 use clap::ArgMatches;
 use option_words::{count, number_of};
 use server_words::MOST_FRONTS;
@@ -61,6 +62,22 @@ fn listen(found: &ArgMatches<'_>) -> Option<Ipv4Addr>
     }
 }
 
+/// The longest value, where it is one that is served.
+pub(crate) fn item_size_of(text: &str) -> Option<u64>
+    ensures { result ≡ item_size.meaning text.now }
+{
+    amount_of(text, MOST_ITEM_SIZE, MOST_ITEM_SIZE)
+}
+
+fn item_size(found: &ArgMatches<'_>) -> Option<u64>
+    ensures { result ≡ value_of item_size (first_value (found_of found.now)) }
+{
+    match found.get_str("item-size") {
+        Some(text) => item_size_of(text),
+        None => Some(MOST_ITEM_SIZE),
+    }
+}
+
 // Whether one of the options is given that are of such fronts.
 fn gives_streams(found: &ArgMatches<'_>) -> bool
     ensures { result ≡ gives_streams (first_value (found_of found.now)) }
@@ -69,6 +86,7 @@ fn gives_streams(found: &ArgMatches<'_>) -> bool
         || found.get_str("threads").is_some()
         || found.get_str("listen").is_some()
         || found.get_str("connections").is_some()
+        || found.get_str("item-size").is_some()
 }
 
 // Fronts behind one port, each in a thread.
@@ -79,6 +97,7 @@ fn some_streams(found: &ArgMatches<'_>) -> Option<StreamOptions>
     let fronts = count(found, "threads", 1, MOST_FRONTS, 4)?;
     let address = listen(found)?;
     let connections = count(found, "connections", 1, 65_536, 1_024)?;
+    item_size(found)?;
     Some(StreamOptions {
         ports: StreamPorts { port, fronts },
         address,

@@ -59,7 +59,13 @@ fn of_another_protocol(words: &[String]) -> Option<Refusal<'static>> {
             None
         };
     }
-    for name in &["--memcached", "--threads", "--listen", "--connections"] {
+    for name in &[
+        "--memcached",
+        "--threads",
+        "--listen",
+        "--connections",
+        "--item-size",
+    ] {
         if gives(words, name) {
             return Some(Refusal::Apart(*name));
         }

@@ -2,7 +2,7 @@
 
 use crate::foreign::instead_of;
 use crate::known::{NAMES, Values, values_behind, values_of};
-use crate::memory::bytes_of;
+use crate::memory::{LEAST_ITEM_SIZE, MOST_ITEM_SIZE, bytes_of};
 use crate::refusal::Refusal;
 use outside::NoMemory;
 use partition_sizes::{LEAST_MEMORY, MOST_MEMORY};
@@ -36,14 +36,16 @@ fn unknown<'a>(alloc: Global, name: &'a str) -> Result<Refusal<'a>, NoMemory> {
 
 // Why a value is refused.
 fn wrong_value<'a>(name: &'a str, value: &'a str, values: Values) -> Refusal<'a> {
-    if matches!(values, Values::Memory) {
-        match bytes_of(value) {
-            Some(bytes) if bytes < LEAST_MEMORY => return Refusal::Small(name, value),
-            Some(bytes) if bytes > MOST_MEMORY => return Refusal::Large(name, value),
-            _ => {}
-        }
+    let Some(bytes) = bytes_of(value) else {
+        return Refusal::BadValue(name, value, values);
+    };
+    match values {
+        Values::Memory if bytes < LEAST_MEMORY => Refusal::Small(name, value, "64M"),
+        Values::Memory if bytes > MOST_MEMORY => Refusal::Large(name, value, "512G"),
+        Values::ItemSize if bytes < LEAST_ITEM_SIZE => Refusal::Small(name, value, "1K"),
+        Values::ItemSize if bytes > MOST_ITEM_SIZE => Refusal::Large(name, value, "1M"),
+        _ => Refusal::BadValue(name, value, values),
     }
-    Refusal::BadValue(name, value, values)
 }
 
 /// The name that a word gives, and the value that it brings.
@@ -64,7 +66,7 @@ fn wrong_name<'a>(alloc: Global, word: &'a str) -> Result<Refusal<'a>, NoMemory>
         [b'-', b'-', _, ..] => unknown(alloc, name),
         [
             b'-',
-            b'p' | b'm' | b'c' | b'l' | b't' | b'U' | b'u' | b'P',
+            b'p' | b'm' | b'c' | b'l' | b't' | b'I' | b'U' | b'u' | b'P',
             _,
             ..
         ] => Ok(Refusal::Attached(word)),

@@ -1,19 +1,15 @@
 -- The reply to one request, and to bytes that are no batch.
-use Rattle.std.proofs.Common.{◌≡◌, ◌<◌, inl, inr, ℕ, Bool, true, false, eqb, ltb, List, [], ◌∷◌, ◌++◌, length, None, refl, sym, ap, ◌∙◌, subst, arith, length-append, Some}
-use Rattle.std.specs.Prelude.{Result, Ok, Err, Option, IfSome}
+use Rattle.std.proofs.Common.{◌≡◌, ◌<◌, inl, inr, ℕ, Bool, true, false, ltb, List, [], ◌∷◌, ◌++◌, length, None, refl, sym, ap, ◌∙◌, subst, arith, length-append, Some}
+use Rattle.std.specs.Prelude.{Result, Ok, Err, Option}
 use Rattle.std.proofs.lemmas.List.{append-nil}
 use Rattle.std.specs.Result.{OnErr}
 use Rattle.std.proofs.lemmas.Bool.{ltb-false}
-use Rattle.mica_words.specs.Item.{StoredFits, ValueFits}
 use Rattle.mica_words.specs.Hash.{partition_of}
 use Rattle.partition_model.specs.declared.options.Options.{Options}
-use Rattle.partition_model.specs.declared.write.Answer.{Answer}
-use Rattle.partition_model.specs.declared.write.Answer.TheVariants.{Hit, Miss}
 use Rattle.partition_model.specs.declared.write.Outcome.{Outcome}
 use Rattle.partition_model.specs.declared.write.Write.{Write}
 use Rattle.partition_model.specs.Write.{is_accepted}
-use Rattle.partition_model.specs.Answer.{IsAnswer}
-use Rattle.batch_packets.specs.declared.header.TheConstants.{MAX_VALUE_LEN_V1}
+use Rattle.batch_packets.specs.Datagram.{max_value_len}
 use Rattle.batch_packets.specs.declared.batch.Request.{Request}
 use Rattle.batch_packets.specs.BatchGrammar.{IsRequest}
 use Rattle.batch_packets.specs.declared.replies.Reply.{Reply}
@@ -32,33 +28,23 @@ err_anyway (Ok t) x = tt
 err_anyway (Err e) x = x
 
 -- a reply to a get is of its version
-lawful_get : (version ticket stamp : ℕ) (value : Option (List ℕ)) → IfSome value ValueFits → IsReply version (get_reply version ticket stamp value)
+lawful_get : (version ticket stamp : ℕ) (value : Option (List ℕ)) → IsReply version (get_reply version ticket stamp value)
 unfolding status_byte
-lawful_get version ticket stamp None fits = record { status = refl; value = omega arith }
-lawful_get version ticket stamp (Some v) fits = by (eqb version 1) (ltb MAX_VALUE_LEN_V1 (length v)) refl refl
+lawful_get version ticket stamp None = record { status = refl; value = omega arith }
+lawful_get version ticket stamp (Some v) = by (ltb (max_value_len version) (length v)) refl
   where
-    by : (first long : Bool) → eqb version 1 ≡ first → ltb MAX_VALUE_LEN_V1 (length v) ≡ long → IsReply version (get_reply version ticket stamp (Some v))
-    by true true is over = record { status = rw (is, over) refl; value = rw (is, over) (omega arith) }
-    by true false is under = record { status = rw (is, under) refl; value = rw (is, under) (ltb-false _ _ under) }
-    by false long is over = record { status = rw is refl; value = rw is fits }
-
--- a datagram takes whatever a partition keeps, as long as the two bounds are one number
-is_short : (value : List ℕ) → StoredFits value → ValueFits value
-is_short value fits = omega arith
-
--- the value of an answer fits where the buffer does
-fits_of : (answer : Answer) (buffer : List ℕ) (value : Option (List ℕ)) → StoredFits buffer → IsAnswer answer buffer value → IfSome value ValueFits
-fits_of Hit buffer value fits is = subst (λ (o : Option (List ℕ)). IfSome o ValueFits) (sym is) (is_short buffer fits)
-fits_of Miss buffer value fits is = subst (λ (o : Option (List ℕ)). IfSome o ValueFits) (sym is.0) tt
+    by : (long : Bool) → ltb (max_value_len version) (length v) ≡ long → IsReply version (get_reply version ticket stamp (Some v))
+    by true over = record { status = rw over refl; value = rw over (omega arith) }
+    by false under = record { status = rw under refl; value = rw under (ltb-false _ _ under) }
 
 -- a get
-pub get_replied : (options : Options) (is_alone : Bool) (version : ℕ) (old new : Sessions) (request : Request) (key : List ℕ) (answer : Answer) (buffer : List ℕ) (stamp : ℕ) (value : Option (List ℕ))
-    → write_in request ≡ None → key ≡ request.key → StoredFits buffer → IsAnswer answer buffer value
+pub get_replied : (options : Options) (is_alone : Bool) (version : ℕ) (old new : Sessions) (request : Request) (key : List ℕ) (stamp : ℕ) (value : Option (List ℕ))
+    → write_in request ≡ None → key ≡ request.key
     → Reads options is_alone (old (partition_of key options.partitions)) key stamp value (new (partition_of key options.partitions))
     → ChangesOnly (partition_of key options.partitions) old new
     → RepliesTo options is_alone version old request new (got key stamp value)
-get_replied options is_alone version old new request key answer buffer stamp value none same fits is reads others = record {
-  is = record { version_is = refl; asked = (none, same); lawful = lawful_get version request.ticket stamp value (fits_of answer buffer value fits is) };
+get_replied options is_alone version old new request key stamp value none same reads others = record {
+  is = record { version_is = refl; asked = (none, same); lawful = lawful_get version request.ticket stamp value };
   answers = record { one = reads; others = others };
 }
 

@@ -1,11 +1,11 @@
 -- A request, what was answered to it, and its reply.
-use Rattle.std.specs.Prelude.{◌≡◌, ℕ, ◌==◌, ◌&&◌, Bool, List, [], length, map, nat_lt, Option, Some, None, is_some, if◌then◌else◌}
+use Rattle.std.specs.Prelude.{◌≡◌, ℕ, Bool, List, [], length, map, nat_lt, Option, Some, None, is_some, if◌then◌else◌}
 use Rattle.partition_model.specs.declared.write.Op.TheVariants.{Put as PutOp, Del as DelOp, Add as AddOp, Touch as TouchOp}
 use Rattle.partition_model.specs.declared.write.Outcome.{Outcome}
 use Rattle.partition_model.specs.declared.write.Outcome.TheVariants.{Stored, Deleted, Absent, Touched, FullSpare, FullBlock, Worn, Exists}
 use Rattle.partition_model.specs.declared.write.Write.{Write}
 use Rattle.partition_model.specs.Write.{write_of}
-use Rattle.batch_packets.specs.declared.header.TheConstants.{MAX_VALUE_LEN_V1}
+use Rattle.batch_packets.specs.Datagram.{max_value_len}
 use Rattle.batch_packets.specs.declared.batch.Want.{Want}
 use Rattle.batch_packets.specs.declared.batch.Want.TheVariants.{Get, Put, Del, Add, Touch}
 use Rattle.batch_packets.specs.declared.batch.Request.{Request}
@@ -55,9 +55,9 @@ status_of Touched = status.Touched
 abbrev pub write_reply : ℕ → Outcome → ℕ → Reply
 write_reply ticket outcome stamp = record { status = status_of outcome; ticket = ticket; stamp = stamp; value = [] }
 
--- whether a value is too long for the replies of a version, as it may be for those of the first
+-- whether a value is too long for the replies of a version
 abbrev pub is_too_long : ℕ → List ℕ → Bool
-is_too_long version value = (version == 1) && nat_lt MAX_VALUE_LEN_V1 (length value)
+is_too_long version value = nat_lt (max_value_len version) (length value)
 
 -- The reply to a get, in a version, where the key has this value or none. A hit of a value that is too long has a status of its own.
 abbrev pub get_reply : ℕ → ℕ → ℕ → Option (List ℕ) → Reply

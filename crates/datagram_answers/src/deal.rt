@@ -14,8 +14,8 @@ ghost use Rattle.datagram_answers.specs.Answering.{RepliesTo, AddsReply, Answers
 
 use crate::batch_ahead::load_ahead;
 use batch_packets::{
-    Datagram, Header, MAX_VALUE_LEN_V1, Reply, ReplyText, RequestRef, Requests, Status, Want,
-    check_batch, write_replies,
+    Datagram, Header, Reply, ReplyText, RequestRef, Requests, Status, Want, check_batch,
+    max_value_len, write_replies,
 };
 use fronts::Front;
 use outside::{Bytes, Gate, NoMemory};
@@ -74,7 +74,7 @@ fn get_reply(version: u8, answer: Answer, value: &[u8]) -> (Status, &[u8])
     ensures { (ticket stamp : ℕ) (found : Option (List ℕ)) → IsAnswer answer value.now found
         → record { status = result.0; ticket = ticket; stamp = stamp; value = result.1.now } ≡ get_reply version ticket stamp found }
 {
-    if version == 1 && value.len() > MAX_VALUE_LEN_V1 {
+    if value.len() > max_value_len(version) {
         return (Status::LongHit, &value[..0]);
     }
     match answer {

@@ -4,3 +4,4 @@ pub mod Getting
 pub mod Finding
 pub mod Ending
 pub mod FlushKeys
+pub mod Locking

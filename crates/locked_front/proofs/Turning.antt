@@ -1,5 +1,5 @@
 -- What one step makes of what is kept under a lock.
-use Rattle.std.proofs.Common.{◌≡◌, ℕ, ◌<◌, ◌≤◌, Bool, true, List, [], ◌∷◌, ◌++◌, Option, Some, None, inr, cond, refl, sym, ap, ◌∙◌, subst, append_assoc, length, suc, arith}
+use Rattle.std.proofs.Common.{◌≡◌, ℕ, ◌≤◌, Bool, true, List, [], ◌∷◌, ◌++◌, Option, Some, None, cond, refl, sym, ap, ◌∙◌, subst, append_assoc, length, suc, arith}
 use Rattle.std.proofs.lemmas.List.{map-append, length_push}
 use Rattle.atomic_table.specs.Seated.{TableId}
 use Rattle.partition_model.specs.declared.options.Options.{Options}
@@ -36,7 +36,7 @@ use Rattle.locked_front.specs.declared.counts.HistoryCounts.{HistoryCounts}
 use Rattle.locked_front.specs.declared.counts.Learned.{Learned}
 use Rattle.locked_front.specs.Plan.{Plan}
 use Rattle.locked_front.specs.Counts.{counts_after}
-use Rattle.locked_front.specs.Owned.{Owned, owned_as, step_by, run_step, run_in, IsOwned, IsHere, IsElsewhere, HasSeen, TookTurn, LeftAll, TookOrLeft, TookLook}
+use Rattle.locked_front.specs.Owned.{Owned, owned_as, step_by, run_step, run_in, IsOwned, HasCome, HasSeen, TookTurn, LeftAll, TookOrLeft, TookLook}
 
 -- what is counted by the shape is what is counted by the options
 pub plan_counts : (options : Options) (shape : Shape) (history : History) → shape ≡ shape_of options → counts_after (options_of shape) history ≡ counts_after options history
@@ -47,38 +47,34 @@ plan_counts options shape history is = (λ i. record {
   flushes = flushes_in (is i).buckets history;
 })
 
--- A partition that is the one that was asked for
+-- A partition that has come as far as it has to
 
-pub here_now : (plan : Plan) (owned : Owned) (number least stamp : ℕ) → IsOwned plan owned → owned.number ≡ number → stamp ≡ stamp_of (options_in owned.owner) owned.owner.history → least ≤ stamp
-    → IsHere plan number least owned
-here_now plan owned number least stamp law is stamped le = record {
-  number_is = is;
-  book = law.book ∙ ap plan.books is;
+pub come_now : (plan : Plan) (owned : Owned) (least stamp : ℕ) → IsOwned plan owned → stamp ≡ stamp_of (options_in owned.owner) owned.owner.history → least ≤ stamp
+    → HasCome plan least owned
+come_now plan owned least stamp law stamped le = record {
+  book = law.book;
   come = let same = stamped ∙ stamp_as plan.options owned.owner.shape owned.owner.history law.shape in omega (arith, le, same);
 }
-
-pub not_yet : (plan : Plan) (owned : Owned) (number least stamp : ℕ) → IsOwned plan owned → stamp ≡ stamp_of (options_in owned.owner) owned.owner.history → stamp < least → IsElsewhere plan number least owned
-not_yet plan owned number least stamp law stamped lt = inr (let same = stamped ∙ stamp_as plan.options owned.owner.shape owned.owner.history law.shape in omega (arith, lt, same))
 
 -- the stamp that it has come to
 abbrev least_of : Plan → Owned → ℕ
 least_of plan owned = stamp_of plan.options owned.owner.history
 
-module _ {plan : Plan} {number least : ℕ} {owned : Owned} (here : IsHere plan number least owned) where
+module _ {plan : Plan} {least : ℕ} {owned : Owned} (here : HasCome plan least owned) where
   pub turn_here : {old new : TakerView Step} {write : Write} {outcome : Outcome} {learned : Learned} → TookTurn plan owned.number (least_of plan owned) owned.owner.history old new write outcome learned
-      → TookTurn plan number least owned.owner.history old new write outcome learned
+      → TookTurn plan owned.number least owned.owner.history old new write outcome learned
   turn_here {write = write} {outcome = outcome} {learned = learned} took = record {
     come = here.come;
     allowed = took.allowed;
-    seen = subst (λ n. HasSeen plan n (owned.owner.history ++ history_of (run_step (step_by write outcome learned) ∷ [])) learned) here.number_is took.seen;
+    seen = took.seen;
     entered = took.entered;
   }
 
   either_here : (old new : TakerView Step) (write : Option Write) (outcome : Option Outcome) (learned : Learned) → TookOrLeft plan owned.number (least_of plan owned) owned.owner.history old new write outcome learned
-      → TookOrLeft plan number least owned.owner.history old new write outcome learned
+      → TookOrLeft plan owned.number least owned.owner.history old new write outcome learned
   either_here old new None None learned left = record {
     come = here.come;
-    seen = subst (λ n. HasSeen plan n owned.owner.history learned) here.number_is left.seen;
+    seen = left.seen;
     entered = left.entered;
   }
   either_here old new (Some write) (Some outcome) learned took = turn_here took
@@ -86,7 +82,7 @@ module _ {plan : Plan} {number least : ℕ} {owned : Owned} (here : IsHere plan 
   either_here old new (Some write) None learned never = absurd never
 
   pub look_here : {old new : TakerView Step} {second : ℕ} {key : List ℕ} {needs : Bool} {becoming : When → Option (List ℕ) → Becoming} {changed : Changed} {buffer : List ℕ} {learned : Learned}
-      → TookLook plan owned.number (least_of plan owned) second owned.owner.history key needs becoming old new changed buffer learned → TookLook plan number least second owned.owner.history key needs becoming old new changed buffer learned
+      → TookLook plan owned.number (least_of plan owned) second owned.owner.history key needs becoming old new changed buffer learned → TookLook plan owned.number least second owned.owner.history key needs becoming old new changed buffer learned
   look_here {old = old} {new = new} {changed = changed} {learned = learned} took = record {
     value = took.value;
     found = took.found;

@@ -3,3 +3,4 @@ pub mod Counts
 pub mod Owned
 pub mod Parts
 pub mod Returned
+pub mod Locks

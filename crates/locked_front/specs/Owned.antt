@@ -1,5 +1,5 @@
 -- What is kept of a partition under its lock, and what a front has of it once it let go.
-use Rattle.std.specs.Prelude.{◌≡◌, ◌≢◌, ◌<◌, ◌≤◌, ◌⊎◌, ℕ, Bool, List, [], ◌∷◌, ◌++◌, map, Option, Some, None}
+use Rattle.std.specs.Prelude.{◌≡◌, ◌≤◌, ℕ, Bool, List, [], ◌∷◌, ◌++◌, map, Option, Some, None}
 use Rattle.atomic_table.specs.Seated.{TableId}
 use Rattle.partition_model.specs.declared.write.Op.TheVariants.{Del}
 use Rattle.partition_model.specs.declared.write.Outcome.{Outcome}
@@ -121,12 +121,7 @@ pub record TookLook (plan : Plan) (number least second : ℕ) (before : History)
   pub does : TookOrLeft plan number least before old new (write_by becoming key (record { when = changed.when; value = value })) changed.outcome learned
   pub stamped : changed.stamp ≡ learned.counts.stamp
 
--- It is the partition of the number, and has come as far as the stamp.
-pub record IsHere (plan : Plan) (number least : ℕ) (owned : Owned) : Type 0 where
-  pub number_is : owned.number ≡ number
-  pub book : owned.book.table ≡ plan.books number
+-- It is the plan's of its number, and has come as far as the stamp.
+pub record HasCome (plan : Plan) (least : ℕ) (owned : Owned) : Type 0 where
+  pub book : owned.book.table ≡ plan.books owned.number
   pub come : least ≤ stamp_of plan.options owned.owner.history
-
--- it is another partition, or one that stands before the stamp
-abbrev pub IsElsewhere : Plan → ℕ → ℕ → Owned → Type 0
-IsElsewhere plan number least owned = (owned.number ≢ number) ⊎ (stamp_of plan.options owned.owner.history < least)

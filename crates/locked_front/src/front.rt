@@ -10,7 +10,8 @@ ghost use Rattle.locked_front.specs.declared.part.LockedPart.{LockedPart};
 ghost use Rattle.locked_front.specs.Parts.{IsPartOf, IsLockedFront, locked_view, sessions_of, turns_left, turns_taken};
 
 use crate::flush_keys::make_key;
-use crate::owned::{OwnedPartition, ServerPlan};
+use crate::locks::PartitionLocks;
+use crate::owned::ServerPlan;
 use crate::part::LockedPart;
 use fronts::{Changed, Changes, CountsWrites, Decide, Flush, Front, Glances, Glimpse, seat_loads};
 use mica_words::{key_hash, partition_of};
@@ -20,8 +21,8 @@ use partition_table::{Note, ReaderSeat};
 use partition_words::LendPartition;
 use std::alloc::Global;
 use std::marker::Model;
+use std::sync::Wait;
 use std::sync::atomic::{AtomicBool, Ordering};
-use std::sync::{Mutex, Wait};
 
 // How many writes were made.
 fn count_of(outcome: Option<Outcome>) -> u64
@@ -51,7 +52,7 @@ pub struct LockedFront<
     // What it waits by, for locks.
     rt: &'a R,
     options: Options,
-    locks: &'a [Mutex<OwnedPartition<J, P>>],
+    locks: &'a PartitionLocks<J, P>,
     number: u32,
     parts: Vec<LockedPart>,
     // How many writes it may still be given.
@@ -69,7 +70,7 @@ impl<'a, J: ServerPlan, P: LendPartition<Reader = ReaderSeat, Note = Note> + Dro
 
     ghost view = { λ f. locked_view f.options f.number f.parts.items };
 
-    ghost invariant = { λ f. IsLockedFront J.plan (locked_view f.options f.number f.parts.items) × (length f.locks.now ≡ f.options.partitions)
+    ghost invariant = { λ f. IsLockedFront J.plan (locked_view f.options f.number f.parts.items) × (f.locks.now ≡ f.options.partitions)
         × (f.left ≡ turns_left f.parts.items) };
 }
 
@@ -79,11 +80,11 @@ impl<
     P: LendPartition<Reader = ReaderSeat, Note = Note> + Drop,
     R: Wait,
 > LockedFront<'a, J, P, R> {
-    /// A front that has taken no turn. The locks are those of the partitions, in order. It sets `ended` once a write finds its partition worn.
+    /// A front that has taken no turn. It sets `ended` once a write finds its partition worn.
     pub fn new(
         rt: &'a R,
         options: &Options,
-        locks: &'a [Mutex<OwnedPartition<J, P>>],
+        locks: &'a PartitionLocks<J, P>,
         number: u32,
         parts: Vec<LockedPart>,
         ended: &'a AtomicBool,
@@ -91,7 +92,7 @@ impl<
         requires options { options.now ≡ J.plan.options }
         requires valid { IsPossible options.now }
         requires low { number < J.plan.fronts }
-        requires locks { length locks.now ≡ options.now.partitions }
+        requires locks { locks.now ≡ options.now.partitions }
         requires many { vec_len parts ≡ options.now.partitions }
         requires none { turns_taken parts.items ≡ 0 }
         requires each { (p : ℕ) (part : LockedPart) → slice_get parts.items p ≡ Some part → IsPartOf J.plan p number part }
@@ -124,7 +125,7 @@ impl<
         let hash = key_hash(key);
         let number = partition_of(hash, self.options.partitions);
         let at = number as usize;
-        let lock = &self.locks[at];
+        let lock = self.locks.of(number);
         let written = self.parts[at].write(self.rt, lock, number, op, key, hash, value);
         self.left -= 1;
         tell_worn(self.ended, Some(written.0));
@@ -212,7 +213,7 @@ impl<'a, J: ServerPlan, P: LendPartition<Reader = ReaderSeat, Note = Note> + Dro
         let hash = key_hash(key);
         let number = partition_of(hash, self.options.partitions);
         let at = number as usize;
-        let lock = &self.locks[at];
+        let lock = self.locks.of(number);
         let changed = self.parts[at].change(
             self.rt, lock, number, second, key, hash, decide, found, next,
         );

@@ -9,14 +9,16 @@ mod counts;
 mod flush_keys;
 mod flushes;
 mod front;
+mod held;
+mod locks;
 mod owned;
 mod part;
 mod returned;
-mod taking;
 
 pub use counts::{HistoryCounts, Learned};
 pub use flushes::write_counted;
 pub use front::LockedFront;
+pub use locks::{PartitionLock, PartitionLocks};
 pub use owned::{OwnedPartition, ServerPlan, Step, Written};
 pub use part::LockedPart;
 pub use returned::Returned;

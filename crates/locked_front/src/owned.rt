@@ -1,5 +1,5 @@
 //! A partition under its lock.
-ghost use Rattle.std.specs.Prelude.{◌≡◌, ◌++◌, ◌∷◌, [], ℕ, true, false, List, Option, IfSome, IfNone};
+ghost use Rattle.std.specs.Prelude.{◌≡◌, ◌++◌, ◌∷◌, [], ℕ, true, List, Option, IfSome, IfNone};
 ghost use Rattle.mica_words.specs.Hash.{fnv1a};
 ghost use Rattle.mica_words.specs.Item.{KeyFits};
 ghost use Rattle.partition_model.specs.Answer.{IsAnswer};
@@ -10,13 +10,14 @@ ghost use Rattle.fronts.specs.Changing.{IsFound, write_by, written_by};
 ghost use Rattle.fronts.specs.Flushes.{AreKept};
 ghost use Rattle.turn_book.specs.Entries.{book_view, taker_view, entry};
 ghost use Rattle.partition_table.specs.Seats.{note_state, note_home};
-ghost use Rattle.locked_front.specs.Owned.{where_none as none_where, owned_as, step_of, NotesAre, TookTurn, TookLook, TookOrLeft, IsHere, IsElsewhere, IsOwned};
+ghost use Rattle.locked_front.specs.Owned.{where_none as none_where, owned_as, step_of, NotesAre, TookTurn, TookLook, TookOrLeft, HasCome, IsOwned};
 ghost use Rattle.locked_front.specs.Returned.{IsNew};
 
 use crate::counts::{HistoryCounts, Learned, learn_of};
 use crate::flushes::write_counted;
 use crate::returned::Returned;
 use fronts::{Changed, Decide, KeptFlushes, When};
+use numbered_lock::Numbered;
 use partition_model::{Answer, Change, ItemBuf, Op, Outcome, Write};
 use partition_table::{Note, ReaderSeat};
 use partition_words::{LendPartition, Partition};
@@ -82,6 +83,11 @@ impl<J: ServerPlan, P: LendPartition<Reader = ReaderSeat, Note = Note> + Drop> M
 
     ghost invariant = { λ o. IsOwned J.plan (owned_as o.number (P.home o.part) (P.owner o.part) o.book)
         × AreKept (P.owner o.part).shape.buckets (P.owner o.part).history o.flushes × NotesAre P.noted P.note_home note_state note_home };
+}
+
+impl<J: ServerPlan, P: LendPartition<Reader = ReaderSeat, Note = Note> + Drop> Numbered
+    for OwnedPartition<J, P> {
+    ghost number = { λ o. o.number };
 }
 
 // Enters the step of K. It is told what the pick reads.
@@ -183,6 +189,12 @@ impl<J: ServerPlan, P: LendPartition<Reader = ReaderSeat, Note = Note> + Drop> O
         }
     }
 
+    pub(crate) fn number(&self) -> u32
+        ensures { result ≡ self.now.number }
+    {
+        self.number
+    }
+
     /// What is left once its lock is gone.
     pub fn give_back(self) -> Returned<P>
         ensures law { IsOwned J.plan self }
@@ -195,12 +207,11 @@ impl<J: ServerPlan, P: LendPartition<Reader = ReaderSeat, Note = Note> + Drop> O
         }
     }
 
-    // Whether it is the partition of the number, and has come as far as the stamp.
-    fn is_at(&self, number: u32, least: u64) -> bool
-        ensures yes { result ≡ true → IsHere J.plan number least self.now }
-        ensures no { result ≡ false → IsElsewhere J.plan number least self.now }
+    // Whether it has come as far as the stamp.
+    fn has_come(&self, least: u64) -> bool
+        ensures { result ≡ true → HasCome J.plan least self.now }
     {
-        self.number == number && least <= self.part.stamp()
+        least <= self.part.stamp()
     }
 
     // Takes one step, in the taker's turn.
@@ -216,8 +227,9 @@ impl<J: ServerPlan, P: LendPartition<Reader = ReaderSeat, Note = Note> + Drop> O
         requires hashed { hash ≡ fnv1a key.now }
         requires value { HasValueOf op value.now }
         requires own { taker.old.table ≡ self.old.book.table }
-        ensures { TookTurn J.plan self.old.number (stamp_of J.plan.options self.old.owner.history) self.old.owner.history taker.old taker.new
+        ensures took { TookTurn J.plan self.old.number (stamp_of J.plan.options self.old.owner.history) self.old.owner.history taker.old taker.new
             (write_of op key.entry.now value.entry.now) result.outcome result.learned }
+        ensures number { self.new.number ≡ self.old.number }
     {
         let outcome = write_counted(&mut self.part, &mut self.flushes, op, key, hash, value);
         let learned = learn_of(&mut self.part, &self.flushes);
@@ -238,8 +250,9 @@ impl<J: ServerPlan, P: LendPartition<Reader = ReaderSeat, Note = Note> + Drop> O
         requires key { KeyFits key.now }
         requires hashed { hash ≡ fnv1a key.now }
         requires own { taker.old.table ≡ self.old.book.table }
-        ensures { TookOrLeft J.plan self.old.number (stamp_of J.plan.options self.old.owner.history) self.old.owner.history taker.old taker.new
+        ensures did { TookOrLeft J.plan self.old.number (stamp_of J.plan.options self.old.owner.history) self.old.owner.history taker.old taker.new
             (written_by key.entry.now next.entry.now change) result.0 result.1 }
+        ensures number { self.new.number ≡ self.old.number }
     {
         match change {
             Change::Stay => {
@@ -271,8 +284,9 @@ impl<J: ServerPlan, P: LendPartition<Reader = ReaderSeat, Note = Note> + Drop> O
         requires key { KeyFits key.now }
         requires hashed { hash ≡ fnv1a key.now }
         requires own { taker.old.table ≡ self.old.book.table }
-        ensures { TookLook J.plan self.old.number (stamp_of J.plan.options self.old.owner.history) second self.old.owner.history key.entry.now
+        ensures looked { TookLook J.plan self.old.number (stamp_of J.plan.options self.old.owner.history) second self.old.owner.history key.entry.now
             (D.needs decide.entry.now) (D.becoming decide.entry.now) taker.old taker.new result.0 found.new result.1 }
+        ensures number { self.new.number ≡ self.old.number }
     {
         let when = HistoryCounts::of(&self.part, &self.flushes).when_at(second);
         let (answer, change) = look(&mut self.part, key, decide, when, found, next);
@@ -286,11 +300,10 @@ impl<J: ServerPlan, P: LendPartition<Reader = ReaderSeat, Note = Note> + Drop> O
         (changed, learned)
     }
 
-    /// Does a write in the taker's turn. Nothing where it is another partition, or one that stands before the stamp.
+    /// Does a write in the taker's turn. Nothing where it stands before the stamp.
     pub fn write(
         &mut self,
         taker: &mut Taker<Step>,
-        number: u32,
         least: u64,
         op: Op,
         key: &[u8],
@@ -300,12 +313,13 @@ impl<J: ServerPlan, P: LendPartition<Reader = ReaderSeat, Note = Note> + Drop> O
         requires key { KeyFits key.now }
         requires hashed { hash ≡ fnv1a key.now }
         requires value { HasValueOf op value.now }
-        requires own { taker.old.table ≡ J.plan.books number }
-        ensures written { IfSome result (λ w. TookTurn J.plan number least self.old.owner.history taker.old taker.new
+        requires own { taker.old.table ≡ J.plan.books self.old.number }
+        ensures written { IfSome result (λ w. TookTurn J.plan self.old.number least self.old.owner.history taker.old taker.new
             (write_of op key.entry.now value.entry.now) w.outcome w.learned) }
-        ensures none { IfNone result (IsElsewhere J.plan number least self.old × (self.new ≡ self.old) × (taker.new ≡ taker.old)) }
+        ensures none { IfNone result (taker.new ≡ taker.old) }
+        ensures number { self.new.number ≡ self.old.number }
     {
-        if self.is_at(number, least) {
+        if self.has_come(least) {
             Some(self.step(taker, op, key, hash, value))
         } else {
             None
@@ -316,7 +330,6 @@ impl<J: ServerPlan, P: LendPartition<Reader = ReaderSeat, Note = Note> + Drop> O
     pub fn change<D: Decide>(
         &mut self,
         taker: &mut Taker<Step>,
-        number: u32,
         least: u64,
         second: u64,
         key: &[u8],
@@ -327,12 +340,13 @@ impl<J: ServerPlan, P: LendPartition<Reader = ReaderSeat, Note = Note> + Drop> O
     ) -> Option<(Changed, Learned)>
         requires key { KeyFits key.now }
         requires hashed { hash ≡ fnv1a key.now }
-        requires own { taker.old.table ≡ J.plan.books number }
-        ensures looked { IfSome result (λ r. TookLook J.plan number least second self.old.owner.history key.entry.now
+        requires own { taker.old.table ≡ J.plan.books self.old.number }
+        ensures looked { IfSome result (λ r. TookLook J.plan self.old.number least second self.old.owner.history key.entry.now
             (D.needs decide.entry.now) (D.becoming decide.entry.now) taker.old taker.new r.0 found.new r.1) }
-        ensures none { IfNone result (IsElsewhere J.plan number least self.old × (self.new ≡ self.old) × (taker.new ≡ taker.old)) }
+        ensures none { IfNone result (taker.new ≡ taker.old) }
+        ensures number { self.new.number ≡ self.old.number }
     {
-        if self.is_at(number, least) {
+        if self.has_come(least) {
             Some(self.change_here(taker, second, key, hash, decide, found, next))
         } else {
             None

@@ -9,14 +9,15 @@ ghost use Rattle.locked_front.specs.Owned.{TookTurn, TookLook};
 ghost use Rattle.locked_front.specs.Parts.{IsPartOf, HasLearned, PartWrites, PartReads, PartChanges, PartRests, PartGets, answer_in as in_got};
 
 use crate::counts::{HistoryCounts, Learned};
-use crate::owned::{OwnedPartition, ServerPlan, Step, Written};
-use crate::taking::take;
+use crate::held::{change_held, write_held};
+use crate::locks::PartitionLock;
+use crate::owned::{ServerPlan, Step, Written};
 use fronts::{Changed, Decide};
 use optimistic_get::{Got, ask_hashed, get_hashed};
 use partition_model::{Answer, ItemBuf, Op, Outcome};
 use partition_table::{Note, ReaderSeat};
 use partition_words::{LendPartition, ReaderWords};
-use std::sync::{Mutex, Wait};
+use std::sync::Wait;
 use std::thread;
 use turn_book::Taker;
 
@@ -47,17 +48,15 @@ fn answer_in(got: Got) -> Option<(Answer, u64)>
     }
 }
 
-// Owns the partition for one write. Whatever the lock is of, the write is done in the partition of the number, and not before that has come as
-// far as the stamp.
+// Owns the partition for one write, which is not done before that has come as far as the stamp. It always has, since its history has all that was seen of it.
 fn write_under_lock<
     R: Wait,
     J: ServerPlan,
     P: LendPartition<Reader = ReaderSeat, Note = Note> + Drop,
 >(
     rt: &R,
-    lock: &Mutex<OwnedPartition<J, P>>,
+    lock: &PartitionLock<J, P>,
     taker: &mut Taker<Step>,
-    number: u32,
     least: u64,
     op: Op,
     key: &[u8],
@@ -67,12 +66,14 @@ fn write_under_lock<
     requires key { KeyFits key.now }
     requires hashed { hash ≡ fnv1a key.now }
     requires value { HasValueOf op value.now }
-    requires own { taker.old.table ≡ J.plan.books number }
-    ensures { (before : History) × TookTurn J.plan number least before taker.old taker.new
+    requires own { taker.old.table ≡ J.plan.books lock.now.number }
+    ensures { (before : History) × TookTurn J.plan lock.now.number least before taker.old taker.new
         (write_of op key.entry.now value.entry.now) result.outcome result.learned }
 {
     for _ in rt.forever() {
-        let written = take(rt, lock).write(taker, number, least, op, key, hash, value);
+        let mut held = lock.hold(rt);
+        let written = write_held(lock, &mut held, taker, least, op, key, hash, value);
+        lock.let_go(held);
         match written {
             Some(written) => return written,
             None => thread::yield_now(),
@@ -89,9 +90,8 @@ fn change_under_lock<
     D: Decide,
 >(
     rt: &R,
-    lock: &Mutex<OwnedPartition<J, P>>,
+    lock: &PartitionLock<J, P>,
     taker: &mut Taker<Step>,
-    number: u32,
     least: u64,
     second: u64,
     key: &[u8],
@@ -102,14 +102,16 @@ fn change_under_lock<
 ) -> (Changed, Learned)
     requires key { KeyFits key.now }
     requires hashed { hash ≡ fnv1a key.now }
-    requires own { taker.old.table ≡ J.plan.books number }
-    ensures { (before : History) × TookLook J.plan number least second before key.entry.now
+    requires own { taker.old.table ≡ J.plan.books lock.now.number }
+    ensures { (before : History) × TookLook J.plan lock.now.number least second before key.entry.now
         (D.needs decide.entry.now) (D.becoming decide.entry.now) taker.old taker.new result.0 found.new result.1 }
 {
     for _ in rt.forever() {
-        let looked = take(rt, lock).change(
-            taker, number, least, second, key, hash, decide, found, next,
+        let mut held = lock.hold(rt);
+        let looked = change_held(
+            lock, &mut held, taker, least, second, key, hash, decide, found, next,
         );
+        lock.let_go(held);
         match looked {
             Some(looked) => return looked,
             None => thread::yield_now(),
@@ -199,7 +201,7 @@ impl LockedPart {
     >(
         &mut self,
         rt: &R,
-        lock: &Mutex<OwnedPartition<J, P>>,
+        lock: &PartitionLock<J, P>,
         number: u32,
         op: Op,
         key: &[u8],
@@ -209,6 +211,7 @@ impl LockedPart {
         requires key { KeyFits key.now }
         requires hashed { hash ≡ fnv1a key.now }
         requires value { HasValueOf op value.now }
+        requires lock { lock.now.number ≡ number }
         requires own { IsPartOf J.plan number self.old.taker.number self.old }
         ensures { PartWrites J.plan number self.old (write_of op key.entry.now value.entry.now) result.0 result.1 self.new }
     {
@@ -216,7 +219,6 @@ impl LockedPart {
             rt,
             lock,
             &mut self.taker,
-            number,
             self.newest,
             op,
             key,
@@ -238,7 +240,7 @@ impl LockedPart {
     >(
         &mut self,
         rt: &R,
-        lock: &Mutex<OwnedPartition<J, P>>,
+        lock: &PartitionLock<J, P>,
         number: u32,
         second: u64,
         key: &[u8],
@@ -249,6 +251,7 @@ impl LockedPart {
     ) -> Changed
         requires key { KeyFits key.now }
         requires hashed { hash ≡ fnv1a key.now }
+        requires lock { lock.now.number ≡ number }
         requires own { IsPartOf J.plan number self.old.taker.number self.old }
         ensures { PartChanges J.plan number second key.entry.now (D.needs decide.entry.now) (D.becoming decide.entry.now) self.old result found.new self.new }
     {
@@ -259,7 +262,6 @@ impl LockedPart {
                     rt,
                     lock,
                     &mut self.taker,
-                    number,
                     self.newest,
                     second,
                     key,

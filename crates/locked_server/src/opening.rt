@@ -15,13 +15,13 @@ ghost use Rattle.locked_server.specs.Opening.{IsFilled, AreFilled, IsOpened, Are
 use crate::filling::{OpenFault, fill};
 use any_partition::OnTable;
 use fronts::KeptFlushes;
-use locked_front::{HistoryCounts, LockedPart, OwnedPartition, ServerPlan, Step};
+use locked_front::{HistoryCounts, LockedPart, OwnedPartition, PartitionLocks, ServerPlan, Step};
 use outside::NoMemory;
 use partition_model::{Options, Write};
 use partition_table::{Note, ReaderSeat, zeros_for};
 use partition_words::{LendPartition, Partition, Shape};
 use std::alloc::Global;
-use std::sync::{Mutex, Wait};
+use std::sync::Wait;
 use std::thread::{Threads, for_each_mut};
 use turn_book::TurnBook;
 
@@ -191,13 +191,13 @@ pub(crate) fn lend_hands<J: ServerPlan, P: LendPartition<Reader = ReaderSeat, No
 pub fn lock_parts<J: ServerPlan, P: LendPartition<Reader = ReaderSeat, Note = Note> + Drop>(
     alloc: Global,
     parts: Vec<FilledPart<P>>,
-) -> Result<Vec<Mutex<OwnedPartition<J, P>>>, NoMemory>
+) -> Result<PartitionLocks<J, P>, NoMemory>
     requires notes { NotesAre P.noted P.note_home note_state note_home }
     requires of { ArePlanned J.plan J.plan.fronts (map (λ f. filled_view P.owner P.home f) parts.items) }
     requires few { J.plan.options.partitions ≤ MOST_PARTITIONS }
-    ensures { IfOk result (λ locks. length locks.items ≡ length parts.items) }
+    ensures { IfOk result (λ locks. locks ≡ length parts.items) }
 {
-    let mut locks = Vec::with_capacity(alloc, parts.len())?;
+    let mut locks = PartitionLocks::new(alloc, parts.len())?;
     let mut number = 0;
     for filled in parts {
         let FilledPart {
@@ -205,7 +205,7 @@ pub fn lock_parts<J: ServerPlan, P: LendPartition<Reader = ReaderSeat, Note = No
             book,
             flushes,
         } = filled;
-        locks.push(Mutex::new(OwnedPartition::new(number, part, book, flushes)))?;
+        locks.push(alloc, OwnedPartition::new(number, part, book, flushes))?;
         number += 1;
     }
     Ok(locks)

@@ -57,7 +57,7 @@ fn bind_and_serve<
     requires service { IsPossibleService shared.now.service }
     requires plan { IsPlanOf shared.now.service J.plan }
     requires filled { (p : ℕ) → p < shared.now.service.options.partitions → IsHistory shared.now.service.options (J.plan.origin p) }
-    requires server { IsLockedServer J.plan shared.now.service.places shared.now.service.ports.fronts (length server.locks.items)
+    requires server { IsLockedServer J.plan shared.now.service.places shared.now.service.ports.fronts server.locks
         server.stream_hands.items server.hands.items server.room }
     requires tables { left.old.tables ≡ [] }
     requires uncounted { left.old.lacked ≡ 0 }

@@ -25,13 +25,13 @@ use crate::worker::{FrontTask, pair_up, part_fronts, run_workers};
 use any_partition::OnTable;
 use connections::Connections;
 use fronts::{ServeFault, Totals};
-use locked_front::{LockedPart, OwnedPartition, Returned, ServerPlan};
+use locked_front::{LockedPart, PartitionLocks, Returned, ServerPlan};
 use outside::{Datagrams, Gate, NoMemory};
 use partition_table::{Note, ReaderSeat};
 use partition_words::LendPartition;
 use std::alloc::Global;
 use std::mem;
-use std::sync::{Mutex, Wait};
+use std::sync::Wait;
 use std::thread::Threads;
 
 /// The room for the fronts of one kind, and for what they come to.
@@ -95,7 +95,7 @@ pub struct LockedServer<
     D,
     C,
 > {
-    pub locks: Vec<Mutex<OwnedPartition<J, P>>>,
+    pub locks: PartitionLocks<J, P>,
     /// Those of the fronts of connections.
     pub stream_hands: Vec<Vec<LockedPart>>,
     /// Those of the fronts of datagrams.
@@ -119,7 +119,7 @@ impl<
         requires takers { J.plan.fronts ≡ service.now.places + service.now.ports.fronts }
         requires partitions { J.plan.options.partitions ≤ MOST_PARTITIONS }
         requires of { ArePlanned J.plan 0 (map (λ f. filled_view P.owner P.home f) parts.items) }
-        ensures { IfOk result (λ server. IsLockedServer J.plan service.now.places service.now.ports.fronts (length server.locks.items)
+        ensures { IfOk result (λ server. IsLockedServer J.plan service.now.places service.now.ports.fronts server.locks
             server.stream_hands.items server.hands.items server.room) }
     {
         let mut parts = parts;
@@ -165,7 +165,7 @@ fn run_all<
     requires plan { IsPlanOf shared.now.service J.plan }
     requires takers { J.plan.fronts ≡ length connections.old.items + length ends.old.items }
     requires filled { (p : ℕ) → p < shared.now.service.options.partitions → IsHistory shared.now.service.options (J.plan.origin p) }
-    requires server { IsLockedServer J.plan (length connections.old.items) (length ends.old.items) (length server.locks.items)
+    requires server { IsLockedServer J.plan (length connections.old.items) (length ends.old.items) server.locks
         server.stream_hands.items server.hands.items server.room }
     requires unserved { AreOpen (map (end_facts D.Datagrams) ends.old.items) }
     requires fresh { AreUnserved (map (stream_facts C.Connections) connections.old.items) }
@@ -195,13 +195,7 @@ fn run_all<
     pair_streams(stream_hands, shares_before, &mut stream_tasks);
     pair_up(hands, ends_before, &mut tasks);
     let first = stream_tasks.len() as u32;
-    run_workers(
-        shared,
-        locks.as_slice(),
-        first,
-        &mut stream_tasks,
-        &mut tasks,
-    );
+    run_workers(shared, &locks, first, &mut stream_tasks, &mut tasks);
     let lacked = part_streams(
         stream_tasks,
         connections,
@@ -238,7 +232,7 @@ pub(crate) fn serve_all<
     requires plan { IsPlanOf shared.now.service J.plan }
     requires takers { J.plan.fronts ≡ length connections.old.items + length ends.old.items }
     requires filled { (p : ℕ) → p < shared.now.service.options.partitions → IsHistory shared.now.service.options (J.plan.origin p) }
-    requires server { IsLockedServer J.plan (length connections.old.items) (length ends.old.items) (length server.locks.items)
+    requires server { IsLockedServer J.plan (length connections.old.items) (length ends.old.items) server.locks
         server.stream_hands.items server.hands.items server.room }
     requires tables { left.old.tables ≡ [] }
     requires unserved { AreOpen (map (end_facts D.Datagrams) ends.old.items) }

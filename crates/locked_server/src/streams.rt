@@ -9,13 +9,13 @@ use command_answers::Numbering;
 use connection_loop::{Hand, serve_connections};
 use connections::Connections;
 use fronts::ServeFault;
-use locked_front::{LockedFront, LockedPart, OwnedPartition, ServerPlan};
+use locked_front::{LockedFront, LockedPart, PartitionLocks, ServerPlan};
 use outside::Gate;
 use partition_table::{Note, ReaderSeat};
 use partition_words::LendPartition;
 use std::mem;
+use std::sync::Wait;
 use std::sync::atomic::Ordering;
-use std::sync::{Mutex, Wait};
 use std::thread::{Threads, for_each_mut};
 
 /// What a front has in hand, and its share of connections.
@@ -35,8 +35,8 @@ impl<C: Connections> StreamTask<C> {
         J: ServerPlan,
         P: LendPartition<Reader = ReaderSeat, Note = Note> + Drop,
         G: Gate,
-    >(&mut self, shared: &Shared<W, G>, locks: &[Mutex<OwnedPartition<J, P>>], number: u32)
-        requires plan { IsLockedPlan shared.now.service J.plan (length locks.now) }
+    >(&mut self, shared: &Shared<W, G>, locks: &PartitionLocks<J, P>, number: u32)
+        requires plan { IsLockedPlan shared.now.service J.plan locks.now }
         requires low { number < J.plan.fronts }
         requires ready { IsReadyStream J.plan (stream_facts C.Connections) number self.old }
         ensures { StreamRan J.plan (stream_facts C.Connections) shared.now.service.base number self.old self.new }
@@ -73,8 +73,8 @@ pub(crate) fn run_streams<
     P: LendPartition<Reader = ReaderSeat, Note = Note> + Drop + Send,
     C: Connections + Send,
     G: Gate,
->(shared: &Shared<W, G>, locks: &[Mutex<OwnedPartition<J, P>>], streams: &mut Vec<StreamTask<C>>)
-    requires plan { IsLockedPlan shared.now.service J.plan (length locks.now) }
+>(shared: &Shared<W, G>, locks: &PartitionLocks<J, P>, streams: &mut Vec<StreamTask<C>>)
+    requires plan { IsLockedPlan shared.now.service J.plan locks.now }
     requires many { length streams.old.items ≤ J.plan.fronts }
     requires ready { AreReadyStreams J.plan (stream_facts C.Connections) streams.old.items }
     ensures { StreamsRan J.plan (stream_facts C.Connections) shared.now.service.base streams.old.items streams.new.items }
@@ -85,7 +85,7 @@ pub(crate) fn run_streams<
         streams.as_mut_slice(),
         threads,
         &|number, stream|
-            requires { (number < J.plan.fronts) × IsLockedPlan shared.now.service J.plan (length locks.now)
+            requires { (number < J.plan.fronts) × IsLockedPlan shared.now.service J.plan locks.now
                 × IsReadyStream J.plan (stream_facts C.Connections) number stream.now }
             ensures { StreamRan J.plan (stream_facts C.Connections) shared.entry.now.service.base number stream.entry.now stream.exit.now }
         { stream.run(shared, locks, number as u32) },

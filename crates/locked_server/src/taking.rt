@@ -7,45 +7,25 @@ ghost use Rattle.locked_front.specs.Owned.{Owned, IsOwned};
 ghost use Rattle.locked_server.specs.Taking.{AreHands, AreTakenBack, TakesBack, MayTakeHand, TakesHand, MayTakeHands, TakesHands, left_view};
 
 use any_partition::OnTable;
-use locked_front::{LockedPart, OwnedPartition, Returned, ServerPlan};
+use locked_front::{LockedPart, PartitionLocks, Returned, ServerPlan};
 use partition_table::{Note, ReaderSeat, Tables};
 use partition_words::LendPartition;
-use std::sync::{Mutex, Wait};
-
-// Takes the partition of the number from its lock. Which one lies under a lock no clause of a lock says, so it is looked at; it is never another.
-fn take_back<R: Wait, J: ServerPlan, P: LendPartition<Reader = ReaderSeat, Note = Note> + Drop>(
-    rt: &R,
-    lock: Mutex<OwnedPartition<J, P>>,
-    number: u32,
-) -> Returned<P>
-    ensures number { result.number ≡ number }
-    ensures of { IsOwned J.plan (left_view P.owner P.home result) }
-{
-    let part = lock.into_inner().give_back();
-    for _ in rt.forever() {
-        if part.number == number {
-            return part;
-        }
-    }
-    unreachable!()
-}
+use std::sync::Wait;
 
 // Takes all partitions from their locks.
 fn take_all_back<R: Wait, J: ServerPlan, P: LendPartition<Reader = ReaderSeat, Note = Note> + Drop>(
     rt: &R,
-    locks: Vec<Mutex<OwnedPartition<J, P>>>,
+    locks: PartitionLocks<J, P>,
     parts: &mut Vec<Returned<P>>,
 )
     requires none { parts.old.items ≡ [] }
-    requires room { vec_len locks ≤ vec_capacity parts.old }
-    requires few { vec_len locks ≤ MOST_PARTITIONS }
-    ensures many { length parts.new.items ≡ length locks.items }
+    requires room { locks ≤ vec_capacity parts.old }
+    requires few { locks ≤ MOST_PARTITIONS }
+    ensures many { length parts.new.items ≡ locks }
     ensures each { AreTakenBack J.plan (map (λ part. left_view P.owner P.home part) parts.new.items) }
 {
-    let mut number = 0;
-    for lock in locks {
-        parts.push_reserved(take_back(rt, lock, number));
-        number += 1;
+    for lock in locks.into_locks() {
+        parts.push_reserved(lock.into_inner(rt).give_back());
     }
 }
 
@@ -85,15 +65,15 @@ pub(crate) fn take_in_all<
     P: LendPartition<Reader = ReaderSeat, Note = Note> + Drop,
 >(
     rt: &R,
-    locks: Vec<Mutex<OwnedPartition<J, P>>>,
+    locks: PartitionLocks<J, P>,
     stream_hands: Vec<Vec<LockedPart>>,
     hands: Vec<Vec<LockedPart>>,
     parts: &mut Vec<Returned<P>>,
 )
     requires none { parts.old.items ≡ [] }
-    requires room { vec_len locks ≤ vec_capacity parts.old }
-    requires few { vec_len locks ≤ MOST_PARTITIONS }
-    requires many { length locks.items ≡ J.plan.options.partitions }
+    requires room { locks ≤ vec_capacity parts.old }
+    requires few { locks ≤ MOST_PARTITIONS }
+    requires many { locks ≡ J.plan.options.partitions }
     requires hands { AreHands J.plan (map (λ hand. hand.items) stream_hands.items ++ map (λ hand. hand.items) hands.items) }
     ensures { TakesBack J.plan (map (λ hand. hand.items) stream_hands.items ++ map (λ hand. hand.items) hands.items) (map (λ part. left_view P.owner P.home part) parts.new.items) }
 {

@@ -11,13 +11,13 @@ use crate::streams::{StreamTask, run_streams};
 use connections::Connections;
 use datagram_answers::serve_end;
 use fronts::{ServeFault, Totals};
-use locked_front::{LockedFront, LockedPart, OwnedPartition, ServerPlan};
+use locked_front::{LockedFront, LockedPart, PartitionLocks, ServerPlan};
 use outside::{Datagrams, Gate};
 use partition_table::{Note, ReaderSeat};
 use partition_words::LendPartition;
 use std::mem;
+use std::sync::Wait;
 use std::sync::atomic::Ordering;
-use std::sync::{Mutex, Wait};
 use std::thread::{Threads, for_each_mut, join_mut};
 
 /// What a front has in hand, and the end of its port of datagrams.
@@ -35,8 +35,8 @@ impl<D: Datagrams> FrontTask<D> {
         J: ServerPlan,
         P: LendPartition<Reader = ReaderSeat, Note = Note> + Drop,
         G: Gate,
-    >(&mut self, shared: &Shared<W, G>, locks: &[Mutex<OwnedPartition<J, P>>], number: u32)
-        requires plan { IsLockedPlan shared.now.service J.plan (length locks.now) }
+    >(&mut self, shared: &Shared<W, G>, locks: &PartitionLocks<J, P>, number: u32)
+        requires plan { IsLockedPlan shared.now.service J.plan locks.now }
         requires low { number < J.plan.fronts }
         requires ready { IsReadyTask J.plan shared.now.service.ports.batches (end_facts D.Datagrams) number self.old }
         ensures { TaskRan J.plan shared.now.service.ports.batches (end_facts D.Datagrams) number self.old self.new }
@@ -64,13 +64,8 @@ fn run_fronts<
     P: LendPartition<Reader = ReaderSeat, Note = Note> + Drop + Send,
     D: Datagrams + Drop + Send,
     G: Gate,
->(
-    shared: &Shared<W, G>,
-    locks: &[Mutex<OwnedPartition<J, P>>],
-    first: u32,
-    fronts: &mut Vec<FrontTask<D>>,
-)
-    requires plan { IsLockedPlan shared.now.service J.plan (length locks.now) }
+>(shared: &Shared<W, G>, locks: &PartitionLocks<J, P>, first: u32, fronts: &mut Vec<FrontTask<D>>)
+    requires plan { IsLockedPlan shared.now.service J.plan locks.now }
     requires many { first + length fronts.old.items ≡ J.plan.fronts }
     requires ready { AreReadyTasks J.plan shared.now.service.ports.batches (end_facts D.Datagrams) first fronts.old.items }
     ensures { TasksRan J.plan shared.now.service.ports.batches (end_facts D.Datagrams) first fronts.old.items fronts.new.items }
@@ -81,7 +76,7 @@ fn run_fronts<
         fronts.as_mut_slice(),
         threads,
         &|at, front|
-            requires { (first + at < J.plan.fronts) × IsLockedPlan shared.now.service J.plan (length locks.now)
+            requires { (first + at < J.plan.fronts) × IsLockedPlan shared.now.service J.plan locks.now
                 × IsReadyTask J.plan shared.now.service.ports.batches (end_facts D.Datagrams) (first + at) front.now }
             ensures { TaskRan J.plan shared.entry.now.service.ports.batches (end_facts D.Datagrams) (first + at) front.entry.now front.exit.now }
         { front.run(shared, locks, first + at as u32) },
@@ -98,12 +93,12 @@ pub(crate) fn run_workers<
     G: Gate,
 >(
     shared: &Shared<W, G>,
-    locks: &[Mutex<OwnedPartition<J, P>>],
+    locks: &PartitionLocks<J, P>,
     first: u32,
     streams: &mut Vec<StreamTask<C>>,
     fronts: &mut Vec<FrontTask<D>>,
 )
-    requires plan { IsLockedPlan shared.now.service J.plan (length locks.now) }
+    requires plan { IsLockedPlan shared.now.service J.plan locks.now }
     requires first { length streams.old.items ≤ first }
     requires many { first + length fronts.old.items ≡ J.plan.fronts }
     requires ready_streams { AreReadyStreams J.plan (stream_facts C.Connections) streams.old.items }
@@ -114,11 +109,11 @@ pub(crate) fn run_workers<
     join_mut(
         shared.rt,
         &mut ||
-            requires { IsSync W.row × IsSync J.row × IsSync G.row × IsLockedPlan shared.now.service J.plan (length locks.now)
+            requires { IsSync W.row × IsSync J.row × IsSync G.row × IsLockedPlan shared.now.service J.plan locks.now
                 × (length streams.now.items ≤ J.plan.fronts) × AreReadyStreams J.plan (stream_facts C.Connections) streams.now.items }
         { run_streams(shared, locks, streams) },
         &mut ||
-            requires { IsSync W.row × IsSync J.row × IsSync G.row × IsLockedPlan shared.now.service J.plan (length locks.now)
+            requires { IsSync W.row × IsSync J.row × IsSync G.row × IsLockedPlan shared.now.service J.plan locks.now
                 × (first + length fronts.now.items ≡ J.plan.fronts) × AreReadyTasks J.plan shared.now.service.ports.batches (end_facts D.Datagrams) first fronts.now.items }
         { run_fronts(shared, locks, first, fronts) },
     );

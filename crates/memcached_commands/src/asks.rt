@@ -44,8 +44,9 @@ fn get_ask<'a>(lifetime: Option<Lifetime>) -> Ask<'a>
 }
 
 impl<'a> Asks<'a> {
+    /// Nothing.
     #[inline(always)]
-    fn none() -> Asks<'a>
+    pub fn none() -> Asks<'a>
         ensures { result ≡ [] }
     {
         Asks {

@@ -1,11 +1,11 @@
 //! The replies to frames.
-ghost use Rattle.std.specs.Prelude.{◌≡◌, ◌^◌, ◌<◌, ◌≤◌, ◌+◌, ◌++◌, length, flat_map, sum_by, OnOk, OnErr};
+ghost use Rattle.std.specs.Prelude.{◌≡◌, ◌^◌, ◌<◌, ◌≤◌, ◌+◌, ◌++◌, length, OnOk, OnErr};
 ghost use Rattle.memcached_frames.specs.declared.header.TheConstants.{FRAME_LEN};
 ghost use Rattle.memcached_frames.specs.Replies.{IsOneReply, parts_len, reply_header, reply_text};
 
 use crate::frame::Echo;
 use crate::header::{Header, REPLY, header_bytes};
-use memcached_text::Text;
+use memcached_text::{Text, append_parts};
 use outside::NoMemory;
 
 /// What a reply has.
@@ -39,22 +39,6 @@ fn reply_header(echo: Echo, reply: &FrameReply) -> Header
     }
 }
 
-// Appends parts. Where memory runs out, nothing is appended.
-fn put_parts(out: &mut Vec<u8>, parts: &[&[u8]]) -> Result<(), NoMemory>
-    ensures ok { OnOk result (out.new.items ≡ out.old.items ++ flat_map (λ part. part.now) parts.now) }
-    ensures err { OnErr result (out.new.items ≡ out.old.items) }
-    ensures short { length out.new.items ≤ length out.old.items + sum_by (λ part. length part.now) parts.now }
-{
-    let start = out.len();
-    for part in parts {
-        if out.extend_from_slice(part).is_err() {
-            out.truncate(start);
-            return Err(NoMemory);
-        }
-    }
-    Ok(())
-}
-
 /// Appends a reply to the request of these. Where memory runs out, nothing is appended.
 #[tactic(auto, unfolding(crate::specs::Replies::reply_text))]
 pub fn put_reply(out: &mut Vec<u8>, echo: Echo, reply: &FrameReply) -> Result<(), NoMemory>
@@ -66,7 +50,7 @@ pub fn put_reply(out: &mut Vec<u8>, echo: Echo, reply: &FrameReply) -> Result<()
     ensures short { length out.new.items ≤ length out.old.items + FRAME_LEN + parts_len reply.now }
 {
     let header = header_bytes(REPLY, reply_header(echo, reply));
-    put_parts(
+    append_parts(
         out,
         &[
             header.as_slice(),

@@ -1,7 +1,7 @@
 -- What cases tell apart.
 use Rattle.std.proofs.Common.{ℕ, Bool, true, false}
-use Rattle.memcached_text.specs.declared.next.Next.{Next}
-use Rattle.memcached_text.specs.declared.next.Next.TheVariants.{Command}
+use Rattle.memcached_requests.specs.declared.request.Next.{Next}
+use Rattle.memcached_requests.specs.declared.request.Next.TheVariants.{Whole, More}
 use Rattle.memcached_commands.specs.declared.ask.Says.{Says}
 use Rattle.memcached_commands.specs.declared.ask.Says.TheVariants.{Shows}
 use Rattle.memcached_stats.specs.Stats.{Told}
@@ -11,10 +11,10 @@ abbrev pub shown_number : Says → ℕ
 shown_number (Shows item) = item.unique
 shown_number _ = 0
 
--- bytes begin with a command
+-- bytes begin with a request
 abbrev pub is_command : Next → Bool
-is_command (Command command len) = true
-is_command _ = false
+is_command (Whole request style len last) = true
+is_command More = false
 
 -- a server told nothing of itself
 abbrev pub nothing_told : Told

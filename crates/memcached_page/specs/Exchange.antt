@@ -1,17 +1,17 @@
 -- What a client said, with the deeds that carried it out, and what is due to it.
-use Rattle.std.specs.Prelude.{◌≡◌, ◌==◌, ℕ, suc, Bool, true, false, ⊤, List, [], ◌∷◌, ◌++◌, length, filter_map, flat_map, Option, Some, None, if◌then◌else◌}
+use Rattle.std.specs.Prelude.{◌≡◌, ◌==◌, ℕ, suc, Bool, true, false, ⊤, List, [], ◌∷◌, ◌++◌, length, filter_map, Option, Some, None, if◌then◌else◌}
 use Rattle.std.specs.List.{list_all}
-use Rattle.memcached_text.specs.declared.next.Next.{Next}
 use Rattle.memcached_text.specs.declared.reply.Reply.TheVariants.{Done as Okay, NoRoom}
-use Rattle.memcached_text.specs.Answer.{Answer, part_text, last_text}
-use Rattle.memcached_text.specs.Replies.{reply_text}
 use Rattle.memcached_commands.specs.declared.asks.Asked.{Asked}
 use Rattle.memcached_commands.specs.declared.ask.Says.{Says}
-use Rattle.memcached_commands.specs.Asks.{asks_in}
-use Rattle.memcached_commands.specs.Answers.{answer_of, unless_quiet}
+use Rattle.memcached_commands.specs.declared.ask.Says.TheVariants.{Line}
+use Rattle.memcached_requests.specs.declared.request.Next.{Next}
+use Rattle.memcached_requests.specs.declared.request.Style.{Style}
+use Rattle.memcached_requests.specs.Requests.{asks_in}
+use Rattle.memcached_requests.specs.Replies.{said_text}
 use Rattle.memcached_stats.specs.Stats.{Told}
 use Rattle.fronts.specs.declared.flushes.Flush.{Flush}
-use Rattle.command_answers.specs.Exchange.{flush_due, is_flush_all, is_quiet, wants_numbers, plain_text}
+use Rattle.command_answers.specs.Exchange.{flush_due, is_flush_all, plain_text, style_of}
 use Rattle.command_answers.specs.FlushAnswers.{flush_at}
 use Rattle.memcached_page.specs.Course.{Deed, carried, flushed}
 
@@ -56,19 +56,21 @@ abbrev pub took : Deed → Bool
 took (flushed part number flush accepted) = accepted
 took _ = false
 
--- the items that were shown, and behind the last of them the last line
-abbrev pub asks_text : Bool → Answer → List ℕ
-asks_text done answer = flat_map part_text answer.parts ++ (if done then last_text answer.last else [])
+-- what is told of each that was said, and whether nothing more is said behind the last
+abbrev pub saids_text : Style → Bool → List (List ℕ × Says) → List ℕ
+saids_text style done [] = []
+saids_text style done (said ∷ []) = said_text style done said.0 said.1
+saids_text style done (said ∷ next ∷ later) = said_text style false said.0 said.1 ++ saids_text style done (next ∷ later)
 
 -- of a flush: whether each part took it
-abbrev pub flush_text : Bool → List Deed → List ℕ
-flush_text done deeds = if done then reply_text (if list_all took deeds then Okay else NoRoom) else []
+abbrev pub flush_text : Style → Bool → List Deed → List ℕ
+flush_text style done deeds = if done then said_text style true [] (Line (if list_all took deeds then Okay else NoRoom)) else []
 
 -- of what asks nothing of keys, and else of what was said of each
 abbrev pub text_for : ℕ → Exchange → List Asked → List ℕ
 text_for parts e [] = plain_text parts e.told e.next
-text_for parts e (asked ∷ later) = asks_text (is_done parts e) (answer_of (wants_numbers e.next) (filter_map said_in e.deeds))
+text_for parts e (asked ∷ later) = saids_text (style_of e.next) (is_done parts e) (filter_map said_in e.deeds)
 
 -- What is due to it so far, byte for byte.
 abbrev pub due_to : ℕ → Exchange → List ℕ
-due_to parts e = unless_quiet (is_quiet e.next) (if is_flush_all e.next then flush_text (is_done parts e) e.deeds else text_for parts e (asks_in e.next))
+due_to parts e = if is_flush_all e.next then flush_text (style_of e.next) (is_done parts e) e.deeds else text_for parts e (asks_in e.next)

@@ -1,8 +1,8 @@
 -- How long a cache keeps an item, and where something finds no room: by numbers of words.
-use Rattle.std.specs.Prelude.{◌≡◌, ◌≢◌, ◌⊎◌, ◌≤◌, ◌<◌, ◌+◌, ◌-◌, ◌*◌, ◌/◌, ◌==◌, ◌||◌, not, ◌∷◌, ◌++◌, ℕ, Bool, true, false, ⊤, List, [], length, min, sum_by, bytes_eq, is_some, AllPairs, option_map, unwrap_or, if◌then◌else◌}
+use Rattle.std.specs.Prelude.{◌≡◌, ◌≢◌, ◌⊎◌, ◌≤◌, ◌<◌, ◌+◌, ◌-◌, ◌*◌, ◌==◌, ◌||◌, not, ◌∷◌, ◌++◌, ℕ, Bool, true, false, ⊤, List, [], length, max, sum_by, bytes_eq, is_some, AllPairs, option_map, unwrap_or, if◌then◌else◌}
 use Rattle.std.specs.List.{AllByRecursion, list_any}
 use Rattle.mica_words.specs.declared.entry.TheConstants.{SLOTS}
-use Rattle.mica_words.specs.Item.{item_size, largest_stored_item}
+use Rattle.mica_words.specs.Item.{item_size}
 use Rattle.partition_model.specs.declared.options.Mode.TheVariants.{Cache}
 use Rattle.partition_model.specs.declared.options.Options.{Options}
 use Rattle.partition_model.specs.Limits.{last_tail}
@@ -67,6 +67,11 @@ abbrev pub shelf_in : Shelf → List Done → Shelf
 shelf_in shelf [] = shelf
 shelf_in shelf (done ∷ later) = shelf_in (after done.deed shelf) later
 
+-- how much was written by them, of which 65,536 are a word
+abbrev pub written_in : Shelf → List Done → ℕ
+written_in shelf [] = 0
+written_in shelf (done ∷ later) = max 1 (65536 * (written shelf done.deed).1) + written_in (after done.deed shelf) later
+
 -- this holds of each deed, by those before it
 abbrev pub AtEach : (List Done → Deed → Type 0) → List Done → List Done → Type 0
 AtEach P earlier [] = ⊤
@@ -82,11 +87,12 @@ LostForCause words class from earlier _ = ⊤
 abbrev pub KeepsItems : Options → (List ℕ → ℕ) → Shelf → List Done → Type 0
 KeepsItems options class from course = AtEach (LostForCause options.words class from) [] course
 
--- A part bears no more deeds, or its log no more words. Or so many words are to be stored, and beside the items of these keys some layout of their rooms leaves no block of
--- them; or the keys are more than the spare buckets are for.
+-- A part bears no more deeds, or the log of a cache no more words. Or so many words are to be stored, and beside the items of these keys some layout of their rooms leaves no
+-- block of them; or the keys are more than the spare buckets are for.
 abbrev pub LacksRoom : Options → Shelf → List Done → ℕ → List (List ℕ) → Type 0
 LacksRoom options from earlier words keys =
-    (min options.wear (last_tail / largest_stored_item) ≤ length earlier)
+    (options.wear ≤ length earlier)
+    ⊎ ((options.mode ≡ Cache) × (65536 * last_tail ≤ written_in from earlier))
     ⊎ ((0 < words) × (options.words ≤ (length keys + 1) * (words - 1) + sum_by (λ key. (place_in (λ other. 0) key from nowhere earlier).room) keys))
     ⊎ ((0 < words) × (SLOTS * options.spares < length keys))
 

@@ -1,9 +1,9 @@
 -- What the thread of a share and its clients said to each other.
 use Rattle.std.specs.Prelude.{◌≡◌, ◌≢◌, ◌≤◌, ◌<◌, ◌+◌, ◌-◌, ◌==◌, ◌&&◌, ◌⊎◌, ℕ, zero, suc, Bool, true, false, List, [], ◌∷◌, ◌++◌, length, take, drop, map, filter, filter_map, flat_map, slice_get, nat_lt, AllPairs, Option, Some, None, is_some, IfSome, if◌then◌else◌}
 use Rattle.std.specs.List.{AllByRecursion, list_any, list_all}
-use Rattle.memcached_text.specs.declared.next.Next.TheVariants.{More}
-use Rattle.memcached_text.specs.Next.{next_of}
-use Rattle.memcached_text.specs.Stream.{len_of, is_last}
+use Rattle.memcached_requests.specs.declared.request.Next.TheVariants.{More}
+use Rattle.memcached_requests.specs.Next.{next_of}
+use Rattle.memcached_requests.specs.Requests.{len_of, is_last}
 use Rattle.connections.specs.declared.schedule.Step.{Step}
 use Rattle.connections.specs.declared.schedule.Step.TheVariants.{Opens, TurnsAway, Reports, Happens}
 use Rattle.connections.specs.Connection.{Connection}

@@ -1,18 +1,19 @@
 -- What is counted of commands: which counter is raised by what a key was asked and what was said of it.
 use Rattle.std.specs.Prelude.{false, Option, None, Some}
-use Rattle.memcached_text.specs.declared.command.Command.TheVariants as commands
 use Rattle.memcached_text.specs.declared.command.Direction.{Direction}
 use Rattle.memcached_text.specs.declared.command.Direction.TheVariants.{Up, Down}
 use Rattle.memcached_text.specs.declared.command.Wants.TheVariants.{Numbered, AtLeast}
+use Rattle.memcached_text.specs.declared.fault.Fault.{Fault}
 use Rattle.memcached_text.specs.declared.fault.Fault.TheVariants.{BadBlock, TooLarge}
 use Rattle.memcached_text.specs.declared.lifetime.Lifetime.{Lifetime}
-use Rattle.memcached_text.specs.declared.next.Next.{Next}
-use Rattle.memcached_text.specs.declared.next.Next.TheVariants as nexts
 use Rattle.memcached_text.specs.declared.reply.Reply.TheVariants.{Exists, Deleted, NotFound, NoRoom, Touched}
 use Rattle.memcached_commands.specs.declared.ask.Ask.{Ask}
-use Rattle.memcached_commands.specs.declared.ask.Ask.TheVariants.{Get, GetTouch, Leased, Store, Join, Count, Touch, Delete, Mark}
+use Rattle.memcached_commands.specs.declared.ask.Ask.TheVariants.{Get, GetTouch, Leased, Store, Join, Count, Touch, Delete, Mark, Spoil}
 use Rattle.memcached_commands.specs.declared.ask.Says.{Says}
-use Rattle.memcached_commands.specs.declared.ask.Says.TheVariants.{Line, Stores, Number, Shows, Leases, Nothing}
+use Rattle.memcached_commands.specs.declared.ask.Says.TheVariants.{Line, Refusal, Stores, Number, Shows, Leases, Nothing}
+use Rattle.memcached_requests.specs.declared.request.Request.TheVariants.{Flush, Said}
+use Rattle.memcached_requests.specs.declared.request.Next.{Next}
+use Rattle.memcached_requests.specs.declared.request.Next.TheVariants.{Whole}
 use Rattle.memcached_stats.specs.declared.counter.Counter.{Counter}
 use Rattle.memcached_stats.specs.declared.counter.Counter.TheVariants as counters
 
@@ -60,7 +61,7 @@ counter_of_delete (Line Deleted) = Some counters.DeleteHits
 counter_of_delete (Line NotFound) = Some counters.DeleteMisses
 counter_of_delete _ = None
 
--- A get that touches is counted as a touch, and an item that is marked but was not there as a delete of none.
+-- A get that touches is counted as a touch, an item that is marked but was not there as a delete of none, and a set that is too large takes an item away.
 abbrev pub counter_of : Ask → Says → Option Counter
 counter_of Get says = counter_of_get says
 counter_of (GetTouch lifetime) says = counter_of_touch says
@@ -73,11 +74,17 @@ counter_of (Join side unique more) says = counter_of_store says
 counter_of (Count direction delta unique lifetime initial) says = counter_of_count direction says
 counter_of (Delete unique) says = counter_of_delete says
 counter_of (Mark unique lifetime) (Line NotFound) = Some counters.DeleteMisses
+counter_of Spoil says = Some counters.StoresTooLarge
 counter_of _ _ = None
 
--- and by what was said, whatever came of it: each flush, a store whose block came with no end behind it, and one of a value that is too long
+-- by what is refused: a store whose block came with no end behind it, and one of a value that is too long
+abbrev pub counter_of_refusal : Fault → Option Counter
+counter_of_refusal BadBlock = Some counters.Sets
+counter_of_refusal TooLarge = Some counters.StoresTooLarge
+counter_of_refusal _ = None
+
+-- and by what is wanted, whatever came of it: each flush, and what is refused
 abbrev pub counter_by : Next → Option Counter
-counter_by (nexts.Command (commands.Flush due quiet) len) = Some counters.Flushes
-counter_by (nexts.Refused BadBlock stale quiet len) = Some counters.Sets
-counter_by (nexts.Refused TooLarge stale quiet len) = Some counters.StoresTooLarge
+counter_by (Whole (Flush due) style len last) = Some counters.Flushes
+counter_by (Whole (Said (Refusal fault)) style len last) = counter_of_refusal fault
 counter_by _ = None

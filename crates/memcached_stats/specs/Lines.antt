@@ -6,6 +6,6 @@ use Rattle.memcached_stats.specs.Stats.{Stat}
 abbrev pub stat_in : Line → Stat
 stat_in line = record { name = line.name.now; number = line.number }
 
--- how many bytes its line has at most: a number has 20 digits, and 8 bytes stand around both
+-- how many bytes it takes at most: a number has 20 digits, and 8 bytes stand around both in a line, 24 before them in a frame
 abbrev pub most_len : Stat → ℕ
-most_len stat = length stat.name + 28
+most_len stat = length stat.name + 44

@@ -2,10 +2,13 @@
 --
 -- Which numbers it tells is not promised: each front counts for itself while the others go on, and the one that is asked adds up what they showed last. What is
 -- promised is the text: each name once, in this order, and beside it the number that was told.
-use Rattle.std.specs.Prelude.{ℕ, zero, suc, ◌+◌, ◌-◌, List, [], ◌∷◌, ◌++◌, codes, decimal, drop, flat_map, min}
+use Rattle.std.specs.Prelude.{ℕ, zero, suc, ◌+◌, ◌-◌, true, List, [], ◌∷◌, ◌++◌, codes, decimal, flat_map, min}
 use Rattle.partition_model.specs.declared.options.TheConstants.{MOST_PARTITIONS}
-use Rattle.memcached_text.specs.declared.reply.Reply.TheVariants.{End, Version}
-use Rattle.memcached_text.specs.Replies.{reply_text, stat_text}
+use Rattle.memcached_text.specs.declared.reply.Reply.TheVariants.{End}
+use Rattle.memcached_commands.specs.declared.ask.Says.TheVariants.{Line}
+use Rattle.memcached_requests.specs.declared.request.Style.{Style}
+use Rattle.memcached_requests.specs.FrameReplies.{version_name}
+use Rattle.memcached_requests.specs.Replies.{said_text, stat_text}
 use Rattle.memcached_stats.specs.declared.figures.About.{About}
 use Rattle.memcached_stats.specs.declared.figures.Wear.{Wear}
 use Rattle.memcached_stats.specs.declared.counter.Counter.{Counter}
@@ -25,8 +28,8 @@ pub record Stat : Type 0 where
 abbrev pub stat : List ℕ → ℕ → Stat
 stat name number = record { name = name; number = number }
 
-abbrev pub line_of : Stat → List ℕ
-line_of s = stat_text s.name (decimal s.number)
+abbrev pub line_of : Style → Stat → List ℕ
+line_of style s = stat_text style s.name (decimal s.number)
 
 -- what is told of the server and of its connections
 abbrev pub about_stats : About → (Counter → ℕ) → List Stat
@@ -70,24 +73,20 @@ command_stats counts =
     ∷ stat (codes "store_no_memory") (counts StoresRefused)
     ∷ []
 
+abbrev pub partition_stat : ℕ → List ℕ → ℕ → Stat
+partition_stat partition what number = stat (codes "partition:" ++ decimal partition ++ what) number
+
 -- how many writes a partition has accepted, and how many more it bears at least
 abbrev pub wear_stats : ℕ → Wear → List Stat
-wear_stats partition wear =
-    stat (codes "partition:" ++ decimal partition ++ codes ":writes") wear.writes
-    ∷ stat (codes "partition:" ++ decimal partition ++ codes ":writes_left") wear.writes_left
-    ∷ []
+wear_stats partition wear = partition_stat partition (codes ":writes") wear.writes ∷ partition_stat partition (codes ":writes_left") wear.writes_left ∷ []
 
 -- of so many partitions, from this one on
-abbrev pub wear_text : ℕ → ℕ → (ℕ → Wear) → List ℕ
-wear_text first zero wear = []
-wear_text first (suc more) wear = flat_map line_of (wear_stats first (wear first)) ++ wear_text (suc first) more wear
-
--- the version as its own command tells it, and its line's end
-abbrev pub version_line : List ℕ
-version_line = codes "STAT version " ++ drop 8 (reply_text Version)
+abbrev pub wear_text : Style → ℕ → ℕ → (ℕ → Wear) → List ℕ
+wear_text style first zero wear = []
+wear_text style first (suc more) wear = flat_map (line_of style) (wear_stats first (wear first)) ++ wear_text style (suc first) more wear
 
 -- What is due to a client that asks what the server counts, where this is told. There are at most MOST_PARTITIONS partitions.
-unfoldable pub stats_text : ℕ → Told → List ℕ
-stats_text partitions told =
-    version_line ++ flat_map line_of (about_stats told.about told.counts) ++ flat_map line_of (command_stats told.counts)
-    ++ wear_text 0 (min partitions MOST_PARTITIONS) told.wear ++ reply_text End
+unfoldable pub stats_text : Style → ℕ → Told → List ℕ
+stats_text style partitions told =
+    stat_text style (codes "version") version_name ++ flat_map (line_of style) (about_stats told.about told.counts) ++ flat_map (line_of style) (command_stats told.counts)
+    ++ wear_text style 0 (min partitions MOST_PARTITIONS) told.wear ++ said_text style true [] (Line End)

@@ -7,6 +7,7 @@ use crate::counter::COUNTERS;
 use crate::figures::{About, Counts, Wear};
 use crate::lines::put_stats;
 use crate::tally::{MOST_NUMBERS, Tally, place_of_partition};
+use memcached_requests::Style;
 use mica_words::tail_of;
 use outside::NoMemory;
 use partition_model::{LARGEST_STORED_ITEM, LAST_TAIL, MOST_PARTITIONS, Mode, Options};
@@ -164,13 +165,20 @@ impl Board {
     }
 
     /// Appends what the server tells of itself at this second. When out of memory, nothing is appended.
-    pub fn put_stats(&self, second: u64, partitions: u32, out: &mut Vec<u8>) -> Result<(), NoMemory>
-        ensures ok { OnOk result ((told : Told) × (out.new.items ≡ out.old.items ++ stats_text partitions told)) }
+    pub fn put_stats(
+        &self,
+        style: Style,
+        second: u64,
+        partitions: u32,
+        out: &mut Vec<u8>,
+    ) -> Result<(), NoMemory>
+        ensures ok { OnOk result ((told : Told) × (out.new.items ≡ out.old.items ++ stats_text style partitions told)) }
         ensures short { OnOk result (length out.new.items ≤ length out.old.items + MAX_REPLY_LEN) }
         ensures err { OnErr result (out.new.items ≡ out.old.items) }
     {
         put_stats(
             out,
+            style,
             partitions,
             &self.about(second),
             &self.counts(),

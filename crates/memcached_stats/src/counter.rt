@@ -1,9 +1,10 @@
 //! What a front counts.
 ghost use Rattle.std.specs.Prelude.{◌≡◌};
-ghost use Rattle.memcached_stats.specs.Counted.{counter_by, counter_of, counter_of_store, counter_of_swap, counter_of_get, counter_of_touch, counter_of_lease, counter_of_count, counter_of_delete};
+ghost use Rattle.memcached_stats.specs.Counted.{counter_by, counter_of, counter_of_store, counter_of_swap, counter_of_get, counter_of_touch, counter_of_lease, counter_of_count, counter_of_delete, counter_of_refusal};
 
 use memcached_commands::{Ask, Says};
-use memcached_text::{Command, Direction, Fault, Lifetime, Next, Reply, Wants};
+use memcached_requests::{Next, Request};
+use memcached_text::{Direction, Fault, Lifetime, Reply, Wants};
 
 /// What a front counts.
 #[derive(Clone, Copy)]
@@ -144,27 +145,35 @@ pub fn counter_of(ask: &Ask, says: &Says) -> Option<Counter>
         Ask::Mark { .. } if matches!(says, Says::Line(Reply::NotFound)) => {
             Some(Counter::DeleteMisses)
         }
-        Ask::Mark { .. } | Ask::Spoil => None,
+        Ask::Mark { .. } => None,
+        Ask::Spoil => Some(Counter::StoresTooLarge),
     }
 }
 
-/// Which counter is raised by what a client said, whatever came of it, if any.
+// By what is refused of a line or a frame.
+fn refusal_counter(fault: Fault) -> Option<Counter>
+    ensures { result ≡ counter_of_refusal fault }
+{
+    match fault {
+        Fault::BadBlock => Some(Counter::Sets),
+        Fault::TooLarge => Some(Counter::StoresTooLarge),
+        _ => None,
+    }
+}
+
+/// Which counter is raised by what a client wants, whatever came of it, if any.
 pub fn counter_by(next: &Next) -> Option<Counter>
     ensures { result ≡ counter_by next.now }
 {
     match next {
-        Next::Command {
-            command: Command::Flush { .. },
+        Next::Whole {
+            request: Request::Flush(_),
             ..
         } => Some(Counter::Flushes),
-        Next::Refused {
-            fault: Fault::BadBlock,
+        Next::Whole {
+            request: Request::Said(Says::Refusal(fault)),
             ..
-        } => Some(Counter::Sets),
-        Next::Refused {
-            fault: Fault::TooLarge,
-            ..
-        } => Some(Counter::StoresTooLarge),
+        } => refusal_counter(*fault),
         _ => None,
     }
 }

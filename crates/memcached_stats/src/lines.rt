@@ -1,16 +1,23 @@
 //! The text of what is told.
 ghost use Rattle.std.specs.Prelude.{◌≡◌, ◌≤◌, ◌+◌, ◌*◌, ◌++◌, List, ℕ, OnOk, OnErr, flat_map, length, map, sum_by};
+ghost use Rattle.std.specs.List.{All};
 ghost use Rattle.memcached_text.specs.declared.limits.TheConstants.{MAX_REPLY_LEN};
 ghost use Rattle.memcached_stats.specs.Figures.{count_in, wear_in, told_of};
 ghost use Rattle.memcached_stats.specs.Lines.{most_len, stat_in};
-ghost use Rattle.memcached_stats.specs.Stats.{about_stats, command_stats, line_of, stat, stats_text, wear_stats, wear_text};
+ghost use Rattle.memcached_stats.specs.declared.lines.TheConstants.{MOST_NAME};
+ghost use Rattle.memcached_stats.specs.Stats.{about_stats, command_stats, line_of, partition_stat, stat, stats_text, wear_stats, wear_text};
 
 use crate::counter::Counter;
 use crate::figures::{About, Counts, Wear};
 use itoa::Buffer;
-use memcached_text::{Reply, reply_line};
+use memcached_commands::Says;
+use memcached_requests::{Style, put_said, put_stat, version_name};
+use memcached_text::{Reply, append_parts};
 use outside::NoMemory;
 use partition_model::MOST_PARTITIONS;
+
+/// The most bytes of a name.
+const MOST_NAME: usize = 32;
 
 /// A name and its number.
 #[derive(Clone, Copy)]
@@ -25,42 +32,33 @@ fn told(name: &'static [u8], number: u64) -> Line
     Line { name, number }
 }
 
-// Appends parts. When out of memory, some of them may be appended.
-fn put_parts(out: &mut Vec<u8>, parts: &[&[u8]]) -> Result<(), NoMemory>
-    ensures ok { OnOk result (out.new.items ≡ out.old.items ++ flat_map (λ part. part.now) parts.now) }
-    ensures short { OnOk result (length out.new.items ≤ length out.old.items + sum_by (λ part. length part.now) parts.now) }
-    ensures more { (text : List ℕ) × (out.new.items ≡ out.old.items ++ text) }
-{
-    for part in parts {
-        out.extend_from_slice(part)?;
-    }
-    Ok(())
-}
-
-#[tactic(auto, unfolding(memcached_text::specs::Replies::stat_text))]
-fn put_line(out: &mut Vec<u8>, line: &Line) -> Result<(), NoMemory>
-    ensures ok { OnOk result (out.new.items ≡ out.old.items ++ line_of (stat_in line.now)) }
-    ensures short { OnOk result (length out.new.items ≤ length out.old.items + most_len (stat_in line.now)) }
+// Appends a name and its number. When out of memory, nothing is appended.
+fn put_line(out: &mut Vec<u8>, style: Style, name: &[u8], number: u64) -> Result<(), NoMemory>
+    requires name { length name.now ≤ MOST_NAME }
+    ensures ok { OnOk result (out.new.items ≡ out.old.items ++ line_of style (stat name.now number)) }
+    ensures short { OnOk result (length out.new.items ≤ length out.old.items + most_len (stat name.now number)) }
     ensures more { (text : List ℕ) × (out.new.items ≡ out.old.items ++ text) }
 {
     let mut digits = Buffer::new();
-    let number = digits.format(line.number).as_bytes();
-    put_parts(out, &[b"STAT ", line.name, b" ", number, b"\r\n"])
+    put_stat(out, style, name, digits.format(number).as_bytes())
 }
 
-fn put_lines(out: &mut Vec<u8>, lines: &[Line]) -> Result<(), NoMemory>
-    ensures ok { OnOk result (out.new.items ≡ out.old.items ++ flat_map line_of (map stat_in lines.now)) }
+// Appends lines. When out of memory, some of them may be appended.
+fn put_lines(out: &mut Vec<u8>, style: Style, lines: &[Line]) -> Result<(), NoMemory>
+    requires names { All (λ line. length line.name.now ≤ MOST_NAME) lines.now }
+    ensures ok { OnOk result (out.new.items ≡ out.old.items ++ flat_map (line_of style) (map stat_in lines.now)) }
     ensures short { OnOk result (length out.new.items ≤ length out.old.items + sum_by most_len (map stat_in lines.now)) }
     ensures more { (text : List ℕ) × (out.new.items ≡ out.old.items ++ text) }
 {
     for line in lines {
-        put_line(out, line)?;
+        put_line(out, style, line.name, line.number)?;
     }
     Ok(())
 }
 
 fn about_lines(about: &About, counts: &Counts) -> [Line; 13]
-    ensures { map stat_in result ≡ about_stats about.now (count_in counts.now) }
+    ensures are { map stat_in result ≡ about_stats about.now (count_in counts.now) }
+    ensures names { All (λ line. length line.name.now ≤ MOST_NAME) result }
 {
     let opened = counts.of(Counter::Opened);
     [
@@ -84,7 +82,8 @@ fn about_lines(about: &About, counts: &Counts) -> [Line; 13]
 }
 
 fn command_lines(counts: &Counts) -> [Line; 19]
-    ensures { map stat_in result ≡ command_stats (count_in counts.now) }
+    ensures are { map stat_in result ≡ command_stats (count_in counts.now) }
+    ensures names { All (λ line. length line.name.now ≤ MOST_NAME) result }
 {
     let (hits, misses) = (counts.of(Counter::GetHits), counts.of(Counter::GetMisses));
     let (touched, untouched) = (
@@ -120,30 +119,36 @@ fn command_lines(counts: &Counts) -> [Line; 19]
     ]
 }
 
-#[tactic(auto, unfolding(memcached_text::specs::Replies::stat_text))]
-fn put_wear(out: &mut Vec<u8>, partition: u32, wear: Wear) -> Result<(), NoMemory>
-    ensures ok { OnOk result (out.new.items ≡ out.old.items ++ flat_map line_of (wear_stats partition wear)) }
-    ensures short { OnOk result (length out.new.items ≤ length out.old.items + 115) }
+// Appends one number of a partition. When out of memory, nothing is appended.
+fn put_partition(
+    out: &mut Vec<u8>,
+    style: Style,
+    partition: u32,
+    what: &'static [u8],
+    number: u64,
+) -> Result<(), NoMemory>
+    requires what { length what.now ≤ 12 }
+    ensures ok { OnOk result (out.new.items ≡ out.old.items ++ line_of style (partition_stat partition what.now number)) }
+    ensures short { OnOk result (length out.new.items ≤ length out.old.items + 76) }
     ensures more { (text : List ℕ) × (out.new.items ≡ out.old.items ++ text) }
 {
-    let (mut place, mut writes, mut left) = (Buffer::new(), Buffer::new(), Buffer::new());
-    let place = place.format(partition).as_bytes();
-    let writes = writes.format(wear.writes).as_bytes();
-    let left = left.format(wear.writes_left).as_bytes();
-    put_parts(
-        out,
-        &[
-            b"STAT partition:",
-            place,
-            b":writes ",
-            writes,
-            b"\r\nSTAT partition:",
-            place,
-            b":writes_left ",
-            left,
-            b"\r\n",
-        ],
-    )
+    let mut place = Buffer::new();
+    let mut name = Vec::new(*out.allocator());
+    append_parts(
+        &mut name,
+        &[b"partition:", place.format(partition).as_bytes(), what],
+    )?;
+    put_line(out, style, &name, number)
+}
+
+// Appends how far a partition is worn. When out of memory, some of it may be appended.
+fn put_wear(out: &mut Vec<u8>, style: Style, partition: u32, wear: Wear) -> Result<(), NoMemory>
+    ensures ok { OnOk result (out.new.items ≡ out.old.items ++ flat_map (line_of style) (wear_stats partition wear)) }
+    ensures short { OnOk result (length out.new.items ≤ length out.old.items + 152) }
+    ensures more { (text : List ℕ) × (out.new.items ≡ out.old.items ++ text) }
+{
+    put_partition(out, style, partition, b":writes", wear.writes)?;
+    put_partition(out, style, partition, b":writes_left", wear.writes_left)
 }
 
 // That of a partition, where it is known.
@@ -157,52 +162,59 @@ fn wear_at(wears: &[Wear], partition: u32) -> Wear
     wears.get(partition as usize).copied().unwrap_or(none)
 }
 
-fn put_wears(out: &mut Vec<u8>, partitions: u32, wears: &[Wear]) -> Result<(), NoMemory>
-    ensures ok { OnOk result (out.new.items ≡ out.old.items ++ wear_text 0 partitions (wear_in wears.now)) }
-    ensures short { OnOk result (length out.new.items ≤ length out.old.items + 115 * partitions) }
+fn put_wears(
+    out: &mut Vec<u8>,
+    style: Style,
+    partitions: u32,
+    wears: &[Wear],
+) -> Result<(), NoMemory>
+    ensures ok { OnOk result (out.new.items ≡ out.old.items ++ wear_text style 0 partitions (wear_in wears.now)) }
+    ensures short { OnOk result (length out.new.items ≤ length out.old.items + 152 * partitions) }
     ensures more { (text : List ℕ) × (out.new.items ≡ out.old.items ++ text) }
 {
     for partition in 0..partitions {
-        put_wear(out, partition, wear_at(wears, partition))?;
+        put_wear(out, style, partition, wear_at(wears, partition))?;
     }
     Ok(())
 }
 
-// Appends all lines. When out of memory, some of them may be appended.
+// Appends all that is told. When out of memory, some of it may be appended.
 #[tactic(auto, unfolding(crate::specs::Stats::stats_text))]
 fn put_all(
     out: &mut Vec<u8>,
+    style: Style,
     partitions: u32,
     about: &About,
     counts: &Counts,
     wears: &[Wear],
 ) -> Result<(), NoMemory>
-    ensures ok { OnOk result (out.new.items ≡ out.old.items ++ stats_text partitions (told_of about.now counts.now wears.now)) }
+    ensures ok { OnOk result (out.new.items ≡ out.old.items ++ stats_text style partitions (told_of about.now counts.now wears.now)) }
     ensures short { OnOk result (length out.new.items ≤ length out.old.items + MAX_REPLY_LEN) }
     ensures more { (text : List ℕ) × (out.new.items ≡ out.old.items ++ text) }
 {
-    let version = &reply_line(Reply::Version)[8..];
-    put_parts(out, &[b"STAT version ", version])?;
-    put_lines(out, &about_lines(about, counts))?;
-    put_lines(out, &command_lines(counts))?;
-    put_wears(out, partitions.min(MOST_PARTITIONS), wears)?;
-    Ok(out.extend_from_slice(reply_line(Reply::End))?)
+    put_stat(out, style, b"version", version_name())?;
+    put_lines(out, style, &about_lines(about, counts))?;
+    put_lines(out, style, &command_lines(counts))?;
+    put_wears(out, style, partitions.min(MOST_PARTITIONS), wears)?;
+    put_said(out, style, true, b"", &Says::Line(Reply::End))?;
+    Ok(())
 }
 
 /// Appends what a server tells of itself. When out of memory, nothing is appended.
 pub fn put_stats(
     out: &mut Vec<u8>,
+    style: Style,
     partitions: u32,
     about: &About,
     counts: &Counts,
     wears: &[Wear],
 ) -> Result<(), NoMemory>
-    ensures ok { OnOk result (out.new.items ≡ out.old.items ++ stats_text partitions (told_of about.now counts.now wears.now)) }
+    ensures ok { OnOk result (out.new.items ≡ out.old.items ++ stats_text style partitions (told_of about.now counts.now wears.now)) }
     ensures short { OnOk result (length out.new.items ≤ length out.old.items + MAX_REPLY_LEN) }
     ensures err { OnErr result (out.new.items ≡ out.old.items) }
 {
     let start = out.len();
-    let put = put_all(out, partitions, about, counts, wears);
+    let put = put_all(out, style, partitions, about, counts, wears);
     if put.is_err() {
         out.truncate(start);
     }

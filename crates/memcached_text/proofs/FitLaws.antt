@@ -6,7 +6,7 @@ use Rattle.std.specs.List.{AllByRecursion, list_all, slice_split}
 use Rattle.std.specs.Str.Parse.{starts_with_minus}
 use Rattle.std.proofs.lemmas.Bool.{ltb-false, le-ltb, le-leb, leb-true, leb-false, eqb-false}
 use Rattle.std.proofs.lemmas.List.{length-take-le}
-use Rattle.memcached_text.specs.declared.limits.TheConstants.{MAX_KEY_LEN, MAX_TEXT_LEN, MAX_LINE_LEN}
+use Rattle.memcached_text.specs.declared.limits.TheConstants.{MAX_KEY_LEN, MAX_TEXT_LEN}
 use Rattle.memcached_text.specs.declared.lifetime.TheConstants.{MAX_SECONDS, LAST_SAID, MOST_ABOVE, MOST_BELOW}
 use Rattle.memcached_text.specs.declared.lifetime.Lifetime.{Lifetime}
 use Rattle.memcached_text.specs.declared.lifetime.Lifetime.TheVariants.{Forever, Over, For, Until}
@@ -36,7 +36,7 @@ use Rattle.memcached_text.specs.KeyLine.{got, get_line, got_by, get_touch_line, 
 use Rattle.memcached_text.specs.ServerLine.{flushed, flush_line, is_part, stats_line, verbosity_by, verbosity_line}
 use Rattle.memcached_text.specs.Forms.{Form, forms, line_by, ends_as_http, or_unknown, line_of}
 use Rattle.memcached_text.specs.Block.{block_at}
-use Rattle.memcached_text.specs.Next.{blocked, storing_at, says_at, next_in, is_binary, next_of}
+use Rattle.memcached_text.specs.Next.{blocked, storing_at, says_at, next_in, is_binary, next_of, most_line}
 use Rattle.memcached_text.specs.Fit.{IsFitKey, IsWant, IsKept, IsFit, IsFitNext}
 use Rattle.memcached_text.proofs.NumberLaws.{both, small_number}
 use Rattle.memcached_text.proofs.NextLaws.{binary_is, next_is, block_has_come}
@@ -368,8 +368,8 @@ unfolding next_in
 is_fit bytes = either (is_binary bytes) refl
   where
     go : (o : Option (List ℕ × List ℕ)) → IsFitNext (next_in bytes o)
-    go None = either_next (nat_lt MAX_LINE_LEN (length bytes)) LongLine More tt tt
-    go (Some x) = either_next (nat_lt MAX_LINE_LEN (length x.0)) LongLine (says_at (line_of (words_of (without_return x.0))) (length x.0 + 1) x.1) tt (says_fits (line_of (words_of (without_return x.0))) (length x.0 + 1) x.1 (line_fits (words_of (without_return x.0)) (words_are_some (without_return x.0))))
+    go None = either_next (nat_lt (most_line bytes) (length bytes)) LongLine More tt tt
+    go (Some x) = either_next (nat_lt (most_line x.0) (length x.0)) LongLine (says_at (line_of (words_of (without_return x.0))) (length x.0 + 1) x.1) tt (says_fits (line_of (words_of (without_return x.0))) (length x.0 + 1) x.1 (line_fits (words_of (without_return x.0)) (words_are_some (without_return x.0))))
 
     either : (t : Bool) → is_binary bytes ≡ t → IsFitNext (next_of bytes)
     either true binary = subst IsFitNext (sym (binary_is bytes binary)) tt

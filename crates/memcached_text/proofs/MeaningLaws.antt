@@ -16,7 +16,7 @@ use Rattle.memcached_text.specs.Block.{block_at}
 use Rattle.memcached_text.specs.Next.{blocked, storing_at, bytes_of_block, says_at, EndsBinary}
 use Rattle.memcached_text.specs.Meaning.{SplitsAtSpaces, longer, IsOneMeaning}
 use Rattle.memcached_text.proofs.WordLaws.{words_of_none, words_of_space, words_of_word, words_of_last}
-use Rattle.memcached_text.proofs.NextLaws.{binary_is, text_more, a_line}
+use Rattle.memcached_text.proofs.NextLaws.{binary_is, text_more, a_line, may_be}
 
 pub splits_at_spaces : SplitsAtSpaces
 splits_at_spaces = record { none = words_of_none; space = words_of_space; word = words_of_word; last = words_of_last }
@@ -53,7 +53,7 @@ module _ (m n : ℕ) where
 
 pub one_meaning : IsOneMeaning
 one_meaning a b rest a_lacks b_lacks a_short b_short a_text b_text same =
-    let from_a = a_line (a ++ 10 ∷ rest) a rest (text_more a (10 ∷ rest) a_text refl) (record { whole = refl; first = a_lacks }) a_short in
-    let from_b = a_line (b ++ 10 ∷ rest) b rest (text_more b (10 ∷ rest) b_text refl) (record { whole = refl; first = b_lacks }) b_short in
+    let from_a = a_line (a ++ 10 ∷ rest) a rest (text_more a (10 ∷ rest) a_text refl) (record { whole = refl; first = a_lacks }) (omega (arith, a_short, may_be a)) in
+    let from_b = a_line (b ++ 10 ∷ rest) b rest (text_more b (10 ∷ rest) b_text refl) (record { whole = refl; first = b_lacks }) (omega (arith, b_short, may_be b)) in
     ap (longer (length b)) from_a ∙ ap (λ words. longer (length b) (says_at (line_of words) (length a + 1) rest)) same
     ∙ says_same (length a) (length b) (line_of (words_of (without_return b))) (length a + 1) (length b + 1) rest (omega arith) ∙ sym (ap (longer (length a)) from_b)

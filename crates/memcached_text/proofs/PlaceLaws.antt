@@ -20,7 +20,7 @@ use Rattle.memcached_text.specs.Block.{block_at}
 use Rattle.memcached_text.specs.Next.{blocked, storing_at, says_at, next_of}
 use Rattle.memcached_text.specs.Place.{Takes, KeepsPlace}
 use Rattle.memcached_text.proofs.WordLaws.{is_binary_word, text_by_words}
-use Rattle.memcached_text.proofs.NextLaws.{text_more, a_line}
+use Rattle.memcached_text.proofs.NextLaws.{text_more, a_line, may_be}
 
 -- a line that tells a value's length: it stores an item of that length, or is refused with its block
 abbrev TellsBlock : ℕ → Line → Type 0
@@ -71,7 +71,7 @@ takes : (line rest : List ℕ) (words : List (List ℕ)) (value_len : ℕ) → L
     → Takes (length line + 1 + value_len + END_LEN) (length (line ++ 10 ∷ rest)) (next_of (line ++ 10 ∷ rest))
 takes line rest words value_len lacks short spelled text tells =
     let text_here = text_more line (10 ∷ rest) (text_by_words line (ap is_binary_word spelled ∙ text)) refl in
-    let next = a_line (line ++ 10 ∷ rest) line rest text_here (record { whole = refl; first = lacks }) short in
+    let next = a_line (line ++ 10 ∷ rest) line rest text_here (record { whole = refl; first = lacks }) (omega (arith, short, may_be line)) in
     let come : length line + 1 + length rest ≡ length (line ++ 10 ∷ rest) = omega (arith, length-append line (10 ∷ rest)) in
     let here = says_takes _ (length line + 1) value_len rest (subst (TellsBlock value_len) (ap line_of (sym spelled)) tells) in
     subst (Takes (length line + 1 + value_len + END_LEN) (length (line ++ 10 ∷ rest))) (sym next) (subst (λ n. Takes (length line + 1 + value_len + END_LEN) n (says_at (line_of (words_of (without_return line))) (length line + 1) rest)) come here)

@@ -1,5 +1,5 @@
 -- A command and a refusal are quiet just where that is asked for.
-use Rattle.std.proofs.Common.{◌≡◌, ℕ, ◌+◌, Bool, true, false, ◌&&◌, ◌||◌, cond, List, [], ◌∷◌, ◌++◌, length, drop, Option, Some, None, nat_lt, refl, sym, subst, codes}
+use Rattle.std.proofs.Common.{◌≡◌, ℕ, ◌+◌, Bool, true, false, ◌&&◌, ◌||◌, cond, List, [], ◌∷◌, ◌++◌, length, drop, Option, Some, None, nat_lt, refl, sym, subst, codes, arith}
 use Rattle.std.specs.Prelude.{⊤, bytes_eq, find, option_map, option_and_then}
 use Rattle.std.specs.Option.{IfSome}
 use Rattle.std.specs.List.{AllByRecursion, list_all}
@@ -35,7 +35,7 @@ use Rattle.memcached_text.specs.Forms.{Form, forms, line_by, ends_as_http, or_un
 use Rattle.memcached_text.specs.Block.{block_at}
 use Rattle.memcached_text.specs.Next.{blocked, storing_at, says_at, is_binary, next_of}
 use Rattle.memcached_text.specs.Quiet.{is_quiet, asking_words, ends_quietly, IsQuietAs, IsQuiet}
-use Rattle.memcached_text.proofs.NextLaws.{binary_is, text_more, a_line}
+use Rattle.memcached_text.proofs.NextLaws.{binary_is, text_more, a_line, may_be}
 
 -- what a line says by itself is quiet just where that is asked for
 abbrev IsQuietLine : Bool → Line → Type 0
@@ -290,5 +290,5 @@ quiet_as_asked line rest name words lacks short spelled = go (is_binary line) re
         still [] is = absurd (cc)
         still (b ∷ line) is = is
     go false text =
-        let next = a_line (line ++ 10 ∷ rest) line rest (text_more line (10 ∷ rest) text refl) (record { whole = refl; first = lacks }) short in
+        let next = a_line (line ++ 10 ∷ rest) line rest (text_more line (10 ∷ rest) text refl) (record { whole = refl; first = lacks }) (omega (arith, short, may_be line)) in
         subst (IsQuietAs asked) (sym next) (says_quiet asked _ (length line + 1) rest (subst (λ ws. IsQuietLine asked (line_of ws)) (sym spelled) (line_quiet name words)))

@@ -39,12 +39,12 @@ use Rattle.memcached_text.specs.KeyLine.{get_line, get_touch_line, deleted, dele
 use Rattle.memcached_text.specs.ServerLine.{flush_line, stats_line, verbosity_line}
 use Rattle.memcached_text.specs.Forms.{line_of}
 use Rattle.memcached_text.specs.Block.{block_at}
-use Rattle.memcached_text.specs.Next.{storing_at, says_at, next_in, is_binary, next_of}
+use Rattle.memcached_text.specs.Next.{storing_at, says_at, next_in, is_binary, next_of, most_line}
 use Rattle.memcached_text.specs.Spelling.{IsLineWant, IsKey, quiet_words, lifetime_text, kept_words, due_words, get_word, store_word, wanted_words, join_word, count_word, joined, command_text, IsCommand, ReadsBack, IsOneCommand}
 use Rattle.memcached_text.proofs.LineLaws.{Lacks_append, lacks_all, lacks_is, line_at_fed, without_return_fed}
 use Rattle.memcached_text.proofs.WordLaws.{is_binary_word, text_by_words, words_of_word, words_of_last}
 use Rattle.memcached_text.proofs.NumberLaws.{both, decimal_lacks, decimal_digits, number_of_decimal}
-use Rattle.memcached_text.proofs.NextLaws.{text_more, next_is}
+use Rattle.memcached_text.proofs.NextLaws.{text_more, next_is, may_be}
 
 abbrev AreKeys : List (List ℕ) → Type 0
 AreKeys words = AllByRecursion IsKey words
@@ -100,7 +100,7 @@ read_line word words says rest is =
     let lacks_both : Lacks 10 (line ++ 13 ∷ []) = Lacks_append 10 line (13 ∷ []) (joined_lack word words is.name is.rest) ((λ e. omega arith), tt) in
     let found : line_at (line ++ 13 ∷ 10 ∷ rest) ≡ Some (line ++ 13 ∷ [], rest) = ap line_at fed ∙ line_at_fed (line ++ 13 ∷ []) rest lacks_both in
     let long : length (line ++ 13 ∷ []) ≡ length line + 1 = length-append line (13 ∷ []) in
-    let test : nat_lt MAX_LINE_LEN (length (line ++ 13 ∷ [])) ≡ false = le-ltb _ _ (omega (arith, is.short)) in
+    let test : nat_lt (most_line (line ++ 13 ∷ [])) (length (line ++ 13 ∷ [])) ≡ false = le-ltb _ _ (omega (arith, is.short, long, may_be (line ++ 13 ∷ []))) in
     let count : length (line ++ 13 ∷ []) + 1 ≡ length line + 2 = omega arith in
     let spelled : words_of line ≡ word ∷ words = joined_words word words is.name is.rest in
     let text = text_more (line ++ 13 ∷ []) (10 ∷ rest) (text_by_words (line ++ 13 ∷ []) (ap is_binary_word (ap words_of (without_return_fed line) ∙ spelled) ∙ is.text)) refl in

@@ -1,5 +1,5 @@
 -- What is stored of an item.
-use Rattle.std.specs.Prelude.{◌≡◌, ℕ, ◌+◌, ◌%◌, ◌^◌, ◌<◌, Bool, false, List, ◌++◌, length, drop, nat_lt, nat_le, if◌then◌else◌}
+use Rattle.std.specs.Prelude.{◌≡◌, ℕ, ◌+◌, ◌%◌, ◌^◌, ◌<◌, false, List, ◌++◌, length, drop, nat_lt, nat_le, if◌then◌else◌}
 use Rattle.std.specs.Int.{w32, w64, to_le_bytes, from_le_bytes}
 use Rattle.memcached_text.specs.declared.limits.TheConstants.{HEADER_LEN}
 use Rattle.memcached_text.specs.declared.item.Item.{Item}

@@ -1,6 +1,7 @@
 -- What a client's bytes begin with.
-use Rattle.std.specs.Prelude.{◌≡◌, ℕ, ◌==◌, ◌+◌, ◌<◌, ◌≤◌, ⊤, Bool, false, List, [], ◌∷◌, length, nat_lt, Option, Some, None, if◌then◌else◌}
-use Rattle.memcached_text.specs.declared.limits.TheConstants.{MAX_TEXT_LEN, MAX_LINE_LEN}
+use Rattle.std.specs.Prelude.{◌≡◌, ℕ, ◌==◌, ◌+◌, ◌<◌, ◌≤◌, ⊤, Bool, false, List, [], ◌∷◌, length, nat_lt, Option, Some, None, ◌||◌, nat_eq, codes, if◌then◌else◌}
+use Rattle.std.specs.List.{starts_with}
+use Rattle.memcached_text.specs.declared.limits.TheConstants.{MAX_TEXT_LEN, MAX_LINE_LEN, MAX_GET_LINE_LEN}
 use Rattle.memcached_text.specs.declared.fault.Fault.TheVariants.{TooLarge, BadBlock}
 use Rattle.memcached_text.specs.declared.command.Command.TheVariants as commands
 use Rattle.memcached_text.specs.declared.storage_line.ItemLine.{ItemLine}
@@ -41,11 +42,19 @@ says_at (lines.Whole command) len rest = Command command len
 says_at (lines.Storing item value_len quiet) len rest = storing_at item value_len quiet len rest
 says_at (lines.Refused fault quiet block) len rest = Refused fault None quiet (len + bytes_of_block block)
 
+-- they begin as the line of a get
+unfoldable pub is_get : List ℕ → Bool
+is_get bytes = starts_with nat_eq bytes (codes "get ") || starts_with nat_eq bytes (codes "gets ")
+
+-- how long a line may be that begins so
+unfoldable pub most_line : List ℕ → ℕ
+most_line bytes = if is_get bytes then MAX_GET_LINE_LEN else MAX_LINE_LEN
+
 -- the bytes, which begin with this line and have others behind its line feed, or have no line feed
 unfoldable pub next_in : List ℕ → Option (List ℕ × List ℕ) → Next
-next_in bytes None = if nat_lt MAX_LINE_LEN (length bytes) then LongLine else More
+next_in bytes None = if nat_lt (most_line bytes) (length bytes) then LongLine else More
 next_in bytes (Some found) =
-    if nat_lt MAX_LINE_LEN (length found.0) then LongLine
+    if nat_lt (most_line found.0) (length found.0) then LongLine
     else says_at (line_of (words_of (without_return found.0))) (length found.0 + 1) found.1
 
 -- a request of the binary protocol, with which no command begins

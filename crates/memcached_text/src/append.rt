@@ -3,7 +3,7 @@ ghost use Rattle.std.specs.Prelude.{◌≡◌, ◌≤◌, ◌+◌, ◌++◌, len
 
 use outside::NoMemory;
 
-// Appends the parts. Where memory runs out, nothing is appended.
+/// Appends the parts. Where memory runs out, nothing is appended.
 #[inline(always)]
 pub fn append_parts(out: &mut Vec<u8>, parts: &[&[u8]]) -> Result<(), NoMemory>
     ensures ok { OnOk result (out.new.items ≡ out.old.items ++ flat_map (λ part. part.now) parts.now) }

@@ -25,20 +25,23 @@ mod spelled;
 mod split;
 mod storage_line;
 mod text;
+mod waiting;
 mod words;
 
+pub use append::append_parts;
 pub use command::{Command, Direction, Side, Topic, Wants};
 pub use fault::Fault;
 pub use item::{Item, marked, put_item, read_item};
 pub use laws::{one_answer, one_command, one_item, one_meaning, one_place, quiet_as_asked};
-pub use lifetime::{Due, Lifetime};
+pub use lifetime::{Due, Lifetime, MAX_SECONDS};
 pub use limits::{
-    HEADER_LEN, MAX_FRAME_LEN, MAX_KEY_LEN, MAX_LINE_LEN, MAX_REPLY_LEN, MAX_TEXT_LEN,
-    MAX_WAITING_LEN,
+    HEADER_LEN, MAX_FRAME_LEN, MAX_GET_LINE_LEN, MAX_KEY_LEN, MAX_LINE_LEN, MAX_REPLY_LEN,
+    MAX_TEXT_LEN, MAX_WAITING_LEN,
 };
 pub use next::{Next, next_command};
 pub use number::number_of;
 pub use reply::{Reply, fault_line, put_last_value, put_number, put_stat, put_value, reply_line};
 pub use spelled::spelled_key;
 pub use text::Text;
+pub use waiting::{lacks_feed, waits_for_line};
 pub use words::Words;

@@ -2,11 +2,11 @@
 ghost use Rattle.std.specs.Prelude.{◌≡◌, ◌<◌, ◌≤◌, ◌+◌, length, take, min, MatchOption};
 ghost use Rattle.memcached_text.specs.Fit.{IsFitNext};
 ghost use Rattle.memcached_text.specs.Lines.{Lacks, HasLine, without_return};
-ghost use Rattle.memcached_text.specs.Next.{storing_at, says_at, is_binary, next_of, IsWithin};
+ghost use Rattle.memcached_text.specs.Next.{storing_at, says_at, is_binary, is_get, most_line, next_of, IsWithin};
 
 use crate::block::{Block, END_LEN, block_at};
 use crate::forms::line_of;
-use crate::limits::{MAX_LINE_LEN, MAX_TEXT_LEN, MAX_WAITING_LEN};
+use crate::limits::{MAX_GET_LINE_LEN, MAX_LINE_LEN, MAX_TEXT_LEN, MAX_WAITING_LEN};
 use crate::line::Line;
 use crate::spelled::{spelled_count, spelled_get, spelled_set};
 use crate::split::split_at_byte;
@@ -57,7 +57,7 @@ fn storing_at<'a>(
     len: usize,
     rest: &'a [u8],
 ) -> Next<'a>
-    requires { len ≤ MAX_LINE_LEN + 1 }
+    requires { len ≤ MAX_GET_LINE_LEN + 1 }
     ensures { result ≡ storing_at item.entry value_len quiet len rest.now }
 {
     let whole_len = len + value_len as usize + END_LEN;
@@ -87,7 +87,7 @@ fn storing_at<'a>(
 // What a line of so many bytes is, with the bytes behind it.
 #[tactic(auto, unfolding(crate::specs::Next::says_at))]
 fn says_at<'a>(line: Line<'a>, len: usize, rest: &'a [u8]) -> Next<'a>
-    requires { len ≤ MAX_LINE_LEN + 1 }
+    requires { len ≤ MAX_GET_LINE_LEN + 1 }
     ensures { result ≡ says_at line.entry len rest.now }
 {
     match line {
@@ -116,20 +116,41 @@ fn says_at<'a>(line: Line<'a>, len: usize, rest: &'a [u8]) -> Next<'a>
     }
 }
 
-// The line at the front, without its line feed, and the bytes behind that. None where no line ends within as many bytes
-// as a line may have.
-fn first_line(from: &[u8]) -> Option<(&[u8], &[u8])>
-    ensures { MatchOption result (Lacks 10 (take (min (length from.now) (MAX_LINE_LEN + 1)) from.now))
-        (λ parts. HasLine from.now parts.0.now parts.1.now × (length parts.0.now ≤ MAX_LINE_LEN)) }
+// Whether the bytes begin as the line of a get.
+#[tactic(auto, unfolding(crate::specs::Next::is_get))]
+fn is_get(from: &[u8]) -> bool
+    ensures { result ≡ is_get from.now }
 {
-    let front = &from[..from.len().min(MAX_LINE_LEN + 1)];
+    from.starts_with(b"get ") || from.starts_with(b"gets ")
+}
+
+// How long the line at the front may be.
+#[tactic(auto, unfolding(crate::specs::Next::most_line))]
+pub fn most_line(from: &[u8]) -> usize
+    ensures { result ≡ most_line from.now }
+{
+    if is_get(from) {
+        MAX_GET_LINE_LEN
+    } else {
+        MAX_LINE_LEN
+    }
+}
+
+// The line at the front, without its line feed, and the bytes behind that. None where no line ends within as many bytes
+// as it may have.
+#[tactic(auto, using(crate::proofs::NextLaws::may_be_most))]
+fn first_line(from: &[u8]) -> Option<(&[u8], &[u8])>
+    ensures { MatchOption result (Lacks 10 (take (min (length from.now) (most_line from.now + 1)) from.now))
+        (λ parts. HasLine from.now parts.0.now parts.1.now × (length parts.0.now ≤ most_line parts.0.now)) }
+{
+    let front = &from[..from.len().min(most_line(from) + 1)];
     let (line, _) = split_at_byte(front, b'\n')?;
     let (_, rest) = from.split_at(line.len() + 1);
     Some((line, rest))
 }
 
 // Whether the bytes are a request of the binary protocol.
-fn is_binary(from: &[u8]) -> bool
+pub fn is_binary(from: &[u8]) -> bool
     ensures { result ≡ is_binary from.now }
 {
     match from {
@@ -139,6 +160,7 @@ fn is_binary(from: &[u8]) -> bool
 }
 
 // What the bytes begin with, by the line at their front.
+#[tactic(auto, using(crate::proofs::NextLaws::may_be_most))]
 fn front_line(from: &[u8]) -> Next
     ensures { result ≡ next_of from.now }
 {
@@ -153,7 +175,7 @@ fn front_line(from: &[u8]) -> Next
             let says = line_of(Words::of(without_return(line)));
             says_at(says, line.len() + 1, rest)
         }
-        None if from.len() > MAX_LINE_LEN => Next::LongLine,
+        None if from.len() > most_line(from) => Next::LongLine,
         None => Next::More,
     }
 }

@@ -10,7 +10,7 @@ pub const MAX_KEY_LEN: usize = 255;
 pub const MAX_VALUE_LEN: usize = 8192;
 
 /// The longest value that a partition keeps, in bytes: that of a protocol, and 16 bytes that are stored before it.
-pub const MAX_STORED_LEN: usize = 8192;
+pub const MAX_STORED_LEN: usize = 1_048_592;
 
 /// The words of an item whose key and value have these lengths in bytes.
 pub fn item_size(key_len: usize, value_len: usize) -> u32

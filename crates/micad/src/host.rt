@@ -1,6 +1,6 @@
 //! The program over standard output, the files, the clock and the sockets of this machine.
 
-ghost use Rattle.std.specs.Prelude.{ℕ, List, Option, string_bytes, IfSome};
+ghost use Rattle.std.specs.Prelude.{◌<◌, ℕ, List, Option, string_bytes, IfSome};
 ghost use Rattle.std.specs.Process.{exit_status};
 ghost use Rattle.option_words.specs.ProgramWords.{words_of};
 ghost use Rattle.daemon.specs.Exit.{EndsBy};
@@ -61,7 +61,8 @@ pub fn refused_on_host<R: Threads + Wait + Sync + AllocGlobal + Env + Eprint + F
     rt: &R,
     pid: u32,
 ) -> Option<ExitCode>
-    ensures { IfSome result (λ code. (words : Option (List (List ℕ))) → EndsBy words (exit_status code)) }
+    ensures ends { IfSome result (λ code. (words : Option (List (List ℕ))) → EndsBy words (exit_status code)) }
+    ensures in_vain { IfSome result (λ code. 0 < exit_status code) }
 {
     if !begin(rt, pid) {
         return Some(exit_code(Ending::Ended(DaemonStatus::Usage)));

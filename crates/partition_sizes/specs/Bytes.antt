@@ -1,5 +1,5 @@
--- How many bytes partitions take.
-use Rattle.std.specs.Prelude.{ℕ, ◌+◌, ◌*◌}
+-- What a partition is made of, row by row, and how many bytes that takes.
+use Rattle.std.specs.Prelude.{ℕ, ◌+◌, ◌*◌, List, [], ◌∷◌, map, sum}
 use Rattle.partition_model.specs.declared.options.Mode.{Mode}
 use Rattle.partition_model.specs.declared.options.Mode.TheVariants.{Cache, Store}
 use Rattle.partition_model.specs.declared.options.Options.{Options}
@@ -7,19 +7,28 @@ use Rattle.partition_words.specs.declared.shape.Shape.{Shape}
 use Rattle.partition_words.specs.Shape.{shape_of}
 use Rattle.partition_words.specs.Layout.{word_count}
 use Rattle.partition_sizes.specs.declared.bytes.TheConstants.{HEAP_BYTES, LISTS_BYTES, SPARE_BYTES}
+use Rattle.partition_sizes.specs.declared.bytes.Row.{Row}
+use Rattle.partition_sizes.specs.declared.bytes.Row.TheVariants.{Table, HeapWords, HeapLists, Spares}
 
 -- of a table, whose words have eight bytes
 abbrev pub table_bytes : Shape → ℕ
 table_bytes shape = 8 * word_count shape
 
--- of the rows beside it: in store mode its heap has some for each word and for its lists, and its index for each spare
-abbrev pub beside : Mode → ℕ → ℕ → ℕ
-beside Cache words spares = 0
-beside Store words spares = HEAP_BYTES * words + LISTS_BYTES + SPARE_BYTES * spares
+-- of a row
+abbrev pub row_bytes : Shape → Row → ℕ
+row_bytes shape Table = table_bytes shape
+row_bytes shape HeapWords = HEAP_BYTES * shape.words
+row_bytes shape HeapLists = LISTS_BYTES
+row_bytes shape Spares = SPARE_BYTES * shape.spares
 
--- of a partition
+-- the rows of a partition: a store has a heap and spares beside its table
+abbrev pub rows_of : Mode → List Row
+rows_of Cache = Table ∷ []
+rows_of Store = Table ∷ HeapWords ∷ HeapLists ∷ Spares ∷ []
+
+-- of a partition: of all its rows
 abbrev pub partition_bytes : Shape → ℕ
-partition_bytes shape = table_bytes shape + beside shape.mode shape.words shape.spares
+partition_bytes shape = sum (map (row_bytes shape) (rows_of shape.mode))
 
 -- of all partitions
 abbrev pub bytes_of : Options → ℕ

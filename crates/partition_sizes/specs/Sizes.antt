@@ -7,7 +7,7 @@ use Rattle.partition_model.specs.declared.options.Options.{Options}
 use Rattle.partition_model.specs.declared.options.TheConstants.{MOST_WORDS}
 use Rattle.partition_words.specs.declared.shape.Shape.{Shape}
 use Rattle.partition_sizes.specs.declared.bytes.TheConstants.{HEAP_BYTES}
-use Rattle.partition_sizes.specs.declared.sizes.TheConstants.{FEW_PARTITIONS_MEMORY, PROGRAM_BYTES, ITEM_WORDS, INDEX_BYTES}
+use Rattle.partition_sizes.specs.declared.sizes.TheConstants.{FEW_PARTITIONS_MEMORY, PARTITION_MEMORY, PROGRAM_BYTES, ITEM_WORDS, INDEX_BYTES}
 use Rattle.partition_sizes.specs.declared.sizes.Sizes.{Sizes}
 use Rattle.partition_sizes.specs.Bytes.{partition_bytes}
 
@@ -15,9 +15,9 @@ use Rattle.partition_sizes.specs.Bytes.{partition_bytes}
 abbrev pub with_sizes : Sizes → Options → Options
 with_sizes sizes options = record options { partitions = sizes.partitions; buckets = sizes.buckets; spares = sizes.spares; words = sizes.words }
 
--- how many partitions share the memory
+-- how many partitions share the memory: one for each 32 MiB, up to 16; where there is much, 64
 abbrev pub partitions_for : ℕ → ℕ
-partitions_for memory = if nat_le memory FEW_PARTITIONS_MEMORY then 16 else 64
+partitions_for memory = if nat_le memory FEW_PARTITIONS_MEMORY then min (memory / PARTITION_MEMORY) 16 else 64
 
 -- how many bytes each of them has, where the program leaves them all the rest
 abbrev pub share_of : ℕ → ℕ

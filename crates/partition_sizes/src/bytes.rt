@@ -1,7 +1,7 @@
-//! How many bytes partitions take.
+//! What a partition is made of, row by row, and how many bytes that takes.
 ghost use Rattle.std.specs.Prelude.{◌≡◌, ◌<◌, ◌≤◌};
 ghost use Rattle.partition_model.specs.declared.options.TheConstants.{MOST_PARTITIONS};
-ghost use Rattle.partition_sizes.specs.Bytes.{beside, table_bytes, partition_bytes, bytes_of, start_bytes};
+ghost use Rattle.partition_sizes.specs.Bytes.{table_bytes, row_bytes, rows_of, partition_bytes, bytes_of, start_bytes};
 
 use partition_model::{Mode, Options};
 use partition_words::Shape;
@@ -17,15 +17,30 @@ pub const LISTS_BYTES: u64 = 13_968;
 /// The bytes that an index has for each of its spares.
 pub const SPARE_BYTES: u64 = 4;
 
-// The bytes of the rows beside a table.
-fn beside(mode: Mode, words: u32, spares: u32) -> u64
-    ensures { result ≡ beside mode words spares }
+/// A row of a partition in memory.
+#[derive(Clone, Copy)]
+pub enum Row {
+    /// The words of its table: of the stamp, of the index and of its items.
+    Table,
+    /// What a heap has beside each word of items.
+    HeapWords,
+    /// The lists of a heap.
+    HeapLists,
+    /// What an index has beside each spare.
+    Spares,
+}
+
+static CACHE_ROWS: [Row; 1] = [Row::Table];
+
+static STORE_ROWS: [Row; 4] = [Row::Table, Row::HeapWords, Row::HeapLists, Row::Spares];
+
+// The rows of a partition.
+fn rows_of(mode: Mode) -> &'static [Row]
+    ensures { result.now ≡ rows_of mode }
 {
     match mode {
-        Mode::Cache => 0,
-        Mode::Store => {
-            HEAP_BYTES * u64::from(words) + LISTS_BYTES + SPARE_BYTES * u64::from(spares)
-        }
+        Mode::Cache => CACHE_ROWS.as_slice(),
+        Mode::Store => STORE_ROWS.as_slice(),
     }
 }
 
@@ -36,12 +51,30 @@ fn table_bytes(shape: Shape) -> u64
     8 * shape.word_count() as u64
 }
 
+// The bytes of a row.
+fn row_bytes(shape: Shape, row: Row) -> u64
+    ensures bytes { result ≡ row_bytes shape row }
+    ensures fits { result < 2199023255552 }
+{
+    match row {
+        Row::Table => table_bytes(shape),
+        Row::HeapWords => HEAP_BYTES * u64::from(shape.words),
+        Row::HeapLists => LISTS_BYTES,
+        Row::Spares => SPARE_BYTES * u64::from(shape.spares),
+    }
+}
+
 /// The bytes of one partition.
 pub fn partition_bytes(shape: Shape) -> u64
     ensures bytes { result ≡ partition_bytes shape }
-    ensures fits { result < 4398046511104 }
+    ensures fits { result ≤ 8796093022208 }
 {
-    table_bytes(shape) + beside(shape.mode, shape.words, shape.spares)
+    let rows = rows_of(shape.mode);
+    let mut bytes = 0;
+    for row in rows {
+        bytes += row_bytes(shape, *row);
+    }
+    bytes
 }
 
 /// The bytes of all partitions.

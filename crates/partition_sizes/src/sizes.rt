@@ -1,7 +1,7 @@
 //! The sizes of partitions, by how much memory all of them may take.
 ghost use Rattle.std.specs.Prelude.{◌≡◌, ◌≤◌};
 ghost use Rattle.partition_model.specs.Options.{InRange};
-ghost use Rattle.partition_sizes.specs.Sizes.{word_bytes, buckets_for, spares_for, sizes_for};
+ghost use Rattle.partition_sizes.specs.Sizes.{partitions_for, word_bytes, buckets_for, spares_for, sizes_for};
 
 use crate::bytes::{HEAP_BYTES, partition_bytes};
 use partition_model::{MOST_WORDS, Mode};
@@ -13,8 +13,11 @@ pub const LEAST_MEMORY: u64 = 67_108_864;
 /// The most, 512 GiB.
 pub const MOST_MEMORY: u64 = 549_755_813_888;
 
-/// Up to 32 GiB there are 16 partitions.
+/// Up to 32 GiB there are 16 partitions at most, and 64 above.
 pub const FEW_PARTITIONS_MEMORY: u64 = 34_359_738_368;
+
+/// There is one for each 32 MiB, up to so many.
+pub const PARTITION_MEMORY: u64 = 33_554_432;
 
 /// What is left to the program itself, its threads and its sockets.
 pub const PROGRAM_BYTES: u64 = 16_777_216;
@@ -33,6 +36,16 @@ pub struct Sizes {
     pub buckets: u32,
     pub spares: u32,
     pub words: u32,
+}
+
+fn partitions_for(memory: u64) -> u32
+    ensures { result ≡ partitions_for memory }
+{
+    if memory <= FEW_PARTITIONS_MEMORY {
+        (memory / PARTITION_MEMORY).min(16) as u32
+    } else {
+        64
+    }
 }
 
 fn word_bytes(mode: Mode) -> u64
@@ -65,11 +78,7 @@ pub fn sizes_for(mode: Mode, memory: u64) -> Sizes
     requires { InRange LEAST_MEMORY MOST_MEMORY memory }
     ensures { result ≡ sizes_for mode memory }
 {
-    let partitions = if memory <= FEW_PARTITIONS_MEMORY {
-        16
-    } else {
-        64
-    };
+    let partitions = partitions_for(memory);
     let bytes = (memory - PROGRAM_BYTES) / u64::from(partitions);
     let word = word_bytes(mode);
     let buckets = buckets_for(bytes / (ITEM_WORDS * word + INDEX_BYTES));

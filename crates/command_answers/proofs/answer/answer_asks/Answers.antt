@@ -4,11 +4,12 @@ use Rattle.std.proofs.lemmas.List.{append-nil, drop-drop}
 use Rattle.partition_model.specs.declared.options.Options.{Options}
 use Rattle.memcached_commands.specs.declared.asks.Asked.{Asked}
 use Rattle.memcached_commands.specs.Fit.{IsFitAsked}
+use Rattle.memcached_requests.specs.Replies.{said_text}
 use Rattle.fronts.specs.Answered.{Answered}
-use Rattle.command_answers.specs.AskAnswers.{quiet_of, said_of}
+use Rattle.command_answers.specs.AskAnswers.{said_of}
 use Rattle.command_answers.specs.Counting.{tally_after, tally_after_all}
-use Rattle.command_answers.specs.Going.{AnswersAt, AnswersFirst, ask_text}
-use Rattle.command_answers.proofs.AskLaws.{left_of, none_left, quiet_none}
+use Rattle.command_answers.specs.Going.{AnswersAt, AnswersFirst}
+use Rattle.command_answers.proofs.AskLaws.{left_of, none_left}
 use Rattle.command_answers.proofs.Asking.{none_yet, one_more, text_more, writes_more}
 use Rattle.command_answers.proofs.Counting.{counted_more}
 use Rattle.command_answers.proofs.answer.answer_asks.Given as given
@@ -23,7 +24,7 @@ loop-count-init g c =
       many = refl;
       left_is = refl;
       fit = c.requires.fit;
-      text = sym (ap (λ text. c.args.out.now.items ++ text) (quiet_none (quiet_of c.args.style)) ∙ append-nil c.args.out.now.items);
+      text = sym (append-nil c.args.out.now.items);
       short = omega arith;
       few = omega arith;
       few_answers = omega arith;
@@ -75,7 +76,7 @@ loop-count-preserved g c =
     let left = c.answer_ask.ensures.left in
     let fit = subst (AllByRecursion IsFitAsked) c.in-Some.ensures inv.fit in
     let said = said_of c.args.base c.in-Some.asked one.0 in
-    let text = one.2 ∙ ap (λ t. c.loop-count.out.items ++ ask_text c.args.style t c.in-Some.asked.key said) c.is_empty-is_last.ensures in record {
+    let text = one.2 ∙ ap (λ t. c.loop-count.out.items ++ said_text c.args.style t c.in-Some.asked.key said) c.is_empty-is_last.ensures in record {
       answers = inv.answers ++ one.0 ∷ [];
       first = first g z one.0 one.1;
       many = many g z one.0;
@@ -107,7 +108,7 @@ returns-then-is_last-clause-answered g c =
     let inv = c.loop-count.invariant in
     let one = c.in-Ok.ensures.answered in
     let said = said_of c.args.base c.in-Some.asked one.0 in
-    let text = one.2 ∙ ap (λ t. c.loop-count.out.items ++ ask_text c.args.style t c.in-Some.asked.key said) c.is_empty-is_last.ensures in (
+    let text = one.2 ∙ ap (λ t. c.loop-count.out.items ++ said_text c.args.style t c.in-Some.asked.key said) c.is_empty-is_last.ensures in (
       inv.answers ++ one.0 ∷ [],
       first g z one.0 one.1,
       record {

@@ -1,10 +1,9 @@
 use Rattle.std.proofs.Common.{◌≡◌, ◌≤◌, ◌+◌, ◌-◌, ◌++◌, List, length, drop, max}
 use Rattle.std.specs.List.{AllByRecursion}
 use Rattle.memcached_text.specs.declared.limits.TheConstants.{MAX_REPLY_LEN}
-use Rattle.memcached_commands.specs.Answers.{unless_quiet}
 use Rattle.memcached_commands.specs.Fit.{IsFitAsked}
 use Rattle.fronts.specs.Answered.{Answered, count_of_writes}
-use Rattle.command_answers.specs.AskAnswers.{quiet_of, asks_text}
+use Rattle.command_answers.specs.AskAnswers.{asks_text}
 use Rattle.command_answers.specs.Counting.{tally_after_all}
 use Rattle.command_answers.specs.Going.{AnswersFirst}
 use Rattle.command_answers.proofs.answer.answer_asks.Given as goal
@@ -17,7 +16,7 @@ invariant-loop-count g l =
       many : l.count ≡ length answers;
       left_is : l.asks ≡ drop l.count l.initial.asks;
       fit : AllByRecursion IsFitAsked l.asks;
-      text : l.out.items ≡ l.initial.out.items ++ unless_quiet (quiet_of l.style) (asks_text l.base l.style l.initial.asks answers);
+      text : l.out.items ≡ l.initial.out.items ++ asks_text l.base l.style l.initial.asks answers;
       short : length l.out.items ≤ max (length l.initial.out.items) l.limits.bytes + MAX_REPLY_LEN;
       few : l.count ≤ l.limits.asks;
       few_answers : length answers ≤ l.limits.asks;

@@ -1,5 +1,5 @@
-use Rattle.std.proofs.Common.{◌∙◌, ◌++◌, refl, ap, subst}
-use Rattle.memcached_commands.specs.Answers.{unless_quiet}
+use Rattle.std.proofs.Common.{◌∙◌, ◌++◌, true, [], refl, ap, subst}
+use Rattle.memcached_requests.specs.Replies.{said_text}
 use Rattle.fronts.specs.declared.flushes.Flush.{Flush}
 use Rattle.command_answers.specs.FlushAnswers.{FlushesFrom}
 use Rattle.command_answers.proofs.answer.answer_flush.Goals as goal
@@ -16,5 +16,5 @@ returns-clause-flushed g c =
     let options = g.F.Front.options c.args.front.now in
     let f = c.flush_all-took.ensures.flushed in
     let is = subst (λ (flush : Flush). FlushesFrom options flush 0 f.0) c.ask_flush-flush.ensures f.2 in
-    let text = c.in-Ok.ensures.ok ∙ ap (λ line. c.args.out.now.items ++ unless_quiet c.args.quiet line) (c.flush_line.ensures.text f.0 f.4) in
+    let text = c.in-Ok.ensures.ok ∙ ap (λ says. c.args.out.now.items ++ said_text c.args.style true [] says) (c.said_of_flush.ensures.said f.0 f.4) in
     (f.0, f.1, is, f.3, (refl, text), f.5)

@@ -4,13 +4,12 @@ use Rattle.std.specs.declared.result.Result.{Result}
 use Rattle.std.specs.declared.result.Result.TheVariants.{Ok, Err}
 use Rattle.std.proofs.lemmas.List.{length-drop}
 use Rattle.fronts.specs.Answered.{Answered}
-use Rattle.memcached_text.specs.declared.next.Next.{Next}
 use Rattle.memcached_commands.specs.declared.asks.Asked.{Asked}
-use Rattle.memcached_commands.specs.Asks.{asks_in}
-use Rattle.memcached_commands.specs.Answers.{unless_quiet}
+use Rattle.memcached_requests.specs.declared.request.Next.{Next}
+use Rattle.memcached_requests.specs.declared.request.Style.{Style}
+use Rattle.memcached_requests.specs.Requests.{asks_in}
 use Rattle.command_answers.specs.declared.answer.Progress.{Progress}
-use Rattle.command_answers.specs.AskAnswers.{AnswersAsks, quiet_of}
-use Rattle.command_answers.specs.declared.plain.Style.{Style}
+use Rattle.command_answers.specs.AskAnswers.{AnswersAsks}
 use Rattle.command_answers.specs.FlushAnswers.{FlushesFrom, flush_at}
 use Rattle.command_answers.specs.Exchange.{IsOpenAt, flush_due, flush_text, is_flush_all}
 use Rattle.command_answers.specs.Going.{AnswersFirst, RepliesFirst, Replies}
@@ -46,7 +45,7 @@ returns-then-is_flush_all-clause-answered g c =
       if_ok _ (Replies options c.args.numbering.base next done c.args.limits r.0 c.args.out.now.items c.answer_flush.new.out.items) c.answer_flush.result
           (λ progress all. flush_replies options F.is_alone c.args.numbering.base c.args.second next done c.requires.open old new flushes r.0 asked c.args.limits c.args.out.now.items
           c.answer_flush.new.out.items progress (r.3 ∙ c.requires.partitions) (all.0 ∙ ap (λ n. progress_of n true) c.requires.partitions)
-          (all.1 ∙ ap (λ q. c.args.out.now.items ++ unless_quiet q (flush_text true r.0)) (c.is_quiet-quiet.ensures ∙ ap quiet_of c.style_of-style.ensures))) r.4,
+          (all.1 ∙ ap (λ (s : Style). c.args.out.now.items ++ flush_text s true r.0) c.style_of-style.ensures)) r.4,
       r.5,
       c.count.ensures ∙ ap (λ k. counted k c.args.buffers.now.tally) c.counter_by.ensures
           ∙ sym (counted_flush c.args.numbering.base c.args.numbering.partitions next done r.0 c.args.buffers.now.tally flushes),
@@ -67,7 +66,7 @@ returns-then-is_stats-clause-answered g c =
       if_ok _ (Replies options c.args.numbering.base next c.args.done c.args.limits [] before after) c.answer_stats.result
           (λ progress all. subst (Replies options c.args.numbering.base next c.args.done c.args.limits [] before after) (sym all.0)
           (plain_replies options F.is_alone c.args.numbering.base c.args.second next c.args.done c.requires.open old old is.keyed is.none all.1.0 c.args.limits before after
-          (all.1.1 ∙ ap (λ n. before ++ stats_text n all.1.0) c.requires.partitions ∙ ap (λ text. before ++ text) (sym (is.due options.partitions all.1.0)))))
+          (all.1.1 ∙ (λ i. before ++ stats_text (c.style_of-style.ensures i) (c.requires.partitions i) all.1.0) ∙ ap (λ text. before ++ text) (sym (is.due options.partitions all.1.0)))))
           c.answer_stats.ensures.told,
       omega arith,
       c.answer_stats.ensures.tally ∙ c.count.ensures ∙ ap (λ k. counted k c.args.buffers.now.tally) c.counter_by.ensures
@@ -75,19 +74,18 @@ returns-then-is_stats-clause-answered g c =
       omega arith,
     )
 
-pub returns-then-is_empty-clause-answered : goal.returns-then-is_empty-clause-answered
-returns-then-is_empty-clause-answered g c =
+pub returns-then-has_none-clause-answered : goal.returns-then-has_none-clause-answered
+returns-then-has_none-clause-answered g c =
     let F = g.F.Front in
     let options = F.options c.args.front.now in
     let old = F.sessions c.args.front.now in
     let next = c.args.next in
     let keyed : is_flush_all next ≡ false = sym c.is_flush_all.ensures ∙ c.if-is_flush_all.false in
-    let none : asks_in next ≡ [] = sym c.by-asks.ensures.asks ∙ none_left c.by-asks.result (sym c.is_empty.ensures ∙ c.if-is_empty.true) in
-    let text = c.in-Ok.ensures.ok ∙ (λ i. c.args.out.now.items ++ unless_quiet ((c.is_quiet-quiet.ensures ∙ ap quiet_of c.style_of-style.ensures) i)
-    (c.plain_line-line.ensures.text (sym c.is_stats.ensures ∙ c.if-is_stats.false) options.partitions untold i)) in (
+    let none : asks_in next ≡ [] = none_left (asks_in next) (sym c.has_none.ensures ∙ c.if-has_none.true) in
+    let text = c.in-Ok.ensures.ok options.partitions untold in (
       [],
       plain_goes options F.is_alone c.args.numbering.base c.args.second next c.args.done c.requires.open old old keyed none,
-      plain_replies options F.is_alone c.args.numbering.base c.args.second next c.args.done c.requires.open old old keyed none untold c.args.limits c.args.out.now.items c.put_line.new.out.items
+      plain_replies options F.is_alone c.args.numbering.base c.args.second next c.args.done c.requires.open old old keyed none untold c.args.limits c.args.out.now.items c.put_plain.new.out.items
           text,
       omega arith,
       c.count.ensures ∙ ap (λ k. counted k c.args.buffers.now.tally) c.counter_by.ensures
@@ -101,7 +99,7 @@ returns-in_default-clause-answered g c =
     let options = F.options c.args.front.now in
     let old = F.sessions c.args.front.now in
     let keyed : is_flush_all c.args.next ≡ false = sym c.is_flush_all.ensures ∙ c.if-is_flush_all.false in
-    let none : asks_in c.args.next ≡ [] = sym c.by-asks.ensures.asks ∙ none_left c.by-asks.result (sym c.is_empty.ensures ∙ c.if-is_empty.true) in (
+    let none : asks_in c.args.next ≡ [] = none_left (asks_in c.args.next) (sym c.has_none.ensures ∙ c.if-has_none.true) in (
       [],
       plain_goes options F.is_alone c.args.numbering.base c.args.second c.args.next c.args.done c.requires.open old old keyed none,
       tt,
@@ -111,9 +109,9 @@ returns-in_default-clause-answered g c =
       omega arith,
     )
 
-module _ (next : Next) (asks : List Asked) (same : asks ≡ asks_in next) (done : ℕ) (stands : IsOpenAt next done) (some : (length asks == 0) ≡ false) where
+module _ (next : Next) (done : ℕ) (stands : IsOpenAt next done) (some : (length (asks_in next) == 0) ≡ false) where
   some_asked : 0 < length (asks_in next)
-  some_asked = subst (λ l. 0 < length l) same (some_left asks some)
+  some_asked = some_left (asks_in next) some
 
   less : done < length (asks_in next)
   less = is_below next done stands some_asked
@@ -126,16 +124,16 @@ module _ (next : Next) (asks : List Asked) (same : asks ≡ asks_in next) (done 
 
 pub skip-requires : goal.skip-requires
 skip-requires g c =
-    let below = less c.args.next c.by-asks.result c.by-asks.ensures.asks c.args.done c.requires.open (sym c.is_empty.ensures ∙ c.if-is_empty.false) in
-    let same = ap length c.by-asks.ensures.asks in
+    let below = less c.args.next c.args.done c.requires.open (sym c.has_none.ensures ∙ c.if-has_none.false) in
+    let same = ap length c.asks_of-asks.ensures.is in
     omega (arith, below, same)
 
 pub overflow_add-result : goal.overflow_add-result
 overflow_add-result g c =
-    let asks_are = c.skip.ensures ∙ ap (drop c.args.done) c.by-asks.ensures.asks in
+    let asks_are = c.skip.ensures ∙ ap (drop c.args.done) c.asks_of-asks.ensures.is in
     let r = c.in-Ok-answer_asks.ensures.answered in
     let to_asks = subst (λ l. AnswersAsks c.args.numbering.base l r.0) asks_are r.1.to_asks in
-    let most = fits c.args.next c.by-asks.result c.by-asks.ensures.asks c.args.done c.requires.open (sym c.is_empty.ensures ∙ c.if-is_empty.false) c.args.numbering.base
+    let most = fits c.args.next c.args.done c.requires.open (sym c.has_none.ensures ∙ c.if-has_none.false) c.args.numbering.base
     c.in-Ok-answer_asks.count r.0 to_asks r.2.many in
     let few = c.requires.few in
     omega (arith, most, few)
@@ -154,15 +152,15 @@ returns-in-Ok-answer_asks-clause-answered g c =
     let after = c.answer_asks.new.out.items in
     let left = c.answer_asks.new.asks in
     let keyed : is_flush_all next ≡ false = sym c.is_flush_all.ensures ∙ c.if-is_flush_all.false in
-    let asks_are : c.skip.new.asks ≡ drop done (asks_in next) = c.skip.ensures ∙ ap (drop done) c.by-asks.ensures.asks in
-    let some = some_asked next c.by-asks.result c.by-asks.ensures.asks done c.requires.open (sym c.is_empty.ensures ∙ c.if-is_empty.false) in
+    let asks_are : c.skip.new.asks ≡ drop done (asks_in next) = c.skip.ensures ∙ ap (drop done) c.asks_of-asks.ensures.is in
+    let some = some_asked next done c.requires.open (sym c.has_none.ensures ∙ c.if-has_none.false) in
     let r = c.in-Ok-answer_asks.ensures.answered in
     let first = subst (λ (l : List Asked). AnswersFirst options F.is_alone base c.args.second l old new r.0) asks_are r.1 in
     let said = subst (λ (l : List Asked). RepliesFirst base c.style_of-style.result l c.args.limits r.0 before after count left) asks_are r.2 in
     let replies = subst (λ (s : Style). RepliesFirst base s (drop done (asks_in next)) c.args.limits r.0 before after count left) c.style_of-style.ensures said in (
       r.0,
       asks_go options F.is_alone base c.args.second next done c.requires.open old new keyed r.0 first,
-      subst (λ (w : Bool). Replies options base next done c.args.limits r.0 before after (progress_of (done + count) w)) (sym c.is_empty-in-Ok-answer_asks.ensures)
+      subst (λ (w : Bool). Replies options base next done c.args.limits r.0 before after (progress_of (done + count) w)) (sym c.is_empty.ensures)
           (asks_reply options F.is_alone base c.args.second next done c.requires.open old new keyed r.0 c.args.limits before after count left some first.to_asks replies),
       r.3,
       r.4 ∙ (λ i. tally_after_all c.args.numbering.base c.args.numbering.partitions (asks_are i) r.0
@@ -178,7 +176,7 @@ returns-in-Err-clause-answered g c =
     let old = F.sessions c.args.front.now in
     let new = F.sessions c.answer_asks.new.front in
     let keyed : is_flush_all c.args.next ≡ false = sym c.is_flush_all.ensures ∙ c.if-is_flush_all.false in
-    let asks_are : c.skip.new.asks ≡ drop c.args.done (asks_in c.args.next) = c.skip.ensures ∙ ap (drop c.args.done) c.by-asks.ensures.asks in
+    let asks_are : c.skip.new.asks ≡ drop c.args.done (asks_in c.args.next) = c.skip.ensures ∙ ap (drop c.args.done) c.asks_of-asks.ensures.is in
     let r = c.answer_asks.ensures.answered in
     let first = subst (λ (l : List Asked). AnswersFirst options F.is_alone c.args.numbering.base c.args.second l old new r.0) asks_are r.1 in (
       r.0,

@@ -1,4 +1,4 @@
-use Rattle.std.proofs.Common.{◌≡◌, ◌∷◌, ◌++◌, ℕ, List, [], length, sym, ap, ◌∙◌, subst, arith}
+use Rattle.std.proofs.Common.{◌≡◌, ◌++◌, ℕ, List, length, ap, ◌∙◌, subst, arith}
 use Rattle.std.specs.Prelude.{option_copied}
 use Rattle.std.proofs.lemmas.Result.{on_ok_weaker}
 use Rattle.mica_words.specs.Hash.{partition_of}
@@ -11,7 +11,7 @@ use Rattle.command_answers.specs.AskAnswers.{order_of, said_of}
 use Rattle.memcached_stats.specs.Counted.{counter_of}
 use Rattle.memcached_stats.specs.Tallies.{counted}
 use Rattle.command_answers.specs.Counting.{noted_if}
-use Rattle.command_answers.specs.Going.{ask_text}
+use Rattle.memcached_requests.specs.Replies.{said_text}
 use Rattle.command_answers.proofs.Looking.{IsAnsweredBy, answered_by}
 use Rattle.command_answers.proofs.ask.answer_ask.Goals as goal
 
@@ -41,7 +41,7 @@ returns-clause-answered g c =
       by.answered,
       by.at,
       on_ok_weaker c.put_said.result (λ text.
-          text ∙ (λ i. c.args.out.now.items ++ ask_text c.args.style c.args.is_last (c.bytes-key.ensures i) (says i))) c.put_said.ensures.ok,
+          text ∙ (λ i. c.args.out.now.items ++ said_text c.args.style c.args.is_last (c.bytes-key.ensures i) (says i))) c.put_said.ensures.ok,
       (let left = c.change-changed.ensures.left in omega (arith, left, by.count)),
       c.note_write.ensures ∙ (λ i. noted_if c.args.partitions (c.bytes-key.ensures i) changed.when changed.outcome changed.stamp
           ((c.count.ensures ∙ ap (λ k. counted k c.args.buffers.now.tally) (c.counter_of.ensures ∙ ap (counter_of asked.ask) says)) i))
@@ -50,3 +50,6 @@ returns-clause-answered g c =
 
 pub returns-clause-short : goal.returns-clause-short
 returns-clause-short g c = omega (arith, c.put_said.ensures.short, ap length c.bytes-key.ensures, c.requires.fit.0.1, c.says-says.ensures.short)
+
+pub put_said-requires-clause-key : goal.put_said-requires-clause-key
+put_said-requires-clause-key g c = omega (arith, c.requires.fit.0.1, ap length c.bytes-key.ensures)

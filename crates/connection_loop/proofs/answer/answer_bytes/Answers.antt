@@ -6,8 +6,8 @@ use Rattle.std.proofs.lemmas.Result.{err_from_is_err_and}
 use Rattle.connection_loop.specs.declared.answer.TheConstants.{LIMITS}
 use Rattle.connection_loop.specs.declared.answer.Said.TheVariants.{Nothing, Part, Whole, Last}
 use Rattle.connection_loop.specs.declared.answer.Halt.TheVariants.{Needs, Enough, Leaves}
-use Rattle.memcached_text.specs.declared.next.Next.TheVariants.{More}
-use Rattle.memcached_text.specs.Next.{next_of}
+use Rattle.memcached_requests.specs.declared.request.Next.TheVariants.{More}
+use Rattle.memcached_requests.specs.Next.{next_of}
 use Rattle.command_answers.specs.declared.answer.Numbering.{Numbering}
 use Rattle.connection_loop.specs.Reached.{Reaches, ReachesAfter, HaltsAs, position_at, position_in}
 use Rattle.connection_loop.specs.Paid.{AnswersOn, MayAnswer, SpeaksWhere}

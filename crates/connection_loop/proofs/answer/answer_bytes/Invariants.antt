@@ -1,7 +1,7 @@
 use Rattle.std.proofs.Common.{◌≡◌, ◌≤◌, ◌-◌, length}
 use Rattle.std.specs.Prelude.{◌+◌, drop, max}
 use Rattle.memcached_text.specs.declared.limits.TheConstants.{MAX_REPLY_LEN}
-use Rattle.memcached_text.specs.Next.{next_of}
+use Rattle.memcached_requests.specs.Next.{next_of}
 use Rattle.command_answers.specs.Exchange.{IsOpenAt}
 use Rattle.connection_loop.specs.declared.answer.TheConstants.{LIMITS, MOST_COMMANDS}
 use Rattle.connection_loop.specs.Calls.{KeepsHand}

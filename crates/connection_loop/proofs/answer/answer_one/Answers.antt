@@ -74,8 +74,8 @@ returns-else-last-clause-talk g c =
         few,
         (
           whole_of options c.args.hand.now.numbering.base c.args.bytes.now c.said_next-next.result c.said_next-next.ensures.next r.1 r.2 c.in_default.not-More c.if-not-progress.false
-              (sym c.is_last-last.ensures ∙ c.if-last.false) c.len_of-len.result c.speaks-spoke.result c.len_of-len.ensures,
-          speaks_whole r.2 c.len_of-len.result c.len-before.result c.len.result c.speaks-spoke.result (omega (arith, c.len-before.ensures)) (omega (arith, c.len.ensures))
+              (sym c.is_last-last.ensures ∙ c.if-last.false) c.taken-len.result c.speaks-spoke.result c.taken-len.ensures,
+          speaks_whole r.2 c.taken-len.result c.len-before.result c.len.result c.speaks-spoke.result (omega (arith, c.len-before.ensures)) (omega (arith, c.len.ensures))
               c.speaks-spoke.ensures.spoke c.speaks-spoke.ensures.silent,
         ),
       ),
@@ -89,7 +89,7 @@ returns-then-not-progress-clause-on g c =
 pub returns-else-last-clause-on : goal.returns-else-last-clause-on
 returns-else-last-clause-on g c =
     whole_on c.args.bytes.now c.args.done c.said_next-next.result c.said_next-next.ensures.next c.in_default.not-More c.requires.«open» (sym c.is_last-last.ensures ∙ c.if-last.false)
-    c.len_of-len.result c.speaks-spoke.result c.len_of-len.ensures
+    c.taken-len.result c.speaks-spoke.result c.taken-len.ensures
 
 pub returns-then-last-clause-on : goal.returns-then-last-clause-on
 returns-then-last-clause-on g c = few_given c.args.bytes.now c.args.done c.said_next-next.result c.said_next-next.ensures.next c.in_default.not-More c.requires.«open»

@@ -1,7 +1,8 @@
 use Rattle.std.proofs.Common.{◌≡◌, ◌∙◌, length, sym, ap, subst, arith}
-use Rattle.std.proofs.lemmas.List.{length-drop, take_rest}
+use Rattle.std.proofs.lemmas.List.{length-drop}
 use Rattle.std.proofs.lemmas.Result.{err_from_is_err_and}
-use Rattle.memcached_text.specs.Next.{next_of}
+use Rattle.memcached_requests.specs.Next.{next_of}
+use Rattle.connection_loop.specs.Lying.{bytes_at}
 use Rattle.connection_loop.specs.Paid.{Speaks}
 use Rattle.connection_loop.specs.Reached.{Position, GoesOnTo, HaltsAs, position_at, position_in, position_of}
 use Rattle.connection_loop.proofs.Advancing.{looks_short}
@@ -19,7 +20,7 @@ pub returns-in_err-keep-clause-talk : goal.returns-in_err-keep-clause-talk
 returns-in_err-keep-clause-talk g c =
     let r = c.in_ok-answered.ensures.talk in
     let far = c.in_ok-answered.answered in
-    let bytes = c.args.bytes.now in
+    let bytes = bytes_at c.args.lying in
     let len = length-drop far.taken bytes in
     let is = err_from_is_err_and c.from_residual-in_err-keep.result c.from_residual-in_err-keep.ensures.1 in (
       r.0,
@@ -35,13 +36,13 @@ pub returns-clause-talk : goal.returns-clause-talk
 returns-clause-talk g c =
     let options = g.F.Front.options c.args.hand.now.front in
     let base = c.args.hand.now.numbering.base in
-    let bytes = c.args.bytes.now in
+    let bytes = bytes_at c.args.lying in
     let far = c.in_ok-answered.answered in
     let kept = c.in_ok-keep.ensures.kept in
     let now = c.keep.new.self in
-    let replies = c.answer_bytes.new.out.items in
+    let replies = c.answer_lying.new.out.items in
     let none = ap length c.clear.ensures.items in
-    let position : position_of now ≡ position_in bytes far = λ i. record { bytes = (kept.0 ∙ take_rest bytes far.taken) i; done = kept.1 i; dropping = c.keep.ensures.dropping i } in
+    let position : position_of now ≡ position_in bytes far = λ i. record { bytes = kept.0 i; done = kept.1 i; dropping = c.keep.ensures.dropping i } in
     let r = c.in_ok-answered.ensures.talk in (
       r.0,
       r.1,
@@ -56,11 +57,11 @@ returns-clause-talk g c =
     )
 
 pub returns-clause-waits : goal.returns-clause-waits
-returns-clause-waits g c = λ is. ap next_of (c.in_ok-keep.ensures.kept.0 ∙ take_rest c.args.bytes.now c.in_ok-answered.answered.taken) ∙ c.in_ok-answered.ensures.waits is
+returns-clause-waits g c = λ is. ap next_of c.in_ok-keep.ensures.kept.0 ∙ c.in_ok-answered.ensures.waits is
 
 pub returns-clause-advances : goal.returns-clause-advances
 returns-clause-advances g c =
     let kept = c.in_ok-keep.ensures.kept in
     let none = ap length c.clear.ensures.items in
     looks_short c.in_ok-answered.ensures.advances (omega (arith, none))
-    (λ i. record { bytes = (kept.0 ∙ take_rest c.args.bytes.now c.in_ok-answered.answered.taken) i; done = kept.1 i; dropping = c.keep.ensures.dropping i })
+    (λ i. record { bytes = kept.0 i; done = kept.1 i; dropping = c.keep.ensures.dropping i })

@@ -1,4 +1,4 @@
-use Rattle.connection_loop.proofs.Few.{few_asks_of}
+use Rattle.connection_loop.proofs.FewAsks.{few_asks_of}
 use Rattle.connection_loop.proofs.next.said_next.Goals as goal
 
 pub returns-clause-few : goal.returns-clause-few

@@ -1,6 +1,6 @@
 use Rattle.std.proofs.Common.{◌≡◌, ◌≤◌}
 use Rattle.std.specs.Prelude.{⊤, false, is_some, vec_len}
-use Rattle.memcached_text.specs.declared.limits.TheConstants.{MAX_WAITING_LEN}
+use Rattle.connection_loop.specs.declared.desk.TheConstants.{ROOM_LEN}
 use Rattle.connection_loop.specs.Calls.{KeepsHand}
 use Rattle.connection_loop.specs.Clients.{AreOpen}
 use Rattle.connection_loop.specs.Going.{GoesBySome}
@@ -10,7 +10,7 @@ use Rattle.connection_loop.proofs.serve.serve_connections.Given as goal
 
 abbrev pub invariant-loop-clients : goal.invariant-loop-clients
 invariant-loop-clients g l =
-    (vec_len l.desk.room ≡ MAX_WAITING_LEN)
+    (vec_len l.desk.room ≡ ROOM_LEN)
     × AreOpen l.clients.held.items (g.C.Connections.log l.connections)
     × (g.C.Connections.has_ended l.connections ≡ false)
     × GoesBySome (g.F.Front.options l.initial.hand.front) g.F.Front.is_alone (g.F.Front.sessions l.initial.hand.front) (g.F.Front.left l.initial.hand.front) (g.C.Connections.last l.initial.connections)

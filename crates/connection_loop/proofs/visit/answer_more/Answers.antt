@@ -3,7 +3,7 @@ use Rattle.std.specs.Prelude.{Ok, Err, None}
 use Rattle.std.proofs.lemmas.List.{length-take, take_at}
 use Rattle.std.proofs.lemmas.Result.{err_from_is_err_and}
 use Rattle.memcached_text.specs.declared.limits.TheConstants.{MAX_WAITING_LEN}
-use Rattle.memcached_text.specs.Next.{next_of}
+use Rattle.memcached_requests.specs.Next.{next_of}
 use Rattle.command_answers.specs.Exchange.{IsOpenAt}
 use Rattle.connections.specs.Log.{second_of}
 use Rattle.connection_loop.specs.Reached.{Position, GoesOnTo, SpokeFrom, SpokeBehind, HaltsAs, position_at, position_of}
@@ -24,7 +24,7 @@ returns-then-client-gt0-clause-talk g c =
     let halt = c.in_ok-halt.halt in
     let replies = c.look_at.new.replies.items in
     let r = c.in_ok-halt.ensures.talk in
-    let bytes_are : c.bytes-bytes.result.now ≡ client.kept = c.bytes-bytes.ensures ∙ c.replace-kept.ensures.value in
+    let bytes_are : c.replace-kept.result ≡ client.kept = c.replace-kept.ensures.value in
     let goes = subst (λ b. GoesOnTo options base (position_at b client.done) r.0 [] replies (HaltsAs options base (length b) halt (position_of now))) bytes_are r.2.1.0 in (
       r.0,
       these_within options g.F.Front.is_alone (omega (arith, c.second-hand.ensures.last)) (omega (arith, c.second-hand.ensures.last, c.look_at.ensures.second)) r.1,
@@ -89,7 +89,7 @@ returns-in_err-halt-clause-talk g c =
     let base = c.args.hand.now.numbering.base in
     let client = c.args.client.now in
     let r = c.in_err-halt.ensures.talk in
-    let bytes_are : c.bytes-bytes.result.now ≡ client.kept = c.bytes-bytes.ensures ∙ c.replace-kept.ensures.value in
+    let bytes_are : c.replace-kept.result ≡ client.kept = c.replace-kept.ensures.value in
     let spoke = subst (λ b. SpokeFrom options base (length b) (position_at b client.done) r.0) bytes_are r.2.1 in
     let is = err_from_is_err_and c.from_residual.result c.from_residual.ensures.1 in (
       r.0,
@@ -137,8 +137,8 @@ returns-in-Err-clause-talk g c =
 pub returns-then-client-gt0-clause-again : goal.returns-then-client-gt0-clause-again
 returns-then-client-gt0-clause-again g c =
     let client = c.args.client.now in
-    let bytes_are : c.bytes-bytes.result.now ≡ client.kept = c.bytes-bytes.ensures ∙ c.replace-kept.ensures.value in
-    inr (paid_further c.bytes-bytes.result.now client.done client.asks c.look_at.new.client (subst (λ b. IsOpenAt (next_of b) client.done) (sym bytes_are) c.requires.client.begun)
+    let bytes_are : c.replace-kept.result ≡ client.kept = c.replace-kept.ensures.value in
+    inr (paid_further c.replace-kept.result client.done client.asks c.look_at.new.client (subst (λ b. IsOpenAt (next_of b) client.done) (sym bytes_are) c.requires.client.begun)
     c.if-client-gt0.true (let len = ap length bytes_are in let paid = c.requires.client.paid in omega (arith, len, paid)) c.in_ok-halt.ensures.advances c.requires.left c.look_at.ensures.asks)
 
 pub returns-clause-again : goal.returns-clause-again

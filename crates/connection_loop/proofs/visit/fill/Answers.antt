@@ -2,7 +2,7 @@ use Rattle.std.proofs.Common.{rules, ◌≤◌, ◌∙◌, length, drop, sym, su
 use Rattle.std.specs.Prelude.{Ok, Some}
 use Rattle.connection_loop.specs.Traffic.{Reads, ReadsTo, EndsBy, why, bytes_read}
 use Rattle.connection_loop.proofs.Traffic.{on_one}
-use Rattle.connection_loop.proofs.Filling.{filled_kept, filled_none, filled_read, some_read}
+use Rattle.connection_loop.proofs.Filling.{filled_kept, filled_read, some_read}
 use Rattle.connection_loop.proofs.visit.fill.Goals as goal
 
 pub returns-in-Bytes-clause-kept : goal.returns-in-Bytes-clause-kept
@@ -23,6 +23,3 @@ returns-in-Bytes-clause-reads g c =
           (some.1 ∙ filled_read c.args.client.now.kept c.copy_from_slice.new.self (drop _ c.args.room.now) out _ _ c.in-Bytes.count (search rules) (search rules) few) x.0,
       subst (λ i. EndsBy (Some i) d b) (sym c.in-Bytes.input-is) x.1,
     )) c.in_ok-input.ensures.reads
-
-pub returns-then-had-room-clause-reads : goal.returns-then-had-room-clause-reads
-returns-then-had-room-clause-reads g c = filled_none c.args.number _ c.args.client.now.kept _ (search rules) (g.C.Connections.log c.args.connections.now)

@@ -2,7 +2,7 @@ use Rattle.std.proofs.Common.{◌-◌, ◌++◌, length, take, drop, [], ap, ◌
 use Rattle.std.proofs.lemmas.List.{take_rest}
 use Rattle.std.proofs.lemmas.Result.{IfOk-weaker}
 use Rattle.memcached_text.specs.declared.limits.TheConstants.{MAX_WAITING_LEN}
-use Rattle.memcached_text.specs.Next.{next_of}
+use Rattle.memcached_requests.specs.Next.{next_of}
 use Rattle.connection_loop.specs.Paid.{MayAnswer, SpeaksWhere}
 use Rattle.connection_loop.specs.Reached.{GoesOnTo, SpokeBehind, HaltsAs, position_of}
 use Rattle.connection_loop.proofs.Going.{these_none}

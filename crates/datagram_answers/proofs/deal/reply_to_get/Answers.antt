@@ -1,6 +1,5 @@
 use Rattle.std.proofs.Common.{◌≡◌, ◌∷◌, [], List, ℕ, sym, ap, ◌∙◌, subst}
 use Rattle.std.proofs.lemmas.Result.{on_ok_weaker}
-use Rattle.mica_words.specs.Item.{StoredFits}
 use Rattle.partition_model.specs.Answer.{IsAnswer}
 use Rattle.batch_packets.specs.declared.replies.Reply.{Reply}
 use Rattle.batch_packets.specs.ReplyGrammar.{IsReply}
@@ -28,10 +27,9 @@ module _ (g : given.Over) (c : After-ticket g) where
       let old = F.sessions c.args.front.now in
       let new = F.sessions c.read-answer.new.self in
       let read = c.read-answer.ensures in
-      let fits = subst StoredFits c.value.ensures.value c.value.ensures.fits in
       subst (λ (version : ℕ). RepliesTo options F.is_alone version old c.args.request.now new answered) (sym c.requires.version)
-      (get_replied options F.is_alone c.args.version old new c.args.request.now c.key.result.now c.read-answer.result.0 c.read-answer.new.out c.read-answer.result.1 read.answer.0
-      c.requires.get c.key.ensures fits read.answer.1 read.answer.2 read.others)
+      (get_replied options F.is_alone c.args.version old new c.args.request.now c.key.result.now c.read-answer.result.1 read.answer.0
+      c.requires.get c.key.ensures read.answer.2 read.others)
 
   -- the reply that is added
   same : reply ≡ reply_to c.args.replies.now.version c.args.request.now.ticket answered

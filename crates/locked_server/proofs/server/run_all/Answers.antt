@@ -98,7 +98,7 @@ pub run_workers-requires-clause-plan : goal.run_workers-requires-clause-plan
 run_workers-requires-clause-plan g c κs within = record {
   valid = c.requires.service.options;
   options = c.requires.plan.options;
-  locks = ap length c.as_slice.ensures.value ∙ c.requires.server.locked ∙ ap (λ (o : Options). o.partitions) (sym c.requires.plan.options);
+  locks = c.requires.server.locked ∙ ap (λ (o : Options). o.partitions) (sym c.requires.plan.options);
   few = omega (arith, c.requires.plan.fronts, c.requires.service.few);
 }
 
@@ -155,10 +155,10 @@ part_fronts-requires-clause-answers g c =
 
 pub take_in_all-requires-clause-few : goal.take_in_all-requires-clause-few
 take_in_all-requires-clause-few g c =
-    omega (arith, c.requires.server.locked, c.args.server.locks.ok, ap (λ (o : Options). o.partitions) c.requires.plan.options, c.requires.service.options.partitions.1)
+    omega (arith, c.requires.server.locked, ap (λ (o : Options). o.partitions) c.requires.plan.options, c.requires.service.options.partitions.1)
 
 pub take_in_all-requires-clause-room : goal.take_in_all-requires-clause-room
-take_in_all-requires-clause-room g c = omega (arith, c.requires.server.locked, c.args.server.locks.ok, c.requires.server.has_room.parts.1)
+take_in_all-requires-clause-room g c = omega (arith, c.requires.server.locked, c.requires.server.has_room.parts.1)
 
 module _ (g : given.Over) (c : After-part_fronts g) where
   -- the fronts of datagrams come behind those of connections

@@ -13,8 +13,9 @@ use Rattle.memcached_page.proofs.examples.refuses_where_full.Goals as goal
 -- no key has an item, so there is room for six words
 has_room : (keys : List (List ℕ)) → AllByRecursion (λ key. is_some (empty.items key) ≡ true) keys → LacksRoom (options Store 256) empty [] 6 keys → ⊥
 has_room [] items (inl worn) = omega (arith, worn)
-has_room [] items (inr (inl blocks)) = omega (arith, blocks.1)
-has_room [] items (inr (inr spares)) = omega (arith, spares.1)
+has_room [] items (inr (inl log)) = omega (arith, log.1)
+has_room [] items (inr (inr (inl blocks))) = omega (arith, blocks.1)
+has_room [] items (inr (inr (inr spares))) = omega (arith, spares.1)
 has_room (key ∷ keys) items lacks = true≢false (sym items.0)
 
 pub returns : goal.returns

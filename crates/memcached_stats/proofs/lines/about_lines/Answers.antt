@@ -2,8 +2,8 @@ use Rattle.std.proofs.Common.{◌-◌, ◌∷◌, [], codes, ap, ◌∙◌}
 use Rattle.memcached_stats.specs.Stats.{stat}
 use Rattle.memcached_stats.proofs.lines.about_lines.Goals as goal
 
-pub returns : goal.returns
-returns c =
+pub returns-clause-are : goal.returns-clause-are
+returns-clause-are c =
     let open_now = c.saturating_sub.ensures ∙ (λ i. c.of-opened.ensures.count i - c.of.ensures.count i) in
     λ i.
     c.told.ensures i ∷ c.told-2.ensures i ∷ c.told-3.ensures i ∷ c.told-4.ensures i ∷ c.told-5.ensures i ∷ c.told-6.ensures i ∷ c.told-7.ensures i

@@ -2,8 +2,8 @@ use Rattle.std.proofs.Common.{◌+◌, ◌∷◌, [], codes, ap, ◌∙◌}
 use Rattle.memcached_stats.specs.Stats.{stat}
 use Rattle.memcached_stats.proofs.lines.command_lines.Goals as goal
 
-pub returns : goal.returns
-returns c =
+pub returns-clause-are : goal.returns-clause-are
+returns-clause-are c =
     λ i.
     (c.told.ensures ∙ (λ j. stat (codes "cmd_get") (c.of-hits.ensures.count j + c.of-misses.ensures.count j))) i
     ∷ (c.told-2.ensures ∙ (λ j. stat (codes "cmd_set") (c.of.ensures.count j + c.of-swapped.ensures.count j + c.of-absent.ensures.count j + c.of-others.ensures.count j))) i

@@ -1,9 +1,8 @@
 use Rattle.std.proofs.Common.{◌≡◌, ◌+◌, ◌∙◌, length, take, min, sym, ap, subst, arith}
 use Rattle.std.proofs.lemmas.List.{take_all}
-use Rattle.memcached_text.specs.declared.limits.TheConstants.{MAX_LINE_LEN}
 use Rattle.memcached_text.specs.Lines.{Lacks, words_of}
 use Rattle.memcached_text.specs.Forms.{line_of}
-use Rattle.memcached_text.specs.Next.{says_at}
+use Rattle.memcached_text.specs.Next.{says_at, most_line}
 use Rattle.memcached_text.proofs.NextLaws.{binary_is, no_line_long, no_line_short, a_line}
 use Rattle.memcached_text.proofs.next.front_line.Goals as goal
 
@@ -16,12 +15,13 @@ returns-in-Some c =
 
 pub returns-in-None : goal.returns-in-None
 returns-in-None c =
-    sym (no_line_long c.args.from.now (min (length c.args.from.now) (MAX_LINE_LEN + 1)) (sym c.is_binary.ensures ∙ c.if-is_binary.false) (omega arith) (omega arith) c.in-None.ensures)
+    let from = c.args.from.now in
+    sym (no_line_long from (min (length from) (most_line from + 1)) (sym c.is_binary.ensures ∙ c.if-is_binary.false) (omega arith) (omega arith) c.in-None.ensures)
 
 pub returns-in-None-2 : goal.returns-in-None-2
 returns-in-None-2 c =
     let from = c.args.from.now in
-    let all : min (length from) (MAX_LINE_LEN + 1) ≡ length from = omega arith in
+    let all : min (length from) (most_line from + 1) ≡ length from = omega arith in
     sym (no_line_short from (sym c.is_binary.ensures ∙ c.if-is_binary.false) (omega arith) (subst (Lacks 10) (ap (λ k. take k from) all ∙ take_all (length from) from (omega arith)) c.in-None.ensures))
 
 pub returns-then-is_binary : goal.returns-then-is_binary

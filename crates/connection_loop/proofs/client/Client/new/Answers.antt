@@ -1,5 +1,5 @@
 use Rattle.std.proofs.Common.{[], sym, ap, ◌∙◌, subst}
-use Rattle.memcached_text.specs.Next.{next_of}
+use Rattle.memcached_requests.specs.Next.{next_of}
 use Rattle.connection_loop.specs.Reached.{Reaches, position_at}
 use Rattle.connection_loop.proofs.Reaching.{begins_none, nothing_next}
 use Rattle.connection_loop.proofs.client.Client.new.Goals as goal

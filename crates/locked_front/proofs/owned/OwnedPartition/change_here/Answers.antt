@@ -7,8 +7,8 @@ use Rattle.locked_front.specs.Owned.{Owned, owned_as, TookLook}
 use Rattle.locked_front.proofs.Turning.{looks}
 use Rattle.locked_front.proofs.owned.OwnedPartition.change_here.Goals as goal
 
-pub returns : goal.returns
-returns g c =
+pub returns-clause-looked : goal.returns-clause-looked
+returns-clause-looked g c =
     let plan = g.J.ServerPlan.plan in
     let needs = g.D.Decide.needs c.args.decide.now in
     let becoming = g.D.Decide.becoming c.args.decide.now in
@@ -23,4 +23,4 @@ returns g c =
     subst (λ (o : Owned). TookLook plan o.number (stamp_of plan.options o.owner.history) c.args.second o.owner.history c.args.key.now needs becoming c.args.taker.now did.new.taker changed c.look-answer.new.found did.result.1) c.self.view_is
     (looks plan was (g.P.Partition.owner c.look-answer.new.part) c.args.second c.args.key.now needs becoming c.args.taker.now did.new.taker changed c.look-answer.new.found did.result.1
     (written_by c.args.key.now c.look-answer.new.next c.look-answer.result.1) c.self.invariant.0 c.look-answer.ensures.same
-    (c.when_at-when.ensures ∙ ap (when_by c.args.second) c.of.ensures) refl c.look-answer.ensures.found c.look-answer.ensures.change did.ensures)
+    (c.when_at-when.ensures ∙ ap (when_by c.args.second) c.of.ensures) refl c.look-answer.ensures.found c.look-answer.ensures.change did.ensures.did)

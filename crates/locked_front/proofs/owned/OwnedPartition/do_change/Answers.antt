@@ -5,8 +5,8 @@ use Rattle.locked_front.specs.Owned.{Owned, owned_as, LeftAll, TookOrLeft}
 use Rattle.locked_front.proofs.Turning.{leaves}
 use Rattle.locked_front.proofs.owned.OwnedPartition.do_change.Goals as goal
 
-pub returns-in-Stay : goal.returns-in-Stay
-returns-in-Stay g c =
+pub returns-in-Stay-clause-did : goal.returns-in-Stay-clause-did
+returns-in-Stay-clause-did g c =
     let plan = g.J.ServerPlan.plan in
     let was : Owned = owned_as c.self.inside.number (g.P.Partition.home c.self.inside.part) (g.P.Partition.owner c.self.inside.part) c.self.inside.book in
     let learns = c.learn_of-learned in

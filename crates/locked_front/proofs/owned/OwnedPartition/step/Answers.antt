@@ -25,8 +25,8 @@ invariant_of-self g c =
       c.self.invariant.2,
     )
 
-pub returns : goal.returns
-returns g c =
+pub returns-clause-took : goal.returns-clause-took
+returns-clause-took g c =
     let owner = g.P.Partition.owner in
     let was : Owned = owned_as c.self.inside.number (g.P.Partition.home c.self.inside.part) (owner c.self.inside.part) c.self.inside.book in
     let write = write_of c.args.op c.args.key.now c.args.value.now in

@@ -1,5 +1,0 @@
-use Rattle.memcached_text.proofs.AppendLaws.{longer_by}
-use Rattle.memcached_stats.proofs.lines.put_parts.Goals as goal
-
-pub returns-clause-short : goal.returns-clause-short
-returns-clause-short c = longer_by c.args.parts.now c.loop-part.part-index c.args.out.now.items c.loop-part.out.items c.loop-part.invariant
