@@ -28,8 +28,6 @@ ARCHIVE = "deb-src http://deb.debian.org/debian bookworm main\n"
 PASSED, FAILED, SKIPPED = "passed", "failed", "skipped"
 
 # what is missing: subjects of issues
-BINARY = "Every client: binary protocol and meta commands"
-LONG = "Values of a mebibyte"
 NUMBERS = "Numbers and listing"
 
 

@@ -1,0 +1,15 @@
+pub mod Streams
+pub mod Puts
+pub mod Spilled
+pub mod Again
+pub mod AgainItems
+pub mod Whole
+pub mod Texts
+pub mod Readers
+pub mod Takes
+pub mod Grows
+pub mod Readings
+pub mod Words
+pub mod Ends
+pub mod Changed
+pub mod Begins
