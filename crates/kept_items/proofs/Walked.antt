@@ -86,3 +86,8 @@ module _ (at : Moment) (closing : Closing) (old now : Option (List ℕ)) (s t : 
 
   pub so_far_end : (next : Option (List ℕ)) (u : Spiller) → rest ≡ [] → Saves now next t u (Closes closing) → SavesAll old next s u (entries_of (kept_at at walked) closing)
   so_far_end next u none saves = so_far next u (subst (λ (r : List Pair). SavesAll now next t u (entries_of (kept_at at r) closing)) (sym none) saves)
+
+-- where there was no pair, none is left
+pub none_left : (old new : Option (List ℕ)) (s t : Spiller) (at : Moment) (rest left : List Pair) (more : Bool) → SavesStep old new s t at rest left more → more ≡ false → left ≡ []
+none_left old new s t at rest left true step e = absurd cc
+none_left old new s t at rest left false step e = step.1
