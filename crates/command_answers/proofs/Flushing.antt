@@ -103,10 +103,10 @@ flushes_few {options} {flush} left left_after f few = omega (arith, few, f.many,
 
 -- the write of a partition's flush
 pub one_flush : (options : Options) (flush : Flush) (is_alone : Bool) (old new : Sessions) (partition : ℕ) (key : List ℕ) (outcome : Outcome) (stamp : ℕ) → begins_with_feed key ≡ true
-    → flush_in key ≡ flush → partition_of key options.partitions ≡ partition → bucket_of key options.buckets ≡ 0
-    → Writes options is_alone (old (partition_of key options.partitions)) (record { write = write_of Del key []; outcome = outcome; stamp = stamp })
-    (new (partition_of key options.partitions))
-    → ChangesOnly (partition_of key options.partitions) old new
+    → flush_in key ≡ flush → partition_of options.hashing key options.partitions ≡ partition → bucket_of options.hashing key options.buckets ≡ 0
+    → Writes options is_alone (old (partition_of options.hashing key options.partitions)) (record { write = write_of Del key []; outcome = outcome; stamp = stamp })
+    (new (partition_of options.hashing key options.partitions))
+    → ChangesOnly (partition_of options.hashing key options.partitions) old new
     → (answered : Answered) × FlushesOne options flush partition answered × Answers options is_alone old answered new × (is_accepted outcome ≡ accepts answered)
 one_flush options flush is_alone old new partition key outcome stamp feed says at first written others =
     let step : RunStep = record { write = write_of Del key []; outcome = outcome; stamp = stamp } in

@@ -78,9 +78,9 @@ module _ (options : Options) (is_alone : Bool) (base second : ℕ) (asked : Aske
     pub noted : (partitions : ℕ) (tally : Numbers) → noted_if partitions asked.key changed.when changed.outcome changed.stamp tally ≡ noted_by partitions answered tally
 
   pub answered_by : (c : Changed) (buffer : List ℕ)
-      → ComesTo options is_alone second asked.key (looks asked.ask) (becoming_by (order_of base asked)) (old (partition_of asked.key options.partitions)) c buffer
-      (new (partition_of asked.key options.partitions))
-      → ChangesOnly (partition_of asked.key options.partitions) old new → IsAnsweredBy c buffer
+      → ComesTo options is_alone second asked.key (looks asked.ask) (becoming_by (order_of base asked)) (old (partition_of options.hashing asked.key options.partitions)) c buffer
+      (new (partition_of options.hashing asked.key options.partitions))
+      → ChangesOnly (partition_of options.hashing asked.key options.partitions) old new → IsAnsweredBy c buffer
   answered_by c buffer comes others = go (write_by becoming asked.key look) c.outcome refl refl comes.does
     where
       order : Order
@@ -99,7 +99,7 @@ module _ (options : Options) (is_alone : Bool) (base second : ℕ) (asked : Aske
           ∙ says_alike order c.when look.when look.value c.outcome comes.tells ∙ ap (says_by order look.when look.value) is
 
       go : (write : Option Write) (outcome : Option Outcome) → write_by becoming asked.key look ≡ write → c.outcome ≡ outcome
-          → DoesWrite options is_alone (old (partition_of asked.key options.partitions)) asked.key write outcome c.stamp look (new (partition_of asked.key options.partitions))
+          → DoesWrite options is_alone (old (partition_of options.hashing asked.key options.partitions)) asked.key write outcome c.stamp look (new (partition_of options.hashing asked.key options.partitions))
           → IsAnsweredBy c buffer
       go None None writes is does = record {
         answered = kept asked.key c.stamp look;
@@ -118,9 +118,9 @@ module _ (options : Options) (is_alone : Bool) (base second : ℕ) (asked : Aske
             answered = changed step look;
             at = record {
               one = record {
-                one = subst (λ (k : List ℕ). AnswersOne options is_alone (old (partition_of k options.partitions)) (changed step look) (new (partition_of k options.partitions)))
+                one = subst (λ (k : List ℕ). AnswersOne options is_alone (old (partition_of options.hashing k options.partitions)) (changed step look) (new (partition_of options.hashing k options.partitions)))
                     (sym key) does;
-                others = subst (λ (k : List ℕ). ChangesOnly (partition_of k options.partitions) old new) (sym key) others;
+                others = subst (λ (k : List ℕ). ChangesOnly (partition_of options.hashing k options.partitions) old new) (sym key) others;
               };
               to_ask = writes;
               at = ap Some comes.at;

@@ -59,12 +59,12 @@ module _ (options : Options) (is_alone : Bool) (base second : ℕ) where
 
   -- a key that was touched
   pub one_touched : (old new : Sessions) (left left_after : ℕ) (key : List ℕ) (outcome : Outcome) (stamp : ℕ) → options.mode ≡ Cache
-      → Writes options is_alone (old (partition_of key options.partitions)) (record { write = write_of Touch key []; outcome = outcome; stamp = stamp }) (new (partition_of key options.partitions))
-      → ChangesOnly (partition_of key options.partitions) old new → left ≤ left_after + 1 → SweepsBy options is_alone base second 1 old left new left_after
+      → Writes options is_alone (old (partition_of options.hashing key options.partitions)) (record { write = write_of Touch key []; outcome = outcome; stamp = stamp }) (new (partition_of options.hashing key options.partitions))
+      → ChangesOnly (partition_of options.hashing key options.partitions) old new → left ≤ left_after + 1 → SweepsBy options is_alone base second 1 old left new left_after
   one_touched old new left left_after key outcome stamp mode writes others few =
       let a : Answered = wrote (record { write = write_of Touch key []; outcome = outcome; stamp = stamp }) in
       let none : second_in options a ≡ None =
-      ap (λ t. cond t (second_asked (flush_in key)) None) (never_flushes (bucket_of key options.buckets == 0) (begins_with_feed key) (partition_of key options.partitions == 0)) in record {
+      ap (λ t. cond t (second_asked (flush_in key)) None) (never_flushes (bucket_of options.hashing key options.buckets == 0) (begins_with_feed key) (partition_of options.hashing key options.partitions == 0)) in record {
         answers = a ∷ [];
         sweeps = ((mode, refl), tt);
         bounded = omega arith;
@@ -86,15 +86,15 @@ module _ (options : Options) (is_alone : Bool) (base second : ℕ) where
       few = few;
     }
 
-    pub one_swept : let p = partition_of key options.partitions in ComesTo options is_alone second key true (sweeping base) (old p) c buffer (new p)
-        → ChangesOnly (partition_of key options.partitions) old new → left ≤ left_after + count_of c.outcome → SweepsBy options is_alone base second 1 old left new left_after
+    pub one_swept : let p = partition_of options.hashing key options.partitions in ComesTo options is_alone second key true (sweeping base) (old p) c buffer (new p)
+        → ChangesOnly (partition_of options.hashing key options.partitions) old new → left ≤ left_after + count_of c.outcome → SweepsBy options is_alone base second 1 old left new left_after
     one_swept comes others few = go (write_by (sweeping base) key look) c.outcome refl refl comes.does
       where
         look : Look
         look = comes.look
 
         go : (write : Option Write) (outcome : Option Outcome) → write_by (sweeping base) key look ≡ write → c.outcome ≡ outcome
-            → DoesWrite options is_alone (old (partition_of key options.partitions)) key write outcome c.stamp look (new (partition_of key options.partitions))
+            → DoesWrite options is_alone (old (partition_of options.hashing key options.partitions)) key write outcome c.stamp look (new (partition_of options.hashing key options.partitions))
             → SweepsBy options is_alone base second 1 old left new left_after
         go None None writes is does =
             one_by (kept key c.stamp look) (record { one = does; others = others }) tt (ap Some comes.at) (subst (λ o. left ≤ left_after + count_of o) is few)
@@ -105,6 +105,6 @@ module _ (options : Options) (is_alone : Bool) (base second : ℕ) where
             let same : write.key ≡ key = ap (λ (w : Write). w.key) t.0 in
             let step : RunStep = record { write = write; outcome = outcome; stamp = c.stamp } in
             one_by (changed step look) (record {
-              one = subst (λ (k : List ℕ). AnswersOne options is_alone (old (partition_of k options.partitions)) (changed step look) (new (partition_of k options.partitions))) (sym same) does;
-              others = subst (λ (k : List ℕ). ChangesOnly (partition_of k options.partitions) old new) (sym same) others;
+              one = subst (λ (k : List ℕ). AnswersOne options is_alone (old (partition_of options.hashing k options.partitions)) (changed step look) (new (partition_of options.hashing k options.partitions))) (sym same) does;
+              others = subst (λ (k : List ℕ). ChangesOnly (partition_of options.hashing k options.partitions) old new) (sym same) others;
             }) (subst (λ (k : List ℕ). write ≡ write_of Del k []) (sym same) t.0, t.1) (ap Some comes.at) (subst (λ o. left ≤ left_after + count_of o) is few)

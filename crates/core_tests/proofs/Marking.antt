@@ -44,7 +44,7 @@ stamped = refl
 pub its_bucket : (o : OwnerState) → o.shape ≡ one_bucket → bucket_in o (97 ∷ []) ≡ 0
 its_bucket o shape =
     let below = bucket_of-below (97 ∷ []) 1 (omega arith) in
-    ap (λ (z : Shape). bucket_of (97 ∷ []) z.buckets) shape ∙ (omega arith)
+    ap (λ (z : Shape). bucket_of z.hashing (97 ∷ []) z.buckets) shape ∙ (omega arith)
 
 -- the put is begun, and nothing was stored before
 record IsBegun (o : OwnerState) : Type 0 where

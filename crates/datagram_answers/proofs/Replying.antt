@@ -40,8 +40,8 @@ lawful_get version ticket stamp (Some v) = by (ltb (max_value_len version) (leng
 -- a get
 pub get_replied : (options : Options) (is_alone : Bool) (version : ℕ) (old new : Sessions) (request : Request) (key : List ℕ) (stamp : ℕ) (value : Option (List ℕ))
     → write_in request ≡ None → key ≡ request.key
-    → Reads options is_alone (old (partition_of key options.partitions)) key stamp value (new (partition_of key options.partitions))
-    → ChangesOnly (partition_of key options.partitions) old new
+    → Reads options is_alone (old (partition_of options.hashing key options.partitions)) key stamp value (new (partition_of options.hashing key options.partitions))
+    → ChangesOnly (partition_of options.hashing key options.partitions) old new
     → RepliesTo options is_alone version old request new (got key stamp value)
 get_replied options is_alone version old new request key stamp value none same reads others = record {
   is = record { version_is = refl; asked = (none, same); lawful = lawful_get version request.ticket stamp value };
@@ -51,8 +51,8 @@ get_replied options is_alone version old new request key stamp value none same r
 -- a write
 pub write_replied : (options : Options) (is_alone : Bool) (version : ℕ) (old new : Sessions) (request : Request) (write : Write) (outcome : Outcome) (stamp : ℕ)
     → IsRequest version request → write_in request ≡ Some write
-    → Writes options is_alone (old (partition_of write.key options.partitions)) (record { write = write; outcome = outcome; stamp = stamp }) (new (partition_of write.key options.partitions))
-    → ChangesOnly (partition_of write.key options.partitions) old new
+    → Writes options is_alone (old (partition_of options.hashing write.key options.partitions)) (record { write = write; outcome = outcome; stamp = stamp }) (new (partition_of options.hashing write.key options.partitions))
+    → ChangesOnly (partition_of options.hashing write.key options.partitions) old new
     → RepliesTo options is_alone version old request new (wrote (record { write = write; outcome = outcome; stamp = stamp }))
 write_replied options is_alone version old new request write outcome stamp lawful is writes others = record {
   is = record {

@@ -52,7 +52,7 @@ accepts (kept key stamp look) = false
 
 -- the partition of the key
 abbrev pub partition_in : Options → Answered → ℕ
-partition_in options answered = partition_of (key_of answered) options.partitions
+partition_in options answered = partition_of options.hashing (key_of answered) options.partitions
 
 -- those of one partition
 abbrev pub answers_of : Options → ℕ → List Answered → List Answered

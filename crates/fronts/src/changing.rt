@@ -71,8 +71,8 @@ pub trait Changes: Front {
         ensures feed { begins_with_feed key.new ≡ true }
         ensures fits { KeyFits key.new }
         ensures flush { flush_in key.new ≡ flush }
-        ensures partition { partition_of key.new (Self.options self.now).partitions ≡ partition }
-        ensures bucket { bucket_of key.new (Self.options self.now).buckets ≡ 0 };
+        ensures partition { partition_of (Self.options self.now).hashing key.new (Self.options self.now).partitions ≡ partition }
+        ensures bucket { bucket_of (Self.options self.now).hashing key.new (Self.options self.now).buckets ≡ 0 };
 
     fn change<D: Decide>(
         &mut self,
@@ -84,10 +84,10 @@ pub trait Changes: Front {
     ) -> Changed
         requires key { KeyFits key.now }
         requires left { 0 < Self.left self.old }
-        ensures changed { let p = partition_of key.entry.now (Self.options self.old).partitions in
+        ensures changed { let p = partition_of (Self.options self.old).hashing key.entry.now (Self.options self.old).partitions in
             ComesTo (Self.options self.old) Self.is_alone second key.entry.now (D.needs decide.entry.now) (D.becoming decide.entry.now)
             (Self.sessions self.old p) result found.new (Self.sessions self.new p) }
-        ensures others { ChangesOnly (partition_of key.entry.now (Self.options self.old).partitions) (Self.sessions self.old) (Self.sessions self.new) }
+        ensures others { ChangesOnly (partition_of (Self.options self.old).hashing key.entry.now (Self.options self.old).partitions) (Self.sessions self.old) (Self.sessions self.new) }
         ensures left { Self.left self.old ≤ Self.left self.new + count_of result.outcome }
         ensures options { Self.options self.new ≡ Self.options self.old }
         ensures number { Self.number self.new ≡ Self.number self.old }
@@ -97,10 +97,10 @@ pub trait Changes: Front {
     fn delete(&mut self, key: &[u8]) -> (Outcome, u64)
         requires key { KeyFits key.now }
         requires left { 0 < Self.left self.old }
-        ensures written { let p = partition_of key.entry.now (Self.options self.old).partitions in
+        ensures written { let p = partition_of (Self.options self.old).hashing key.entry.now (Self.options self.old).partitions in
             Writes (Self.options self.old) Self.is_alone (Self.sessions self.old p)
             (record { write = write_of Del key.entry.now []; outcome = result.0; stamp = result.1 }) (Self.sessions self.new p) }
-        ensures others { ChangesOnly (partition_of key.entry.now (Self.options self.old).partitions) (Self.sessions self.old) (Self.sessions self.new) }
+        ensures others { ChangesOnly (partition_of (Self.options self.old).hashing key.entry.now (Self.options self.old).partitions) (Self.sessions self.old) (Self.sessions self.new) }
         ensures left { Self.left self.old ≤ Self.left self.new + 1 }
         ensures options { Self.options self.new ≡ Self.options self.old }
         ensures number { Self.number self.new ≡ Self.number self.old }
@@ -110,10 +110,10 @@ pub trait Changes: Front {
     fn touch(&mut self, key: &[u8]) -> (Outcome, u64)
         requires key { KeyFits key.now }
         requires left { 0 < Self.left self.old }
-        ensures written { let p = partition_of key.entry.now (Self.options self.old).partitions in
+        ensures written { let p = partition_of (Self.options self.old).hashing key.entry.now (Self.options self.old).partitions in
             Writes (Self.options self.old) Self.is_alone (Self.sessions self.old p)
             (record { write = write_of Touch key.entry.now []; outcome = result.0; stamp = result.1 }) (Self.sessions self.new p) }
-        ensures others { ChangesOnly (partition_of key.entry.now (Self.options self.old).partitions) (Self.sessions self.old) (Self.sessions self.new) }
+        ensures others { ChangesOnly (partition_of (Self.options self.old).hashing key.entry.now (Self.options self.old).partitions) (Self.sessions self.old) (Self.sessions self.new) }
         ensures left { Self.left self.old ≤ Self.left self.new + 1 }
         ensures options { Self.options self.new ≡ Self.options self.old }
         ensures number { Self.number self.new ≡ Self.number self.old }

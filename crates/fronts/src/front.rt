@@ -58,11 +58,11 @@ pub trait Front {
         requires value { HasValueOf op value.now }
         requires left { 0 < left self.old }
 
-        ensures written { IfOk result (λ r. let p = partition_of key.entry.now (options self.old).partitions in
+        ensures written { IfOk result (λ r. let p = partition_of (options self.old).hashing key.entry.now (options self.old).partitions in
             Writes (options self.old) is_alone (sessions self.old p)
             (record { write = write_of op key.entry.now value.entry.now; outcome = r.0; stamp = r.1 }) (sessions self.new p)) }
         ensures others { IfOk result (λ _.
-            ChangesOnly (partition_of key.entry.now (options self.old).partitions) (sessions self.old) (sessions self.new)) }
+            ChangesOnly (partition_of (options self.old).hashing key.entry.now (options self.old).partitions) (sessions self.old) (sessions self.new)) }
         ensures err { OnErr result (self.new ≡ self.old) }
         ensures left { left self.old ≤ left self.new + 1 }
         ensures options { options self.new ≡ options self.old }
@@ -73,10 +73,10 @@ pub trait Front {
     fn read(&mut self, key: &[u8], out: &mut ItemBuf) -> (Answer, u64)
         requires key { KeyFits key.now }
 
-        ensures answer { let p = partition_of key.entry.now (options self.old).partitions in
+        ensures answer { let p = partition_of (options self.old).hashing key.entry.now (options self.old).partitions in
             (value : Option (List ℕ)) × IsAnswer result.0 out.new value
             × Reads (options self.old) is_alone (sessions self.old p) key.entry.now result.1 value (sessions self.new p) }
-        ensures others { ChangesOnly (partition_of key.entry.now (options self.old).partitions) (sessions self.old) (sessions self.new) }
+        ensures others { ChangesOnly (partition_of (options self.old).hashing key.entry.now (options self.old).partitions) (sessions self.old) (sessions self.new) }
         ensures left { left self.new ≡ left self.old }
         ensures options { options self.new ≡ options self.old }
         ensures number { number self.new ≡ number self.old }

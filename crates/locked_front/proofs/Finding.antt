@@ -22,15 +22,15 @@ use Rattle.locked_front.specs.Parts.{LockedView, locked_view, IsPartOf, IsLocked
 pub record FindsPart (plan : Plan) (front view : LockedView) (key : List ℕ) (at : ℕ) (part : LockedPart) : Type 0 where
   pub lawful : IsLockedFront plan front
   pub view_is : front ≡ view
-  pub number : at ≡ partition_of key front.options.partitions
+  pub number : at ≡ partition_of front.options.hashing key front.options.partitions
   pub below : at < front.options.partitions
   pub here : slice_get front.parts at ≡ Some part
 
 pub finds_part : {plan : Plan} {front view : LockedView} {key : List ℕ} {hash at : ℕ} {part : LockedPart} → IsLockedFront plan front → front ≡ view → hash ≡ fnv1a key
     → at ≡ hash_partition hash front.options.partitions → part ≡ get_or front.parts at part → FindsPart plan front view key at part
 finds_part {front = front} {key = key} {at = at} {part = part} lawful view_is hash_is at_is read =
-    let number = at_is ∙ ap (λ h. hash_partition h front.options.partitions) hash_is ∙ sym (partition_of_hash key front.options.partitions) in
-    let low = partition_of-below key front.options.partitions lawful.valid.partitions.0 in
+    let number = at_is ∙ ap (λ h. hash_partition h front.options.partitions) hash_is ∙ sym (partition_of_hash front.options.hashing key front.options.partitions) in
+    let low = partition_of-below front.options.hashing key front.options.partitions lawful.valid.partitions.0 in
     record {
       lawful = lawful;
       view_is = view_is;
@@ -82,17 +82,17 @@ module _ {plan : Plan} {front view : LockedView} {key : List ℕ} {at : ℕ} {pa
     }
 
     -- what holds of the front at the place holds of what contracts see of it at the key's partition
-    in_view : (Q : LockedView → ℕ → Type 0) → Q front at → Q view (partition_of key view.options.partitions)
+    in_view : (Q : LockedView → ℕ → Type 0) → Q front at → Q view (partition_of view.options.hashing key view.options.partitions)
     in_view Q holds =
         subst (λ (y : LockedView × ℕ). Q y.0 y.1)
-        (λ i. (finds.view_is i, (finds.number ∙ ap (λ (v : LockedView). partition_of key v.options.partitions) finds.view_is) i)) holds
+        (λ i. (finds.view_is i, (finds.number ∙ ap (λ (v : LockedView). partition_of v.options.hashing key v.options.partitions) finds.view_is) i)) holds
 
-    pub others_at : ChangesOnly (partition_of key view.options.partitions) (sessions_of view.parts) (sessions_of parts_after)
+    pub others_at : ChangesOnly (partition_of view.options.hashing key view.options.partitions) (sessions_of view.parts) (sessions_of parts_after)
     others_at = in_view (λ v p. ChangesOnly p (sessions_of v.parts) (sessions_of parts_after)) (λ q other. ap session_or_none (set_elsewhere front.parts at q new other))
 
     -- what is known of the part's sessions, as contracts see it
     session_at_key : (Q : Options → Session → Session → Type 0) → Q plan.options (session_of part) (session_of new)
-        → Q view.options (sessions_of view.parts (partition_of key view.options.partitions)) (sessions_of parts_after (partition_of key view.options.partitions))
+        → Q view.options (sessions_of view.parts (partition_of view.options.hashing key view.options.partitions)) (sessions_of parts_after (partition_of view.options.hashing key view.options.partitions))
     session_at_key Q holds =
         in_view (λ v p. Q v.options (sessions_of v.parts p) (sessions_of parts_after p))
         (subst (λ (y : Options × Session × Session). Q y.0 y.1 y.2)
@@ -105,8 +105,8 @@ module _ {plan : Plan} {front view : LockedView} {key : List ℕ} {at : ℕ} {pa
     pub left_by_write : turns_left view.parts ≤ turns_left (slice_set front.parts at new) + 1
     left_by_write = let all = taken_after new did.still 1 did.taken in omega (arith, all)
 
-    pub writes_at : Writes view.options false (sessions_of view.parts (partition_of key view.options.partitions)) (record { write = write; outcome = outcome; stamp = stamp })
-        (sessions_of (slice_set front.parts at new) (partition_of key view.options.partitions))
+    pub writes_at : Writes view.options false (sessions_of view.parts (partition_of view.options.hashing key view.options.partitions)) (record { write = write; outcome = outcome; stamp = stamp })
+        (sessions_of (slice_set front.parts at new) (partition_of view.options.hashing key view.options.partitions))
     writes_at = session_at_key new did.still (λ o s t. Writes o false s (record { write = write; outcome = outcome; stamp = stamp }) t) did.written
 
   module _ {second : ℕ} {needs : Bool} {becoming : When → Option (List ℕ) → Becoming} {changed : Changed} {buffer : List ℕ} (new : LockedPart)
@@ -117,8 +117,8 @@ module _ {plan : Plan} {front view : LockedView} {key : List ℕ} {at : ℕ} {pa
     pub left_by_change : turns_left view.parts ≤ turns_left (slice_set front.parts at new) + count_of changed.outcome
     left_by_change = let all = taken_after new did.still (count_of changed.outcome) did.taken in omega (arith, all)
 
-    pub changes_at : ComesTo view.options false second key needs becoming (sessions_of view.parts (partition_of key view.options.partitions)) changed buffer
-        (sessions_of (slice_set front.parts at new) (partition_of key view.options.partitions))
+    pub changes_at : ComesTo view.options false second key needs becoming (sessions_of view.parts (partition_of view.options.hashing key view.options.partitions)) changed buffer
+        (sessions_of (slice_set front.parts at new) (partition_of view.options.hashing key view.options.partitions))
     changes_at = session_at_key new did.still (λ o s t. ComesTo o false second key needs becoming s changed buffer t) did.comes
 
   module _ {answer : Answer} {stamp : ℕ} {buffer : List ℕ} (new : LockedPart) (did : PartReads plan at part key answer stamp buffer new) where
@@ -135,6 +135,6 @@ module _ {plan : Plan} {front view : LockedView} {key : List ℕ} {at : ℕ} {pa
     left_kept left is = is ∙ ap (λ (v : LockedView). turns_left v.parts) finds.view_is ∙ sym left_by_read
 
     pub reads_at : (value : Option (List ℕ)) × IsAnswer answer buffer value
-        × Reads view.options false (sessions_of view.parts (partition_of key view.options.partitions)) key stamp value
-        (sessions_of (slice_set front.parts at new) (partition_of key view.options.partitions))
+        × Reads view.options false (sessions_of view.parts (partition_of view.options.hashing key view.options.partitions)) key stamp value
+        (sessions_of (slice_set front.parts at new) (partition_of view.options.hashing key view.options.partitions))
     reads_at = (did.value, did.is, session_at_key new did.still (λ o s t. Reads o false s key stamp did.value t) did.read)

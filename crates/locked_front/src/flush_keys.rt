@@ -54,8 +54,8 @@ pub(crate) fn make_key<R: Wait>(
     ensures feed { begins_with_feed key.new ≡ true }
     ensures fits { KeyFits key.new }
     ensures flush { flush_in key.new ≡ record { due = due; asked = asked } }
-    ensures partition { partition_of key.new options.now.partitions ≡ partition }
-    ensures bucket { bucket_of key.new options.now.buckets ≡ 0 }
+    ensures partition { partition_of options.now.hashing key.new options.now.partitions ≡ partition }
+    ensures bucket { bucket_of options.now.hashing key.new options.now.buckets ≡ 0 }
 {
     let Options {
         partitions,

@@ -114,10 +114,10 @@ impl<
         requires key { KeyFits key.now }
         requires value { HasValueOf op value.now }
         requires left { 0 < turns_left self.old.parts }
-        ensures written { let p = partition_of key.entry.now self.old.options.partitions in
+        ensures written { let p = partition_of self.old.options.hashing key.entry.now self.old.options.partitions in
             Writes self.old.options false (sessions_of self.old.parts p)
             (record { write = write_of op key.entry.now value.entry.now; outcome = result.0; stamp = result.1 }) (sessions_of self.new.parts p) }
-        ensures others { ChangesOnly (partition_of key.entry.now self.old.options.partitions) (sessions_of self.old.parts) (sessions_of self.new.parts) }
+        ensures others { ChangesOnly (partition_of self.old.options.hashing key.entry.now self.old.options.partitions) (sessions_of self.old.parts) (sessions_of self.new.parts) }
         ensures left { turns_left self.old.parts ≤ turns_left self.new.parts + 1 }
         ensures options { self.new.options ≡ self.old.options }
         ensures number { self.new.number ≡ self.old.number }

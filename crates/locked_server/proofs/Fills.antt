@@ -28,10 +28,10 @@ module _ (options : Options) (p : ℕ) where
 
   -- what a write may do to the owner of the partition where it is its own, and where it is not
   abbrev Own : Write → OwnerState → OwnerState → Bool → Type 0
-  Own write old new kept = partition_of write.key options.partitions ≡ p → (outcome : Outcome) × (is_accepted outcome ≡ kept) × IsOwnerStep old new write outcome
+  Own write old new kept = partition_of options.hashing write.key options.partitions ≡ p → (outcome : Outcome) × (is_accepted outcome ≡ kept) × IsOwnerStep old new write outcome
 
   abbrev Other : Write → OwnerState → OwnerState → Bool → Type 0
-  Other write old new kept = partition_of write.key options.partitions ≢ p → (kept ≡ true) × (new ≡ old)
+  Other write old new kept = partition_of options.hashing write.key options.partitions ≢ p → (kept ≡ true) × (new ≡ old)
 
   pub filled_none : (owner : OwnerState) → owner ≡ as_made (shape_of options) → FilledBy [] owner
   filled_none owner is = subst (FilledBy []) (sym is) (record { filled = record { accepted = tt; state = refl }; origin = refl })
@@ -54,18 +54,18 @@ module _ (options : Options) (p : ℕ) where
         history,
       )
 
-  own_more : (writes : List Write) (write : Write) (b : Bool) → eqb (partition_of write.key options.partitions) p ≡ b
+  own_more : (writes : List Write) (write : Write) (b : Bool) → eqb (partition_of options.hashing write.key options.partitions) p ≡ b
       → origin_of options (writes ++ write ∷ []) p ≡ origin_of options writes p ++ cond b (write ∷ []) []
   own_more writes write b is =
-      filter-append (λ w. eqb (partition_of w.key options.partitions) p) writes (write ∷ []) ∙ ap (λ c. origin_of options writes p ++ cond c (write ∷ []) []) is
+      filter-append (λ w. eqb (partition_of options.hashing w.key options.partitions) p) writes (write ∷ []) ∙ ap (λ c. origin_of options writes p ++ cond c (write ∷ []) []) is
 
   pub filled_more : (writes : List Write) (write : Write) (old new : OwnerState) → FilledBy writes old → Own write old new true → Other write old new true
       → FilledBy (writes ++ write ∷ []) new
-  filled_more writes write old new so_far own other = by (eqb (partition_of write.key options.partitions) p) refl
+  filled_more writes write old new so_far own other = by (eqb (partition_of options.hashing write.key options.partitions) p) refl
     where
-      by : (b : Bool) → eqb (partition_of write.key options.partitions) p ≡ b → FilledBy (writes ++ write ∷ []) new
+      by : (b : Bool) → eqb (partition_of options.hashing write.key options.partitions) p ≡ b → FilledBy (writes ++ write ∷ []) new
       by true is =
-          let step = own (eqb-true (partition_of write.key options.partitions) p is) in
+          let step = own (eqb-true (partition_of options.hashing write.key options.partitions) p is) in
           let next = stepped old new write step.0 so_far.filled step.1 step.2 in
           record { filled = next.0; origin = next.1 ∙ ap (λ (h : History). h ++ write ∷ []) so_far.origin ∙ sym (own_more writes write true is) }
       by false is =
@@ -78,13 +78,13 @@ module _ (options : Options) (p : ℕ) where
   -- a write that was not done was refused
   pub refuses : (before later : List Write) (write : Write) (all : List Write) (old new : OwnerState) → all ≡ before ++ write ∷ later → FilledBy before old
       → Own write old new false → Other write old new false → RefusesFilling options all
-  refuses before later write all old new split so_far own other = by (eqb (partition_of write.key options.partitions) p) refl
+  refuses before later write all old new split so_far own other = by (eqb (partition_of options.hashing write.key options.partitions) p) refl
     where
-      by : (b : Bool) → eqb (partition_of write.key options.partitions) p ≡ b → RefusesFilling options all
+      by : (b : Bool) → eqb (partition_of options.hashing write.key options.partitions) p ≡ b → RefusesFilling options all
       by true is =
-          let here = eqb-true (partition_of write.key options.partitions) p is in
+          let here = eqb-true (partition_of options.hashing write.key options.partitions) p is in
           let step = own here in
-          let history : old.history ≡ origin_of options before (partition_of write.key options.partitions) = so_far.origin ∙ ap (origin_of options before) (sym here) in
+          let history : old.history ≡ origin_of options before (partition_of options.hashing write.key options.partitions) = so_far.origin ∙ ap (origin_of options before) (sym here) in
           record {
             before = before;
             write = write;
@@ -109,8 +109,8 @@ split_at writes k write is =
 
 pub none_there : (options : Options) → 1 ≤ options.partitions → (p : ℕ) → options.partitions ≤ p → (writes : List Write) → origin_of options writes p ≡ []
 none_there options some p past [] = refl
-none_there options some p past (write ∷ writes) = by (eqb (partition_of write.key options.partitions) p) refl (none_there options some p past writes)
+none_there options some p past (write ∷ writes) = by (eqb (partition_of options.hashing write.key options.partitions) p) refl (none_there options some p past writes)
   where
-    by : (b : Bool) → eqb (partition_of write.key options.partitions) p ≡ b → origin_of options writes p ≡ [] → cond b (write ∷ origin_of options writes p) (origin_of options writes p) ≡ []
-    by true is rest = absurd (omega (arith, eqb-true (partition_of write.key options.partitions) p is, partition_of-below write.key options.partitions some))
+    by : (b : Bool) → eqb (partition_of options.hashing write.key options.partitions) p ≡ b → origin_of options writes p ≡ [] → cond b (write ∷ origin_of options writes p) (origin_of options writes p) ≡ []
+    by true is rest = absurd (omega (arith, eqb-true (partition_of options.hashing write.key options.partitions) p is, partition_of-below options.hashing write.key options.partitions some))
     by false is rest = rest

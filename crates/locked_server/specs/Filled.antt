@@ -12,7 +12,7 @@ use Rattle.partition_words.specs.Shape.{shape_of}
 
 -- those of the writes that are to keys of the partition, in order
 abbrev pub origin_of : Options → List Write → ℕ → History
-origin_of options writes partition = filter (λ w. partition_of w.key options.partitions == partition) writes
+origin_of options writes partition = filter (λ w. partition_of options.hashing w.key options.partitions == partition) writes
 
 -- A write was refused: its partition accepted those before it, and may refuse this one after them.
 pub record RefusesFilling (options : Options) (writes : List Write) : Type 0 where
@@ -20,10 +20,10 @@ pub record RefusesFilling (options : Options) (writes : List Write) : Type 0 whe
   pub write : Write
   pub later : List Write
   pub split : writes ≡ before ++ write ∷ later
-  pub accepted : IsHistory options (origin_of options before (partition_of write.key options.partitions))
+  pub accepted : IsHistory options (origin_of options before (partition_of options.hashing write.key options.partitions))
   pub outcome : Outcome
   pub refused : is_accepted outcome ≡ false
-  pub may : MayGive options (origin_of options before (partition_of write.key options.partitions)) write outcome
+  pub may : MayGive options (origin_of options before (partition_of options.hashing write.key options.partitions)) write outcome
 
 -- an owner as made, which then accepted the writes of its history
 pub record IsFilledOwner (options : Options) (owner : OwnerState) : Type 0 where

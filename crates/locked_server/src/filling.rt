@@ -80,9 +80,9 @@ fn fill_one<P: Partition>(
     requires valid { IsPossible options.now }
     requires write { IsWrite write.now }
     requires flushes { AreKept (P.owner part.old).shape.buckets (P.owner part.old).history flushes.old }
-    ensures own { partition_of write.now.key options.now.partitions ≡ number
+    ensures own { partition_of options.now.hashing write.now.key options.now.partitions ≡ number
         → (outcome : Outcome) × (is_accepted outcome ≡ result) × IsOwnerStep (P.owner part.old) (P.owner part.new) write.now outcome }
-    ensures other { partition_of write.now.key options.now.partitions ≢ number → (result ≡ true) × (P.owner part.new ≡ P.owner part.old) }
+    ensures other { partition_of options.now.hashing write.now.key options.now.partitions ≢ number → (result ≡ true) × (P.owner part.new ≡ P.owner part.old) }
     ensures flushes { AreKept (P.owner part.new).shape.buckets (P.owner part.new).history flushes.new }
 {
     let key = write.key.bytes();

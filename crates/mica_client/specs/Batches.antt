@@ -73,7 +73,7 @@ abbrev pub port_of : AskOptions → ℕ → ℕ
 port_of options partition = options.port + partition % options.fronts
 
 abbrev pub is_in_partition : AskOptions → ℕ → Request → Bool
-is_in_partition options partition request = partition_of request.key options.partitions == partition
+is_in_partition options partition request = partition_of options.hashing request.key options.partitions == partition
 
 -- the requests of one batch, and the port that it goes to
 pub record Group : Type 0 where

@@ -28,7 +28,7 @@ fn port_of(options: &AskOptions, partition: u32) -> u16
 #[tactic(auto, unfolding(mica_words::specs::Hash::partition_of))]
 fn part_of(options: &AskOptions, line: &TraceLine) -> u32
     requires { IsValidAsk options.now }
-    ensures { result ≡ partition_of line.now.key options.now.partitions }
+    ensures { result ≡ partition_of options.now.hashing line.now.key options.now.partitions }
 {
     partition_of(key_hash(line.key.bytes()), options.partitions)
 }

@@ -28,7 +28,7 @@ use Rattle.partition_model.proofs.Laid.{found_key, key_is}
 
 module _ (options : Options) (key : List ℕ) (records : List Record) where
   abbrev here : Record → Bool
-  here = is_in_bucket options (bucket_of key options.buckets)
+  here = is_in_bucket options (bucket_of options.hashing key options.buckets)
 
   abbrev left : List Record
   left = cond (eqb (count_by here records) (SLOTS + 1)) (without_first here records) records
@@ -38,10 +38,10 @@ module _ (options : Options) (key : List ℕ) (records : List Record) where
   leaves_by (Some at) d is = grind (arith, common_steps, removed_at here records at d, none-some at)
 
   pub displaced_goes : without_at (displaced_at options key records) records
-      ≡ cond (eqb (count_by (is_in_bucket options (bucket_of key options.buckets)) records) (SLOTS + 1)) (without_first (is_in_bucket options (bucket_of key options.buckets)) records) records
+      ≡ cond (eqb (count_by (is_in_bucket options (bucket_of options.hashing key options.buckets)) records) (SLOTS + 1)) (without_first (is_in_bucket options (bucket_of options.hashing key options.buckets)) records) records
   displaced_goes = leaves_by (displaced_at options key records) (record { key = key; value = []; offset = 0; room = 0 }) refl
 
-  module _ (bucket : ℕ) (is : bucket ≡ bucket_of key options.buckets) where
+  module _ (bucket : ℕ) (is : bucket ≡ bucket_of options.hashing key options.buckets) where
     pub displaced_full : count_by (is_in_bucket options bucket) records ≡ SLOTS + 1 → position (is_in_bucket options bucket) records ≡ displaced_at options key records
     displaced_full full = grind (arith, common_steps)
 

@@ -106,9 +106,9 @@ module _ (here : Record → Bool) where
 
 module _ (options : Options) (key : List ℕ) (fate : Fate) (rs : List Record) where
   abbrev in_bucket : Record → Bool
-  in_bucket = is_in_bucket options (bucket_of key options.buckets)
+  in_bucket = is_in_bucket options (bucket_of options.hashing key options.buckets)
 
   pub displaced_fate : (log : Notes) (k : List ℕ) → IsUnique rs → (has rs k ≡ true → has_note log k ≡ true)
       → fate_in (marked_displaced fate (displaced_record options key rs) log) k
-      ≡ cond (has rs k && not (has (cond (eqb (count_by (is_in_bucket options (bucket_of key options.buckets)) rs) (SLOTS + 1)) (without_first (is_in_bucket options (bucket_of key options.buckets)) rs) rs) k)) fate (fate_in log k)
+      ≡ cond (has rs k && not (has (cond (eqb (count_by (is_in_bucket options (bucket_of options.hashing key options.buckets)) rs) (SLOTS + 1)) (without_first (is_in_bucket options (bucket_of options.hashing key options.buckets)) rs) rs) k)) fate (fate_in log k)
   displaced_fate log k unique there = grind (arith, common_steps, first_fate in_bucket fate rs (find in_bucket rs) refl log k unique there, and_not (has rs k))

@@ -33,12 +33,12 @@ pub is_alive : (options : Options) (s : Store) (write : Write) (outcome : Outcom
     → ¬ (options.wear ≤ s.accepted)
 is_alive options s write outcome which allowed = grind (arith, common_steps)
 
-bucket_within : (key : List ℕ) (buckets : ℕ) → 0 < buckets → bucket_of key buckets < buckets
+bucket_within : (key : List ℕ) (buckets : ℕ) → 0 < buckets → bucket_of hashing key buckets < buckets
 unfolding bucket_of
 bucket_within key buckets some = mod-lt (fnv1a key) some
 
 module _ (a : Inside) (m : IsMachine a) (op : Op) (key value : List ℕ) where
-  within : bucket_of key a.options.buckets < a.options.buckets
+  within : bucket_of a.options.hashing key a.options.buckets < a.options.buckets
   within = bucket_within key a.options.buckets (subst (λ n. 0 < n) (sym m.valid.buckets.2) (let one = one-le-pow m.valid.buckets.0 2 (omega arith) in omega arith))
 
   module _ (allowed : Allows a.options (store_of a) (write_of op key value) Stored) (room : ℕ) (takes : room ≡ room_after (get a.table.cells key) (item_size key value))
@@ -52,7 +52,7 @@ module _ (a : Inside) (m : IsMachine a) (op : Op) (key value : List ℕ) where
           valid = m.valid;
           buckets = ap (λ (t : Table). t.buckets) new ∙ m.buckets;
           words = subst (λ (t : Table). rooms t.cells ≤ a.options.words) (sym new) words;
-          spares = subst (λ (t : Table). spares_in_use a.options.buckets t.cells ≤ a.options.spares) (sym new) spares;
+          spares = subst (λ (t : Table). spares_in_use a.options.hashing a.options.buckets t.cells ≤ a.options.spares) (sym new) spares;
           stamp = ap (λ n. n + 1) m.stamp;
           accepted = omega arith;
         }
@@ -71,7 +71,7 @@ module _ (a : Inside) (m : IsMachine a) (op : Op) (key value : List ℕ) where
           valid = m.valid;
           buckets = ap (λ (t : Table). t.buckets) new ∙ m.buckets;
           words = subst (λ (t : Table). rooms t.cells ≤ a.options.words) (sym new) less;
-          spares = subst (λ (t : Table). spares_in_use a.options.buckets t.cells ≤ a.options.spares) (sym new) (delete_spares a.options (store_of a) key within m.spares);
+          spares = subst (λ (t : Table). spares_in_use a.options.hashing a.options.buckets t.cells ≤ a.options.spares) (sym new) (delete_spares a.options (store_of a) key within m.spares);
           stamp = ap (λ n. n + 1) m.stamp;
           accepted = omega arith;
         }

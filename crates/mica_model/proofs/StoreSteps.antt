@@ -44,38 +44,38 @@ module _ (options : Options) (s : Store) (op : Op) (key value : List ℕ) (room 
       → rooms s.cells ≤ options.words → rooms (insert s.cells key new_cell) ≤ options.words
   put_rooms may within = grind (arith, common_steps, rooms_insert s.cells key new_cell, ⊎_elim, room_within (get s.cells key) (item_size key value), room_most (get s.cells key) (item_size key value))
 
-  module _ (within : bucket_of key options.buckets < options.buckets) where
-    new_key : get s.cells key ≡ None → NeedsBlock options s (write_of op key value) → spares_in_use options.buckets s.cells ≤ options.spares
-        → spares_in_use options.buckets (insert s.cells key new_cell) ≤ options.spares
+  module _ (within : bucket_of options.hashing key options.buckets < options.buckets) where
+    new_key : get s.cells key ≡ None → NeedsBlock options s (write_of op key value) → spares_in_use options.hashing options.buckets s.cells ≤ options.spares
+        → spares_in_use options.hashing options.buckets (insert s.cells key new_cell) ≤ options.spares
     new_key none needs most =
         grind (
           arith,
           common_steps,
-          new_spares options.buckets (bucket_of key options.buckets) s.cells key refl within new_cell none,
+          new_spares options.hashing options.buckets (bucket_of options.hashing key options.buckets) s.cells key refl within new_cell none,
           ⊎_elim,
-          eqb_tells (spares_in_use options.buckets s.cells) options.spares,
-          eqb_tells (keys_in options.buckets (bucket_of key options.buckets) s.cells) 0,
-          eqb_tells ((keys_in options.buckets (bucket_of key options.buckets) s.cells) % SLOTS) 0,
+          eqb_tells (spares_in_use options.hashing options.buckets s.cells) options.spares,
+          eqb_tells (keys_in options.hashing options.buckets (bucket_of options.hashing key options.buckets) s.cells) 0,
+          eqb_tells ((keys_in options.hashing options.buckets (bucket_of options.hashing key options.buckets) s.cells) % SLOTS) 0,
         )
 
     pub put_spares : FitsRoom s (write_of op key value) ⊎ (NeedsBlock options s (write_of op key value) × HasWords options s (write_of op key value))
-        → spares_in_use options.buckets s.cells ≤ options.spares → spares_in_use options.buckets (insert s.cells key new_cell) ≤ options.spares
+        → spares_in_use options.hashing options.buckets s.cells ≤ options.spares → spares_in_use options.hashing options.buckets (insert s.cells key new_cell) ≤ options.spares
     put_spares may most =
-        elim (get s.cells key) as (λ o. get s.cells key ≡ o → spares_in_use options.buckets (insert s.cells key new_cell) ≤ options.spares) [
+        elim (get s.cells key) as (λ o. get s.cells key ≡ o → spares_in_use options.hashing options.buckets (insert s.cells key new_cell) ≤ options.spares) [
           | None ↦ λ none. ⊎_elim (λ fits. absurd (subst (λ o. IsSomeAnd o (λ cell. item_size key value ≤ cell.room)) none fits)) (λ has. new_key none has.0 most) may
-          | Some old ↦ λ had. let same = over_spares options.buckets s.cells key old new_cell had in omega arith
+          | Some old ↦ λ had. let same = over_spares options.hashing options.buckets s.cells key old new_cell had in omega arith
         ] refl
 
 pub delete_rooms : (s : Store) (key : List ℕ) → rooms (remove s.cells key) ≤ rooms s.cells
 delete_rooms s key = let all = rooms_remove s.cells key in omega arith
 
-pub delete_spares : (options : Options) (s : Store) (key : List ℕ) → bucket_of key options.buckets < options.buckets → spares_in_use options.buckets s.cells ≤ options.spares
-    → spares_in_use options.buckets (remove s.cells key) ≤ options.spares
+pub delete_spares : (options : Options) (s : Store) (key : List ℕ) → bucket_of options.hashing key options.buckets < options.buckets → spares_in_use options.hashing options.buckets s.cells ≤ options.spares
+    → spares_in_use options.hashing options.buckets (remove s.cells key) ≤ options.spares
 delete_spares options s key within most =
-    elim (get s.cells key) as (λ o. get s.cells key ≡ o → spares_in_use options.buckets (remove s.cells key) ≤ options.spares) [
-      | None ↦ λ none. let same = ap (spares_in_use options.buckets) (remove_none s.cells key none) in omega arith
+    elim (get s.cells key) as (λ o. get s.cells key ≡ o → spares_in_use options.hashing options.buckets (remove s.cells key) ≤ options.spares) [
+      | None ↦ λ none. let same = ap (spares_in_use options.hashing options.buckets) (remove_none s.cells key none) in omega arith
       | Some old ↦ λ had.
-          let change = less_spares options.buckets (bucket_of key options.buckets) s.cells key refl within old had in
-          let fewer = less_here options.buckets (bucket_of key options.buckets) s.cells key refl within old had in
+          let change = less_spares options.hashing options.buckets (bucket_of options.hashing key options.buckets) s.cells key refl within old had in
+          let fewer = less_here options.hashing options.buckets (bucket_of options.hashing key options.buckets) s.cells key refl within old had in
           omega arith
     ] refl

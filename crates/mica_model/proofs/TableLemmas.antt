@@ -24,20 +24,20 @@ use Rattle.mica_model.proofs.SparesInUse.{spares_among, new_spares, over_spares,
 
 -- one bucket has another number of keys
 counts_change : (buckets : ℕ) (counts : List ℕ) (m n : Cells) (bucket k : ℕ) → length counts ≡ buckets → bucket < buckets
-    → HasCounts buckets counts m → keys_in buckets bucket n ≡ k → ((other : ℕ) → other ≢ bucket → keys_in buckets other n ≡ keys_in buckets other m)
-    → HasCounts buckets (slice_set counts bucket k) n
+    → HasCounts hashing buckets counts m → keys_in hashing buckets bucket n ≡ k → ((other : ℕ) → other ≢ bucket → keys_in hashing buckets other n ≡ keys_in hashing buckets other m)
+    → HasCounts hashing buckets (slice_set counts bucket k) n
 counts_change buckets counts m n bucket k len within has new others j j_within =
-    ⊎_elim (λ equal. let same = equal.1 in ap (slice_index (slice_set counts bucket k)) same ∙ get_or-set_same counts bucket k 0 (subst (λ n. bucket < n) (sym len) within) ∙ sym new ∙ ap (λ b. keys_in buckets b n) (sym same))
+    ⊎_elim (λ equal. let same = equal.1 in ap (slice_index (slice_set counts bucket k)) same ∙ get_or-set_same counts bucket k 0 (subst (λ n. bucket < n) (sym len) within) ∙ sym new ∙ ap (λ b. keys_in hashing buckets b n) (sym same))
     (λ differs. get_or-set_other counts bucket j k 0 differs.1 ∙ has j j_within ∙ sym (others j differs.1))
     (eqb_tells j bucket)
 
 -- the key's bucket
 pub record InBucket (a : Inside) (key : List ℕ) (bucket : ℕ) : Type 0 where
-  pub is : bucket ≡ bucket_of key a.buckets
+  pub is : bucket ≡ bucket_of a.hashing key a.buckets
   pub within : bucket < a.buckets
 
 -- as a call tells it of the table
-pub in_bucket : (a : Inside) (key : List ℕ) (bucket : ℕ) (t : Table) → table_of a ≡ t → bucket < t.buckets → bucket ≡ bucket_of key t.buckets → InBucket a key bucket
+pub in_bucket : (a : Inside) (key : List ℕ) (bucket : ℕ) (t : Table) → table_of a ≡ t → bucket < t.buckets → bucket ≡ bucket_of t.hashing key t.buckets → InBucket a key bucket
 in_bucket a key bucket t view within is = grind (arith, common_steps)
 
 -- what a tree's entries are
@@ -82,15 +82,15 @@ module _ (a : Inside) (t : IsTable a) where
         ordered = new.0;
         some = t.some;
         len = t.len;
-        counts = subst (HasCounts a.buckets a.counts.keys.items) (sym new.1)
-            (λ bucket within. t.counts bucket within ∙ sym (keys_over a.buckets bucket (cells_of a) key old cell had));
-        spares = t.spares ∙ sym (over_spares a.buckets (cells_of a) key old cell had) ∙ ap (spares_in_use a.buckets) (sym new.1);
+        counts = subst (HasCounts a.hashing a.buckets a.counts.keys.items) (sym new.1)
+            (λ bucket within. t.counts bucket within ∙ sym (keys_over a.hashing a.buckets bucket (cells_of a) key old cell had));
+        spares = t.spares ∙ sym (over_spares a.hashing a.buckets (cells_of a) key old cell had) ∙ ap (spares_in_use a.hashing a.buckets) (sym new.1);
         small = t.small;
         rooms = omega arith;
       }
 
   module _ (key : List ℕ) (bucket : ℕ) (here : InBucket a key bucket) where
-    pub count_is : slice_index a.counts.keys.items bucket ≡ keys_in a.buckets bucket (cells_of a)
+    pub count_is : slice_index a.counts.keys.items bucket ≡ keys_in a.hashing a.buckets bucket (cells_of a)
     count_is = t.counts bucket here.within
 
     -- as code reads it
@@ -98,14 +98,14 @@ module _ (a : Inside) (t : IsTable a) where
     read_count n is = is ∙ get_or_default_zero a.counts.keys.items bucket n (subst (λ many. bucket < many) (sym t.len) here.within)
 
     pub counted : spares_behind (slice_index a.counts.keys.items bucket) ≤ a.counts.spares
-    counted = grind (arith, common_steps, spares_among a.buckets bucket (cells_of a) a.buckets here.within, count_is)
+    counted = grind (arith, common_steps, spares_among a.hashing a.buckets bucket (cells_of a) a.buckets here.within, count_is)
 
     -- few keys where few spares are in use
-    pub few_keys : spares_in_use a.buckets (cells_of a) ≤ 65536 → slice_index a.counts.keys.items bucket + 1 < 2 ^ 32
+    pub few_keys : spares_in_use a.hashing a.buckets (cells_of a) ≤ 65536 → slice_index a.counts.keys.items bucket + 1 < 2 ^ 32
     few_keys most = grind (arith, common_steps, counted)
 
     -- one key more
-    pub table_new : (cell : Cell) → get (cells_of a) key ≡ None → spares_in_use a.buckets (cells_of a) ≤ 65536
+    pub table_new : (cell : Cell) → get (cells_of a) key ≡ None → spares_in_use a.hashing a.buckets (cells_of a) ≤ 65536
         → (k : ℕ) → k ≡ slice_index a.counts.keys.items bucket → (counts : BucketKeys) → IsSet a.counts counts bucket (k + 1)
         → (cells : BTreeMap (Vec ℕ) CellInCode) → Holds cells (insert (cells_of a) key cell) → IsTable (record { buckets = a.buckets; cells = cells; counts = counts; rooms = a.rooms + cell.room })
     table_new cell none most k read counts set cells new =
@@ -114,7 +114,7 @@ module _ (a : Inside) (t : IsTable a) where
         let room = ap room_of none in
         let sum = t.rooms in
         let all = ap rooms new.1 in
-        let more = new_spares a.buckets bucket (cells_of a) key here.is here.within cell none in
+        let more = new_spares a.hashing a.buckets bucket (cells_of a) key here.is here.within cell none in
         let spares_sum = t.spares in
         let spares_set = set.spares in
         let was = ap spares_behind count_is in
@@ -124,30 +124,30 @@ module _ (a : Inside) (t : IsTable a) where
           ordered = new.0;
           some = t.some;
           len = ap length set.keys ∙ length-set _ _ _ ∙ t.len;
-          counts = subst (HasCounts a.buckets counts.keys.items) (sym new.1)
-              (subst (λ xs. HasCounts a.buckets xs (insert (cells_of a) key cell)) (sym set.keys)
+          counts = subst (HasCounts a.hashing a.buckets counts.keys.items) (sym new.1)
+              (subst (λ xs. HasCounts a.hashing a.buckets xs (insert (cells_of a) key cell)) (sym set.keys)
               (counts_change a.buckets a.counts.keys.items (cells_of a) (insert (cells_of a) key cell) bucket (k + 1) t.len here.within t.counts
-              (new_here a.buckets bucket (cells_of a) key here.is here.within cell none ∙ one)
-              (new_others a.buckets bucket (cells_of a) key here.is here.within cell none)));
-          spares = (let it : counts.spares ≡ spares_in_use a.buckets (insert (cells_of a) key cell) = omega arith in it) ∙ ap (spares_in_use a.buckets) (sym new.1);
+              (new_here a.hashing a.buckets bucket (cells_of a) key here.is here.within cell none ∙ one)
+              (new_others a.hashing a.buckets bucket (cells_of a) key here.is here.within cell none)));
+          spares = (let it : counts.spares ≡ spares_in_use a.hashing a.buckets (insert (cells_of a) key cell) = omega arith in it) ∙ ap (spares_in_use a.hashing a.buckets) (sym new.1);
           small = omega arith;
           rooms = omega arith;
         }
 
     -- one key less
     module _ (old : Cell) (had : get (cells_of a) key ≡ Some old) (k : ℕ) (read : k ≡ slice_index a.counts.keys.items bucket) where
-      pub less_count : k ≡ keys_in a.buckets bucket (remove (cells_of a) key) + 1
-      less_count = read ∙ count_is ∙ less_here a.buckets bucket (cells_of a) key here.is here.within old had
+      pub less_count : k ≡ keys_in a.hashing a.buckets bucket (remove (cells_of a) key) + 1
+      less_count = read ∙ count_is ∙ less_here a.hashing a.buckets bucket (cells_of a) key here.is here.within old had
 
       pub table_less : (counts : BucketKeys) → IsSet a.counts counts bucket (k - 1) → (cells : BTreeMap (Vec ℕ) CellInCode) → Holds cells (remove (cells_of a) key)
           → IsTable (record { buckets = a.buckets; cells = cells; counts = counts; rooms = a.rooms - old.room })
       table_less counts set cells new =
-          let left : keys_in a.buckets bucket (remove (cells_of a) key) ≡ k - 1 = omega (arith, less_count) in
+          let left : keys_in a.hashing a.buckets bucket (remove (cells_of a) key) ≡ k - 1 = omega (arith, less_count) in
           let step = rooms_remove (cells_of a) key in
           let room = ap room_of had in
           let sum = t.rooms in
           let all = ap rooms new.1 in
-          let less = less_spares a.buckets bucket (cells_of a) key here.is here.within old had in
+          let less = less_spares a.hashing a.buckets bucket (cells_of a) key here.is here.within old had in
           let spares_sum = t.spares in
           let spares_set = set.spares in
           let small = t.small in
@@ -157,11 +157,11 @@ module _ (a : Inside) (t : IsTable a) where
             ordered = new.0;
             some = t.some;
             len = ap length set.keys ∙ length-set _ _ _ ∙ t.len;
-            counts = subst (HasCounts a.buckets counts.keys.items) (sym new.1)
-                (subst (λ xs. HasCounts a.buckets xs (remove (cells_of a) key)) (sym set.keys)
+            counts = subst (HasCounts a.hashing a.buckets counts.keys.items) (sym new.1)
+                (subst (λ xs. HasCounts a.hashing a.buckets xs (remove (cells_of a) key)) (sym set.keys)
                 (counts_change a.buckets a.counts.keys.items (cells_of a) (remove (cells_of a) key) bucket (k - 1) t.len here.within t.counts left
-                (less_others a.buckets bucket (cells_of a) key here.is here.within old had)));
-            spares = (let it : counts.spares ≡ spares_in_use a.buckets (remove (cells_of a) key) = omega arith in it) ∙ ap (spares_in_use a.buckets) (sym new.1);
+                (less_others a.hashing a.buckets bucket (cells_of a) key here.is here.within old had)));
+            spares = (let it : counts.spares ≡ spares_in_use a.hashing a.buckets (remove (cells_of a) key) = omega arith in it) ∙ ap (spares_in_use a.hashing a.buckets) (sym new.1);
             small = omega arith;
             rooms = omega arith;
           }

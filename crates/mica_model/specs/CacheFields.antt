@@ -34,13 +34,13 @@ kept_place options cache write =
 -- where the record stands that is displaced, if one is
 abbrev pub displaced_at : Options → List ℕ → List Record → Option ℕ
 displaced_at options key records =
-    let here : Record → Bool = is_in_bucket options (bucket_of key options.buckets) in
+    let here : Record → Bool = is_in_bucket options (bucket_of options.hashing key options.buckets) in
     if count_by here records == SLOTS + 1 then position here records else None
 
 -- the record that is displaced, if one is
 abbrev pub displaced_record : Options → List ℕ → List Record → Option Record
 displaced_record options key records =
-    let here : Record → Bool = is_in_bucket options (bucket_of key options.buckets) in
+    let here : Record → Bool = is_in_bucket options (bucket_of options.hashing key options.buckets) in
     if count_by here records == SLOTS + 1 then find here records else None
 
 -- the notes of a machine: what became of each key, of which it has one

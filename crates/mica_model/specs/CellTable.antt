@@ -25,6 +25,6 @@ with_cells table cells = record { buckets = table.buckets; cells = cells }
 
 -- the key's bucket and the spares behind it are full, and no other spare is left
 pub record LacksSpare (table : Table) (key : List ℕ) (spares : ℕ) : Type 0 where
-  pub some : 0 < keys_in table.buckets (bucket_of key table.buckets) table.cells
-  pub full : keys_in table.buckets (bucket_of key table.buckets) table.cells % SLOTS ≡ 0
-  pub none_left : spares_in_use table.buckets table.cells ≡ spares
+  pub some : 0 < keys_in table.hashing table.buckets (bucket_of table.hashing key table.buckets) table.cells
+  pub full : keys_in table.hashing table.buckets (bucket_of table.hashing key table.buckets) table.cells % SLOTS ≡ 0
+  pub none_left : spares_in_use table.hashing table.buckets table.cells ≡ spares

@@ -21,14 +21,14 @@ table_of a = record { buckets = a.buckets; cells = cells_of a }
 
 -- each bucket has as many keys as the list has in its place
 abbrev pub HasCounts : ℕ → List ℕ → Cells → Type 0
-HasCounts buckets counts cells = (bucket : ℕ) → bucket < buckets → slice_index counts bucket ≡ keys_in buckets bucket cells
+HasCounts hashing buckets counts cells = (bucket : ℕ) → bucket < buckets → slice_index counts bucket ≡ keys_in hashing buckets bucket cells
 
 -- the keys are in order, and the numbers are those of the cells
 pub record IsTable (a : Inside) : Type 0 where
   pub ordered : IsOrdered (λ x y. slice_cmp nat_cmp x.items y.items) a.cells
   pub some : 1 ≤ a.buckets
   pub len : length a.counts.keys.items ≡ a.buckets
-  pub counts : HasCounts a.buckets a.counts.keys.items (cells_of a)
-  pub spares : a.counts.spares ≡ spares_in_use a.buckets (cells_of a)
+  pub counts : HasCounts a.hashing a.buckets a.counts.keys.items (cells_of a)
+  pub spares : a.counts.spares ≡ spares_in_use a.hashing a.buckets (cells_of a)
   pub small : a.counts.spares < 2 ^ 32
   pub rooms : a.rooms ≡ rooms (cells_of a)

@@ -15,6 +15,6 @@ pub record IsMachine (a : Inside) : Type 0 where
   pub valid : IsValid a.options
   pub buckets : a.table.buckets ≡ a.options.buckets
   pub words : rooms a.table.cells ≤ a.options.words
-  pub spares : spares_in_use a.options.buckets a.table.cells ≤ a.options.spares
+  pub spares : spares_in_use a.options.hashing a.options.buckets a.table.cells ≤ a.options.spares
   pub stamp : a.stamp ≡ a.accepted
   pub accepted : a.accepted ≤ a.options.wear

@@ -116,7 +116,7 @@ impl CellTable {
     #[tactic(auto, unfolding(mica_words::specs::Hash::bucket_of))]
     fn bucket_of(&self, key: &[u8]) -> usize
         ensures within { result < self.now.buckets }
-        ensures value { result ≡ bucket_of key.now self.now.buckets }
+        ensures value { result ≡ bucket_of self.now.hashing key.now self.now.buckets }
     {
         bucket_of(key_hash(key), self.buckets) as usize
     }
@@ -131,7 +131,7 @@ impl CellTable {
     ) -> Result<(), NoMemory>
         requires value { StoredFits value.now }
         requires words { rooms self.old.cells + room < 2 ^ 32 + room_of (get self.old.cells key.now) }
-        requires spares { spares_in_use self.old.buckets self.old.cells ≤ 65536 }
+        requires spares { spares_in_use self.old.hashing self.old.buckets self.old.cells ≤ 65536 }
         ensures ok { OnOk result (self.new ≡ with_cells self.old
             (insert self.old.cells key.now (record { value = value.now; room = room }))) }
         ensures err { OnErr result (self.new ≡ self.old) }

@@ -86,7 +86,7 @@ module _ (options : Options) (valid : IsValid options) (before : List TraceLine)
       )
 
   in_partitions : (line : TraceLine) → partition_in options line < options.partitions
-  in_partitions line = partition_of-below line.key options.partitions valid.partitions.0
+  in_partitions line = partition_of-below options.hashing line.key options.partitions valid.partitions.0
 
   stands : (n : ℕ) (line : TraceLine) (r : Line) → slice_get round n ≡ Some line → slice_get printed n ≡ Some r → IsReportLine r
   stands n line r is_line is_r =

@@ -205,7 +205,7 @@ module _ {X : Type 0} (f : X → ReaderState) where
   pub seat_at : (options : Options) (line : TraceLine) (gets : List TraceLine) (found : List Line) (olds : List ReaderState) (items : List X) (p : ℕ) (old : X) → IsValid options
       → AreSeatsOf options olds → HaveRead options gets found olds (map f items) → p ≡ partition_in options line → old ≡ get_or items p old → slice_get items p ≡ Some old
   seat_at options line gets found olds items p old valid seats read at is =
-      let below = partition_of-below line.key options.partitions valid.partitions.0 in
+      let below = partition_of-below options.hashing line.key options.partitions valid.partitions.0 in
       let many = seats.many in
       let same = read.seats in
       let long = length-map items f in

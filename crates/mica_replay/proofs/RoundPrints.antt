@@ -161,7 +161,7 @@ module _ {W X : Type 0} {f : W → OwnerPart} {h : X → List Line} (l : AtLine 
     pub own_within : (own_queue < length l.owners) × (own_queue < length l.cursors)
     own_within =
         let here = own_is in
-        let below = partition_of-below l.line.key l.options.partitions l.valid.partitions.0 in
+        let below = partition_of-below l.options.hashing l.line.key l.options.partitions l.valid.partitions.0 in
         let long = length-map l.owners f in
         let long_done = length-map (map f l.owners) replies_of in
         let all = l.enough.owners in

@@ -165,7 +165,7 @@ module _ (options : Options) (valid : IsValid options) (before later : List Trac
   run_there : IsRunFrom options (history_in options p before report) (steps_of options p (line ∷ later) (printed ∷ rest))
   run_there =
       run-back options [] (steps_of options p before report) (steps_of options p (line ∷ later) (printed ∷ rest))
-      (subst (IsRun options) (steps_both options before (line ∷ later) report (printed ∷ rest) parts.0 p) (exact.writes p (partition_of-below line.key options.partitions valid.partitions.0)))
+      (subst (IsRun options) (steps_both options before (line ∷ later) report (printed ∷ rest) parts.0 p) (exact.writes p (partition_of-below options.hashing line.key options.partitions valid.partitions.0)))
 
   run_here : IsRunFrom options (history_in options p before report) (steps_at line printed)
   run_here =

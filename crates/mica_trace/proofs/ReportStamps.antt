@@ -171,7 +171,7 @@ module _ (options : Options) (valid : IsValid options) where
   lines_small (line ∷ trace) [] all steps gets = tt
   lines_small (line ∷ trace) (r ∷ report) all steps gets =
       let p = partition_in options line in
-      let own = steps p (partition_of-below line.key options.partitions valid.partitions.0) in
+      let own = steps p (partition_of-below options.hashing line.key options.partitions valid.partitions.0) in
       let here = subst (λ b. AllByRecursion (λ step. IsStamp step.stamp) (cons_option (cond b (step_by (write_by line.op line.key line.value) r) None) (steps_of options p trace report))) (eq-eqb p p refl) own in (
         (all.0.0, line_small line.op line.key line.value r (steps_of options p trace report) all.0.1 here (λ get. gets 0 line r (record { asked = refl; answered = refl; get = get }))),
         lines_small trace report all.1
@@ -192,7 +192,7 @@ module _ (options : Options) (valid : IsValid options) where
       let p = partition_in options line in
       let answered = lawful.gets n line printed get in
       let steps = take answered.0 (steps_of options p trace report) in
-      let run = run_take options [] answered.0 (steps_of options p trace report) (lawful.writes p (partition_of-below line.key options.partitions valid.partitions.0)) in
+      let run = run_take options [] answered.0 (steps_of options p trace report) (lawful.writes p (partition_of-below options.hashing line.key options.partitions valid.partitions.0)) in
       let good = (run_small [] steps (tt, tt) (all_take Fits answered.0 (steps_of options p trace report) (fit p)) run).1 in
       subst IsStamp (sym (stamp_printed options (history_of steps) line.key printed answered.3)) (good_small (history_of steps) good) in
       record { lines = lines_small trace report lawful.lines stamped got; spelled = refl }

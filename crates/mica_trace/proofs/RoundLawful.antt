@@ -141,7 +141,7 @@ module _ (options : Options) (valid : IsValid options) (before : List TraceLine)
   new_end p k less = grind (arith, common_steps, round_new before round k one less, before_all before round (suc (syncs_in before)) ended one, all_writes p)
 
   in_partitions : (line : TraceLine) → partition_in options line < options.partitions
-  in_partitions line = partition_of-below line.key options.partitions valid.partitions.0
+  in_partitions line = partition_of-below options.hashing line.key options.partitions valid.partitions.0
 
   -- the reader of a get of the round
   reader_here : (k : ℕ) → reader_of options (before ++ round) (length before + k) ≡ (gets_to (zip round printed) k + gets_in before) % options.readers

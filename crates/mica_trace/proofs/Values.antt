@@ -80,7 +80,7 @@ module _ (P : List ℕ → Type 0) where
   pub after_are : (options : Options) (now : State) (write : Write) → (GivesValue write.op → P write.value) → ValuesAre now → ValuesAre (after options now write)
   unfolding cs.after ss.after
   after_are options (cache_state s) write fits all =
-      displaced_are _ (cs.is_in_bucket options (bucket_of write.key options.buckets)) _
+      displaced_are _ (cs.is_in_bucket options (bucket_of options.hashing write.key options.buckets)) _
       (all_filter (λ r. P r.value) _ (cs.after_write options s write).records (cache_op_are write.op options s write fits all))
   after_are options (store_state s) write fits all = store_op_are write.op s write fits all
 

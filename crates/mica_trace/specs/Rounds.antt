@@ -37,7 +37,7 @@ write_by op key value = option_map (λ does. write_of does key value) (op_of op)
 
 -- the partition of a line's key
 abbrev pub partition_in : Options → TraceLine → ℕ
-partition_in options line = partition_of line.key options.partitions
+partition_in options line = partition_of options.hashing line.key options.partitions
 
 -- the key of the line belongs to the partition
 abbrev pub is_in_partition : Options → ℕ → TraceLine → Bool

@@ -190,7 +190,7 @@ module _ (r q : ReaderState) (b n : ℕ) (first : q ≡ opened b n r) (least : 2
     stamped_at = stamped_is ∙ (λ i. stamp_of (options_of ((shape2 ∙ sym shape4) i)) (sym seen4 i))
 
     -- where the epoch has not moved, what the loads spell is the answer
-    answered : last ≡ n → AreBytes key → bucket_of key r.shape.buckets ≡ b → (answer : Option (List ℕ)) → SpellsAnswer q2.shape (loads_in q2) stamp b key answer
+    answered : last ≡ n → AreBytes key → bucket_of r.shape.hashing key r.shape.buckets ≡ b → (answer : Option (List ℕ)) → SpellsAnswer q2.shape (loads_in q2) stamp b key answer
         → IsAnsweredAt q4 key answer stamp
     answered still bytes here answer spell = record {
       stamped = stamped_at;
@@ -212,7 +212,7 @@ module _ (r q : ReaderState) (b n : ℕ) (first : q ≡ opened b n r) (least : 2
     live_now : (s : Shape) (p : ℕ) → s ≡ q4.shape → IsLiveItem q2.shape.mode q2.shape.words stamp p → IsLiveItem s.mode s.words stamp p
     live_now s p same = subst (λ (z : Shape). IsLiveItem z.mode z.words stamp p) (sym (same ∙ (shape4 ∙ sym shape2)))
 
-    pub hits : (s : Shape) (p : ℕ) → s ≡ q4.shape → best ≡ Some p → IsLiveItem s.mode s.words stamp p → last ≡ n → AreBytes key → bucket_of key r.shape.buckets ≡ b
+    pub hits : (s : Shape) (p : ℕ) → s ≡ q4.shape → best ≡ Some p → IsLiveItem s.mode s.words stamp p → last ≡ n → AreBytes key → bucket_of r.shape.hashing key r.shape.buckets ≡ b
         → TryAnswers r key (Some value) stamp q4
     hits s p same is live still bytes here = record {
       made = once;
@@ -224,7 +224,7 @@ module _ (r q : ReaderState) (b n : ℕ) (first : q ≡ opened b n r) (least : 2
           (subst (λ (z : Option ℕ). IsBest q2.shape (loads_in q2) (b ∷ search.behind) key z value) is search.found) (live_then s p same live));
     }
 
-    pub misses : (s : Shape) → s ≡ q4.shape → ((p : ℕ) → best ≡ Some p → ¬ (IsLiveItem s.mode s.words stamp p)) → last ≡ n → AreBytes key → bucket_of key r.shape.buckets ≡ b
+    pub misses : (s : Shape) → s ≡ q4.shape → ((p : ℕ) → best ≡ Some p → ¬ (IsLiveItem s.mode s.words stamp p)) → last ≡ n → AreBytes key → bucket_of r.shape.hashing key r.shape.buckets ≡ b
         → TryAnswers r key None stamp q4
     misses s same dead still bytes here =
         let no_item : (p : ℕ) → best ≡ Some p → ¬ (IsLiveItem q2.shape.mode q2.shape.words stamp p) = λ p is live. dead p is (live_now s p same live) in

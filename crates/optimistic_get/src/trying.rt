@@ -33,7 +33,7 @@ pub(crate) fn try_get<R: ReaderWords>(
     out: &mut ItemBuf,
 ) -> Got
     requires main { IsMain (R.reader seat.old).shape bucket }
-    requires bucket { bucket ≡ bucket_of wanted.now.key.now (R.reader seat.old).shape.buckets }
+    requires bucket { bucket ≡ bucket_of (R.reader seat.old).shape.hashing wanted.now.key.now (R.reader seat.old).shape.buckets }
     ensures tries { Tries (R.reader seat.old) bucket wanted.now.key.now result out.new (R.reader seat.new) }
     ensures planned { IfSome (R.plan seat.old)
         (TriesAtRest (R.reader seat.old) result (R.reader seat.new)) }

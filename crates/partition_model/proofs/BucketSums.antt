@@ -4,6 +4,7 @@ use Rattle.std.specs.Prelude.{nat_eq}
 use Rattle.std.specs.FinMap.{get, insert, remove}
 use Rattle.std.proofs.lemmas.Grind.{common_steps}
 use Rattle.mica_words.specs.Hash.{bucket_of}
+use Rattle.mica_words.specs.declared.hashing.Hashing.{Hashing}
 use Rattle.partition_model.specs.Store.{Cell, Cells, keys_in}
 use Rattle.partition_model.proofs.CellSums.{keys_new, keys_less}
 
@@ -14,19 +15,19 @@ other_one : (bucket here other : ℕ) → bucket ≡ here → other ≢ bucket �
 other_one bucket here other is apart = grind (arith, common_steps)
 
 -- a key of the bucket
-module _ (buckets bucket : ℕ) (m : Cells) (key : List ℕ) (is : bucket ≡ bucket_of key buckets) (within : bucket < buckets) where
+module _ (hashing : Hashing) (buckets bucket : ℕ) (m : Cells) (key : List ℕ) (is : bucket ≡ bucket_of hashing key buckets) (within : bucket < buckets) where
   -- a new key
   module _ (cell : Cell) (new : get m key ≡ None) where
-    pub new_here : keys_in buckets bucket (insert m key cell) ≡ keys_in buckets bucket m + 1
-    new_here = keys_new buckets bucket m key cell new ∙ ap (λ n. keys_in buckets bucket m + n) (own bucket _ is)
+    pub new_here : keys_in hashing buckets bucket (insert m key cell) ≡ keys_in hashing buckets bucket m + 1
+    new_here = keys_new hashing buckets bucket m key cell new ∙ ap (λ n. keys_in hashing buckets bucket m + n) (own bucket _ is)
 
-    pub new_others : (other : ℕ) → other ≢ bucket → keys_in buckets other (insert m key cell) ≡ keys_in buckets other m
-    new_others other apart = grind (arith, common_steps, keys_new buckets other m key cell new, other_one bucket _ other is apart)
+    pub new_others : (other : ℕ) → other ≢ bucket → keys_in hashing buckets other (insert m key cell) ≡ keys_in hashing buckets other m
+    new_others other apart = grind (arith, common_steps, keys_new hashing buckets other m key cell new, other_one bucket _ other is apart)
 
   -- a key that had a cell
   module _ (old : Cell) (had : get m key ≡ Some old) where
-    pub less_here : keys_in buckets bucket m ≡ keys_in buckets bucket (remove m key) + 1
-    less_here = keys_less buckets bucket m key old had ∙ ap (λ n. keys_in buckets bucket (remove m key) + n) (own bucket _ is)
+    pub less_here : keys_in hashing buckets bucket m ≡ keys_in hashing buckets bucket (remove m key) + 1
+    less_here = keys_less hashing buckets bucket m key old had ∙ ap (λ n. keys_in hashing buckets bucket (remove m key) + n) (own bucket _ is)
 
-    pub less_others : (other : ℕ) → other ≢ bucket → keys_in buckets other (remove m key) ≡ keys_in buckets other m
-    less_others other apart = grind (arith, common_steps, keys_less buckets other m key old had, other_one bucket _ other is apart)
+    pub less_others : (other : ℕ) → other ≢ bucket → keys_in hashing buckets other (remove m key) ≡ keys_in hashing buckets other m
+    less_others other apart = grind (arith, common_steps, keys_less hashing buckets other m key old had, other_one bucket _ other is apart)

@@ -119,8 +119,8 @@ pub record IsWritten (options : Options) (s : Cache) (write : Write) (t : Cache)
   pub laid : IsLaid 0 (tail_of t.stamp) t.records
   pub unique : IsUnique t.records
   pub are : AllOf IsRecord t.records
-  pub here : count_by (is_in_bucket options (bucket_of write.key options.buckets)) t.records ≤ SLOTS + 1
-  pub there : (bucket : ℕ) → bucket_of write.key options.buckets ≢ bucket → count_by (is_in_bucket options bucket) t.records ≤ SLOTS
+  pub here : count_by (is_in_bucket options (bucket_of options.hashing write.key options.buckets)) t.records ≤ SLOTS + 1
+  pub there : (bucket : ℕ) → bucket_of options.hashing write.key options.buckets ≢ bucket → count_by (is_in_bucket options bucket) t.records ≤ SLOTS
   pub least : s.stamp < t.stamp
   pub most : t.stamp ≤ s.stamp + most_added
 
@@ -145,8 +145,8 @@ module _ (options : Options) (s : Cache) (kept : IsKept options s) (write : Writ
         unique = laid.unique_push (others write.key s.records) (new_record s write.key value) (others_lack write.key s.records) (laid.unique_filter (λ r. not (has_key write.key r)) s.records kept.unique);
         are = grind (arith, found.all_push IsRecord (others write.key s.records) (new_record s write.key value) (found.all_filter IsRecord (λ r. not (has_key write.key r)) s.records kept.are) (record { key = is.key; key_bytes = is.key_bytes; value = fits; value_bytes = bytes; size = omega arith; room = size }));
         here =
-            grind (arith, count (bucket_of write.key options.buckets), fewer (bucket_of write.key options.buckets), is_in_bucket options (bucket_of write.key options.buckets) (new_record s write.key value));
-        there = λ bucket other. grind (arith, count bucket, fewer bucket, cond {A = ℕ}, ne_eqb (bucket_of write.key options.buckets) bucket other);
+            grind (arith, count (bucket_of options.hashing write.key options.buckets), fewer (bucket_of options.hashing write.key options.buckets), is_in_bucket options (bucket_of options.hashing write.key options.buckets) (new_record s write.key value));
+        there = λ bucket other. grind (arith, count bucket, fewer bucket, cond {A = ℕ}, ne_eqb (bucket_of options.hashing write.key options.buckets) bucket other);
         least = omega arith;
         most = omega arith;
       }
@@ -159,13 +159,13 @@ module _ (options : Options) (s : Cache) (kept : IsKept options s) (write : Writ
         others_laid,
         laid.unique_filter,
         found.all_filter IsRecord,
-        fewer (bucket_of write.key options.buckets),
+        fewer (bucket_of options.hashing write.key options.buckets),
         fewer,
       )
 
   rewrites : StoredFits write.value → (held : Record) → KeepsPut options s write held → IsWritten options s write (cs.after_rewrite s write)
   rewrites value held keeps =
-      let same = λ (bucket : ℕ). count_map (is_in_bucket options bucket) (rewritten write) (λ r. ap (λ k. eqb (bucket_of k options.buckets) bucket) (rewritten_key write r)) s.records in
+      let same = λ (bucket : ℕ). count_map (is_in_bucket options bucket) (rewritten write) (λ r. ap (λ k. eqb (bucket_of options.hashing k options.buckets) bucket) (rewritten_key write r)) s.records in
       record {
         laid = laid.laid_later 0 (tail_of s.stamp) (tail_of (s.stamp + 1)) (map (rewritten write) s.records) (omega arith) (laid.laid_map (rewritten write) (rewritten_offset write) (rewritten_room write) 0 (tail_of s.stamp) s.records kept.laid);
         unique = laid.unique_map (rewritten write) (rewritten_key write) s.records kept.unique;
@@ -175,7 +175,7 @@ module _ (options : Options) (s : Cache) (kept : IsKept options s) (write : Writ
               | false ↦ λ here. fine
             ] refl)
             s.records kept.are (only_found write.key held s.records kept.unique keeps.is);
-        here = let few = kept.buckets (bucket_of write.key options.buckets) in let all = same (bucket_of write.key options.buckets) in omega arith;
+        here = let few = kept.buckets (bucket_of options.hashing write.key options.buckets) in let all = same (bucket_of options.hashing write.key options.buckets) in omega arith;
         there = λ bucket other. let few = kept.buckets bucket in let all = same bucket in omega arith;
         least = omega arith;
         most = omega arith;
@@ -202,7 +202,7 @@ module _ (options : Options) (s : Cache) (kept : IsKept options s) (write : Writ
 -- The whole step: what the log has passed goes, and then, where the bucket is full, its first record.
 
 abbrev pub here_of : Options → Write → Record → Bool
-here_of options write = is_in_bucket options (bucket_of write.key options.buckets)
+here_of options write = is_in_bucket options (bucket_of options.hashing write.key options.buckets)
 
 abbrev pub live_of : Options → Cache → List Record
 live_of options t = filter (λ held. is_live options.words t.stamp held.offset) t.records
@@ -219,16 +219,16 @@ module _ (options : Options) (s : Cache) (kept : IsKept options s) (write : Writ
   few_left bucket =
       let live = live_of options t in
       ⊎_elim
-      (λ (same : bucket_of write.key options.buckets ≡ bucket). subst (λ (b : ℕ). count_by (is_in_bucket options b) (left_of options write live) ≤ SLOTS) same
+      (λ (same : bucket_of options.hashing write.key options.buckets ≡ bucket). subst (λ (b : ℕ). count_by (is_in_bucket options b) (left_of options write live) ≤ SLOTS) same
       (elim (eqb (count_by (here_of options write) live) (SLOTS + 1)) as (λ b. eqb (count_by (here_of options write) live) (SLOTS + 1) ≡ b → count_by (here_of options write) (cond b (without_first (here_of options write) live) live) ≤ SLOTS) [
         | true ↦ grind (arith, eqb-true (count_by (here_of options write) live) (SLOTS + 1), found.count_without_first (here_of options write) live)
         | false ↦ grind (arith, eqb-false (count_by (here_of options write) live) (SLOTS + 1), found.count_filter (here_of options write) (λ held. is_live options.words t.stamp held.offset) t.records, written.here)
       ] refl))
-      (λ (other : bucket_of write.key options.buckets ≢ bucket).
+      (λ (other : bucket_of options.hashing write.key options.buckets ≢ bucket).
       let fewer = found.count_filter (is_in_bucket options bucket) (λ held. is_live options.words t.stamp held.offset) t.records in
       let few = written.there bucket other in
       by_left (λ rs. count_by (is_in_bucket options bucket) rs ≤ SLOTS) options write live (λ le. let less = found.count_without_first_le (is_in_bucket options bucket) (here_of options write) live in omega arith) (omega arith))
-      (cases_eq (bucket_of write.key options.buckets) bucket)
+      (cases_eq (bucket_of options.hashing write.key options.buckets) bucket)
 
   pub step_kept : IsKept options (record { records = left_of options write (live_of options t); stamp = t.stamp; accepted = s.accepted + 1 })
   step_kept =

@@ -104,12 +104,12 @@ module _ (options : Options) (s : Cache) (write : Write) (key : List ℕ) (other
 abbrev live_test : Options → Cache → Record → Bool
 live_test options t held = is_live options.words t.stamp held.offset
 
-module _ (options : Options) (s : Cache) (kept : IsKept options s) (write : Write) (is : IsWrite write) (key : List ℕ) (apart : bucket_of key options.buckets ≢ bucket_of write.key options.buckets) where
+module _ (options : Options) (s : Cache) (kept : IsKept options s) (write : Write) (is : IsWrite write) (key : List ℕ) (apart : bucket_of options.hashing key options.buckets ≢ bucket_of options.hashing write.key options.buckets) where
   abbrev written : Cache
   written = cs.after_write options s write
 
   other_key : key ≢ write.key
-  other_key same = apart (ap (λ (k : List ℕ). bucket_of k options.buckets) same)
+  other_key same = apart (ap (λ (k : List ℕ). bucket_of options.hashing k options.buckets) same)
 
   -- what is displaced is of the written bucket
   left_same : (rs : List Record) → find (has_key key) (left_of options write rs) ≡ find (has_key key) rs
@@ -235,8 +235,8 @@ module _ (options : Options) (s : Cache) (kept : IsKept options s) (write : Writ
         let here = laid.found_map (rewritten write) (rewritten_key write) write.key s.records held keeps.is ∙ ap Some rewritten_held in
         let passes = found.found_filter (has_key write.key) (live_test options t) t.records now_held here (le-leb (tail_of (s.stamp + 1)) (held.offset + options.words) keeps.live) in
         let fewer = found.count_filter (here_of options write) (live_test options t) t.records in
-        let same = count_map (here_of options write) (rewritten write) (λ r. ap (λ k. eqb (bucket_of k options.buckets) (bucket_of write.key options.buckets)) (rewritten_key write r)) s.records in
-        let few = kept.buckets (bucket_of write.key options.buckets) in
+        let same = count_map (here_of options write) (rewritten write) (λ r. ap (λ k. eqb (bucket_of options.hashing k options.buckets) (bucket_of options.hashing write.key options.buckets)) (rewritten_key write r)) s.records in
+        let few = kept.buckets (bucket_of options.hashing write.key options.buckets) in
         let not_full : count_by (here_of options write) live ≡ SLOTS + 1 → ⊥ = λ full. omega arith in
         ap (λ b. find (has_key write.key) (cond b (without_first (here_of options write) live) live)) (ne_eqb (count_by (here_of options write) live) (SLOTS + 1) not_full) ∙ passes
 

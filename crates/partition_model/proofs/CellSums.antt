@@ -9,6 +9,7 @@ use Rattle.std.specs.FinMap.{find, put, entries-from_sorted, get, insert, remove
 use Rattle.std.proofs.lemmas.List.Sums.{sum_by-cons}
 use Rattle.std.proofs.lemmas.Grind.{common_steps}
 use Rattle.mica_words.specs.Hash.{bucket_of}
+use Rattle.mica_words.specs.declared.hashing.Hashing.{Hashing}
 use Rattle.partition_model.specs.Store.{Cell, Cells, room_of, rooms, keys_in}
 
 -- the order of keys
@@ -82,29 +83,29 @@ pub rooms_remove : (m : Cells) (key : List ℕ) → rooms (remove m key) + room_
 rooms_remove m key = grind (arith, common_steps, weigh_remove, weight_room key (get m key))
 
 -- the keys of a bucket
-module _ (buckets bucket : ℕ) where
+module _ (hashing : Hashing) (buckets bucket : ℕ) where
   abbrev here : List ℕ × Cell → ℕ
-  here entry = cond (nat_eq (bucket_of entry.0 buckets) bucket) 1 0
+  here entry = cond (nat_eq (bucket_of hashing entry.0 buckets) bucket) 1 0
 
-  count_keys : (es : List (List ℕ × Cell)) → count_by (λ key. nat_eq (bucket_of key buckets) bucket) (map (λ e. e.0) es) ≡ sum_by here es
+  count_keys : (es : List (List ℕ × Cell)) → count_by (λ key. nat_eq (bucket_of hashing key buckets) bucket) (map (λ e. e.0) es) ≡ sum_by here es
   count_keys es = grind (arith, common_steps)
 
-  insert_counts : (m : Cells) (key : List ℕ) (cell : Cell) → keys_in buckets bucket (insert m key cell) ≡ keys_in buckets bucket (remove m key) + cond (nat_eq (bucket_of key buckets) bucket) 1 0
+  insert_counts : (m : Cells) (key : List ℕ) (cell : Cell) → keys_in hashing buckets bucket (insert m key cell) ≡ keys_in hashing buckets bucket (remove m key) + cond (nat_eq (bucket_of hashing key buckets) bucket) 1 0
   insert_counts m key cell = grind (arith, common_steps, count_keys (entries (insert m key cell)), weigh_insert here m key cell, count_keys (entries (remove m key)))
 
-  remove_counts : (m : Cells) (key : List ℕ) → keys_in buckets bucket m ≡ keys_in buckets bucket (remove m key) + weight here key (get m key)
+  remove_counts : (m : Cells) (key : List ℕ) → keys_in hashing buckets bucket m ≡ keys_in hashing buckets bucket (remove m key) + weight here key (get m key)
   remove_counts m key = grind (arith, common_steps, count_keys (entries m), weigh_remove here m key, count_keys (entries (remove m key)))
 
   -- a key that has a cell already
-  pub keys_over : (m : Cells) (key : List ℕ) (old cell : Cell) → get m key ≡ Some old → keys_in buckets bucket (insert m key cell) ≡ keys_in buckets bucket m
-  keys_over m key old cell is = insert_counts m key cell ∙ sym (remove_counts m key ∙ ap (λ o. keys_in buckets bucket (remove m key) + weight here key o) is)
+  pub keys_over : (m : Cells) (key : List ℕ) (old cell : Cell) → get m key ≡ Some old → keys_in hashing buckets bucket (insert m key cell) ≡ keys_in hashing buckets bucket m
+  keys_over m key old cell is = insert_counts m key cell ∙ sym (remove_counts m key ∙ ap (λ o. keys_in hashing buckets bucket (remove m key) + weight here key o) is)
 
   -- a new key
-  pub keys_new : (m : Cells) (key : List ℕ) (cell : Cell) → get m key ≡ None → keys_in buckets bucket (insert m key cell) ≡ keys_in buckets bucket m + cond (nat_eq (bucket_of key buckets) bucket) 1 0
+  pub keys_new : (m : Cells) (key : List ℕ) (cell : Cell) → get m key ≡ None → keys_in hashing buckets bucket (insert m key cell) ≡ keys_in hashing buckets bucket m + cond (nat_eq (bucket_of hashing key buckets) bucket) 1 0
   keys_new m key cell is = grind (arith, common_steps, remove_counts m key, insert_counts m key cell)
 
-  pub keys_less : (m : Cells) (key : List ℕ) (old : Cell) → get m key ≡ Some old → keys_in buckets bucket m ≡ keys_in buckets bucket (remove m key) + cond (nat_eq (bucket_of key buckets) bucket) 1 0
-  keys_less m key old is = remove_counts m key ∙ ap (λ o. keys_in buckets bucket (remove m key) + weight here key o) is
+  pub keys_less : (m : Cells) (key : List ℕ) (old : Cell) → get m key ≡ Some old → keys_in hashing buckets bucket m ≡ keys_in hashing buckets bucket (remove m key) + cond (nat_eq (bucket_of hashing key buckets) bucket) 1 0
+  keys_less m key old is = remove_counts m key ∙ ap (λ o. keys_in hashing buckets bucket (remove m key) + weight here key o) is
 
 pub no_cells : from_sorted {X = Cell} {R = by_bytes} [] ≡ empty
 no_cells = empty_of_len (from_sorted []) (len-entries (from_sorted []) ∙ ap length (entries-from_sorted by_bytes [] tt))
@@ -112,8 +113,8 @@ no_cells = empty_of_len (from_sorted []) (len-entries (from_sorted []) ∙ ap le
 no_entries : entries (empty {X = Cell} {R = by_bytes}) ≡ []
 no_entries = ap entries (sym no_cells) ∙ entries-from_sorted by_bytes [] tt
 
-pub no_keys : (buckets bucket : ℕ) → keys_in buckets bucket empty ≡ 0
-no_keys buckets bucket = ap (λ es. count_by (λ key. nat_eq (bucket_of key buckets) bucket) (map (λ e. e.0) es)) no_entries
+pub no_keys : (hashing : Hashing) (buckets bucket : ℕ) → keys_in hashing buckets bucket empty ≡ 0
+no_keys hashing buckets bucket = ap (λ es. count_by (λ key. nat_eq (bucket_of hashing key buckets) bucket) (map (λ e. e.0) es)) no_entries
 
 pub no_rooms : rooms empty ≡ 0
 no_rooms = ap (sum_by (λ entry. entry.1.room)) no_entries

@@ -62,16 +62,16 @@ module _ (options : Options) (s : Cache) (kept : IsKept options s) (key : List �
   written = cs.after_write options s touch
 
   its_bucket : (r : Record) → r.key ≡ key → here r ≡ true
-  its_bucket r same = subst (λ (k : List ℕ). eqb (bucket_of k options.buckets) (bucket_of key options.buckets) ≡ true) (sym same) (grind (arith, common_steps))
+  its_bucket r same = subst (λ (k : List ℕ). eqb (bucket_of options.hashing k options.buckets) (bucket_of options.hashing key options.buckets) ≡ true) (sym same) (grind (arith, common_steps))
 
   -- a touch fills no bucket
   not_full : (o : Option Record) → record_of s key ≡ o → count_by here (cs.after_touch o s touch).records ≤ SLOTS
-  not_full None at = kept.buckets (bucket_of key options.buckets)
+  not_full None at = kept.buckets (bucket_of options.hashing key options.buckets)
   not_full (Some held) at =
       let count = sum_by_push (λ (r : Record). cond {A = ℕ} (here r) 1 0) (others key s.records) (new_record s key held.value) in
       let one : cond {A = ℕ} (here (new_record s key held.value)) 1 0 ≤ 1 = elim (here (new_record s key held.value)) as (λ b. cond {A = ℕ} b 1 0 ≤ 1) [ true ↦ omega arith | false ↦ omega arith ] in
       let fewer = fewer_here here key s.records held at (its_bucket held (laid.found_key key s.records held at)) in
-      let most = kept.buckets (bucket_of key options.buckets) in
+      let most = kept.buckets (bucket_of options.hashing key options.buckets) in
       omega arith
 
   -- so the index displaces none

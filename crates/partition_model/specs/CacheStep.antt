@@ -86,7 +86,7 @@ without_passed options cache =
 
 -- whether the record's key is in the bucket
 abbrev pub is_in_bucket : Options → ℕ → Record → Bool
-is_in_bucket options bucket held = bucket_of held.key options.buckets == bucket
+is_in_bucket options bucket held = bucket_of options.hashing held.key options.buckets == bucket
 
 -- the records without the first that passes the test
 abbrev pub without_first : (Record → Bool) → List Record → List Record
@@ -96,7 +96,7 @@ without_first test (held ∷ records) = if test held then records else (held ∷
 -- then, where the written key's bucket has more records than entries, its first goes
 abbrev pub without_displaced : Options → List ℕ → Cache → Cache
 without_displaced options key cache =
-    let here : Record → Bool = is_in_bucket options (bucket_of key options.buckets) in
+    let here : Record → Bool = is_in_bucket options (bucket_of options.hashing key options.buckets) in
     record cache { records = if count_by here cache.records == SLOTS + 1 then without_first here cache.records else cache.records }
 
 -- the state after an accepted write

@@ -98,4 +98,4 @@ pub record IsCut (options : Options) (history : History) (stamp : ℕ) (cut : Hi
 
 -- how many of the writes are to keys of the bucket
 abbrev pub writes_to_bucket : Options → History → ℕ → ℕ
-writes_to_bucket options history bucket = count_by (λ write. bucket_of write.key options.buckets == bucket) history
+writes_to_bucket options history bucket = count_by (λ write. bucket_of options.hashing write.key options.buckets == bucket) history

@@ -23,14 +23,14 @@ FitsRoom store write = IsSomeAnd (get store.cells write.key) (λ cell. size_of w
 
 -- how many keys the key's bucket has
 abbrev pub keys_beside : Options → Store → List ℕ → ℕ
-keys_beside options store key = keys_in options.buckets (bucket_of key options.buckets) store.cells
+keys_beside options store key = keys_in options.hashing options.buckets (bucket_of options.hashing key options.buckets) store.cells
 
 -- the key is new, its bucket and the spares behind it are full, and no other spare is left
 pub record NeedsSpare (options : Options) (store : Store) (key : List ℕ) : Type 0 where
   pub is_new : get store.cells key ≡ None
   pub some : 0 < keys_beside options store key
   pub full : keys_beside options store key % SLOTS ≡ 0
-  pub none_left : spares_in_use options.buckets store.cells ≡ options.spares
+  pub none_left : spares_in_use options.hashing options.buckets store.cells ≡ options.spares
 
 -- there are words enough for the item, where a key that grows counts with its old room too
 abbrev pub HasWords : Options → Store → Write → Type 0

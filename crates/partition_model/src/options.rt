@@ -2,6 +2,7 @@
 ghost use Rattle.std.specs.Prelude.{◌↔◌, ◌≤◌, IsTrue};
 
 use crate::ranges::{is_in, is_power_up_to};
+use mica_words::Hashing;
 
 /// The most writes that a partition may be asked to bear by the words of `mica`.
 pub const MAX_WEAR: u64 = 68_719_476_736;
@@ -43,6 +44,7 @@ pub struct Options {
     pub tries: u32,
     /// How many writes a partition accepts.
     pub wear: u64,
+    pub hashing: Hashing,
 }
 
 impl Options {

@@ -50,12 +50,12 @@ has_fits options history writes key cell p h = by_state (state_of options histor
 -- What the machine has of a bucket's keys stays as a history goes on: where the log has not passed it, it has the same.
 pub record HasStill (mode : Mode) (options : Options) (old new : History) (b : ℕ) : Type 0 where
   pub live : (p : ℕ) → IsLiveItem mode options.words (stamp_of options new) p → IsLiveItem mode options.words (stamp_of options old) p
-  pub back : (key : List ℕ) (cell : Cell) (p : ℕ) → bucket_of key options.buckets ≡ b → Has (state_of options new) key cell p
+  pub back : (key : List ℕ) (cell : Cell) (p : ℕ) → bucket_of options.hashing key options.buckets ≡ b → Has (state_of options new) key cell p
       → Has (state_of options old) key cell p
-  pub on : (key : List ℕ) (cell : Cell) (p : ℕ) → bucket_of key options.buckets ≡ b → Has (state_of options old) key cell p
+  pub on : (key : List ℕ) (cell : Cell) (p : ℕ) → bucket_of options.hashing key options.buckets ≡ b → Has (state_of options old) key cell p
       → IsLiveItem mode options.words (stamp_of options new) p → Has (state_of options new) key cell p
   -- an item of which the machine still has something is live still
-  pub live_on : (key : List ℕ) (cell : Cell) (p q : ℕ) → bucket_of key options.buckets ≡ b → Has (state_of options new) key cell p
+  pub live_on : (key : List ℕ) (cell : Cell) (p q : ℕ) → bucket_of options.hashing key options.buckets ≡ b → Has (state_of options new) key cell p
       → Has (state_of options old) key cell q → IsLiveItem mode options.words (stamp_of options old) q
       → IsLiveItem mode options.words (stamp_of options new) q
 
@@ -65,7 +65,7 @@ none_more mode options history b = grind (arith, common_steps)
 
 -- and after a write to another bucket's key
 module _ (options : Options) (history : History) (writes : AllByRecursion IsWrite history) (write : Write) (is : IsWrite write)
-    (b : ℕ) (apart : b ≢ bucket_of write.key options.buckets) where
+    (b : ℕ) (apart : b ≢ bucket_of options.hashing write.key options.buckets) where
   abbrev more : History
   more = history ++ write ∷ []
 
@@ -92,7 +92,7 @@ module _ (options : Options) (history : History) (writes : AllByRecursion IsWrit
       now : state_of options more ≡ cache_state (cs.after options at.0 write)
       now = state_snoc options history write ∙ ap (λ (z : State). after options z write) at.1
 
-      had : (key : List ℕ) (cell : Cell) (p : ℕ) → bucket_of key options.buckets ≡ b → Has (cache_state (cs.after options at.0 write)) key cell p
+      had : (key : List ℕ) (cell : Cell) (p : ℕ) → bucket_of options.hashing key options.buckets ≡ b → Has (cache_state (cs.after options at.0 write)) key cell p
           → Has (cache_state at.0) key cell p × IsLiveItem CacheMode options.words (stamp_of options more) p
       had key cell p same h =
           let found = found_record (record_of (cs.after options at.0 write) key) cell p h in
@@ -101,8 +101,8 @@ module _ (options : Options) (history : History) (writes : AllByRecursion IsWrit
   by_mode StoreMode mode =
       let at = stored_in options mode history in
       let now = state_snoc options history write ∙ ap (λ (z : State). after options z write) at.1 in
-      let same : (key : List ℕ) → bucket_of key options.buckets ≡ b → get (ss.after at.0 write).cells key ≡ get at.0.cells key =
-      λ key is. others_same at.0 write key (λ e. apart (sym is ∙ ap (λ (z : List ℕ). bucket_of z options.buckets) e)) in record {
+      let same : (key : List ℕ) → bucket_of options.hashing key options.buckets ≡ b → get (ss.after at.0 write).cells key ≡ get at.0.cells key =
+      λ key is. others_same at.0 write key (λ e. apart (sym is ∙ ap (λ (z : List ℕ). bucket_of options.hashing z options.buckets) e)) in record {
         live = λ p h. tt;
         back = λ key cell p is h. rw at.1 (sym (same key is) ∙ rw now at h);
         on = λ key cell p is h live. rw now (same key is ∙ rw at.1 at h);

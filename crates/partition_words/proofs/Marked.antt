@@ -38,7 +38,7 @@ module _ (o : OwnerState) (s : Kept o) where
 
   -- the bucket of a key is a main one
   pub main_of : (key : List ℕ) → IsMain o.shape (bucket_in o key)
-  main_of key = bucket_of-below key o.shape.buckets (subst (λ (z : ℕ). 0 < z) (sym s.shape.ranges.buckets.2) (pow_pos s.shape.ranges.buckets.0))
+  main_of key = bucket_of-below o.shape.hashing key o.shape.buckets (subst (λ (z : ℕ). 0 < z) (sym s.shape.ranges.buckets.2) (pow_pos s.shape.ranges.buckets.0))
 
   pub marked_not : (b c : ℕ) (write : Write) (history : List Write) → o.phase ≡ Marked b write history → marked_in o.phase c ≡ 0 → c ≢ b
   marked_not b c write history is none same = grind (arith, common_steps)

@@ -48,7 +48,7 @@ state_in o = state_of (options_in o) o.history
 
 -- the bucket of a key
 abbrev pub bucket_in : OwnerState → List ℕ → ℕ
-bucket_in o key = bucket_of key o.shape.buckets
+bucket_in o key = bucket_of o.shape.hashing key o.shape.buckets
 
 -- how many of the writes are to keys of the bucket
 abbrev pub writes_in : OwnerState → ℕ → ℕ

@@ -18,7 +18,7 @@ use Rattle.partition_words.specs.Spelt.{HasLoad, SpellsAnswer}
 -- Each answer of the bucket's keys that the loads before the cut spell, by its stamp, is that of its history.
 abbrev pub IsSpelt : Shape → ℕ → Cut → Type 0
 IsSpelt shape b at = (key : List ℕ) (answer : Option (List ℕ))
-    → AreBytes key → bucket_of key shape.buckets ≡ b
+    → AreBytes key → bucket_of shape.hashing key shape.buckets ≡ b
     → SpellsAnswer shape at.loads (stamp_of (options_of shape) at.history) b key answer
     → answer_of (options_of shape) at.history key ≡ answer
 

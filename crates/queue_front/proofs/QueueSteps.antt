@@ -74,14 +74,14 @@ new_front options number most parts new = (All-weaker (IsNewPart options number 
 pub record FindsPart (front view : QueueView) (key : List ℕ) (at : ℕ) (part : FrontPart) : Type 0 where
   pub lawful : IsQueueFront front
   pub view_is : front ≡ view
-  pub number : at ≡ partition_of key front.options.partitions
+  pub number : at ≡ partition_of front.options.hashing key front.options.partitions
   pub here : slice_get front.parts at ≡ Some part
 
 pub finds_part : {front view : QueueView} {key : List ℕ} {hash at : ℕ} {part : FrontPart} → IsQueueFront front → front ≡ view → hash ≡ fnv1a key
     → at ≡ hash_partition hash front.options.partitions → part ≡ get_or front.parts at part → FindsPart front view key at part
 finds_part {front = front} {key = key} {at = at} {part = part} lawful view_is hash_is at_is read =
-    let number = at_is ∙ ap (λ h. hash_partition h front.options.partitions) hash_is ∙ sym (partition_of_hash key front.options.partitions) in
-    let low = partition_of-below key front.options.partitions lawful.valid.partitions.0 in
+    let number = at_is ∙ ap (λ h. hash_partition h front.options.partitions) hash_is ∙ sym (partition_of_hash front.options.hashing key front.options.partitions) in
+    let low = partition_of-below front.options.hashing key front.options.partitions lawful.valid.partitions.0 in
     record {
       lawful = lawful;
       view_is = view_is;
@@ -150,12 +150,12 @@ module _ {front view : QueueView} {key : List ℕ} {at : ℕ} {part : FrontPart}
       (let long = ap length sent in omega arith)
 
   -- what holds of the front at the place holds of what contracts see of it at the key's partition
-  in_view : (Q : QueueView → ℕ → Type 0) → Q front at → Q view (partition_of key view.options.partitions)
+  in_view : (Q : QueueView → ℕ → Type 0) → Q front at → Q view (partition_of view.options.hashing key view.options.partitions)
   in_view Q holds =
       subst (λ (y : QueueView × ℕ). Q y.0 y.1)
-      (λ i. (finds.view_is i, (finds.number ∙ ap (λ (v : QueueView). partition_of key v.options.partitions) finds.view_is) i)) holds
+      (λ i. (finds.view_is i, (finds.number ∙ ap (λ (v : QueueView). partition_of v.options.hashing key v.options.partitions) finds.view_is) i)) holds
 
-  pub others_at : ChangesOnly (partition_of key view.options.partitions) (sessions_of view.parts) (sessions_of parts_after)
+  pub others_at : ChangesOnly (partition_of view.options.hashing key view.options.partitions) (sessions_of view.parts) (sessions_of parts_after)
   others_at = in_view (λ v p. ChangesOnly p (sessions_of v.parts) (sessions_of parts_after)) (λ q other. ap session_or_none (set_elsewhere front.parts at q new other))
 
   -- the sessions of the key's partition
@@ -166,8 +166,8 @@ module _ {front view : QueueView} {key : List ℕ} {at : ℕ} {part : FrontPart}
   is = sym (ap session_or_none (set_here front.parts at part new finds.here))
 
   pub writes_at : {job : Job} {outcome : Outcome} {stamp : ℕ} (write : Write) → job.write ≡ write → PartWrites part job outcome stamp new
-      → Writes view.options false (sessions_of view.parts (partition_of key view.options.partitions)) (record { write = write; outcome = outcome; stamp = stamp })
-      (sessions_of parts_after (partition_of key view.options.partitions))
+      → Writes view.options false (sessions_of view.parts (partition_of view.options.hashing key view.options.partitions)) (record { write = write; outcome = outcome; stamp = stamp })
+      (sessions_of parts_after (partition_of view.options.hashing key view.options.partitions))
   writes_at {outcome = outcome} {stamp = stamp} write same did =
       in_view (λ v p. Writes v.options false (sessions_of v.parts p) (record { write = write; outcome = outcome; stamp = stamp }) (sessions_of parts_after p))
       (subst (λ (y : Session × Session × Write). Writes front.options false y.0 (record { write = y.2; outcome = outcome; stamp = stamp }) y.1)
@@ -175,7 +175,7 @@ module _ {front view : QueueView} {key : List ℕ} {at : ℕ} {part : FrontPart}
 
   pub reads_at : {answer : Answer} {stamp : ℕ} {buffer : List ℕ} → PartReads part key answer stamp buffer new
       → (value : Option (List ℕ)) × IsAnswer answer buffer value
-      × Reads view.options false (sessions_of view.parts (partition_of key view.options.partitions)) key stamp value (sessions_of parts_after (partition_of key view.options.partitions))
+      × Reads view.options false (sessions_of view.parts (partition_of view.options.hashing key view.options.partitions)) key stamp value (sessions_of parts_after (partition_of view.options.hashing key view.options.partitions))
   reads_at {stamp = stamp} did = (
     did.value,
     did.is,

@@ -186,11 +186,11 @@ impl QueueFront {
         requires key { KeyFits key.now }
         requires value { HasValueOf op value.now }
         requires left { 0 < self.old.left }
-        ensures written { IfOk result (λ r. let p = partition_of key.entry.now self.old.options.partitions in
+        ensures written { IfOk result (λ r. let p = partition_of self.old.options.hashing key.entry.now self.old.options.partitions in
             Writes self.old.options false (sessions_of self.old.parts p)
             (record { write = write_of op key.entry.now value.entry.now; outcome = r.0; stamp = r.1 }) (sessions_of self.new.parts p)) }
         ensures others { IfOk result (λ _.
-            ChangesOnly (partition_of key.entry.now self.old.options.partitions) (sessions_of self.old.parts) (sessions_of self.new.parts)) }
+            ChangesOnly (partition_of self.old.options.hashing key.entry.now self.old.options.partitions) (sessions_of self.old.parts) (sessions_of self.new.parts)) }
         ensures err { OnErr result (self.new ≡ self.old) }
         ensures left { self.old.left ≤ self.new.left + 1 }
         ensures options { self.new.options ≡ self.old.options }
@@ -217,10 +217,10 @@ impl QueueFront {
     // Gets by loads of its own.
     pub(crate) fn read<R: Wait>(&mut self, rt: &R, key: &[u8], out: &mut ItemBuf) -> (Answer, u64)
         requires key { KeyFits key.now }
-        ensures answer { let p = partition_of key.entry.now self.old.options.partitions in
+        ensures answer { let p = partition_of self.old.options.hashing key.entry.now self.old.options.partitions in
             (value : Option (List ℕ)) × IsAnswer result.0 out.new value
             × Reads self.old.options false (sessions_of self.old.parts p) key.entry.now result.1 value (sessions_of self.new.parts p) }
-        ensures others { ChangesOnly (partition_of key.entry.now self.old.options.partitions) (sessions_of self.old.parts) (sessions_of self.new.parts) }
+        ensures others { ChangesOnly (partition_of self.old.options.hashing key.entry.now self.old.options.partitions) (sessions_of self.old.parts) (sessions_of self.new.parts) }
         ensures left { self.new.left ≡ self.old.left }
         ensures options { self.new.options ≡ self.old.options }
         ensures number { self.new.number ≡ self.old.number }

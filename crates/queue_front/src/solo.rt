@@ -57,7 +57,7 @@ impl Owned {
     fn write(&mut self, op: Op, key: &[u8], value: &[u8]) -> (Outcome, u64)
         requires key { KeyFits key.now }
         requires value { HasValueOf op value.now }
-        ensures { StepsPartition self.old (partition_of key.entry.now self.old.options.partitions)
+        ensures { StepsPartition self.old (partition_of self.old.options.hashing key.entry.now self.old.options.partitions)
             (record { write = write_of op key.entry.now value.entry.now; outcome = result.0; stamp = result.1 }) self.new }
     {
         let at = partition_of(key_hash(key), self.options.partitions) as usize;
@@ -68,7 +68,7 @@ impl Owned {
 
     fn read(&mut self, key: &[u8], out: &mut ItemBuf) -> (Answer, u64)
         requires { KeyFits key.now }
-        ensures answer { let history = history_at self.old.histories (partition_of key.entry.now self.old.options.partitions) in
+        ensures answer { let history = history_at self.old.histories (partition_of self.old.options.hashing key.entry.now self.old.options.partitions) in
             IsAnswer result.0 out.new (answer_of self.old.options history key.entry.now)
             × (result.1 ≡ stamp_of self.old.options history) }
         ensures same { self.new ≡ self.old }

@@ -25,7 +25,7 @@ use Rattle.report_check.proofs.Filters.{filter_swap, filter_weaker, filter_map_s
 
 module _ (options : Options) (s : Cache) (write : Write) where
   abbrev own : ℕ
-  own = bucket_of write.key options.buckets
+  own = bucket_of options.hashing write.key options.buckets
 
   abbrev here : Record → Bool
   here = is_in_bucket options own
@@ -34,7 +34,7 @@ module _ (options : Options) (s : Cache) (write : Write) where
   part = bucket_part options own s
 
   own_key : (r : Record) → has_key write.key r ≡ true → here r ≡ true
-  own_key r is = eq-eqb (bucket_of r.key options.buckets) own (ap (λ k. bucket_of k options.buckets) (key_is write.key r is))
+  own_key r is = eq-eqb (bucket_of options.hashing r.key options.buckets) own (ap (λ k. bucket_of options.hashing k options.buckets) (key_is write.key r is))
 
   pub own_record : record_of part write.key ≡ record_of s write.key
   own_record = found_filter_all (has_key write.key) here own_key s.records
@@ -94,7 +94,7 @@ module _ (options : Options) (s : Cache) (write : Write) where
     there = is_in_bucket options bucket
 
     apart : (r : Record) → there r ≡ true → here r ≡ false
-    apart r is = ne_eqb (bucket_of r.key options.buckets) own (λ e. other (sym e ∙ eqb-true (bucket_of r.key options.buckets) bucket is))
+    apart r is = ne_eqb (bucket_of options.hashing r.key options.buckets) own (λ e. other (sym e ∙ eqb-true (bucket_of options.hashing r.key options.buckets) bucket is))
 
     other_key : (r : Record) → there r ≡ true → has_key write.key r ≡ false
     other_key r is = grind (arith, common_steps, true≢false, own_key r, apart r is)

@@ -62,15 +62,15 @@ pub caught_up : (options : Options) (bucket : ℕ) (s held : Cache) → HasPart 
 caught_up options bucket s held has = ap (λ (rs : List Record). record s { records = rs }) has.live
 
 -- the value of a key, by its bucket
-pub value_by : (options : Options) (s held : Cache) (key : List ℕ) → HasPart options (bucket_of key options.buckets) s held
+pub value_by : (options : Options) (s held : Cache) (key : List ℕ) → HasPart options (bucket_of options.hashing key options.buckets) s held
     → find (λ r. has_key key r && is_live options.words s.stamp r.offset) held.records ≡ record_of s key
 value_by options s held key has =
     find_both (has_key key) (λ r. is_live options.words s.stamp r.offset) held.records
     ∙ ap (find (has_key key)) has.live
-    ∙ found_filter_all (has_key key) (is_in_bucket options (bucket_of key options.buckets)) (λ r is. own_key r is) s.records
+    ∙ found_filter_all (has_key key) (is_in_bucket options (bucket_of options.hashing key options.buckets)) (λ r is. own_key r is) s.records
   where
-    own_key : (r : Record) → has_key key r ≡ true → is_in_bucket options (bucket_of key options.buckets) r ≡ true
-    own_key r is = eq-eqb (bucket_of r.key options.buckets) (bucket_of key options.buckets) (ap (λ k. bucket_of k options.buckets) (key_is key r is))
+    own_key : (r : Record) → has_key key r ≡ true → is_in_bucket options (bucket_of options.hashing key options.buckets) r ≡ true
+    own_key r is = eq-eqb (bucket_of options.hashing r.key options.buckets) (bucket_of options.hashing key options.buckets) (ap (λ k. bucket_of options.hashing k options.buckets) (key_is key r is))
 
 -- each bucket has its part, where one has just its part and the others have theirs
 pub set_parts : (options : Options) (buckets : List Cache) (at : ℕ) (new s : Cache) → IsKept options s → new ≡ bucket_part options at s
@@ -84,7 +84,7 @@ module _ (options : Options) (s : Cache) (reached : IsReachable options s) (writ
   reached_after = (reached.0 ++ write ∷ [], all_push IsWrite reached.0 write reached.1 is, state_snoc options reached.0 write ∙ ap (λ t. after_in options t write) reached.2)
 
   -- a bucket after a write to a key of another
-  pub other_part : (bucket : ℕ) (held : Cache) → bucket_of write.key options.buckets ≢ bucket → HasPart options bucket s held → HasPart options bucket (cs.after options s write) held
+  pub other_part : (bucket : ℕ) (held : Cache) → bucket_of options.hashing write.key options.buckets ≢ bucket → HasPart options bucket s held → HasPart options bucket (cs.after options s write) held
   other_part bucket held other has = grind (arith, common_steps, filter_weaker, live_before options s write, other_after options s write bucket other)
 
 -- The buckets once one was met.
@@ -105,7 +105,7 @@ module _ (options : Options) (olds news : Vec Cache) (stamp accepted : ℕ) (s :
   }
 
   -- and took a write
-  pub are_after : (write : Write) → IsWrite write → at ≡ bucket_of write.key options.buckets → b ≡ cs.after options (bucket_part options at s) write → (stamp' accepted' : ℕ) → stamp' ≡ b.stamp → accepted' ≡ b.accepted
+  pub are_after : (write : Write) → IsWrite write → at ≡ bucket_of options.hashing write.key options.buckets → b ≡ cs.after options (bucket_part options at s) write → (stamp' accepted' : ℕ) → stamp' ≡ b.stamp → accepted' ≡ b.accepted
       → AreBuckets (cs.after options s write) (record { options = options; buckets = news; stamp = stamp'; accepted = accepted' })
   are_after write is own is_b stamp' accepted' same same' =
       let now = cs.after options s write in
@@ -146,7 +146,7 @@ module _ (m : CacheBuckets) (s : Cache) (are : AreBuckets s m) (number : ℕ) (h
   caught_at = grind (arith, common_steps, caught_up m.options number s held part_at, part_at)
 
   -- where a key's record is found
-  pub found_in : (key : List ℕ) (records : List Record) → number ≡ bucket_of key m.options.buckets → records ≡ held.records
+  pub found_in : (key : List ℕ) (records : List Record) → number ≡ bucket_of m.options.hashing key m.options.buckets → records ≡ held.records
       → find (λ r. has_key key r && is_live m.options.words m.stamp r.offset) records ≡ record_of s key
   found_in key records own same = grind (arith, common_steps, value_by m.options s held key, part_at)
 

@@ -132,7 +132,7 @@ module _ (options : Options) (trace : List TraceLine) (report : List Line) where
 
   module _ (valid : IsValid options) (all : AllZip IsLineFor trace report) where
     below : (line : TraceLine) → partition_in options line < options.partitions
-    below line = partition_of-below line.key options.partitions valid.partitions.0
+    below line = partition_of-below options.hashing line.key options.partitions valid.partitions.0
 
     pub wrong_write : (k : ℕ) → IsWriteOf options options.partitions trace report (Some k) → IsFirstUnlawful options trace report k
     wrong_write k is = inr (all_fit trace report all, inl (record { holds = is.0; before = λ m less wrong. is.1 m wrong.line less wrong.asked (below wrong.line) wrong }))

@@ -46,7 +46,7 @@ run_right options p trace report n line run asked inside wrong = grind (arith, c
 lawful_right : (options : Options) (trace : List TraceLine) (report : List Line) → IsValid options → LawfulReport options trace report → IsNowhere (IsWrongWrite options trace report)
 lawful_right options trace report valid lawful n wrong =
     let p = partition_in options wrong.line in
-    let below = partition_of-below wrong.line.key options.partitions valid.partitions.0 in
+    let below = partition_of-below options.hashing wrong.line.key options.partitions valid.partitions.0 in
     run_right options p trace report n wrong.line (lawful.writes p below) wrong.asked refl wrong
 
 lawful_gets : (options : Options) (trace : List TraceLine) (report : List Line) → LawfulReport options trace report → IsNowhere (IsWrongGet options trace report)

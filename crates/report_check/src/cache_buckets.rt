@@ -110,7 +110,7 @@ impl CacheBuckets {
 fn bucket_number(options: &Options, key: &[u8]) -> usize
     requires { IsValid options.now }
     ensures within { result < options.now.buckets }
-    ensures value { result ≡ bucket_of key.now options.now.buckets }
+    ensures value { result ≡ bucket_of options.now.hashing key.now options.now.buckets }
 {
     bucket_of(key_hash(key), options.buckets) as usize
 }
@@ -155,7 +155,7 @@ fn write(
     requires key { KeyFits key.now }
     requires value { HasValueOf op value.now }
     requires part { (cache : Cache) × IsReachable options.now cache
-        × (bucket.old ≡ bucket_part options.now (bucket_of key.now options.now.buckets) cache) }
+        × (bucket.old ≡ bucket_part options.now (bucket_of options.now.hashing key.now options.now.buckets) cache) }
     requires unworn { bucket.old.accepted < options.now.wear }
     requires room { tail_of bucket.old.stamp < last_tail }
     ensures { OnOk result (bucket.new ≡ after options.now bucket.old (write_of op key.now value.now)) }

@@ -88,7 +88,7 @@ module _ (options : Options) (some : 1 ≤ options.partitions) where
   writes_total (a ∷ answers) =
       let rest = writes_total answers in
       let q = partition_in options a in
-      let own = total_one options.partitions q (is_some (step_in a)) (partition_of-below (key_of a) options.partitions some) in
+      let own = total_one options.partitions q (is_some (step_in a)) (partition_of-below options.hashing (key_of a) options.partitions some) in
       let sum = total_add options.partitions (λ p. cond (is_some (step_in a) && eqb q p) 1 0) (λ p. length (writes_of options p answers)) in
       let all = total_same options.partitions (λ p. length (writes_of options p (a ∷ answers)))
       (λ p. cond (is_some (step_in a) && eqb q p) 1 0 + length (writes_of options p answers)) (λ p _. writes_cons p a answers) in

@@ -68,27 +68,27 @@ module _ (options : Options) (valid : IsValid options) (lines : List TraceLine) 
   -- what a partition answers to a key is what its machine has after the trace
   pub answers_after : (key : List ℕ) → value_at owners options.partitions key ≡ value_after options lines report key
   answers_after key =
-      let p = partition_of key options.partitions in
-      let low = partition_of-below key options.partitions valid.partitions.0 in
+      let p = partition_of options.hashing key options.partitions in
+      let low = partition_of-below options.hashing key options.partitions valid.partitions.0 in
       let many = answered.many in
       let less : p < length owners = omega arith in
       by (slice_get owners p) refl less
     where
-      by : (found : Option OwnerState) → slice_get owners (partition_of key options.partitions) ≡ found → partition_of key options.partitions < length owners
-          → option_and_then (answer_in key) (slice_get owners (partition_of key options.partitions)) ≡ value_after options lines report key
-      by None is less = absurd (no_none owners (partition_of key options.partitions) less is)
+      by : (found : Option OwnerState) → slice_get owners (partition_of options.hashing key options.partitions) ≡ found → partition_of options.hashing key options.partitions < length owners
+          → option_and_then (answer_in key) (slice_get owners (partition_of options.hashing key options.partitions)) ≡ value_after options lines report key
+      by None is less = absurd (no_none owners (partition_of options.hashing key options.partitions) less is)
       by (Some owner) is less =
-          let own = answered.each (partition_of key options.partitions) owner is in
+          let own = answered.each (partition_of options.hashing key options.partitions) owner is in
           ap (option_and_then (answer_in key)) is
           ∙ ap (λ s. answer_of (options_of s) owner.history key) own.shape
           ∙ ap (λ h. answer_of (options_of (shape_of options)) h key) own.history
-          ∙ ap (λ (s : State). value_by s key) (same_state options (history_in options (partition_of key options.partitions) lines report))
+          ∙ ap (λ (s : State). value_by s key) (same_state options (history_in options (partition_of options.hashing key options.partitions) lines report))
 
   module _ (all : AllByRecursion IsTraceLine lines) where
     -- a value that is answered is one of a trace
     pub value_stands : (key value : List ℕ) → value_at owners options.partitions key ≡ Some value → IsValue value
     value_stands key value is =
-        let p = partition_of key options.partitions in
+        let p = partition_of options.hashing key options.partitions in
         let history = history_in options p lines report in
         answer_stands options history key (Hit (stamp_of options history) value) (stored options p lines report all) (refl, sym is ∙ answers_after key)
 
@@ -104,7 +104,7 @@ module _ (options : Options) (valid : IsValid options) (lines : List TraceLine) 
   left_pairs mode keys same = λ key.
       exactly (value_at owners options.partitions) keys
       (λ k lacks.
-      let p = partition_of k options.partitions in
+      let p = partition_of options.hashing k options.partitions in
       answers_after k ∙ none_left options k mode (history_in options p lines report) (none_written options k p lines report (not_put options k lines (sym (same k) ∙ lacks))))
       key
       ∙ answers_after key

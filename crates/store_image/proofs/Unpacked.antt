@@ -125,7 +125,7 @@ put_own s key value =
 
 module _ (options : Options) (key : List ℕ) where
   abbrev p : ℕ
-  p = partition_of key options.partitions
+  p = partition_of options.hashing key options.partitions
 
   abbrev value_from : store.Store → History → Option (List ℕ)
   value_from s history = value_by (fold (after options) (store_state s) history) key
@@ -152,7 +152,7 @@ module _ (options : Options) (key : List ℕ) where
     mine : x.key ≡ key → value_if (is_in_partition options p (put_line x)) ≡ Some x.value
     unfolding IsStrictlySortedBy
     mine is =
-        grind (arith, eq-eqb _ _ (ap (λ k. partition_of k options.partitions) is), is, below_none x.key pairs rise.0, put_own s x.key x.value, with_write, rest (ss.after s write), or_else, (subst (λ k. value_by (store_state (ss.after s write)) k ≡ Some x.value) is (put_own s x.key x.value)))
+        grind (arith, eq-eqb _ _ (ap (λ k. partition_of options.hashing k options.partitions) is), is, below_none x.key pairs rise.0, put_own s x.key x.value, with_write, rest (ss.after s write), or_else, (subst (λ k. value_by (store_state (ss.after s write)) k ≡ Some x.value) is (put_own s x.key x.value)))
 
     other : x.key ≢ key → value_if (is_in_partition options p (put_line x)) ≡ or_else (value_in pairs key) (value_from s [])
     other differs = search (rules, is_in_partition, with_write, rest, or_else, others_same, put_line, value_in, option_map, differs)

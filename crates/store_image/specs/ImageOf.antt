@@ -18,7 +18,7 @@ value_in (pair ∷ pairs) key = if bytes_eq pair.key key then Some pair.value el
 
 -- the value that a key has in its partition, by what is printed
 abbrev pub value_after : Options → List TraceLine → List Line → List ℕ → Option (List ℕ)
-value_after options trace report key = answer_of options (history_in options (partition_of key options.partitions) trace report) key
+value_after options trace report key = answer_of options (history_in options (partition_of options.hashing key options.partitions) trace report) key
 
 -- The pairs are exactly those of all partitions after the trace's writes with the report's replies: each key has the value that its
 -- partition's machine has for it, or none.

@@ -12,24 +12,24 @@ one_or_none had = cond (is_some had) 1 0
 
 -- the numbers of keys and of room words, where a key of the bucket had this and now has that
 pub record Exchanges (buckets b : ℕ) (cells later : Cells) (had has : Option Cell) : Type 0 where
-  pub here : keys_in buckets b later + one_or_none had ≡ keys_in buckets b cells + one_or_none has
-  pub there : (c : ℕ) → c ≢ b → keys_in buckets c later ≡ keys_in buckets c cells
+  pub here : keys_in hashing buckets b later + one_or_none had ≡ keys_in hashing buckets b cells + one_or_none has
+  pub there : (c : ℕ) → c ≢ b → keys_in hashing buckets c later ≡ keys_in hashing buckets c cells
   pub all : len later ≡ len cells + one_or_none has - one_or_none had
   pub room : rooms later + room_of had ≡ rooms cells + room_of has
 
-module _ (buckets b : ℕ) (cells : Cells) (key : List ℕ) (here : b ≡ bucket_of key buckets) (low : b < buckets) where
+module _ (buckets b : ℕ) (cells : Cells) (key : List ℕ) (here : b ≡ bucket_of hashing key buckets) (low : b < buckets) where
   inserted : (cell : Cell) (had : Option Cell) → get cells key ≡ had → Exchanges buckets b cells (insert cells key cell) had (Some cell)
   inserted cell None none =
       let more = len-insert nat_list_cmp_total cells key cell ∙ ap (λ z. cond (is_some z) (len cells) (len cells + 1)) none in record {
-        here = omega (arith, new_here buckets b cells key here low cell none);
-        there = new_others buckets b cells key here low cell none;
+        here = omega (arith, new_here hashing buckets b cells key here low cell none);
+        there = new_others hashing buckets b cells key here low cell none;
         all = omega (arith, more);
         room = omega (arith, rooms_insert cells key cell, ap room_of none);
       }
   inserted cell (Some old) has =
       let same = len-insert nat_list_cmp_total cells key cell ∙ ap (λ z. cond (is_some z) (len cells) (len cells + 1)) has in record {
-        here = omega (arith, keys_over buckets b cells key old cell has);
-        there = λ c other. keys_over buckets c cells key old cell has;
+        here = omega (arith, keys_over hashing buckets b cells key old cell has);
+        there = λ c other. keys_over hashing buckets c cells key old cell has;
         all = omega (arith, same);
         room = omega (arith, rooms_insert cells key cell, ap room_of has);
       }
@@ -38,8 +38,8 @@ module _ (buckets b : ℕ) (cells : Cells) (key : List ℕ) (here : b ≡ bucket
   deleted None none = grind (arith, common_steps, remove_none cells key none)
   deleted (Some old) has =
       let fewer = len-remove nat_list_cmp_total cells key ∙ ap (λ z. cond (is_some z) (len cells - 1) (len cells)) has in record {
-        here = omega (arith, less_here buckets b cells key here low old has);
-        there = less_others buckets b cells key here low old has;
+        here = omega (arith, less_here hashing buckets b cells key here low old has);
+        there = less_others hashing buckets b cells key here low old has;
         all = omega (arith, fewer);
         room = omega (arith, rooms_remove cells key, ap room_of has);
       }
@@ -77,7 +77,7 @@ pub left : (s : Store) (w : Write) → get (ss.after s w).cells w.key ≡ cell_l
 unfolding ss.after
 left s w = left_by w.op s w
 
-module _ (buckets b : ℕ) (s : Store) (w : Write) (here : b ≡ bucket_of w.key buckets) (low : b < buckets) where
+module _ (buckets b : ℕ) (s : Store) (w : Write) (here : b ≡ bucket_of hashing w.key buckets) (low : b < buckets) where
   exchanges_by : (op : Op) → Exchanges buckets b s.cells (ss.after_op op s w).cells (get s.cells w.key) (cell_left op s w)
   exchanges_by Put = inserted buckets b s.cells w.key here low _ (get s.cells w.key) refl
   exchanges_by Add = inserted buckets b s.cells w.key here low _ (get s.cells w.key) refl

@@ -296,11 +296,11 @@ module _ (h : Held) (a : AcceptedWrite h.o) (b : ℕ) (here : b ≡ bucket_in h.
 
     -- Once it has ended
 
-    keys_now : (c : ℕ) → IsMain h.o.shape c → length (entries_of p c) ≡ keys_in h.o.shape.buckets c (later h a)
+    keys_now : (c : ℕ) → IsMain h.o.shape c → length (entries_of p c) ≡ keys_in h.o.shape.hashing h.o.shape.buckets c (later h a)
     keys_now c l =
         let ex = exchanges h.o.shape.buckets b (m h) a.w here (main h a b here) in
         dite (ℕ_discrete c b)
-        (λ same. subst (λ d. length (entries_of p d) ≡ keys_in h.o.shape.buckets d (later h a)) (sym same)
+        (λ same. subst (λ d. length (entries_of p d) ≡ keys_in h.o.shape.hashing h.o.shape.buckets d (later h a)) (sym same)
         (let was = length_permutation _ _ e.split.lists in
         let are = length_permutation _ _ chain_now in
         omega (arith, as_keys h b (main h a b here), ex.here, length-append e.own e.rest, length-append e.news e.rest, e.split.long, e.long)))
@@ -327,7 +327,7 @@ module _ (h : Held) (a : AcceptedWrite h.o) (b : ℕ) (here : b ≡ bucket_in h.
           mode = h.parts.mode;
           idle = refl;
           known = index_ends p (chained p kept) b l index known;
-          entries = λ c k. ap length (entries_ends p (chained p kept) b l index known c k) ∙ (keys_now c k ∙ ap (keys_in h.o.shape.buckets c) cells);
+          entries = λ c k. ap length (entries_ends p (chained p kept) b l index known c k) ∙ (keys_now c k ∙ ap (keys_in h.o.shape.hashing h.o.shape.buckets c) cells);
           list = heap.0;
           used = λ c k i less.
               let x = at (entries_of (after_event (Ends b) p) c) i in

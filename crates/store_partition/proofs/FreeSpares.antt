@@ -59,11 +59,11 @@ module _ (o : OwnerState) (s : Chained o) (index : Index) (known : IsIndexOf ind
       omega (arith, all.1)
 
   -- in the machine's words, where each chain has as many entries as its bucket has keys
-  module _ (cells : Cells) (as_keys : (b : ℕ) → IsMain o.shape b → length (entries_of o b) ≡ keys_in o.shape.buckets b cells) where
-    used_below : (n : ℕ) → n ≤ o.shape.buckets → spares_used o n ≡ spares_below o.shape.buckets n cells
+  module _ (cells : Cells) (as_keys : (b : ℕ) → IsMain o.shape b → length (entries_of o b) ≡ keys_in o.shape.hashing o.shape.buckets b cells) where
+    used_below : (n : ℕ) → n ≤ o.shape.buckets → spares_used o n ≡ spares_below o.shape.hashing o.shape.buckets n cells
     unfolding spares_used spares_below
     used_below zero few = refl
     used_below (suc b) few = omega (arith, used_below b (omega arith), ap spares_behind (as_keys b (omega arith)))
 
-    pub free_spares : length index.free + spares_in_use o.shape.buckets cells ≡ o.shape.spares
+    pub free_spares : length index.free + spares_in_use o.shape.hashing o.shape.buckets cells ≡ o.shape.spares
     free_spares = omega (arith, spares_counted, used_below o.shape.buckets (omega arith))

@@ -124,8 +124,8 @@ module _ (h : Held) where
 
   -- The numbers of keys and blocks
 
-  pub as_keys : (c : ℕ) → IsMain h.o.shape c → length (entries_of h.o c) ≡ keys_in h.o.shape.buckets c m.cells
-  as_keys c l = h.parts.entries c l ∙ ap (keys_in h.o.shape.buckets c) (ap cells_of before)
+  pub as_keys : (c : ℕ) → IsMain h.o.shape c → length (entries_of h.o c) ≡ keys_in h.o.shape.hashing h.o.shape.buckets c m.cells
+  as_keys c l = h.parts.entries c l ∙ ap (keys_in h.o.shape.hashing h.o.shape.buckets c) (ap cells_of before)
 
   pub as_cells : length (used_blocks h.blocks) ≡ len m.cells
   as_cells = h.parts.count ∙ ap len (ap cells_of before)
@@ -276,11 +276,11 @@ module _ (h : Held) (op : Op) (gives : GivesValue op) (key value : List ℕ) (b 
 
   -- where a chain has no place, the machine's spares are in use, and the other way round
 
-  counted : length h.index.free + spares_in_use h.o.shape.buckets (m h).cells ≡ h.o.shape.spares
+  counted : length h.index.free + spares_in_use h.o.shape.hashing h.o.shape.buckets (m h).cells ≡ h.o.shape.spares
   counted = free_spares h.o (chained h.o h.kept) h.index h.parts.known (m h).cells (as_keys h)
 
-  own_keys : length (entries_of h.o b) ≡ keys_in h.o.shape.buckets (bucket_in h.o key) (m h).cells
-  own_keys = as_keys h b (main_at h.o h.kept key b here) ∙ ap (λ c. keys_in h.o.shape.buckets c (m h).cells) here
+  own_keys : length (entries_of h.o b) ≡ keys_in h.o.shape.hashing h.o.shape.buckets (bucket_in h.o key) (m h).cells
+  own_keys = as_keys h b (main_at h.o h.kept key b here) ∙ ap (λ c. keys_in h.o.shape.hashing h.o.shape.buckets c (m h).cells) here
 
   lacks_place : ss.NeedsSpare (options_in h.o) (m h) key → LacksPlace h.index h.o b
   lacks_place needs = grind (arith, common_steps, own_keys, nil_from_length h.index.free (let left = needs.none_left in let all = counted in omega arith), counted)

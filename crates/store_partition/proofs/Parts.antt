@@ -87,7 +87,7 @@ module _ (shape : Shape) (valid : IsPossibleShape shape) (mode : shape.mode ≡ 
     mode = mode;
     idle = refl;
     known = known;
-    entries = λ b l. no_entry b l ∙ (sym (no_keys shape.buckets b) ∙ ap (keys_in shape.buckets b) (sym (cells_start shape.mode)));
+    entries = λ b l. no_entry b l ∙ (sym (no_keys shape.hashing shape.buckets b) ∙ ap (keys_in shape.hashing shape.buckets b) (sym (cells_start shape.mode)));
     list = record { fills = (refl, (let range = valid.ranges.words in omega arith), omega arith); merged = (λ both. both.1, tt) };
     used = λ b l i less. absurd (let none = no_entry b l in omega arith);
     count = sym (len-empty (slice_cmp nat_cmp) Cell) ∙ ap len (sym (cells_start shape.mode));

@@ -38,7 +38,7 @@ pub record AreParts (index : Index) (blocks : List Block) (o : OwnerState) : Typ
   pub mode : o.shape.mode ≡ Store
   pub idle : o.phase ≡ Idle
   pub known : IsIndexOf index o
-  pub entries : (b : ℕ) → IsMain o.shape b → length (entries_of o b) ≡ keys_in o.shape.buckets b (cells_in o)
+  pub entries : (b : ℕ) → IsMain o.shape b → length (entries_of o b) ≡ keys_in o.shape.hashing o.shape.buckets b (cells_in o)
   pub list : IsBlockList o.shape.words blocks
   pub used : (b : ℕ) → IsMain o.shape b → HasBlocks o blocks b
   pub count : length (used_blocks blocks) ≡ len (cells_in o)

@@ -6,4 +6,4 @@ returns-clause-bucket g c =
     let o = g.W.OwnerWords.owner c.args.words.now in
     c.bucket_of.ensures
     ∙ (ap (λ (h : ℕ). hash_bucket h c.shape.result.buckets) c.key_hash-hash.ensures
-    ∙ (ap (λ (z : Shape). hash_bucket (fnv1a c.args.key.now) z.buckets) c.shape.ensures.same ∙ sym (bucket_of_hash c.args.key.now o.shape.buckets)))
+    ∙ (ap (λ (z : Shape). hash_bucket (fnv1a c.args.key.now) z.buckets) c.shape.ensures.same ∙ sym (bucket_of_hash o.shape.hashing c.args.key.now o.shape.buckets)))

@@ -26,13 +26,13 @@ returns-clause-answered g c =
     let changed = c.change-changed.result in
     let buffer = c.change-changed.new.found in
     let order = c.new-order.result in
-    let comes : ComesTo options F.is_alone second asked.key (looks asked.ask) (becoming_by (order_of c.args.base asked)) (old (partition_of asked.key options.partitions)) changed buffer
-    (new (partition_of asked.key options.partitions)) =
-    subst (λ (o : Order). ComesTo options F.is_alone second asked.key (looks o.ask) (becoming_by o) (old (partition_of asked.key options.partitions)) changed buffer
-    (new (partition_of asked.key options.partitions))) c.new-order.ensures
-    (subst (λ (k : List ℕ). ComesTo options F.is_alone second k (looks order.ask) (becoming_by order) (old (partition_of k options.partitions)) changed buffer
-    (new (partition_of k options.partitions))) c.bytes-key.ensures c.change-changed.ensures.changed) in
-    let others = subst (λ (k : List ℕ). ChangesOnly (partition_of k options.partitions) old new) c.bytes-key.ensures c.change-changed.ensures.others in
+    let comes : ComesTo options F.is_alone second asked.key (looks asked.ask) (becoming_by (order_of c.args.base asked)) (old (partition_of options.hashing asked.key options.partitions)) changed buffer
+    (new (partition_of options.hashing asked.key options.partitions)) =
+    subst (λ (o : Order). ComesTo options F.is_alone second asked.key (looks o.ask) (becoming_by o) (old (partition_of options.hashing asked.key options.partitions)) changed buffer
+    (new (partition_of options.hashing asked.key options.partitions))) c.new-order.ensures
+    (subst (λ (k : List ℕ). ComesTo options F.is_alone second k (looks order.ask) (becoming_by order) (old (partition_of options.hashing k options.partitions)) changed buffer
+    (new (partition_of options.hashing k options.partitions))) c.bytes-key.ensures c.change-changed.ensures.changed) in
+    let others = subst (λ (k : List ℕ). ChangesOnly (partition_of options.hashing k options.partitions) old new) c.bytes-key.ensures c.change-changed.ensures.others in
     let by : IsAnsweredBy options F.is_alone c.args.base second asked old new changed buffer =
     answered_by options F.is_alone c.args.base second asked old new changed buffer comes others in
     let says : c.says-says.result ≡ said_of c.args.base asked by.answered =

@@ -13,6 +13,6 @@ returns-clause-flushed g c =
     let same = c.value.ensures.value in
     let one = one_flush options c.args.flush F.is_alone (F.sessions c.args.front.now) (F.sessions c.delete-outcome.new.self) c.args.partition key c.delete-outcome.result.0
     c.delete-outcome.result.1 (ap begins_with_feed same ∙ made.feed) (ap flush_in same ∙ made.flush)
-    (ap (λ k. partition_of k options.partitions) same ∙ made.partition) (ap (λ k. bucket_of k options.buckets) same ∙ made.bucket) c.delete-outcome.ensures.written
+    (ap (λ k. partition_of options.hashing k options.partitions) same ∙ made.partition) (ap (λ k. bucket_of options.hashing k options.buckets) same ∙ made.bucket) c.delete-outcome.ensures.written
     c.delete-outcome.ensures.others in
     (one.0, one.1, one.2, c.is_accepted.ensures ∙ one.3)

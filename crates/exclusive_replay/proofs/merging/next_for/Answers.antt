@@ -28,8 +28,8 @@ next_line-requires c =
     let printed = c.args.printed.now in
     let at = c.partition_of-partition.result in
     let number : at ≡ partition_in options line =
-    c.partition_of-partition.ensures ∙ ap (λ h. hash_partition h options.partitions) (c.key_hash.ensures ∙ ap fnv1a c.bytes.ensures) ∙ sym (partition_of_hash line.key options.partitions) in
-    let low = partition_of-below line.key options.partitions c.requires.valid.partitions.0 in
+    c.partition_of-partition.ensures ∙ ap (λ h. hash_partition h options.partitions) (c.key_hash.ensures ∙ ap fnv1a c.bytes.ensures) ∙ sym (partition_of_hash options.hashing line.key options.partitions) in
+    let low = partition_of-below options.hashing line.key options.partitions c.requires.valid.partitions.0 in
     c.requires.some (sym c.if-is_sync.ensures) _ (part_of printed at (partition_in options line) options.partitions c.index-printed-partition.result number low c.requires.many)
 
 pub returns : goal.returns
@@ -39,8 +39,8 @@ returns c =
     let printed = c.args.printed.now in
     let at = c.partition_of-partition.result in
     let number : at ≡ partition_in options line =
-    c.partition_of-partition.ensures ∙ ap (λ h. hash_partition h options.partitions) (c.key_hash.ensures ∙ ap fnv1a c.bytes.ensures) ∙ sym (partition_of_hash line.key options.partitions) in
-    let low = partition_of-below line.key options.partitions c.requires.valid.partitions.0 in
+    c.partition_of-partition.ensures ∙ ap (λ h. hash_partition h options.partitions) (c.key_hash.ensures ∙ ap fnv1a c.bytes.ensures) ∙ sym (partition_of_hash options.hashing line.key options.partitions) in
+    let low = partition_of-below options.hashing line.key options.partitions c.requires.valid.partitions.0 in
     let here = part_of printed at (partition_in options line) options.partitions c.index-printed-partition.result number low c.requires.many in
     let rest = left c.next_line.new.lines in
     inr (

@@ -33,8 +33,8 @@ loop-line-preserved g c =
     let line_is : line ≡ get_or lines i line = subst (λ (ls : List TraceLine). line ≡ get_or ls i line) same c.line-item.is in
     let at = c.partition_of-partition.result in
     let number : at ≡ partition_in options line =
-    c.partition_of-partition.ensures ∙ ap (λ h. hash_partition h options.partitions) (c.key_hash.ensures ∙ ap fnv1a c.bytes.ensures) ∙ sym (partition_of_hash line.key options.partitions) in
-    let low = partition_of-below line.key options.partitions c.requires.valid.partitions.0 in
+    c.partition_of-partition.ensures ∙ ap (λ h. hash_partition h options.partitions) (c.key_hash.ensures ∙ ap fnv1a c.bytes.ensures) ∙ sym (partition_of_hash options.hashing line.key options.partitions) in
+    let low = partition_of-below options.hashing line.key options.partitions c.requires.valid.partitions.0 in
     let many = c.loop-line.invariant.0.many in
     let below : at < length c.loop-line.parts.items = omega (arith, length-map c.loop-line.parts.items g.P.Partition.owner) in
     let more : take i lines ++ line ∷ [] ≡ take (i + 1) lines = ap (λ (x : TraceLine). take i lines ++ x ∷ []) line_is ∙ sym (take_more lines i line within) in

@@ -9,9 +9,9 @@ use Rattle.locked_server.proofs.filling.fill_one.Goals.{After-partition_of}
 use Rattle.locked_server.proofs.filling.fill_one.Goals as goal
 
 -- the partition that the code finds is that of the key
-here : (g : given.Over) (c : After-partition_of g) → partition_of c.args.write.now.key c.args.options.now.partitions ≡ c.partition_of.result
+here : (g : given.Over) (c : After-partition_of g) → partition_of c.args.options.now.hashing c.args.write.now.key c.args.options.now.partitions ≡ c.partition_of.result
 here g c =
-    partition_of_hash c.args.write.now.key c.args.options.now.partitions
+    partition_of_hash c.args.options.now.hashing c.args.write.now.key c.args.options.now.partitions
     ∙ ap (λ h. hash_partition h c.args.options.now.partitions) (sym (c.key_hash-hash.ensures ∙ ap fnv1a c.bytes-key.ensures)) ∙ sym c.partition_of.ensures
 
 pub returns-then-partition_of-number-clause-own : goal.returns-then-partition_of-number-clause-own

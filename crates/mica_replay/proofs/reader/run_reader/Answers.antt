@@ -34,7 +34,7 @@ module _ (g : Over) (c : After-ask_hashed-got g) where
 
   at : c.partition_of-partition.result ≡ partition_in c.args.options.now c.index-lines-number.result
   at = c.partition_of-partition.ensures ∙ ap (λ n. hash_partition n c.args.options.now.partitions) (c.key_hash-hash.ensures ∙ ap fnv1a same_key)
-      ∙ sym (partition_of_hash c.index-lines-number.result.key c.args.options.now.partitions)
+      ∙ sym (partition_of_hash c.args.options.now.hashing c.index-lines-number.result.key c.args.options.now.partitions)
 
   here : slice_get c.loop-number.seats.items c.partition_of-partition.result ≡ Some c.index_mut-seat.result.now
   here = seat_at seat c.args.options.now c.index-lines-number.result gets c.loop-number.found.items (map seat c.args.seats.now.items) c.loop-number.seats.items

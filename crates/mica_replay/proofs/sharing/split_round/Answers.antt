@@ -55,10 +55,10 @@ push-requires-in-Put g c =
     let less : number < length trace = omega (arith, c.requires.bounds, c.loop-number-test.true) in
     let is : line ≡ get_or trace number line = c.index-lines-number.is ∙ ap (λ (ls : List TraceLine). get_or ls number line) c.lines-lines.ensures.same in
     let here : c.partition_of-partition.result ≡ partition_in options line
-    = c.partition_of-partition.ensures ∙ ap (λ h. hash_partition h options.partitions) (c.key_hash.ensures ∙ ap fnv1a c.bytes.ensures) ∙ sym (partition_of_hash line.key options.partitions) in
+    = c.partition_of-partition.ensures ∙ ap (λ h. hash_partition h options.partitions) (c.key_hash.ensures ∙ ap fnv1a c.bytes.ensures) ∙ sym (partition_of_hash options.hashing line.key options.partitions) in
     let lines = take (number - from) (drop from trace) in
     record {
-      queue = omega (arith, here, partition_of-below line.key options.partitions c.requires.valid.partitions.0, inv.queues);
+      queue = omega (arith, here, partition_of-below options.hashing line.key options.partitions c.requires.valid.partitions.0, inv.queues);
       write = line_write line.op line.key line.value c.write_of_line.result (all_at IsTraceLine trace number line c.lines-lines.ensures.lines (slice_get_read trace (length trace) number line refl less is)) c.write_of_line.ensures;
       few = omega (arith, ap length (inv.writes c.partition_of-partition.result), few_jobs options c.partition_of-partition.result lines, take_most (number - from) (drop from trace), c.ranges.to.fits, c.loop-number-test.true);
     }
@@ -114,7 +114,7 @@ loop-number-preserved g c =
           let none = pushed ∙ ap (λ b. gets_in lines + cond b 1 0) no_get in
           let same = w.gets-is in
           let here : w.partition_of-partition.result ≡ partition_in options line
-          = w.partition_of-partition.ensures ∙ ap (λ h. hash_partition h options.partitions) (w.key_hash.ensures ∙ ap fnv1a w.bytes.ensures) ∙ sym (partition_of_hash line.key options.partitions) in
+          = w.partition_of-partition.ensures ∙ ap (λ h. hash_partition h options.partitions) (w.key_hash.ensures ∙ ap fnv1a w.bytes.ensures) ∙ sym (partition_of_hash options.hashing line.key options.partitions) in
           let home = w.home-is ∙ here ∙ sym (own_home options line write is_write) in
           record {
             gets = omega arith;

@@ -13,15 +13,15 @@ loop-try-init g c =
     let r = g.R.ReaderWords.reader c.args.seat.now in
     let buckets = c.shape.ensures.valid.ranges.buckets in
     let some : 0 < c.shape.result.buckets = subst (λ (z : ℕ). 0 < z) (sym buckets.2) (pow_pos buckets.0) in
-    let here : c.bucket_of-bucket.result ≡ bucket_of c.args.key.now c.shape.result.buckets =
-    c.bucket_of-bucket.ensures ∙ (ap (λ (z : ℕ). hash_bucket z c.shape.result.buckets) c.requires.hashed ∙ sym (bucket_of_hash c.args.key.now c.shape.result.buckets)) in
+    let here : c.bucket_of-bucket.result ≡ bucket_of c.shape.result.hashing c.args.key.now c.shape.result.buckets =
+    c.bucket_of-bucket.ensures ∙ (ap (λ (z : ℕ). hash_bucket z c.shape.result.buckets) c.requires.hashed ∙ sym (bucket_of_hash c.shape.result.hashing c.args.key.now c.shape.result.buckets)) in
     let low : c.bucket_of-bucket.result < c.shape.result.buckets =
-    subst (λ (z : ℕ). z < c.shape.result.buckets) (sym here) (bucket_of-below c.args.key.now c.shape.result.buckets (omega arith)) in record {
+    subst (λ (z : ℕ). z < c.shape.result.buckets) (sym here) (bucket_of-below c.shape.result.hashing c.args.key.now c.shape.result.buckets (omega arith)) in record {
       failed = 0;
       number = omega arith;
       failing = failing_none r c.bucket_of-bucket.result;
       main = subst (λ (z : Shape). IsMain z c.bucket_of-bucket.result) c.shape.ensures.same low;
-      bucket = here ∙ ap (λ (z : Shape). bucket_of c.args.key.now z.buckets) c.shape.ensures.same;
+      bucket = here ∙ ap (λ (z : Shape). bucket_of z.hashing c.args.key.now z.buckets) c.shape.ensures.same;
       home = search rules;
     }
 

@@ -10,6 +10,6 @@ invariant-loop-try g l = record {
   number : failed + 1 ≡ l._try;
   failing : Failing (g.R.ReaderWords.reader l.initial.seat) l.bucket failed (g.R.ReaderWords.reader l.seat);
   main : IsMain (g.R.ReaderWords.reader l.initial.seat).shape l.bucket;
-  bucket : l.bucket ≡ bucket_of l.key (g.R.ReaderWords.reader l.initial.seat).shape.buckets;
+  bucket : l.bucket ≡ bucket_of (g.R.ReaderWords.reader l.initial.seat).shape.hashing l.key (g.R.ReaderWords.reader l.initial.seat).shape.buckets;
   home : g.R.ReaderWords.home l.seat ≡ g.R.ReaderWords.home l.initial.seat;
 }

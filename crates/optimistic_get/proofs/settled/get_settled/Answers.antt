@@ -13,7 +13,7 @@ try_get-requires-clause-bucket c =
     let key = c.args.key.now in
     let buckets = c.shape.result.buckets in
     c.bucket_of-bucket.ensures ∙ (ap (λ (z : ℕ). hash_bucket z buckets) c.key_hash-hash.ensures ∙ sym (bucket_of_hash key buckets))
-    ∙ ap (λ (z : Shape). bucket_of key z.buckets) c.shape.ensures.same
+    ∙ ap (λ (z : Shape). bucket_of z.hashing key z.buckets) c.shape.ensures.same
 
 pub unreachable-requires : goal.unreachable-requires
 unreachable-requires c = cc (

@@ -9,7 +9,7 @@ use Rattle.report_check.proofs.sharing.share_out.Goals as goal
 use Rattle.report_check.proofs.sharing.share_out.Goals.{then-is_get, else-is_get}
 
 pub index_mut-own-requires : goal.index_mut-own-requires
-index_mut-own-requires c = grind (arith, common_steps, partition_of-below c.index-trace-place.result.key c.args.options.now.partitions c.requires.valid.partitions.0)
+index_mut-own-requires c = grind (arith, common_steps, partition_of-below c.args.options.now.hashing c.index-trace-place.result.key c.args.options.now.partitions c.requires.valid.partitions.0)
 
 pub loop-place-preserved : goal.loop-place-preserved
 loop-place-preserved c =
@@ -22,7 +22,7 @@ loop-place-preserved c =
     let few = so_far.few in
     let counted = so_far.counted in
     let is_line : slice_get trace place ≡ Some line = slice_get_read trace (length trace) place line refl c.loop-place-test.true c.index-trace-place.is in
-    let below = partition_of-below line.key options.partitions c.requires.valid.partitions.0 in
+    let below = partition_of-below options.hashing line.key options.partitions c.requires.valid.partitions.0 in
     let within : c.partition_in.result < length c.loop-place.shared.items = omega (arith, c.partition_in.ensures, so_far.shared.many) in
     let more = gets_more trace place line is_line in
     let shared = shared_more options trace place gets line c.loop-place.shared.items c.partition_in.result c.index_mut-own.result.now c.push-in-loop-place.new.self so_far.shared is_line c.partition_in.ensures

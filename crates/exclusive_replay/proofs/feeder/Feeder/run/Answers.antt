@@ -26,8 +26,8 @@ index_mut-sender-requires g c =
     let options = c.args.options.now in
     let line = c.index-lines-number.result in
     let own : c.partition_of-queue.result ≡ partition_in options line =
-    c.partition_of-queue.ensures ∙ ap (λ h. hash_partition h options.partitions) (c.key_hash.ensures ∙ ap fnv1a c.bytes.ensures) ∙ sym (partition_of_hash line.key options.partitions) in
-    let low = partition_of-below line.key options.partitions c.requires.valid.partitions.0 in
+    c.partition_of-queue.ensures ∙ ap (λ h. hash_partition h options.partitions) (c.key_hash.ensures ∙ ap fnv1a c.bytes.ensures) ∙ sym (partition_of_hash options.hashing line.key options.partitions) in
+    let low = partition_of-below options.hashing line.key options.partitions c.requires.valid.partitions.0 in
     let many = c.loop-number.invariant.many in
     let first = c.requires.ready.many in
     let long = c.loop-number.self.senders.ok in
@@ -43,8 +43,8 @@ send-requires g c =
     let queue = c.partition_of-queue.result in
     let now = c.index_mut-sender.result.now in
     let own : queue ≡ partition_in options line =
-    c.partition_of-queue.ensures ∙ ap (λ h. hash_partition h options.partitions) (c.key_hash.ensures ∙ ap fnv1a c.bytes.ensures) ∙ sym (partition_of_hash line.key options.partitions) in
-    let low = partition_of-below line.key options.partitions c.requires.valid.partitions.0 in
+    c.partition_of-queue.ensures ∙ ap (λ h. hash_partition h options.partitions) (c.key_hash.ensures ∙ ap fnv1a c.bytes.ensures) ∙ sym (partition_of_hash options.hashing line.key options.partitions) in
+    let low = partition_of-below options.hashing line.key options.partitions c.requires.valid.partitions.0 in
     let many = c.loop-number.invariant.many in
     let first = c.requires.ready.many in
     let same = c.lines-lines.ensures.same in
@@ -68,8 +68,8 @@ loop-number-preserved g c =
           let queue = w.partition_of-queue.result in
           let now = w.index_mut-sender.result.now in
           let own : queue ≡ partition_in options line =
-          w.partition_of-queue.ensures ∙ ap (λ h. hash_partition h options.partitions) (w.key_hash.ensures ∙ ap fnv1a w.bytes.ensures) ∙ sym (partition_of_hash line.key options.partitions) in
-          let low = partition_of-below line.key options.partitions c.requires.valid.partitions.0 in
+          w.partition_of-queue.ensures ∙ ap (λ h. hash_partition h options.partitions) (w.key_hash.ensures ∙ ap fnv1a w.bytes.ensures) ∙ sym (partition_of_hash options.hashing line.key options.partitions) in
+          let low = partition_of-below options.hashing line.key options.partitions c.requires.valid.partitions.0 in
           let many = c.loop-number.invariant.many in
           let first = c.requires.ready.many in
           let at = slice_get_read items (length items) queue now refl (omega arith) w.index_mut-sender.ensures.value in

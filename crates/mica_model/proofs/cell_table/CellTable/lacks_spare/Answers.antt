@@ -15,8 +15,8 @@ returns-else-is_full c =
     let key = c.args.key.now in
     let bucket = c.bucket_of.result in
     let here = in_bucket a key bucket _ c.self.view_is c.bucket_of.ensures.within c.bucket_of.ensures.value in
-    let count : c.index-keys.result.now ≡ keys_in a.buckets (bucket_of key a.buckets) (cells_of a) =
-    read_count a t key bucket here c.index-keys.result.now c.index-keys.ensures ∙ count_is a t key bucket here ∙ ap (λ b. keys_in a.buckets b (cells_of a)) here.is in (
+    let count : c.index-keys.result.now ≡ keys_in a.hashing a.buckets (bucket_of a.hashing key a.buckets) (cells_of a) =
+    read_count a t key bucket here c.index-keys.result.now c.index-keys.ensures ∙ count_is a t key bucket here ∙ ap (λ b. keys_in a.hashing a.buckets b (cells_of a)) here.is in (
       λ full. absurd (false≢true (sym c.if-is_full.false ∙ full)),
       λ lacks. let lacking = subst (λ u. LacksSpare u key c.args.spares) (sym c.self.view_is) lacks in
           c.is_full.ensures.1 (subst (λ n. 0 < n) (sym count) lacking.some, ap (λ n. n % SLOTS) count ∙ lacking.full),

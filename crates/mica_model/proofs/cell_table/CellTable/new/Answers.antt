@@ -11,15 +11,15 @@ use Rattle.mica_model.proofs.cell_table.CellTable.new.Goals as goal
 pub invariant_of-result : goal.invariant_of-result
 invariant_of-result c =
     let none = ap (λ es. from_sorted {R = by_bytes} (entries_of es)) c.new.ensures.empty ∙ no_cells in
-    let counts : HasCounts c.args.buckets c.in_ok-new.field-0.keys.items (from_sorted {R = by_bytes} (entries_of c.new.result.entries)) =
+    let counts : HasCounts c.args.hashing c.args.buckets c.in_ok-new.field-0.keys.items (from_sorted {R = by_bytes} (entries_of c.new.result.entries)) =
     λ bucket within. ap (λ xs. slice_index xs bucket) c.in_ok-new.ensures.keys ∙ get_or-replicate c.args.buckets bucket 0 0 within
-    ∙ sym (ap (keys_in c.args.buckets bucket) none ∙ no_keys c.args.buckets bucket) in
+    ∙ sym (ap (keys_in c.args.hashing c.args.buckets bucket) none ∙ no_keys c.args.hashing c.args.buckets bucket) in
     record {
       ordered = c.new.ensures.ordered;
       some = c.requires;
       len = ap length c.in_ok-new.ensures.keys ∙ length-replicate _ _;
       counts = counts;
-      spares = c.in_ok-new.ensures.spares ∙ sym (ap (spares_in_use c.args.buckets) none ∙ no_spares c.args.buckets c.args.buckets);
+      spares = c.in_ok-new.ensures.spares ∙ sym (ap (spares_in_use c.args.hashing c.args.buckets) none ∙ no_spares c.args.hashing c.args.buckets c.args.buckets);
       small = let none = c.in_ok-new.ensures.spares in omega arith;
       rooms = sym (ap rooms none ∙ no_rooms);
     }

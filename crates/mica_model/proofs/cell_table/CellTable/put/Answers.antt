@@ -18,8 +18,8 @@ here c = in_bucket c.self.inside c.args.key.now c.bucket_of-bucket.result _ c.se
 words : (c : After-bucket_of-bucket) → rooms (cells_of c.self.inside) + c.args.room < 2 ^ 32 + room_of (get (cells_of c.self.inside) c.args.key.now)
 words c = subst (λ (t : Table). rooms t.cells + c.args.room < 2 ^ 32 + room_of (get t.cells c.args.key.now)) (sym c.self.view_is) c.requires.words
 
-few : (c : After-bucket_of-bucket) → spares_in_use c.self.inside.buckets (cells_of c.self.inside) ≤ 65536
-few c = subst (λ (t : Table). spares_in_use t.buckets t.cells ≤ 65536) (sym c.self.view_is) c.requires.spares
+few : (c : After-bucket_of-bucket) → spares_in_use c.self.inside.hashing c.self.inside.buckets (cells_of c.self.inside) ≤ 65536
+few c = subst (λ (t : Table). spares_in_use t.hashing t.buckets t.cells ≤ 65536) (sym c.self.view_is) c.requires.spares
 
 -- the cell that the key had, if it had one, and the cells that it then has
 had : (c : In-Some) → get (cells_of c.self.inside) c.args.key.now ≡ Some (cell_of c.in-Some.old)

@@ -15,12 +15,12 @@ returns-clause-answer c =
     let key = c.args.key.now in
     let at = c.partition_of-at.result in
     let part = c.index_mut-part.result.now in
-    let number : at ≡ partition_of key options.partitions =
-    c.partition_of-at.ensures ∙ ap (λ h. hash_partition h options.partitions) c.key_hash.ensures ∙ sym (partition_of_hash key options.partitions) in
-    let low = partition_of-below key options.partitions c.self.invariant.0.partitions.0 in
+    let number : at ≡ partition_of options.hashing key options.partitions =
+    c.partition_of-at.ensures ∙ ap (λ h. hash_partition h options.partitions) c.key_hash.ensures ∙ sym (partition_of_hash options.hashing key options.partitions) in
+    let low = partition_of-below options.hashing key options.partitions c.self.invariant.0.partitions.0 in
     let below : at < length parts = omega (arith, number, low, c.self.invariant.1) in
-    subst (λ (s : Solo). IsAnswer c.get-answer.result c.get-answer.new.out (answer_of s.options (history_at s.histories (partition_of key s.options.partitions)) key)
-    × (c.stamp.result ≡ stamp_of s.options (history_at s.histories (partition_of key s.options.partitions)))) c.self.view_is
+    subst (λ (s : Solo). IsAnswer c.get-answer.result c.get-answer.new.out (answer_of s.options (history_at s.histories (partition_of s.options.hashing key s.options.partitions)) key)
+    × (c.stamp.result ≡ stamp_of s.options (history_at s.histories (partition_of s.options.hashing key s.options.partitions)))) c.self.view_is
     (read_there owner_of options parts at _ part c.get-answer.new.self key c.get-answer.result c.get-answer.new.out c.stamp.result
     number below c.index_mut-part.ensures.value (c.self.invariant.2 at part below) c.get-answer.ensures.same c.get-answer.ensures.answer c.stamp.ensures)
 
