@@ -77,7 +77,7 @@ module _ (h : Held) where
   pub slot_entry : (b slot : ℕ) (key : List ℕ) → IsSlotOf h.o b key slot → HasLiveEntry h.o b b slot (entry_in h.o b slot)
   slot_entry b slot key is =
       let tag = is.tag in
-      let some = (tag_of-range key).0 in
+      let some = (tag_of-range h.o.shape.hashing key).0 in
       live_entry b slot (entry_in h.o b slot) is.in_bucket refl (λ empty. let zero : entry_tag (entry_in h.o b slot) ≡ 0 = ap entry_tag empty in omega arith) is.live
 
   -- the entry of a slot spells one key

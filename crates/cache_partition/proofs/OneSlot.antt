@@ -154,18 +154,18 @@ module _ (h : Held) (a : AcceptedWrite h.o) where
 
       -- a write that leaves its key this record: the slot's entry and item spell it
       pub stored : (slot x : ℕ) → Before slot → slot < SLOTS → (r : Record) → record_of (made h a.w) a.w.key ≡ Some r
-          → tail_of (made h a.w).stamp ≤ r.offset + h.o.shape.words → x ≢ 0 → entry_offset x ≡ r.offset → entry_tag x ≡ tag_of a.w.key
-          → Effect slot x r.offset (item_words r.room a.w.key r.value) → StandsFor q b
+          → tail_of (made h a.w).stamp ≤ r.offset + h.o.shape.words → x ≢ 0 → entry_offset x ≡ r.offset → entry_tag x ≡ tag_of h.o.shape.hashing a.w.key
+          → Effect slot x r.offset (item_words h.o.shape.hashing r.room a.w.key r.value) → StandsFor q b
       stored slot x before below r found live some offset tag effect =
           let stamp = stamp_is n ∙ step_stamp h a.w in
           let its_offset : entry_offset (entry_in q b slot) ≡ r.offset = ap entry_offset effect.here ∙ offset in
-          let long = length-item_words r.room a.w.key r.value in
+          let long = length-item_words h.o.shape.hashing r.room a.w.key r.value in
           let key : r.key ≡ a.w.key = found_key a.w.key (made h a.w).records r found in
           let spelt = spells_item q t b (entry_in q b slot) a.w.key (cell_at r).0 refl
           (subst (λ (z : ℕ). Has (state_in q) a.w.key (cell_at r).0 z) (sym its_offset) (has_in n a.w.key r (before.leaves.on a.w.key r found live before.own)))
           (subst (λ (z : Mode). IsOffset z h.o.shape.words (entry_offset (entry_in q b slot))) (sym h.mode) tt)
           (ap entry_tag effect.here ∙ tag) (λ i l. ap (λ (z : ℕ). item_in q (z + i)) its_offset ∙ effect.items i (omega arith)) in
-          stands slot x r.offset (item_words r.room a.w.key r.value) before effect
+          stands slot x r.offset (item_words h.o.shape.hashing r.room a.w.key r.value) before effect
           (λ j less. subst (λ (found : Option Record). cs.IsInItem found (r.offset + j)) (sym found)
           (omega arith, subst (λ (k : List ℕ). r.offset + j < r.offset + item_size k r.value) (sym key) (omega arith)))
           (λ y e. (r, subst (λ (z : ℕ). Spells q b z a.w.key (cell_at r).0) e.found spelt))

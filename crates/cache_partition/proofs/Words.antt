@@ -45,7 +45,7 @@ pub use Rattle.partition_model.specs.declared.write.Outcome.TheVariants.{Absent,
 pub use Rattle.partition_words.proofs.Vocabulary.{AreBytes, Bool, Cache as CacheMode, Cell, Has, HasLiveEntry, IfSome, IsLiveItem, IsMain, Kept, KeyFits}
 pub use Rattle.partition_words.proofs.Vocabulary.{List, MayGive, Mode, None, Option, Some, Spells, StandsFor, State, Write, [], after, answer_of, ap}
 pub use Rattle.partition_words.proofs.Vocabulary.{arith, bucket_in, cache_state, cached_in, cases_lt, cell_at, cond, count_by, dite, entry_in, eq-eqb}
-pub use Rattle.partition_words.proofs.Vocabulary.{eqb-true, false, fnv1a, get_or, header_room, inl, inr, is_some, item_at, item_in, item_size, length}
+pub use Rattle.partition_words.proofs.Vocabulary.{eqb-true, false, hash_of, get_or, header_room, inl, inr, is_some, item_at, item_in, item_size, length}
 pub use Rattle.partition_words.proofs.Vocabulary.{marked_in, ne_eqb, option_map, options_in, refl, room_in, stamp_in, stamp_of, state_in, state_snoc}
 pub use Rattle.partition_words.proofs.Vocabulary.{subst, suc, sym, true, value_in, ℕ, ℕ_discrete, ⊎_elim, ◌*◌, ◌++◌, ◌+◌, ◌<◌, ◌^◌, ◌∙◌, ◌∷◌, ◌≡◌, ◌≢◌}
 pub use Rattle.partition_words.proofs.Vocabulary.{◌≤◌, ◌⊎◌}

@@ -119,7 +119,7 @@ pub record Appends (o : OwnerState) (w : Write) (b t p : ℕ) (value : List ℕ)
   pub may : MayAppend (marked_with o b w t) p w.key value
   pub ready : (q : OwnerState) → HasStored o w b t p value q → (marked_in q.phase b ≡ 1) × IsMain q.shape b
   pub closes : (old : Option ℕ) → MatchOption old (HasNoSlot o b w.key) (IsSlotOf o b w.key) → (q q' : OwnerState) (slot tag : ℕ) → HasStored o w b t p value q
-      → TakesSlot q b old slot → tag ≡ tag_of w.key → q' ≡ after (PutsEntry b slot (entry_of tag p)) q → Kept q' → Closes o w b t q'
+      → TakesSlot q b old slot → tag ≡ tag_of o.shape.hashing w.key → q' ≡ after (PutsEntry b slot (entry_of tag p)) q → Kept q' → Closes o w b t q'
 
 -- the record that keeps a put, by its offset
 abbrev KeptAt : Option Record → Option ℕ → Type 0
@@ -242,8 +242,8 @@ module _ (o : OwnerState) (s : Kept o) (may : MayWrite o) (w : Write) (is : IsWr
 
     -- A put
 
-    few_words : (room : ℕ) (value : List ℕ) → item_size w.key value ≤ o.shape.words → length (item_words room w.key value) ≤ o.shape.words
-    few_words room value short = omega (arith, length-item_words room w.key value, short)
+    few_words : (room : ℕ) (value : List ℕ) → item_size w.key value ≤ o.shape.words → length (item_words o.shape.hashing room w.key value) ≤ o.shape.words
+    few_words room value short = omega (arith, length-item_words o.shape.hashing room w.key value, short)
 
     -- it leaves its key this record
     leaves_item : (p room : ℕ) (value : List ℕ) → record_of (made h w) w.key ≡ Some (record { key = w.key; value = value; offset = p; room = room })
@@ -256,7 +256,7 @@ module _ (o : OwnerState) (s : Kept o) (may : MayWrite o) (w : Write) (is : IsWr
         let r = held_by (Some p) keeps in
         let kept = keeps_put (options_in o) h.m w r.0 r.1 in
         let at = slot_of h b (stood o accepted) w.key r.0 refl kept.is in
-        let xs = item_words r.0.room w.key w.value in
+        let xs = item_words o.shape.hashing r.0.room w.key w.value in
         let there : SpellsItem (marked o accepted) r.0.offset w.key (cell_at r.0).0 = λ i l.
         marked_item o accepted (r.0.offset + i) ∙ (ap (λ (z : ℕ). item_in o (z + i)) at.1.offset ∙ at.1.spelt.item i l) in
         let fits = fits_kept (options_in o) h.m (machine h) w.key r.0 kept.is in
@@ -287,7 +287,7 @@ module _ (o : OwnerState) (s : Kept o) (may : MayWrite o) (w : Write) (is : IsWr
       p = tail_of h.m.stamp
 
       abbrev xs : List ℕ
-      xs = item_words (item_size w.key value) w.key value
+      xs = item_words o.shape.hashing (item_size w.key value) w.key value
 
       few : length xs ≤ o.shape.words
       few = few_words (item_size w.key value) value short
@@ -312,13 +312,13 @@ module _ (o : OwnerState) (s : Kept o) (may : MayWrite o) (w : Write) (is : IsWr
           let own = found_slot h b (stood o accepted) w.key refl is.key_bytes slot its in
           (its.in_bucket, own_slot h accepted slot own.0 own.1)
 
-      stands : (slot : ℕ) → (slot < SLOTS) × Before h accepted slot → Kept (after (PutsEntry b slot (entry_of (tag_of w.key) p)) filled)
-          → StandsFor (after (PutsEntry b slot (entry_of (tag_of w.key) p)) filled) b
+      stands : (slot : ℕ) → (slot < SLOTS) × Before h accepted slot → Kept (after (PutsEntry b slot (entry_of (tag_of o.shape.hashing w.key) p)) filled)
+          → StandsFor (after (PutsEntry b slot (entry_of (tag_of o.shape.hashing w.key) p)) filled) b
       stands slot spelt k =
           let low : p < 2 ^ 48 = omega (arith, stamp_limit o s may h.m.stamp (sym (stamp_is h))) in
-          stored h accepted (after (PutsEntry b slot (entry_of (tag_of w.key) p)) filled).words k slot (entry_of (tag_of w.key) p) spelt.1 spelt.0 (new_record h.m w.key value)
-          its_own own_live (entry_not_empty (tag_of w.key) p (tag_of-range w.key).0)
-          (entry_offset-entry_of (tag_of w.key) p low) (entry_tag-entry_of (tag_of w.key) p low) (entry_effect h accepted p xs few slot (entry_of (tag_of w.key) p) spelt.0)
+          stored h accepted (after (PutsEntry b slot (entry_of (tag_of o.shape.hashing w.key) p)) filled).words k slot (entry_of (tag_of o.shape.hashing w.key) p) spelt.1 spelt.0 (new_record h.m w.key value)
+          its_own own_live (entry_not_empty (tag_of o.shape.hashing w.key) p (tag_of-range o.shape.hashing w.key).0)
+          (entry_offset-entry_of (tag_of o.shape.hashing w.key) p low) (entry_tag-entry_of (tag_of o.shape.hashing w.key) p low) (entry_effect h accepted p xs few slot (entry_of (tag_of o.shape.hashing w.key) p) spelt.0)
 
       appends_here : Appends o w b t p value
       appends_here = record {
@@ -328,7 +328,7 @@ module _ (o : OwnerState) (s : Kept o) (may : MayWrite o) (w : Write) (is : IsWr
         closes = λ old found q q' slot tag at takes tag_is entry k.
             let is = at ∙ put_same o accepted p xs few in
             let entry_is = entry ∙ (λ j. after (PutsEntry b slot (entry_of (tag_is j) p)) (is j)) in
-            closes (after (PutsEntry b slot (entry_of (tag_of w.key) p)) filled).words
+            closes (after (PutsEntry b slot (entry_of (tag_of o.shape.hashing w.key) p)) filled).words
             (stands slot (before old slot found (subst (λ (z : OwnerState). TakesSlot z b old slot) is takes)) (subst Kept entry_is k)) q' entry_is;
       }
 

@@ -1,6 +1,6 @@
 -- What the words tell of a key before a write.
 use Rattle.std.specs.Prelude.{◌≡◌, ℕ, Bool, true, false, List, Option, None, IfSome, MatchOption, is_some, option_map}
-use Rattle.mica_words.specs.Hash.{fnv1a}
+use Rattle.mica_words.specs.Hash.{hash_of}
 use Rattle.partition_model.specs.declared.options.Options.{Options}
 use Rattle.partition_model.specs.declared.write.Write.{Write}
 use Rattle.partition_model.specs.Cache.{record_of}
@@ -15,7 +15,7 @@ use Rattle.lossy_index.specs.Slot.{offset_in, IsSlotOf, HasNoSlot}
 -- The hash and the bucket are the key's, the slot is its slot there, if it has one, the offset is the one in the slot's
 -- entry, and the stamp is the one now.
 pub record IsSought (o : OwnerState) (key : List ℕ) (sought : Sought) : Type 0 where
-  pub hash : sought.hash ≡ fnv1a key
+  pub hash : sought.hash ≡ hash_of o.shape.hashing key
   pub bucket : sought.bucket ≡ bucket_in o key
   pub found : MatchOption sought.slot (HasNoSlot o sought.bucket key) (IsSlotOf o sought.bucket key)
   pub offset : IfSome sought.slot (λ slot. sought.offset ≡ offset_in o sought.bucket slot)

@@ -1,6 +1,6 @@
 //! What is known of a key before a write to it, and the write's begin.
 ghost use Rattle.std.specs.Prelude.{◌≡◌, ◌++◌, ◌∷◌, []};
-ghost use Rattle.mica_words.specs.Hash.{fnv1a};
+ghost use Rattle.mica_words.specs.Hash.{hash_of};
 ghost use Rattle.mica_words.specs.Item.{KeyFits};
 ghost use Rattle.partition_model.specs.Write.{IsWrite, write_of};
 ghost use Rattle.partition_model.specs.History.{stamp_of};
@@ -11,7 +11,7 @@ ghost use Rattle.cache_partition.specs.Gained.{MayWrite, marked_with};
 ghost use Rattle.cache_partition.specs.Sought.{IsSought, IsAcceptable};
 
 use lossy_index::find_hashed;
-use mica_words::{bucket_of, key_hash};
+use mica_words::bucket_of;
 use partition_model::Op;
 use partition_words::{OwnerWords, WordAt};
 
@@ -29,10 +29,11 @@ pub(crate) struct Sought {
 pub(crate) fn bucket_and_hash<W: OwnerWords>(words: &W, key: &[u8]) -> (u32, u64)
     ensures bucket { result.0 ≡ bucket_in (W.owner words.now) key.now }
     ensures main { IsMain (W.owner words.now).shape result.0 }
-    ensures hashed { result.1 ≡ fnv1a key.now }
+    ensures hashed { result.1 ≡ hash_of (W.owner words.now).shape.hashing key.now }
 {
-    let hash = key_hash(key);
-    (bucket_of(hash, words.shape().buckets), hash)
+    let shape = words.shape();
+    let hash = shape.hashing.key_hash(key);
+    (bucket_of(hash, shape.buckets), hash)
 }
 
 /// Looks the key up.

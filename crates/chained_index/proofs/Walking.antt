@@ -81,7 +81,7 @@ module _ (o : OwnerState) (index : Index) (b : ℕ) (v : View o index b) where
 
 -- the entry has the key's tag, and its item the key
 abbrev pub IsOfKey : OwnerState → List ℕ → ℕ → Type 0
-IsOfKey o key entry = (entry_tag entry ≡ tag_of key) × HasKey o (entry_offset entry) key
+IsOfKey o key entry = (entry_tag entry ≡ tag_of o.shape.hashing key) × HasKey o (entry_offset entry) key
 
 -- none of the chain's first entries, this many, is the key's
 abbrev pub NoneBefore : OwnerState → ℕ → List ℕ → ℕ → Type 0

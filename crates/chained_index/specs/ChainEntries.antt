@@ -55,7 +55,7 @@ entries_without o b spot = swap_remove (entries_of o b) (place_in_chain o b spot
 -- The spot has an entry of the key's tag, whose item has the key.
 pub record IsSpotOf (o : OwnerState) (b : ℕ) (key : List ℕ) (spot : Spot) : Type 0 where
   pub used : IsUsed o b spot
-  pub tag : entry_tag (spot_entry o spot) ≡ tag_of key
+  pub tag : entry_tag (spot_entry o spot) ≡ tag_of o.shape.hashing key
   pub item : HasKey o (entry_offset (spot_entry o spot)) key
 
 -- no spot is the key's

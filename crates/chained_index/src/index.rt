@@ -2,7 +2,7 @@
 ghost use Rattle.std.specs.Prelude.{◌≡◌, ◌≢◌, ℕ, ◌+◌, ◌<◌, ◌≤◌, ◌^◌, ◌↔◌, ◌++◌, ◌∷◌, [], IsTrue, IsFalse, IfOk, MatchOption, length};
 ghost use Rattle.mica_words.specs.declared.entry.TheConstants.{SLOTS};
 ghost use Rattle.mica_words.specs.Entry.{entry_of, entry_tag as entry_tag_of, entry_offset as entry_offset_of};
-ghost use Rattle.mica_words.specs.Hash.{fnv1a};
+ghost use Rattle.mica_words.specs.Hash.{hash_of};
 ghost use Rattle.mica_words.specs.Item.{KeyFits};
 ghost use Rattle.partition_words.specs.Shape.{IsPossibleShape, IsMain, IsBucket};
 ghost use Rattle.partition_words.specs.OwnerState.{as_made, entry_in, marked_in};
@@ -14,7 +14,7 @@ ghost use Rattle.chained_index.specs.ChainChange.{ChangesChain};
 ghost use Rattle.chained_index.specs.ChainShape.{EndsIn, EndsAt};
 ghost use Rattle.chained_index.specs.Index.{IsIndexOf, LacksPlace};
 
-use mica_words::{SLOTS, entry_of, entry_offset, entry_tag, key_hash, tag_of};
+use mica_words::{SLOTS, entry_of, entry_offset, entry_tag, tag_of};
 use outside::NoMemory;
 use partition_words::{OwnerWords, Shape, WordAt, holds_key_hashed};
 use std::alloc::Global;
@@ -119,7 +119,8 @@ impl ChainedIndex {
         ensures home { W.home words.new ≡ W.home words.old }
         ensures kept { Kept (W.owner words.new) }
     {
-        self.find_hashed(words, bucket, key, key_hash(key))
+        let hash = words.shape().hashing.key_hash(key);
+        self.find_hashed(words, bucket, key, hash)
     }
 
     /// `find` where the key's hash is at hand.
@@ -133,7 +134,7 @@ impl ChainedIndex {
         requires index { IsIndexOf self.now (W.owner words.old) }
         requires bucket { IsMain (W.owner words.old).shape bucket }
         requires key { KeyFits key.now }
-        requires hashed { hash ≡ fnv1a key.now }
+        requires hashed { hash ≡ hash_of (W.owner words.old).shape.hashing key.now }
         ensures found { MatchOption result (HasNoSpot (W.owner words.old) bucket key.entry.now)
             (IsSpotOf (W.owner words.old) bucket key.entry.now) }
         ensures same { W.owner words.new ≡ W.owner words.old }
@@ -279,7 +280,7 @@ impl ChainedIndex {
 // Whether the entry has the tag, and its item the key.
 fn names_key<W: OwnerWords>(words: &mut W, entry: u64, tag: u16, key: &[u8], hash: u64) -> bool
     requires key { KeyFits key.now }
-    requires hashed { hash ≡ fnv1a key.now }
+    requires hashed { hash ≡ hash_of (W.owner words.old).shape.hashing key.now }
     ensures names { IsTrue result ↔ ((entry_tag_of entry ≡ tag)
         × HasKey (W.owner words.old) (entry_offset_of entry) key.entry.now) }
     ensures same { W.owner words.new ≡ W.owner words.old }

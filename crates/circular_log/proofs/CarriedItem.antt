@@ -4,7 +4,7 @@ use Rattle.std.proofs.lemmas.Grind.{common_steps}
 use Rattle.std.proofs.Common.{◌≡◌, ℕ, suc, ◌+◌, ◌<◌, ◌≤◌, List, ◌∷◌, ◌++◌, length, get_or, Some, refl, sym, ap, ◌∙◌, subst, arith}
 use Rattle.std.specs.List.{AllByRecursion}
 use Rattle.std.proofs.lemmas.Grind.{same_number_lists}
-use Rattle.mica_words.specs.Hash.{fnv1a}
+use Rattle.mica_words.specs.Hash.{hash_of}
 use Rattle.mica_words.specs.Header.{header_of, header_key_len, header_value_len}
 use Rattle.mica_words.specs.Item.{item_size, words_for}
 use Rattle.mica_words.specs.Packing.{packed}
@@ -77,17 +77,17 @@ module _ (o : OwnerState) (s : Kept o) (from to : ℕ) (held : Record) (c : Carr
 
   -- the words behind the header
   abbrev rest : List ℕ
-  rest = fnv1a held.key ∷ (packed held.key ++ packed held.value)
+  rest = hash_of o.shape.hashing held.key ∷ (packed held.key ++ packed held.value)
 
   -- the state once the header is stored
   abbrev pub begun : OwnerState
   begun = after (PutsWord to (header_of (item_size held.key held.value) (length held.key) (length held.value))) o
 
-  words_of : (room : ℕ) → item_words room held.key held.value ≡ header_of room (length held.key) (length held.value) ∷ rest
-  words_of room = item_words_are room held.key held.value
+  words_of : (room : ℕ) → item_words o.shape.hashing room held.key held.value ≡ header_of room (length held.key) (length held.value) ∷ rest
+  words_of room = item_words_are o.shape.hashing room held.key held.value
 
   length-rest : length rest + 1 ≡ size
-  length-rest = omega (arith, ap length (words_of size), length-item_words size held.key held.value)
+  length-rest = omega (arith, ap length (words_of size), length-item_words o.shape.hashing size held.key held.value)
 
   can : CanPlay (puts_from to (header ∷ rest)) o
   can = subst (λ (xs : List ℕ). CanPlay (puts_from to xs) o) (words_of size) (can_store o s to size held.key held.value carried_item.leaves size)

@@ -62,7 +62,7 @@ length-bytes_from o p n = length-words (words_from o p n) ∙ ap (λ (z : ℕ). 
 
 module _ (o : OwnerState) (p : ℕ) (key : List ℕ) (cell : Cell) (item : IsItem o p key cell) where
   header_is : item_in o p ≡ header_of cell.room (length key) (length cell.value)
-  header_is = ap (item_in o) (sym (add-zero p)) ∙ (item.spelt 0 (omega arith) ∙ header_word cell.room key cell.value)
+  header_is = ap (item_in o) (sym (add-zero p)) ∙ (item.spelt 0 (omega arith) ∙ header_word o.shape.hashing cell.room key cell.value)
 
   pub key_len_is : (word : ℕ) → word ≡ item_in o p → header_key_len word ≡ length key
   key_len_is word is = search (rules, header_is)

@@ -58,5 +58,5 @@ module _ (o : OwnerState) (s : Kept o) (p room : ℕ) (key value : List ℕ) whe
         low = omega arith;
       }
 
-  pub can_store : LeavesItem o p room key value → (header_room : ℕ) → CanPlay (puts_from p (item_words header_room key value)) o
-  can_store stored header_room = can_put o s p (item_words header_room key value) (λ i l. may_put o.phase refl stored i (omega (arith, length-item_words header_room key value)))
+  pub can_store : LeavesItem o p room key value → (header_room : ℕ) → CanPlay (puts_from p (item_words o.shape.hashing header_room key value)) o
+  can_store stored header_room = can_put o s p (item_words o.shape.hashing header_room key value) (λ i l. may_put o.phase refl stored i (omega (arith, length-item_words o.shape.hashing header_room key value)))

@@ -36,4 +36,4 @@ pub record MayRewrite (o : OwnerState) (p : ℕ) (key value : List ℕ) : Type 0
 
 -- the state with an item of this room, key and value stored at the offset
 abbrev pub with_item : OwnerState → ℕ → ℕ → List ℕ → List ℕ → OwnerState
-with_item o p room key value = plays (puts_from p (item_words room key value)) o
+with_item o p room key value = plays (puts_from p (item_words o.shape.hashing room key value)) o

@@ -1,12 +1,12 @@
 //! Items, from their first word on.
 ghost use Rattle.std.specs.Prelude.{◌≡◌, ◌+◌, ◌<◌, ◌^◌};
-ghost use Rattle.mica_words.specs.Hash.{fnv1a};
+ghost use Rattle.mica_words.specs.Hash.{hash_of};
 ghost use Rattle.mica_words.specs.Item.{KeyFits, StoredFits, item_size as item_size_of};
 ghost use Rattle.partition_words.specs.Kept.{Kept};
 ghost use Rattle.circular_log.specs.LogItem.{HasItem, IsValueAt, room_at, words_from};
 ghost use Rattle.circular_log.specs.LogWrite.{MayAppend, MayRewrite, with_item};
 
-use mica_words::{header_key_len, header_room, header_value_len, item_size, key_hash};
+use mica_words::{header_key_len, header_room, header_value_len, item_size};
 use partition_model::ItemBuf;
 use partition_words::{OwnerWords, WordAt, rewrite_item, write_item_hashed};
 
@@ -20,13 +20,14 @@ pub fn append<W: OwnerWords>(words: &mut W, offset: u64, key: &[u8], value: &[u8
     ensures home { W.home words.new ≡ W.home words.old }
     ensures kept { Kept (W.owner words.new) }
 {
-    append_hashed(words, offset, key, key_hash(key), value);
+    let hash = words.shape().hashing.key_hash(key);
+    append_hashed(words, offset, key, hash, value);
 }
 
 /// `append` where the key's hash is at hand.
 pub fn append_hashed<W: OwnerWords>(words: &mut W, offset: u64, key: &[u8], hash: u64, value: &[u8])
     requires key { KeyFits key.now }
-    requires hashed { hash ≡ fnv1a key.now }
+    requires hashed { hash ≡ hash_of (W.owner words.old).shape.hashing key.now }
     requires value { StoredFits value.now }
     requires marked { MayAppend (W.owner words.old) offset key.now value.now }
     ensures item { W.owner words.new ≡ with_item (W.owner words.old) offset

@@ -12,7 +12,7 @@ use Rattle.partition_model.specs.Write.{write_of, is_accepted}
 use Rattle.partition_model.specs.Run.{RunStep}
 use Rattle.fronts.specs.Answered.{Answered, wrote, got, changed, kept, accepts, count_of_writes}
 use Rattle.fronts.specs.declared.flushes.Flush.{Flush}
-use Rattle.fronts.specs.Flushes.{begins_with_feed, flush_in}
+use Rattle.fronts.specs.Flushes.{marks, flush_in}
 use Rattle.fronts.specs.Session.{Sessions, Answers, AnswersInOrder, ChangesOnly, Writes}
 use Rattle.fronts.proofs.InOrder.{answers_append}
 use Rattle.command_answers.specs.Seconds.{second_asked, second_in, AreAt}
@@ -102,7 +102,7 @@ pub flushes_few : {options : Options} {flush : Flush} {is_alone : Bool} {old new
 flushes_few {options} {flush} left left_after f few = omega (arith, few, f.many, all_writes options flush 0 f.answers f.flushes)
 
 -- the write of a partition's flush
-pub one_flush : (options : Options) (flush : Flush) (is_alone : Bool) (old new : Sessions) (partition : ℕ) (key : List ℕ) (outcome : Outcome) (stamp : ℕ) → begins_with_feed key ≡ true
+pub one_flush : (options : Options) (flush : Flush) (is_alone : Bool) (old new : Sessions) (partition : ℕ) (key : List ℕ) (outcome : Outcome) (stamp : ℕ) → marks options.hashing key ≡ true
     → flush_in key ≡ flush → partition_of options.hashing key options.partitions ≡ partition → bucket_of options.hashing key options.buckets ≡ 0
     → Writes options is_alone (old (partition_of options.hashing key options.partitions)) (record { write = write_of Del key []; outcome = outcome; stamp = stamp })
     (new (partition_of options.hashing key options.partitions))

@@ -1,6 +1,7 @@
 -- What a look under a hold answers.
 use Rattle.std.proofs.Common.{◌≡◌, ℕ, Bool, false, true≢false, List, [], ◌∷◌, Option, Some, None, refl, sym, ap, ◌∙◌, subst}
 use Rattle.std.proofs.lemmas.Option.{same_Some}
+use Rattle.mica_words.specs.declared.hashing.Hashing.{Hashing}
 use Rattle.mica_words.specs.Hash.{partition_of}
 use Rattle.partition_model.specs.declared.options.Options.{Options}
 use Rattle.partition_model.specs.declared.write.Answer.{Answer}
@@ -75,7 +76,7 @@ module _ (options : Options) (is_alone : Bool) (base second : ℕ) (asked : Aske
     pub said : says_by (order_of base asked) changed.when (value_found changed.found buffer) changed.outcome ≡ said_of base asked answered
     pub count : count_of_writes (answered ∷ []) ≡ count_of changed.outcome
     pub refused : is_refused answered ≡ was_refused changed.outcome
-    pub noted : (partitions : ℕ) (tally : Numbers) → noted_if partitions asked.key changed.when changed.outcome changed.stamp tally ≡ noted_by partitions answered tally
+    pub noted : (hashing : Hashing) (partitions : ℕ) (tally : Numbers) → noted_if hashing partitions asked.key changed.when changed.outcome changed.stamp tally ≡ noted_by hashing partitions answered tally
 
   pub answered_by : (c : Changed) (buffer : List ℕ)
       → ComesTo options is_alone second asked.key (looks asked.ask) (becoming_by (order_of base asked)) (old (partition_of options.hashing asked.key options.partitions)) c buffer
@@ -107,7 +108,7 @@ module _ (options : Options) (is_alone : Bool) (base second : ℕ) (asked : Aske
         said = said None is;
         count = sym (ap count_of is);
         refused = sym (ap was_refused is);
-        noted = λ partitions tally. ap (λ o. noted_if partitions asked.key c.when o c.stamp tally) is;
+        noted = λ hashing partitions tally. ap (λ o. noted_if hashing partitions asked.key c.when o c.stamp tally) is;
       }
       go None (Some outcome) writes is does = absurd does
       go (Some write) None writes is does = absurd does
@@ -128,5 +129,5 @@ module _ (options : Options) (is_alone : Bool) (base second : ℕ) (asked : Aske
             said = said (Some outcome) is;
             count = sym (ap count_of is);
             refused = sym (ap was_refused is);
-            noted = λ partitions tally i. noted_if partitions (sym key i) (when i) (is i) c.stamp tally;
+            noted = λ hashing partitions tally i. noted_if hashing partitions (sym key i) (when i) (is i) c.stamp tally;
           }

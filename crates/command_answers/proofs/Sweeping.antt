@@ -15,7 +15,7 @@ use Rattle.memcached_decisions.specs.Over.{is_over, sweeping}
 use Rattle.fronts.specs.declared.changing.Changed.{Changed}
 use Rattle.fronts.specs.declared.changing.When.{When}
 use Rattle.fronts.specs.Answered.{Answered, wrote, changed, kept, step_in, steps_of, count_of_writes}
-use Rattle.fronts.specs.Flushes.{begins_with_feed, flush_in}
+use Rattle.fronts.specs.Flushes.{marks, flush_in}
 use Rattle.fronts.specs.Changing.{stays, goes, write_for, write_by, DoesWrite, ComesTo, count_of}
 use Rattle.fronts.specs.Looks.{Look}
 use Rattle.fronts.specs.Session.{Sessions, Answers, AnswersOne, ChangesOnly, Writes}
@@ -64,7 +64,7 @@ module _ (options : Options) (is_alone : Bool) (base second : ℕ) where
   one_touched old new left left_after key outcome stamp mode writes others few =
       let a : Answered = wrote (record { write = write_of Touch key []; outcome = outcome; stamp = stamp }) in
       let none : second_in options a ≡ None =
-      ap (λ t. cond t (second_asked (flush_in key)) None) (never_flushes (bucket_of options.hashing key options.buckets == 0) (begins_with_feed key) (partition_of options.hashing key options.partitions == 0)) in record {
+      ap (λ t. cond t (second_asked (flush_in key)) None) (never_flushes (bucket_of options.hashing key options.buckets == 0) (marks options.hashing key) (partition_of options.hashing key options.partitions == 0)) in record {
         answers = a ∷ [];
         sweeps = ((mode, refl), tt);
         bounded = omega arith;

@@ -1,6 +1,7 @@
 -- What answers leave of what a front has counted.
 use Rattle.std.specs.Prelude.{ℕ, ◌+◌, min, max, List, [], ◌∷◌, drop, Option, None, Some, if◌then◌else◌}
 use Rattle.outside.specs.Faults.{LAST_COUNT}
+use Rattle.mica_words.specs.declared.hashing.Hashing.{Hashing}
 use Rattle.mica_words.specs.Hash.{partition_of}
 use Rattle.partition_model.specs.declared.write.Outcome.{Outcome}
 use Rattle.partition_model.specs.Write.{is_accepted}
@@ -17,28 +18,28 @@ use Rattle.command_answers.specs.Exchange.{is_flush_all}
 abbrev pub count_of_accepted : Outcome → ℕ
 count_of_accepted outcome = if is_accepted outcome then 1 else 0
 
--- where a write was made, what its partition bears then was noted, of so many partitions
-abbrev pub noted_if : ℕ → List ℕ → When → Option Outcome → ℕ → Numbers → Numbers
-noted_if partitions key when None stamp tally = tally
-noted_if partitions key when (Some outcome) stamp tally =
-    noted (partition_of key (max partitions 1)) (min (when.written + count_of_accepted outcome) LAST_COUNT) stamp tally
+-- where a write was made, what its partition bears then was noted, of so many partitions, where keys are hashed so
+abbrev pub noted_if : Hashing → ℕ → List ℕ → When → Option Outcome → ℕ → Numbers → Numbers
+noted_if hashing partitions key when None stamp tally = tally
+noted_if hashing partitions key when (Some outcome) stamp tally =
+    noted (partition_of hashing key (max partitions 1)) (min (when.written + count_of_accepted outcome) LAST_COUNT) stamp tally
 
-abbrev pub noted_by : ℕ → Answered → Numbers → Numbers
-noted_by partitions (changed step look) tally = noted_if partitions step.write.key look.when (Some step.outcome) step.stamp tally
-noted_by partitions _ tally = tally
+abbrev pub noted_by : Hashing → ℕ → Answered → Numbers → Numbers
+noted_by hashing partitions (changed step look) tally = noted_if hashing partitions step.write.key look.when (Some step.outcome) step.stamp tally
+noted_by hashing partitions _ tally = tally
 
 -- One ask was answered: what was said of it is counted, and a write of it noted.
-abbrev pub tally_after : ℕ → ℕ → Asked → Answered → Numbers → Numbers
-tally_after base partitions asked answered tally = noted_by partitions answered (counted (counter_of asked.ask (said_of base asked answered)) tally)
+abbrev pub tally_after : ℕ → Hashing → ℕ → Asked → Answered → Numbers → Numbers
+tally_after base hashing partitions asked answered tally = noted_by hashing partitions answered (counted (counter_of asked.ask (said_of base asked answered)) tally)
 
 -- These were, in order. What was asked behind the last of them is noted alone.
-abbrev pub tally_after_all : ℕ → ℕ → List Asked → List Answered → Numbers → Numbers
-tally_after_all base partitions asks [] tally = tally
-tally_after_all base partitions [] (answered ∷ later) tally = tally_after_all base partitions [] later (noted_by partitions answered tally)
-tally_after_all base partitions (asked ∷ asks) (answered ∷ later) tally = tally_after_all base partitions asks later (tally_after base partitions asked answered tally)
+abbrev pub tally_after_all : ℕ → Hashing → ℕ → List Asked → List Answered → Numbers → Numbers
+tally_after_all base hashing partitions asks [] tally = tally
+tally_after_all base hashing partitions [] (answered ∷ later) tally = tally_after_all base hashing partitions [] later (noted_by hashing partitions answered tally)
+tally_after_all base hashing partitions (asked ∷ asks) (answered ∷ later) tally = tally_after_all base hashing partitions asks later (tally_after base hashing partitions asked answered tally)
 
 -- What a client said was answered by these, behind so many.
-abbrev pub tally_after_next : ℕ → ℕ → Next → ℕ → List Answered → Numbers → Numbers
-tally_after_next base partitions next done answers tally =
+abbrev pub tally_after_next : ℕ → Hashing → ℕ → Next → ℕ → List Answered → Numbers → Numbers
+tally_after_next base hashing partitions next done answers tally =
     if is_flush_all next then counted (counter_by next) tally
-    else tally_after_all base partitions (drop done (asks_in next)) answers (counted (counter_by next) tally)
+    else tally_after_all base hashing partitions (drop done (asks_in next)) answers (counted (counter_by next) tally)

@@ -16,7 +16,7 @@ flush_at second (At due) = record { due = due; asked = second }
 -- a write that flushes a partition so, where it is accepted
 abbrev pub FlushesOne : Options → Flush → ℕ → Answered → Type 0
 FlushesOne options flush partition (wrote step) =
-    (is_flush options.buckets step.write ≡ true) × (flush_in step.write.key ≡ flush) × (partition_in options (wrote step) ≡ partition)
+    (is_flush options.hashing options.buckets step.write ≡ true) × (flush_in step.write.key ≡ flush) × (partition_in options (wrote step) ≡ partition)
 FlushesOne options flush partition _ = ⊥
 
 -- each partition from this one on, in order, as far as it went

@@ -14,7 +14,7 @@ second_asked flush = if nat_lt 0 flush.due then Some flush.asked else None
 -- that of a flush, which its first partition tells for all; and that of a look
 abbrev pub second_in : Options → Answered → Option ℕ
 second_in options (wrote step) =
-    if is_flush options.buckets step.write && (partition_of options.hashing step.write.key options.partitions == 0) then second_asked (flush_in step.write.key) else None
+    if is_flush options.hashing options.buckets step.write && (partition_of options.hashing step.write.key options.partitions == 0) then second_asked (flush_in step.write.key) else None
 second_in options (got key stamp value) = None
 second_in options (changed step look) = Some look.when.second
 second_in options (kept key stamp look) = Some look.when.second

@@ -2,7 +2,6 @@
 
 use fronts::{Front, MOST_AHEAD, load_all};
 use memcached_text::spelled_key;
-use mica_words::key_hash;
 
 /// Fewer bytes than these hold a few commands at most. That is not worth a look.
 const LEAST_AHEAD: usize = 96;
@@ -20,6 +19,7 @@ pub fn load_ahead<F: Front>(front: &F, bytes: &[u8]) {
     if bytes.len() < LEAST_AHEAD || !front.loads_ahead() || !has_more(bytes) {
         return;
     }
+    let hashing = front.hashing();
     let mut hashes = [0; MOST_AHEAD];
     let mut many = 0;
     let mut rest = bytes;
@@ -30,7 +30,7 @@ pub fn load_ahead<F: Front>(front: &F, bytes: &[u8]) {
         if len > rest.len() {
             break;
         }
-        hashes[many] = key_hash(key);
+        hashes[many] = hashing.key_hash(key);
         many += 1;
         rest = &rest[len..];
     }

@@ -1,5 +1,6 @@
 //! What a client said, answered.
 ghost use Rattle.std.specs.Prelude.{◌≡◌, ◌==◌, ◌<◌, ◌≤◌, ◌+◌, ◌^◌, ◌++◌, ℕ, true, false, List, length, drop, max, IfOk, OnOk, OnErr};
+ghost use Rattle.mica_words.specs.Mark.{has_marks};
 ghost use Rattle.std.specs.List.{AllByRecursion, list_all};
 ghost use Rattle.memcached_text.specs.declared.limits.TheConstants.{MAX_REPLY_LEN};
 ghost use Rattle.memcached_commands.specs.Answers.{shown_len};
@@ -139,6 +140,7 @@ fn answer_flush<F: Changes>(
     out: &mut Vec<u8>,
 ) -> Result<Progress, NoMemory>
     requires partitions { partitions ≡ (F.options front.old).partitions }
+    requires marks { has_marks (F.options front.old).hashing ≡ true }
     requires left { partitions ≤ F.left front.old }
     ensures flushed { (answers : List Answered) × AnswersInOrder (F.options front.old) F.is_alone (F.sessions front.old) answers (F.sessions front.new)
         × FlushesFrom (F.options front.old) (flush_at second due) 0 answers × (length answers ≡ partitions)
@@ -240,7 +242,7 @@ fn answer_asks<'a, F: Changes>(
         × AnswersFirst (F.options front.old) F.is_alone base second style.now asks.old (F.sessions front.old) (F.sessions front.new) answers
         × IfOk result (λ count. RepliesFirst base style.now asks.old limits answers out.old.items out.new.items count asks.new)
         × (F.left front.old ≤ F.left front.new + count_of_writes answers)
-        × (buffers.new.tally ≡ tally_after_all base partitions asks.old answers buffers.old.tally)
+        × (buffers.new.tally ≡ tally_after_all base (F.options front.old).hashing partitions asks.old answers buffers.old.tally)
         × (length answers ≤ limits.asks + 1) }
     ensures part { (text : List ℕ) × (out.new.items ≡ out.old.items ++ text) }
     ensures short { length out.new.items ≤ max (length out.old.items) limits.bytes + MAX_REPLY_LEN }
@@ -285,12 +287,13 @@ pub fn answer_next<'a, F: Changes>(
     requires open { IsOpenAt next done }
     requires few { length (asks_in next) + 1 < 2 ^ 64 }
     requires partitions { numbering.partitions ≡ (F.options front.old).partitions }
+    requires marks { has_marks (F.options front.old).hashing ≡ true }
     requires left { limits.asks + numbering.partitions + 1 ≤ F.left front.old }
     ensures answered { (answers : List Answered)
         × GoesOn (F.options front.old) F.is_alone numbering.base second next.entry done (F.sessions front.old) (F.sessions front.new) answers
         × IfOk result (Replies (F.options front.old) numbering.base next.entry done limits answers out.old.items out.new.items)
         × (F.left front.old ≤ F.left front.new + count_of_writes answers)
-        × (buffers.new.tally ≡ tally_after_next numbering.base numbering.partitions next.entry done answers buffers.old.tally)
+        × (buffers.new.tally ≡ tally_after_next numbering.base (F.options front.old).hashing numbering.partitions next.entry done answers buffers.old.tally)
         × (length answers ≤ limits.asks + numbering.partitions + 1) }
     ensures err { OnErr result (out.new.items ≡ out.old.items) }
     ensures short { length out.new.items ≤ max (length out.old.items) limits.bytes + MAX_REPLY_LEN }

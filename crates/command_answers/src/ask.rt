@@ -17,7 +17,7 @@ use memcached_frames::{Verb, opcode_of};
 use memcached_requests::{Style, put_said};
 use memcached_stats::{Tally, counter_of};
 use memcached_text::Wants;
-use mica_words::{key_hash, partition_of};
+use mica_words::{Hashing, partition_of};
 use outside::NoMemory;
 use partition_model::{Answer, ItemBuf, Outcome};
 
@@ -80,19 +80,20 @@ fn is_to_go(is_refused: bool, style: &Style, ask: &Ask) -> bool
 fn note_write(
     tally: &mut Tally,
     noted: &mut Noted,
+    hashing: Hashing,
     partitions: u32,
     ask: &Ask,
     key: &[u8],
     changed: &Changed,
 )
-    ensures { tally.new ≡ noted_if partitions key.now changed.now.when changed.now.outcome changed.now.stamp tally.old }
+    ensures { tally.new ≡ noted_if hashing partitions key.now changed.now.when changed.now.outcome changed.now.stamp tally.old }
 {
     if let Some(outcome) = changed.outcome {
         let writes = changed
             .when
             .written
             .saturating_add(count_of_accepted(outcome));
-        let hash = key_hash(key);
+        let hash = hashing.key_hash(key);
         let partition = partition_of(hash, partitions.max(1));
         tally.note(partition, writes, changed.stamp);
         noted.note(ask, hash, partition, outcome);
@@ -117,7 +118,7 @@ pub fn answer_ask<F: Changes>(
         × AnswersAt (F.options front.old) F.is_alone base second (F.sessions front.old) asked.now (F.sessions front.new) answered
         × OnOk result (out.new.items ≡ out.old.items ++ said_text style.now is_last asked.now.key (said_of base asked.now answered))
         × (F.left front.old ≤ F.left front.new + count_of_writes (answered ∷ []))
-        × (buffers.new.tally ≡ tally_after base partitions asked.now answered buffers.old.tally)
+        × (buffers.new.tally ≡ tally_after base (F.options front.old).hashing partitions asked.now answered buffers.old.tally)
         × (buffers.new.is_refused ≡ is_refused answered) }
     ensures err { OnErr result (out.new.items ≡ out.old.items) }
     ensures short { length out.new.items ≤ length out.old.items + MAX_REPLY_LEN }
@@ -142,7 +143,10 @@ pub fn answer_ask<F: Changes>(
     let says = order.says(changed.when, stored, changed.outcome);
     tally.count(counter_of(&asked.ask, &says));
     *is_refused = was_refused(changed.outcome);
-    note_write(tally, noted, partitions, &asked.ask, key, &changed);
+    let hashing = front.hashing();
+    note_write(
+        tally, noted, hashing, partitions, &asked.ask, key, &changed,
+    );
     put_said(out, style, is_last, key, &says)
 }
 
@@ -160,7 +164,7 @@ fn spoil<F: Changes>(
     ensures answered { (answered : Answered)
         × AnswersAt (F.options front.old) F.is_alone base second (F.sessions front.old) (spoiled asked.now) (F.sessions front.new) answered
         × (F.left front.old ≤ F.left front.new + count_of_writes (answered ∷ []))
-        × (buffers.new.tally ≡ noted_by partitions answered buffers.old.tally) }
+        × (buffers.new.tally ≡ noted_by (F.options front.old).hashing partitions answered buffers.old.tally) }
     ensures left { F.left front.old ≤ F.left front.new + 1 }
     ensures options { F.options front.new ≡ F.options front.old }
     ensures number { F.number front.new ≡ F.number front.old }
@@ -178,7 +182,8 @@ fn spoil<F: Changes>(
     let mut room = [0; KEY_ROOM];
     let key = asked.key.bytes(&mut room);
     let gone = front.change(second, key, &order, found, next);
-    note_write(tally, noted, partitions, &ask, key, &gone);
+    let hashing = front.hashing();
+    note_write(tally, noted, hashing, partitions, &ask, key, &gone);
 }
 
 /// Answers the last ask of a command as `answer_ask` does, behind so many answers, and says how many there are then. Where a set found no room, what is stored of its key is taken
@@ -203,7 +208,7 @@ pub fn answer_last<F: Changes>(
         × IfOk result (λ many. (many ≡ count + length (answered ∷ later))
         × (out.new.items ≡ out.old.items ++ said_text style.now true asked.now.key (said_of base asked.now answered)))
         × (F.left front.old ≤ F.left front.new + count_of_writes (answered ∷ later))
-        × (buffers.new.tally ≡ tally_after_all base partitions (asked.now ∷ []) (answered ∷ later) buffers.old.tally) }
+        × (buffers.new.tally ≡ tally_after_all base (F.options front.old).hashing partitions (asked.now ∷ []) (answered ∷ later) buffers.old.tally) }
     ensures err { OnErr result (out.new.items ≡ out.old.items) }
     ensures short { length out.new.items ≤ length out.old.items + MAX_REPLY_LEN }
     ensures left { F.left front.old ≤ F.left front.new + 2 }

@@ -1,10 +1,8 @@
 //! A flush of all partitions.
 ghost use Rattle.std.specs.Prelude.{◌≡◌, ◌<◌, ◌≤◌, ◌+◌, ◌++◌, ◌∷◌, [], ℕ, true, List, length};
 ghost use Rattle.std.specs.List.{list_all};
-ghost use Rattle.mica_words.specs.Hash.{bucket_of, fnv1a, partition_of};
-ghost use Rattle.mica_words.specs.Item.{KeyFits};
+ghost use Rattle.mica_words.specs.Mark.{has_marks};
 ghost use Rattle.fronts.specs.Answered.{Answered, accepts, count_of_writes};
-ghost use Rattle.fronts.specs.Flushes.{begins_with_feed, flush_in};
 ghost use Rattle.fronts.specs.Session.{Answers, AnswersInOrder};
 ghost use Rattle.command_answers.specs.FlushAnswers.{FlushesOne, FlushesFrom, flush_at};
 
@@ -32,6 +30,7 @@ pub fn ask_flush(second: u64, due: Due) -> Flush
 // Flushes a partition, and says whether it took it.
 fn flush_one<F: Changes>(front: &mut F, partition: u32, flush: Flush, key: &mut ItemBuf) -> bool
     requires low { partition < (F.options front.old).partitions }
+    requires marks { has_marks (F.options front.old).hashing ≡ true }
     requires left { 0 < F.left front.old }
     ensures flushed { (answered : Answered) × FlushesOne (F.options front.old) flush partition answered
         × Answers (F.options front.old) F.is_alone (F.sessions front.old) answered (F.sessions front.new) × (result ≡ accepts answered) }
@@ -53,6 +52,7 @@ pub fn flush_all<F: Changes>(
     key: &mut ItemBuf,
 ) -> bool
     requires partitions { partitions ≡ (F.options front.old).partitions }
+    requires marks { has_marks (F.options front.old).hashing ≡ true }
     requires left { partitions ≤ F.left front.old }
     ensures flushed { (answers : List Answered) × AnswersInOrder (F.options front.old) F.is_alone (F.sessions front.old) answers (F.sessions front.new)
         × FlushesFrom (F.options front.old) flush 0 answers × (length answers ≡ partitions) × (result ≡ list_all accepts answers)

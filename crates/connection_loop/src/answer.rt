@@ -1,5 +1,6 @@
 //! What is answered at one look at a connection.
 ghost use Rattle.std.specs.Prelude.{◌≡◌, ◌⊎◌, ◌<◌, ◌≤◌, ◌+◌, true, false, length, drop, max, IfOk, MatchResult};
+ghost use Rattle.mica_words.specs.Mark.{has_marks};
 ghost use Rattle.memcached_text.specs.declared.limits.TheConstants.{MAX_REPLY_LEN};
 ghost use Rattle.memcached_requests.specs.declared.request.Next.TheVariants.{More};
 ghost use Rattle.memcached_requests.specs.Next.{next_of};
@@ -101,6 +102,7 @@ fn answer_one<F: CountsWrites>(
 ) -> Result<Said, NoMemory>
     requires open { IsOpenAt (next_of bytes.now) done }
     requires partitions { hand.old.numbering.partitions ≡ (F.options hand.old.front).partitions }
+    requires marks { has_marks (F.options hand.old.front).hashing ≡ true }
     requires left { MayAnswer hand.old.numbering.partitions (F.left hand.old.front) }
     requires room { length out.old.items < LIMITS.bytes }
     ensures on { IfOk result (AnswersOn bytes.now done) }
@@ -150,6 +152,7 @@ pub fn answer_bytes<F: CountsWrites>(
 ) -> Result<HowFar, NoMemory>
     requires open { IsOpenAt (next_of bytes.now) done }
     requires partitions { hand.old.numbering.partitions ≡ (F.options hand.old.front).partitions }
+    requires marks { has_marks (F.options hand.old.front).hashing ≡ true }
     ensures within { IfOk result (λ a. a.taken ≤ length bytes.now) }
     ensures open { IfOk result (λ a. IsOpenAt (next_of (drop a.taken bytes.now)) a.done) }
     ensures waits { IfOk result (λ a. a.halt ≡ Halt.Needs → next_of (drop a.taken bytes.now) ≡ More) }

@@ -1,5 +1,6 @@
 //! What is made of the bytes of a connection that lie there.
 ghost use Rattle.std.specs.Prelude.{◌≡◌, ◌<◌, ◌≤◌, ◌+◌, true, [], length, drop, max, IfOk, MatchResult, OnOk};
+ghost use Rattle.mica_words.specs.Mark.{has_marks};
 ghost use Rattle.memcached_text.specs.declared.limits.TheConstants.{MAX_REPLY_LEN, MAX_WAITING_LEN};
 ghost use Rattle.memcached_requests.specs.declared.request.Next.TheVariants.{More};
 ghost use Rattle.memcached_requests.specs.Next.{next_of};
@@ -112,6 +113,7 @@ fn answer_lying<F: CountsWrites>(
 ) -> Result<HowFar, NoMemory>
     requires open { IsOpenAt (next_of (bytes_at lying.now)) done }
     requires partitions { hand.old.numbering.partitions ≡ (F.options hand.old.front).partitions }
+    requires marks { has_marks (F.options hand.old.front).hashing ≡ true }
     ensures within { IfOk result (λ a. a.taken ≤ length (bytes_at lying.now)) }
     ensures open { IfOk result (λ a. IsOpenAt (next_of (drop a.taken (bytes_at lying.now))) a.done) }
     ensures waits { IfOk result (λ a. a.halt ≡ Halt.Needs → next_of (drop a.taken (bytes_at lying.now)) ≡ More) }
@@ -148,6 +150,7 @@ pub(crate) fn look_at<F: CountsWrites>(
     requires open { IsOpenAt (next_of (bytes_at lying)) done }
     requires paid { unanswered (position_at (bytes_at lying) done) ≤ client.old.asks }
     requires partitions { hand.old.numbering.partitions ≡ (F.options hand.old.front).partitions }
+    requires marks { has_marks (F.options hand.old.front).hashing ≡ true }
     ensures client { IfOk result (λ _. IsClient client.new) }
     ensures leaving { IfOk result (λ halt. client.new.leaving ≡ leaves halt) }
     ensures few { IfOk result (λ _. length replies.new.items ≤ MOST_UNSENT) }

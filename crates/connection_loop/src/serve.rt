@@ -1,5 +1,6 @@
 //! One front behind its port.
-ghost use Rattle.std.specs.Prelude.{◌≡◌, ◌<◌, ◌≤◌, ℕ, false, [], length, is_some, IfOk, IfSome, IsErrOf, OnOk, vec_len};
+ghost use Rattle.std.specs.Prelude.{◌≡◌, ◌<◌, ◌≤◌, ℕ, true, false, [], length, is_some, IfOk, IfSome, IsErrOf, OnOk, vec_len};
+ghost use Rattle.mica_words.specs.Mark.{has_marks};
 ghost use Rattle.partition_model.specs.declared.options.Options.{Options};
 ghost use Rattle.outside.specs.Faults.{Rose};
 ghost use Rattle.connections.specs.Log.{LastFailed};
@@ -42,6 +43,7 @@ fn visit_held<F: CountsWrites, C: Connections>(
     requires clients { AreOpen clients.old.held.items (C.log connections.old) }
     requires counted { AreCounted clients.old }
     requires partitions { hand.old.numbering.partitions ≡ (F.options hand.old.front).partitions }
+    requires marks { has_marks (F.options hand.old.front).hashing ≡ true }
     requires left { MayAnswer hand.old.numbering.partitions (F.left hand.old.front) }
     ensures room { vec_len desk.new.room ≡ ROOM_LEN }
     ensures clients { AreOpen clients.new.held.items (C.log connections.new) }
@@ -138,6 +140,7 @@ fn serve_event<F: CountsWrites, C: Connections>(
     requires counted { AreCounted clients.old }
     requires event { IfSome (C.log connections.old) (IsOpened event) }
     requires partitions { hand.old.numbering.partitions ≡ (F.options hand.old.front).partitions }
+    requires marks { has_marks (F.options hand.old.front).hashing ≡ true }
     requires left { MayAnswer hand.old.numbering.partitions (F.left hand.old.front) }
     ensures room { vec_len desk.new.room ≡ ROOM_LEN }
     ensures clients { AreOpen clients.new.held.items (C.log connections.new) }
@@ -168,6 +171,7 @@ pub fn serve_connections<F: Glances, C: Connections>(
 ) -> Result<(), ServeFault>
     requires open { C.has_ended connections.old ≡ false }
     requires partitions { hand.old.numbering.partitions ≡ (F.options hand.old.front).partitions }
+    requires marks { has_marks (F.options hand.old.front).hashing ≡ true }
     ensures goes { GoesBy (F.options hand.old.front) F.is_alone (F.sessions hand.old.front) (F.left hand.old.front) (F.sessions hand.new.front) (F.left hand.new.front) }
     ensures serves { OnLogs (ServesFromNone (F.options hand.old.front) F.is_alone hand.old.numbering.base MOST_UNSENT
         (record { sessions = F.sessions hand.old.front; left = F.left hand.old.front; lacked = lacked.old; has_ended = C.has_ended connections.old; in_all = most })

@@ -1,5 +1,6 @@
 //! One visit of a connection.
 ghost use Rattle.std.specs.Prelude.{◌≡◌, ◌≢◌, ◌⊎◌, ◌<◌, ◌≤◌, ◌+◌, ◌++◌, true, false, [], length, take, drop, Some, IfOk, IfSome, MatchResult, vec_len};
+ghost use Rattle.mica_words.specs.Mark.{has_marks};
 ghost use Rattle.memcached_text.specs.declared.limits.TheConstants.{MAX_WAITING_LEN};
 ghost use Rattle.connection_loop.specs.declared.desk.TheConstants.{MOST_UNSENT, ROOM_LEN};
 ghost use Rattle.connections.specs.Calls.{Leaves};
@@ -166,6 +167,7 @@ fn look_at_room<F: CountsWrites>(
     requires paid { length bytes.now ≤ client.old.asks }
     requires kept { bytes.now ≡ client.old.kept ++ drop (length client.old.kept) bytes.now }
     requires partitions { hand.old.numbering.partitions ≡ (F.options hand.old.front).partitions }
+    requires marks { has_marks (F.options hand.old.front).hashing ≡ true }
     ensures client { IfOk result (λ _. IsClient client.new) }
     ensures leaving { IfOk result (λ halt. client.new.leaving ≡ leaves halt) }
     ensures few { IfOk result (λ _. length replies.new.items ≤ MOST_UNSENT) }
@@ -207,6 +209,7 @@ fn answer_own<F: CountsWrites, C: Connections>(
     requires some { 0 < length client.old.kept }
     requires open { IfSome (C.log connections.old) (IsOpen number client.old.asks) }
     requires partitions { hand.old.numbering.partitions ≡ (F.options hand.old.front).partitions }
+    requires marks { has_marks (F.options hand.old.front).hashing ≡ true }
     requires left { MayAnswer hand.old.numbering.partitions (F.left hand.old.front) }
     ensures client { IfOk result (λ _. IsClient client.new) }
     ensures leaving { IfOk result (λ r. IfOk r (λ stood. client.new.leaving ≡ leaves stood.0)) }
@@ -247,6 +250,7 @@ fn answer_more<F: CountsWrites, C: Connections>(
     requires reading { client.old.leaving ≡ false }
     requires open { IfSome (C.log connections.old) (IsOpen number client.old.asks) }
     requires partitions { hand.old.numbering.partitions ≡ (F.options hand.old.front).partitions }
+    requires marks { has_marks (F.options hand.old.front).hashing ≡ true }
     requires left { MayAnswer hand.old.numbering.partitions (F.left hand.old.front) }
     ensures room { vec_len desk.new.room ≡ ROOM_LEN }
     ensures client { IfOk result (λ _. IsClient client.new) }
@@ -328,6 +332,7 @@ pub(crate) fn visit_once<F: CountsWrites, C: Connections>(
     requires client { IsClient client.old }
     requires open { IfSome (C.log connections.old) (IsOpen number client.old.asks) }
     requires partitions { hand.old.numbering.partitions ≡ (F.options hand.old.front).partitions }
+    requires marks { has_marks (F.options hand.old.front).hashing ≡ true }
     requires left { MayAnswer hand.old.numbering.partitions (F.left hand.old.front) }
     ensures room { vec_len desk.new.room ≡ ROOM_LEN }
     ensures client { IfOk result (λ _. IsClient client.new) }

@@ -1,5 +1,6 @@
 -- One put of cache mode, in a partition with one bucket.
 use Rattle.std.specs.Prelude.{◌≡◌, ℕ, ◌<◌, [], ◌∷◌}
+use Rattle.mica_words.specs.declared.hashing.Hashing.TheVariants.{Fnv1a}
 use Rattle.partition_model.specs.declared.options.Mode.TheVariants.{Cache}
 use Rattle.partition_model.specs.declared.write.Op.TheVariants.{Put}
 use Rattle.partition_model.specs.declared.write.Write.{Write}
@@ -11,7 +12,7 @@ use Rattle.partition_words.specs.OwnerState.{entry_in}
 use Rattle.partition_words.specs.Kept.{Kept}
 
 abbrev pub one_bucket : Shape
-one_bucket = record { mode = Cache; buckets = 1; spares = 0; words = 1024; wear = 68719476736 }
+one_bucket = record { mode = Cache; buckets = 1; spares = 0; words = 1024; wear = 68719476736; hashing = Fnv1a }
 
 -- the put of `a` with `1`
 abbrev pub put_of_a : Write

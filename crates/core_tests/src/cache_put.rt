@@ -5,6 +5,7 @@ ghost use Rattle.partition_words.specs.OwnerState.{as_made};
 ghost use Rattle.core_tests.specs.CachePut.{one_bucket, IsMarked};
 
 use crate::scripts::{Script, Written, stored_words};
+use mica_words::Hashing;
 use partition_model::{Mode, Op, Options, Outcome};
 use partition_words::{OwnerEvent, OwnerWords, PlainWords, Shape, WordAt, holds_key, write_item};
 use std::test::Fail;
@@ -15,6 +16,7 @@ const ONE_BUCKET: Shape = Shape {
     spares: 0,
     words: 1024,
     wear: 68_719_476_736,
+    hashing: Hashing::Fnv1a,
 };
 
 const STAMP: u64 = 262_144;
@@ -117,6 +119,7 @@ static PUT: Script = Script {
         readers: 1,
         tries: 1,
         wear: 68_719_476_736,
+        hashing: Hashing::Fnv1a,
     },
     writes: &[Written(Op::Put, b"a", b"1", Outcome::Stored)],
     key: b"a",

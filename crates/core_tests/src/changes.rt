@@ -14,7 +14,7 @@ use cache_partition::CachePartition;
 use fronts::{Changes, Decide, Front, When};
 use locked_front::{LockedFront, LockedPart, PartitionLocks, ServerPlan};
 use locked_server::{FilledPart, lend_hand, lock_parts, open_parts};
-use mica_words::{key_fits, stored_fits};
+use mica_words::{Hashing, key_fits, stored_fits};
 use partition_model::{Answer, Change, ItemBuf, Mode, Op, Options, Outcome};
 use partition_table::{Note, OwnerSeat, ReaderSeat};
 use partition_words::LendPartition;
@@ -315,6 +315,7 @@ pub(crate) const SMALL: Options = Options {
     readers: 2,
     tries: 100,
     wear: 1_000_000,
+    hashing: Hashing::Fnv1a,
 };
 
 #[test]

@@ -2,6 +2,7 @@
 ghost use Rattle.std.specs.Prelude.{◌≡◌};
 
 use crate::partitions::write;
+use mica_words::Hashing;
 use optimistic_get::{Got, get};
 use partition_model::{ItemBuf, Mode, Op, Options, Outcome};
 use partition_table::{OwnerSeat, Tables, make};
@@ -21,6 +22,7 @@ const ONE_BUCKET: Options = Options {
     readers: 1,
     tries: 1,
     wear: 68_719_476_736,
+    hashing: Hashing::Fnv1a,
 };
 
 // The options of a partition, and how many words it has: one bucket, and the most of all.

@@ -4,6 +4,7 @@ use crate::machine::Machine;
 use crate::partitions::store_over;
 use crate::same_as_machine::{agree_on_get, agreed};
 use crate::scripts::Written;
+use mica_words::Hashing;
 use partition_model::{ItemBuf, Mode, Op, Options, Outcome};
 use partition_words::{OwnerEvent, Partition};
 use std::alloc::AllocGlobal;
@@ -19,6 +20,7 @@ const ONE_SPARE: Options = Options {
     readers: 1,
     tries: 1,
     wear: 68_719_476_736,
+    hashing: Hashing::Fnv1a,
 };
 
 // Tag and offset: items of four words each, and `k17` where `k03` was.

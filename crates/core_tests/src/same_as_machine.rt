@@ -2,6 +2,7 @@
 
 use crate::machine::Machine;
 use crate::partitions::{read, store_over, write};
+use mica_words::Hashing;
 use outside::NoMemory;
 use partition_model::{ItemBuf, Mode, Op, Options, Outcome};
 use partition_words::Partition;
@@ -18,6 +19,7 @@ const OPTIONS: Options = Options {
     readers: 1,
     tries: 1,
     wear: 1900,
+    hashing: Hashing::Fnv1a,
 };
 
 /// How often a write was refused, for each cause.

@@ -1,6 +1,7 @@
 //! Seven scripts, and gets of one try between their events, judged by the plain machine at the carried stamp.
 
 use crate::scripts::{Cuts, Script, Written, expect_script};
+use mica_words::Hashing;
 use partition_model::{Mode, Op, Options, Outcome};
 use std::test::Fail;
 
@@ -13,6 +14,7 @@ const CACHE: Options = Options {
     readers: 1,
     tries: 1,
     wear: 68_719_476_736,
+    hashing: Hashing::Fnv1a,
 };
 
 const STORE: Options = Options {

@@ -1,6 +1,7 @@
 //! Gets of a key whose put happens meanwhile, and gets once no event is left.
 
 use crate::scripts::{Script, Written, seat_of};
+use mica_words::Hashing;
 use optimistic_get::{Got, get, get_settled};
 use partition_model::{Answer, ItemBuf, Mode, Op, Options, Outcome};
 use scripted_reader::Scripted;
@@ -19,6 +20,7 @@ static PUT: Script = Script {
         readers: 1,
         tries: 1,
         wear: 68_719_476_736,
+        hashing: Hashing::Fnv1a,
     },
     writes: &[Written(Op::Put, b"a", b"1", Outcome::Stored)],
     key: b"a",

@@ -3,17 +3,18 @@
 use crate::process::{Process, Start};
 use daemon_words::StreamOptions;
 use memcached_stats::{Board, Server, Tally};
-use mica_words::{key_hash, partition_of};
+use mica_words::partition_of;
 use outside::NoMemory;
 use partition_model::{MOST_PARTITIONS, Options, Write};
 use server_words::PortOptions;
 
 // How many writes fill each partition.
-fn tally_of(partitions: u32, filling: &[Write]) -> Tally {
+fn tally_of(options: &Options, filling: &[Write]) -> Tally {
     let mut counts = [0u64; MOST_PARTITIONS as usize];
     let mut tally = Tally::new();
     for write in filling {
-        let partition = partition_of(key_hash(write.key.bytes()), partitions.max(1));
+        let hash = options.hashing.key_hash(write.key.bytes());
+        let partition = partition_of(hash, options.partitions.max(1));
         if let Some(count) = counts.get_mut(partition as usize) {
             *count = count.saturating_add(1);
             tally.note(partition, *count, 0);
@@ -39,6 +40,6 @@ pub(crate) fn board_of<W, G>(
         connections: u64::from(streams.connections),
     };
     let board = Board::new(process.alloc, server, options, fronts.saturating_add(1))?;
-    board.show(fronts, &mut tally_of(options.partitions, filling));
+    board.show(fronts, &mut tally_of(options, filling));
     Ok(board)
 }

@@ -5,7 +5,6 @@ ghost use Rattle.datagram_answers.specs.Answering.{AreLeft};
 
 use batch_packets::Requests;
 use fronts::{Front, MOST_AHEAD, load_all};
-use mica_words::key_hash;
 
 /// Loads what the requests that are left, so many, will look at, where the front's tables are larger than the caches. One alone has none to miss beside.
 pub(crate) fn load_ahead<F: Front>(front: &F, count: u8, requests: &Requests)
@@ -15,11 +14,12 @@ pub(crate) fn load_ahead<F: Front>(front: &F, count: u8, requests: &Requests)
         return;
     }
     let mut ahead = requests.again();
+    let hashing = front.hashing();
     let mut hashes = [0; MOST_AHEAD];
     let many = usize::from(count);
     for i in 0..many {
         let request = ahead.next_request();
-        hashes[i] = key_hash(request.key());
+        hashes[i] = hashing.key_hash(request.key());
     }
     load_all(front, &hashes[..many]);
 }

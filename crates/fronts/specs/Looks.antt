@@ -15,8 +15,8 @@ abbrev pub when_after : Options → ℕ → History → When
 when_after options second history = record {
   second = second;
   written = length history;
-  flushed = flushed_at second (flushes_in options.buckets history);
-  until = waits_at second (flushes_in options.buckets history);
+  flushed = flushed_at second (flushes_in options.hashing options.buckets history);
+  until = waits_at second (flushes_in options.hashing options.buckets history);
 }
 
 -- it is what the machine has behind this history

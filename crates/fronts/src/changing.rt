@@ -2,11 +2,12 @@
 ghost use Rattle.std.specs.Prelude.{◌≡◌, ◌+◌, ◌<◌, ◌≤◌, ℕ, Bool, true, false, List, [], Option, option_copied};
 ghost use Rattle.mica_words.specs.Hash.{bucket_of, partition_of};
 ghost use Rattle.mica_words.specs.Item.{KeyFits};
+ghost use Rattle.mica_words.specs.Mark.{has_marks, is_mark};
 ghost use Rattle.partition_model.specs.declared.write.Op.TheVariants.{Del, Touch};
 ghost use Rattle.partition_model.specs.Write.{write_of};
 ghost use Rattle.fronts.specs.Session.{ChangesOnly, Writes};
 ghost use Rattle.fronts.specs.Changing.{Becoming, OnlyGets, IsChange, ComesTo, count_of};
-ghost use Rattle.fronts.specs.Flushes.{begins_with_feed, flush_in};
+ghost use Rattle.fronts.specs.Flushes.{flush_in};
 
 use crate::flushes::Flush;
 use crate::front::Front;
@@ -65,10 +66,11 @@ pub struct Changed {
 
 /// A front that looks at a value, decides, and writes what was decided, with nothing between. Where nothing is to be written, it may look without a hold.
 pub trait Changes: Front {
-    /// Makes the key of a flush of a partition, that no line can spell, and that says when it flushes.
+    /// Makes the mark of a flush of a partition, that says when it flushes.
     fn flush_key(&self, partition: u32, flush: Flush, key: &mut ItemBuf)
         requires low { partition < (Self.options self.now).partitions }
-        ensures feed { begins_with_feed key.new ≡ true }
+        requires marks { has_marks (Self.options self.now).hashing ≡ true }
+        ensures mark { is_mark key.new ≡ true }
         ensures fits { KeyFits key.new }
         ensures flush { flush_in key.new ≡ flush }
         ensures partition { partition_of (Self.options self.now).hashing key.new (Self.options self.now).partitions ≡ partition }

@@ -1,11 +1,11 @@
 //! Flushes of a partition.
 ghost use Rattle.std.specs.Prelude.{◌≡◌, ◌<◌, ◌&&◌, ℕ, List, []};
-ghost use Rattle.mica_words.specs.Hash.{fnv1a};
+ghost use Rattle.mica_words.specs.Hash.{hash_of};
 ghost use Rattle.partition_model.specs.Write.{write_of};
-ghost use Rattle.fronts.specs.Flushes.{AreKept, begins_with_feed, flush_in, flushed_at, flushes_then, is_delete, kept_then, no_flushes, waits_at};
+ghost use Rattle.fronts.specs.Flushes.{AreKept, flush_in, flushed_at, flushes_then, is_delete, kept_then, marks, no_flushes, waits_at};
 
 use byteorder::{ByteOrder, LittleEndian};
-use mica_words::bucket_of;
+use mica_words::{Hashing, bucket_of, is_mark};
 use partition_model::Op;
 
 /// How long a key is that says when it flushes, at the least.
@@ -26,19 +26,20 @@ pub struct Flushes {
     pub after: u64,
 }
 
-/// What the flushes of a partition of so many buckets come to, and how many of its writes are in bucket 0, where all flushes are.
+/// What the flushes of a partition of so many buckets, whose keys are hashed so, come to, and how many of its writes are in bucket 0, where all flushes are.
 #[derive(Clone, Copy)]
 pub struct KeptFlushes {
+    pub hashing: Hashing,
     pub buckets: u32,
     pub in_first: u64,
     pub flushes: Flushes,
 }
 
 // Whether a write in bucket 0 is a flush.
-fn is_flush(op: Op, key: &[u8]) -> bool
-    ensures { result ≡ (is_delete op && begins_with_feed key.now) }
+fn is_flush(hashing: Hashing, op: Op, key: &[u8]) -> bool
+    ensures { result ≡ (is_delete op && marks hashing key.now) }
 {
-    op == Op::Del && !key.is_empty() && key[0] == b'\n'
+    op == Op::Del && is_mark(key) && hashing.has_marks()
 }
 
 /// When a key of a flush flushes its partition.
@@ -99,11 +100,12 @@ impl Flushes {
 
 impl KeptFlushes {
     /// Nothing was written.
-    pub fn none(buckets: u32) -> KeptFlushes
+    pub fn none(hashing: Hashing, buckets: u32) -> KeptFlushes
         requires { 0 < buckets }
-        ensures { AreKept buckets [] result }
+        ensures { AreKept hashing buckets [] result }
     {
         KeptFlushes {
+            hashing,
             buckets,
             in_first: 0,
             flushes: Flushes::none(),
@@ -112,7 +114,7 @@ impl KeptFlushes {
 
     /// One write more was accepted, with which there are so many.
     pub fn and_then(&self, count: u64, op: Op, key: &[u8], hash: u64) -> KeptFlushes
-        requires hashed { hash ≡ fnv1a key.now }
+        requires hashed { hash ≡ hash_of self.now.hashing key.now }
         requires some { 0 < self.now.buckets }
         requires few { self.now.in_first < count }
         ensures { (value : List ℕ) → result ≡ kept_then count (write_of op key.now value) self.now }
@@ -120,12 +122,13 @@ impl KeptFlushes {
         if bucket_of(hash, self.buckets) != 0 {
             return *self;
         }
-        let flushes = if is_flush(op, key) {
+        let flushes = if is_flush(self.hashing, op, key) {
             self.flushes.and_then(count, flush_in(key))
         } else {
             self.flushes
         };
         KeptFlushes {
+            hashing: self.hashing,
             buckets: self.buckets,
             in_first: self.in_first + 1,
             flushes,

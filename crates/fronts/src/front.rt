@@ -7,6 +7,7 @@ ghost use Rattle.partition_model.specs.Answer.{IsAnswer};
 ghost use Rattle.partition_model.specs.Write.{HasValueOf, write_of};
 ghost use Rattle.fronts.specs.Session.{Sessions, ChangesOnly, Writes, Reads};
 
+use mica_words::Hashing;
 use outside::NoMemory;
 use partition_model::{Answer, ItemBuf, Op, Outcome};
 use std::alloc::Global;
@@ -33,6 +34,10 @@ pub trait Front {
 
     /// Whether nobody else writes its partitions.
     ghost is_alone: { Bool };
+
+    /// How the keys of its partitions are hashed.
+    fn hashing(&self) -> Hashing
+        ensures { result ≡ (options self.now).hashing };
 
     /// Whether its tables are larger than the caches, so that loads ahead are worth their time.
     fn loads_ahead(&self) -> bool;

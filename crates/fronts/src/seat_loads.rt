@@ -7,7 +7,7 @@ ghost use Rattle.partition_model.specs.declared.options.TheConstants.{MOST_PARTI
 use crate::glancing::Glimpse;
 use mica_words::{
     MAX_KEY_LEN, SLOTS, bucket_of, entry_offset, entry_tag, header_key_len, header_value_len,
-    key_hash, tag_of, tail_of,
+    tag_of, tail_of,
 };
 use partition_model::{ItemBuf, Mode, Options};
 use partition_table::ReaderSeat;
@@ -139,7 +139,7 @@ pub fn glance_old(seat: &ReaderSeat, stamp: u64, hash: u64, key: &mut ItemBuf) -
         let offset = entry_offset(entry);
         if entry != 0 && entry_tag(entry) == tag && is_old(shape.words, tail, offset) {
             let header = load_key(seat, offset, key);
-            return header.is_some() && key_hash(key.value()) == hash;
+            return header.is_some() && shape.hashing.key_hash(key.value()) == hash;
         }
     }
     false

@@ -9,6 +9,7 @@ use Rattle.std.specs.Cmp.Lexicographic.{slice_cmp, nat_list_cmp_total}
 use Rattle.std.proofs.lemmas.Bool.{le-ltb, ne_eqb, true≢false}
 use Rattle.std.proofs.lemmas.List.{append-nil}
 use Rattle.std.proofs.lemmas.Slice.Eq.{bytes_eq-Decides}
+use Rattle.mica_words.specs.declared.hashing.Hashing.{Hashing}
 use Rattle.partition_model.specs.declared.options.Options.{Options}
 use Rattle.partition_model.specs.declared.options.Mode.{Mode}
 use Rattle.partition_model.specs.declared.options.Mode.TheVariants.{Cache, Store}
@@ -22,7 +23,7 @@ use Rattle.partition_model.specs.History.{History, State, store_state, start, af
 use Rattle.partition_model.proofs.Histories.{state_snoc, stored_in}
 use Rattle.partition_model.proofs.StoreLaws.{others_same}
 use Rattle.fronts.specs.declared.flushes.Flushes.{Flushes}
-use Rattle.fronts.specs.Flushes.{is_flush, is_in_first, is_delete, begins_with_feed, flush_in, flushed_at, flushes_from, flushes_in, no_flushes, with_write}
+use Rattle.fronts.specs.Flushes.{is_flush, is_in_first, is_delete, marks, flush_in, flushed_at, flushes_from, flushes_in, no_flushes, with_write}
 use Rattle.memcached_decisions.proofs.Values.{behind, none_at_first}
 use Rattle.saved_items.specs.Items.{Pair}
 use Rattle.kept_items.specs.Parts.{Part}
@@ -37,13 +38,13 @@ put_is_none : (b feed : Bool) → ((b && false) && feed) ≡ false
 put_is_none true feed = refl
 put_is_none false feed = refl
 
-puts_flush_nothing : (buckets n : ℕ) (flushes : Flushes) (pairs : List Pair) (more : List Write) → flushes_from buckets n flushes (puts_of pairs ++ more) ≡ flushes_from buckets (n + length pairs) flushes more
-puts_flush_nothing buckets n flushes [] more = ap (λ (k : ℕ). flushes_from buckets k flushes more) (let e : n ≡ n + 0 = omega arith in e)
-puts_flush_nothing buckets n flushes (pair ∷ pairs) more =
-    let same : with_write buckets (suc n) (put_of pair) flushes ≡ flushes = rw (put_is_none (is_in_first buckets (put_of pair)) (begins_with_feed pair.key)) refl in
-    ap (λ (f : Flushes). flushes_from buckets (suc n) f (puts_of pairs ++ more)) same
-    ∙ puts_flush_nothing buckets (suc n) flushes pairs more
-    ∙ ap (λ (k : ℕ). flushes_from buckets k flushes more) (let e : suc n + length pairs ≡ n + suc (length pairs) = omega arith in e)
+puts_flush_nothing : (hashing : Hashing) (buckets n : ℕ) (flushes : Flushes) (pairs : List Pair) (more : List Write) → flushes_from hashing buckets n flushes (puts_of pairs ++ more) ≡ flushes_from hashing buckets (n + length pairs) flushes more
+puts_flush_nothing hashing buckets n flushes [] more = ap (λ (k : ℕ). flushes_from hashing buckets k flushes more) (let e : n ≡ n + 0 = omega arith in e)
+puts_flush_nothing hashing buckets n flushes (pair ∷ pairs) more =
+    let same : with_write hashing buckets (suc n) (put_of pair) flushes ≡ flushes = rw (put_is_none (is_in_first hashing buckets (put_of pair)) (marks hashing pair.key)) refl in
+    ap (λ (f : Flushes). flushes_from hashing buckets (suc n) f (puts_of pairs ++ more)) same
+    ∙ puts_flush_nothing hashing buckets (suc n) flushes pairs more
+    ∙ ap (λ (k : ℕ). flushes_from hashing buckets k flushes more) (let e : suc n + length pairs ≡ n + suc (length pairs) = omega arith in e)
 
 length_puts : (pairs : List Pair) (more : List Write) → length (puts_of pairs ++ more) ≡ length pairs + length more
 length_puts [] more = omega arith
@@ -53,14 +54,14 @@ nothing_before : (asked : ℕ) → flushed_at asked no_flushes ≡ 0
 nothing_before asked = let e : ltb asked 0 ≡ false = le-ltb asked 0 (omega arith) in rw e refl
 
 flushes_filled : (options : Options) (part : Part) (pairs : List Pair) (flush : List Write) → AsksAgain options part flush
-    → flushes_in options.buckets (puts_of pairs ++ flush) ≡ flushes_again part.closing.until (length (puts_of pairs ++ flush))
+    → flushes_in options.hashing options.buckets (puts_of pairs ++ flush) ≡ flushes_again part.closing.until (length (puts_of pairs ++ flush))
 flushes_filled options part pairs [] none =
-    puts_flush_nothing options.buckets 0 no_flushes pairs [] ∙ (let e : flushes_again part.closing.until (length (puts_of pairs ++ [])) ≡ no_flushes = rw none refl in sym e)
+    puts_flush_nothing options.hashing options.buckets 0 no_flushes pairs [] ∙ (let e : flushes_again part.closing.until (length (puts_of pairs ++ [])) ≡ no_flushes = rw none refl in sym e)
 flushes_filled options part pairs (write ∷ []) asks =
     let some : eqb part.closing.until 0 ≡ false = ne_eqb part.closing.until 0 (λ e. omega (arith, asks.0, e)) in
     let long : length (puts_of pairs ++ write ∷ []) ≡ suc (length pairs) = length_puts pairs (write ∷ []) ∙ omega arith in
     let none : 0 + length pairs ≡ length pairs = omega arith in
-    puts_flush_nothing options.buckets 0 no_flushes pairs (write ∷ []) ∙ rw (asks.1, some, long, nothing_before (flush_in write.key).asked, asks.2, none) refl
+    puts_flush_nothing options.hashing options.buckets 0 no_flushes pairs (write ∷ []) ∙ rw (asks.1, some, long, nothing_before (flush_in write.key).asked, asks.2, none) refl
 flushes_filled options part pairs (write ∷ other ∷ more) asks = absurd asks
 
 some_filled : (options : Options) (part : Part) (pairs : List Pair) (flush : List Write) → AsksAgain options part flush → part.closing.until ≢ 0 → 0 < length (puts_of pairs ++ flush)
@@ -80,8 +81,8 @@ is_delete_of true true c is = refl
 is_delete_of true false c is = absurd cc
 is_delete_of false b c is = absurd cc
 
-flush_gives_none : (buckets : ℕ) (write : Write) → is_flush buckets write ≡ true → GivesValue write.op → ⊥
-flush_gives_none buckets write is gives = delete_gives_none write.op (is_delete_of (is_in_first buckets write) (is_delete write.op) (begins_with_feed write.key) is) gives
+flush_gives_none : (hashing : Hashing) (buckets : ℕ) (write : Write) → is_flush hashing buckets write ≡ true → GivesValue write.op → ⊥
+flush_gives_none hashing buckets write is gives = delete_gives_none write.op (is_delete_of (is_in_first hashing buckets write) (is_delete write.op) (marks hashing write.key) is) gives
 
 -- ---- in a cache: what was put, or nothing
 
@@ -100,7 +101,7 @@ one_behind options pairs key history (write ∷ more) are is =
 
 gives_puts : (options : Options) (part : Part) (all pairs : List Pair) (flush : List Write) → AsksAgain options part flush → AllByRecursion (IsStoredIn all) pairs → AllByRecursion (Gives all) (puts_of pairs ++ flush)
 gives_puts options part all [] [] asks are = tt
-gives_puts options part all [] (write ∷ []) asks are = (λ gives. absurd (flush_gives_none options.buckets write asks.1 gives), tt)
+gives_puts options part all [] (write ∷ []) asks are = (λ gives. absurd (flush_gives_none options.hashing options.buckets write asks.1 gives), tt)
 gives_puts options part all [] (write ∷ other ∷ more) asks are = absurd asks
 gives_puts options part all (pair ∷ pairs) flush asks are = (λ gives. are.0, gives_puts options part all pairs flush asks are.1)
 
@@ -153,13 +154,13 @@ module _ (options : Options) (store_mode : options.mode ≡ Store) (pairs : List
       let empty : store.value_in store.start key ≡ None = subst (λ (m : Mode). value_in (start m) key ≡ None) store_mode (none_at_first options key) in
       ap (λ (m : Mode). value_in (fold (after options) (start m) (puts_of pairs)) key) store_mode ∙ stored_all options store.start pairs key once ∙ ap (or_else (stored_under key pairs)) empty ∙ or_none (stored_under key pairs)
 
-  behind_flush : (write : Write) → is_flush options.buckets write ≡ true → stored_under write.key pairs ≡ None → answer_of options (puts_of pairs ++ write ∷ []) key ≡ stored_under key pairs
+  behind_flush : (write : Write) → is_flush options.hashing options.buckets write ≡ true → stored_under write.key pairs ≡ None → answer_of options (puts_of pairs ++ write ∷ []) key ≡ stored_under key pairs
   behind_flush write flush none = go (bytes_eq write.key key) refl
     where
       go : (b : Bool) → bytes_eq write.key key ≡ b → answer_of options (puts_of pairs ++ write ∷ []) key ≡ stored_under key pairs
       go true b =
           let here : stored_under key pairs ≡ None = subst (λ (k : List ℕ). stored_under k pairs ≡ None) ((bytes_eq-Decides write.key key).0 b) none in
-          behind options (puts_of pairs) write key (λ (o : Option (List ℕ)). o ≡ stored_under key pairs) (sym here) stored_puts (λ same gives. absurd (flush_gives_none options.buckets write flush gives))
+          behind options (puts_of pairs) write key (λ (o : Option (List ℕ)). o ≡ stored_under key pairs) (sym here) stored_puts (λ same gives. absurd (flush_gives_none options.hashing options.buckets write flush gives))
       go false b =
           let state = stored_in options store_mode (puts_of pairs) in
           ap (λ (s : State). value_in s key) (state_snoc options (puts_of pairs) write ∙ ap (λ (s : State). after options s write) state.1)

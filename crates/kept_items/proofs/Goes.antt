@@ -63,11 +63,11 @@ found_same Cache at x y z same is = ⊎_elim (λ e. inl (ap (found_in at) e ∙ 
 
 pub goes_on : GoesOn
 goes_on options options' base base' second start later history filled part first next above sound left has key =
-    let flushes = flushes_in options.buckets history in
+    let flushes = flushes_in options.hashing options.buckets history in
     let some : waits_at second flushes ≢ 0 → 0 < length filled = subst (λ (u : ℕ). u ≢ 0 → 0 < length filled) left.until has.some in
     let stored : stored_under key (lasting start part.pairs) ≡ passing (lasts start) (kept_of (behind options base second history) (answer_of options history key)) =
     stored_passing (lasts start) part.pairs key left.once ∙ ap (passing (lasts start)) (left.each key) in
-    let waits : flushes_in options'.buckets filled ≡ flushes_again (waits_at second flushes) (length filled) = has.flushes ∙ ap (λ (u : ℕ). flushes_again u (length filled)) left.until in
+    let waits : flushes_in options'.hashing options'.buckets filled ≡ flushes_again (waits_at second flushes) (length filled) = has.flushes ∙ ap (λ (u : ℕ). flushes_again u (length filled)) left.until in
     let found = goes_on_from base base' second start later (length history) (length filled) flushes first next some (subst (λ (k : ℕ). k ≤ base') left.next above) (answer_of options history key) (sound.numbers key) (λ less. sound.waits less key) in
     found_same options'.mode (behind options' base' later filled) (answer_of options' filled key) (stored_under key (lasting start part.pairs)) (found_in (behind options base later history) (answer_of options history key)) (has.each key)
     (ap (found_in (behind options' base' later filled)) stored

@@ -14,8 +14,8 @@ use Rattle.kept_items.specs.Loaded.{HasFilled, IsSameOrGone}
 -- What holds of a partition that commands alone wrote to. Each number is below the next one. While a flush waits, no item will be there at its second.
 pub record IsSound (options : Options) (base second : ℕ) (history : History) : Type 0 where
   pub numbers : (key : List ℕ) → IfSome (answer_of options history key) (λ stored. (item_in stored).unique < numbered base (length history))
-  pub waits : second < (flushes_in options.buckets history).due → (key : List ℕ)
-      → IfSome (answer_of options history key) (λ stored. is_kept (behind options base (flushes_in options.buckets history).due history) stored ≡ false)
+  pub waits : second < (flushes_in options.hashing options.buckets history).due → (key : List ℕ)
+      → IfSome (answer_of options history key) (λ stored. is_kept (behind options base (flushes_in options.hashing options.buckets history).due history) stored ≡ false)
 
 -- A partition was left at a second, and one that began with what it left goes on from a start that is not earlier, by the server's clock; numbers begin above its own. At
 -- each second from then on a command finds under each key what it would have found had nothing happened; in a cache that, or nothing. The hashing is the same,

@@ -21,7 +21,7 @@ KeepsWhatIsThere = (options : Options) (base second : ℕ) (history : History) (
     → IsLeft options base second history
     (record {
       pairs = kept_at (behind options base second history) walked;
-      closing = record { written = length history; next = numbered base (length history); until = waits_at second (flushes_in options.buckets history) };
+      closing = record { written = length history; next = numbered base (length history); until = waits_at second (flushes_in options.hashing options.buckets history) };
     })
 
 -- A partition that begins with what is loaded has it.

@@ -20,7 +20,7 @@ pub record IsLeft (options : Options) (base second : ℕ) (history : History) (p
   pub order : AreKeptInOrder (behind options base second history) (state_of options history) part.pairs
   pub written : part.closing.written ≡ length history
   pub next : part.closing.next ≡ numbered base (length history)
-  pub until : part.closing.until ≡ waits_at second (flushes_in options.buckets history)
+  pub until : part.closing.until ≡ waits_at second (flushes_in options.hashing options.buckets history)
 
 abbrev pub saved_mode : Mode → SavedMode
 saved_mode Cache = saved_modes.Cache

@@ -34,7 +34,7 @@ puts_of pairs = map put_of pairs
 abbrev pub AsksAgain : Options → Part → List Write → Type 0
 AsksAgain options part [] = part.closing.until ≡ 0
 AsksAgain options part (write ∷ []) =
-    (0 < part.closing.until) × (is_flush options.buckets write ≡ true) × ((flush_in write.key).due ≡ part.closing.until) × (stored_under write.key part.pairs ≡ None)
+    (0 < part.closing.until) × (is_flush options.hashing options.buckets write ≡ true) × ((flush_in write.key).due ≡ part.closing.until) × (stored_under write.key part.pairs ≡ None)
 AsksAgain options part (write ∷ other ∷ writes) = ⊥
 
 -- the writes with which a partition begins
@@ -55,7 +55,7 @@ flushes_again until n = if until == 0 then no_flushes else record { before = 0; 
 -- What a partition has that began so: what is stored under each key, and the flush that waits.
 pub record HasFilled (options : Options) (second : ℕ) (part : Part) (filled : History) : Type 0 where
   pub each : (key : List ℕ) → IsSameOrGone options.mode (answer_of options filled key) (stored_under key (lasting second part.pairs))
-  pub flushes : flushes_in options.buckets filled ≡ flushes_again part.closing.until (length filled)
+  pub flushes : flushes_in options.hashing options.buckets filled ≡ flushes_again part.closing.until (length filled)
   pub some : part.closing.until ≢ 0 → 0 < length filled
 
 -- who takes entries is handed a pair where it lasts, and each closing

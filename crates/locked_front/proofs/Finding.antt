@@ -3,7 +3,7 @@ use Rattle.std.proofs.Common.{◌≡◌, ◌≢◌, ℕ, ◌+◌, ◌-◌, ◌<�
 use Rattle.std.proofs.lemmas.Option.{slice_get_within, slice_get_read, get_or_from_slice_get}
 use Rattle.std.proofs.lemmas.List.Sums.{sum_by-set}
 use Rattle.list_laws.proofs.Places.{set_elsewhere, set_here, set_cases}
-use Rattle.mica_words.specs.Hash.{fnv1a, hash_partition, partition_of}
+use Rattle.mica_words.specs.Hash.{hash_of, hash_partition, partition_of}
 use Rattle.mica_words.proofs.Hashes.{partition_of_hash, partition_of-below}
 use Rattle.partition_model.specs.declared.options.Options.{Options}
 use Rattle.partition_model.specs.declared.write.Answer.{Answer}
@@ -26,7 +26,7 @@ pub record FindsPart (plan : Plan) (front view : LockedView) (key : List ℕ) (a
   pub below : at < front.options.partitions
   pub here : slice_get front.parts at ≡ Some part
 
-pub finds_part : {plan : Plan} {front view : LockedView} {key : List ℕ} {hash at : ℕ} {part : LockedPart} → IsLockedFront plan front → front ≡ view → hash ≡ fnv1a key
+pub finds_part : {plan : Plan} {front view : LockedView} {key : List ℕ} {hash at : ℕ} {part : LockedPart} → IsLockedFront plan front → front ≡ view → hash ≡ hash_of front.options.hashing key
     → at ≡ hash_partition hash front.options.partitions → part ≡ get_or front.parts at part → FindsPart plan front view key at part
 finds_part {front = front} {key = key} {at = at} {part = part} lawful view_is hash_is at_is read =
     let number = at_is ∙ ap (λ h. hash_partition h front.options.partitions) hash_is ∙ sym (partition_of_hash front.options.hashing key front.options.partitions) in

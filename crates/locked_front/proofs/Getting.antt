@@ -142,8 +142,8 @@ module _ (plan : Plan) (number : ℕ) (old new : LockedPart) (key : List ℕ) (a
   at = same_answer plan.options (reader_state old.seat).shape seen key stamp looks.value part.shape looks.at
 
   -- the flushes are those that were counted
-  flushes : flushes_in plan.options.buckets seen ≡ flushes_in plan.options.buckets counted
-  flushes = unmoved plan.options.buckets counted seen begins
+  flushes : flushes_in plan.options.hashing plan.options.buckets seen ≡ flushes_in plan.options.hashing plan.options.buckets counted
+  flushes = unmoved plan.options.hashing plan.options.buckets counted seen begins
       (subst (λ (y : Shape × ℕ). writes_to_bucket (options_of y.0) seen 0 ≤ y.1) (λ i. (part.shape i, ap (λ (c : HistoryCounts). c.in_first) part.counts.counted i)) looks.few)
 
   still : IsPartOf plan number old.taker.number new

@@ -44,7 +44,7 @@ plan_counts options shape history is = (λ i. record {
   stamp = stamp_as options shape history is i;
   written = length history;
   in_first = writes_to_bucket (options_of (is i)) history 0;
-  flushes = flushes_in (is i).buckets history;
+  flushes = flushes_in (is i).hashing (is i).buckets history;
 })
 
 -- A partition that has come as far as it has to
@@ -113,13 +113,13 @@ looks plan was owner second key needs becoming old new changed buffer learned wr
 }
 
 -- what is kept of the flushes behind an accepted write
-pub kept_accepted : (old new : OwnerState) (write : Write) (outcome : Outcome) → IsOwnerStep old new write outcome → (kept : KeptFlushes) → AreKept old.shape.buckets old.history kept
-    → is_accepted outcome ≡ true → AreKept new.shape.buckets new.history (kept_then (length new.history) write kept)
+pub kept_accepted : (old new : OwnerState) (write : Write) (outcome : Outcome) → IsOwnerStep old new write outcome → (kept : KeptFlushes) → AreKept old.shape.hashing old.shape.buckets old.history kept
+    → is_accepted outcome ≡ true → AreKept new.shape.hashing new.shape.buckets new.history (kept_then (length new.history) write kept)
 kept_accepted old new write outcome step kept are accepted =
     let gained = step.gained ∙ ap (λ t. cond t (record old { words = new.words; history = old.history ++ write ∷ [] }) old) accepted in
     let long : length new.history ≡ suc (length old.history) = ap (λ (o : OwnerState). length o.history) gained ∙ length_push old.history write ∙ omega arith in
-    subst (λ (o : OwnerState). AreKept o.shape.buckets o.history (kept_then (length new.history) write kept)) (sym gained)
-    (subst (λ n. AreKept old.shape.buckets (old.history ++ write ∷ []) (kept_then n write kept)) (sym long) (kept_push old.shape.buckets old.history write kept are))
+    subst (λ (o : OwnerState). AreKept o.shape.hashing o.shape.buckets o.history (kept_then (length new.history) write kept)) (sym gained)
+    (subst (λ n. AreKept old.shape.hashing old.shape.buckets (old.history ++ write ∷ []) (kept_then n write kept)) (sym long) (kept_push old.shape.hashing old.shape.buckets old.history write kept are))
 
 -- what was learned of an owner between its writes
 pub seen_by : (plan : Plan) (number : ℕ) (owner : OwnerState) (home : TableId) (learned : Learned) → owner.shape ≡ shape_of plan.options → owner.phase ≡ Idle → home ≡ plan.homes number

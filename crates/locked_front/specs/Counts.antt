@@ -12,7 +12,7 @@ counts_after options history = record {
   stamp = stamp_of options history;
   written = length history;
   in_first = writes_to_bucket options history 0;
-  flushes = flushes_in options.buckets history;
+  flushes = flushes_in options.hashing options.buckets history;
 }
 
 -- when a decision is made at a second, where so much was counted

@@ -1,6 +1,7 @@
 -- What the partitions of a server are that its fronts own in turn.
 use Rattle.std.specs.Prelude.{ℕ, []}
 use Rattle.atomic_table.specs.Seated.{TableId}
+use Rattle.mica_words.specs.declared.hashing.Hashing.TheVariants.{Fnv1a}
 use Rattle.partition_model.specs.declared.options.Mode.TheVariants.{Cache}
 use Rattle.partition_model.specs.declared.options.Options.{Options}
 use Rattle.partition_model.specs.History.{History}
@@ -19,7 +20,7 @@ no_table = record { words = 0; slots = 0; views_name = 0; atom = 0; block = 0; o
 
 abbrev pub no_plan : Plan
 no_plan = record {
-  options = record { mode = Cache; partitions = 0; buckets = 0; spares = 0; words = 0; readers = 0; tries = 0; wear = 0 };
+  options = record { mode = Cache; partitions = 0; buckets = 0; spares = 0; words = 0; readers = 0; tries = 0; wear = 0; hashing = Fnv1a };
   fronts = 0;
   books = λ _. no_table;
   homes = λ _. no_table;

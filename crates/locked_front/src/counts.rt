@@ -21,7 +21,7 @@ pub struct HistoryCounts {
 impl HistoryCounts {
     /// What is counted of a partition whose flushes are these.
     pub fn of<P: Partition>(part: &P, kept: &KeptFlushes) -> HistoryCounts
-        requires { AreKept (P.owner part.now).shape.buckets (P.owner part.now).history kept.now }
+        requires { AreKept (P.owner part.now).shape.hashing (P.owner part.now).shape.buckets (P.owner part.now).history kept.now }
         ensures { result ≡ counts_after (options_in (P.owner part.now)) (P.owner part.now).history }
     {
         HistoryCounts {
@@ -64,7 +64,7 @@ pub(crate) fn learn_of<P: LendPartition<Reader = ReaderSeat, Note = Note>>(
     part: &mut P,
     kept: &KeptFlushes,
 ) -> Learned
-    requires { AreKept (P.owner part.old).shape.buckets (P.owner part.old).history kept.now }
+    requires { AreKept (P.owner part.old).shape.hashing (P.owner part.old).shape.buckets (P.owner part.old).history kept.now }
     ensures counts { result.counts ≡ counts_after (options_in (P.owner part.old)) (P.owner part.old).history }
     ensures lent { (P.noted result.note ≡ lent (P.owner part.old)) × (P.note_home result.note ≡ P.home part.old) }
     ensures same { P.owner part.new ≡ P.owner part.old }

@@ -9,12 +9,12 @@ ghost use Rattle.fronts.specs.Changing.{count_of};
 ghost use Rattle.locked_front.specs.declared.part.LockedPart.{LockedPart};
 ghost use Rattle.locked_front.specs.Parts.{IsPartOf, IsLockedFront, locked_view, sessions_of, turns_left, turns_taken};
 
-use crate::flush_keys::make_key;
+use crate::marks::make_mark;
 use crate::locks::PartitionLocks;
 use crate::owned::ServerPlan;
 use crate::part::LockedPart;
 use fronts::{Changed, Changes, CountsWrites, Decide, Flush, Front, Glances, Glimpse, seat_loads};
-use mica_words::{key_hash, partition_of};
+use mica_words::{Hashing, partition_of};
 use outside::NoMemory;
 use partition_model::{Answer, ItemBuf, Mode, Op, Options, Outcome};
 use partition_table::{Note, ReaderSeat};
@@ -122,7 +122,7 @@ impl<
         ensures options { self.new.options ≡ self.old.options }
         ensures number { self.new.number ≡ self.old.number }
     {
-        let hash = key_hash(key);
+        let hash = self.options.hashing.key_hash(key);
         let number = partition_of(hash, self.options.partitions);
         let at = number as usize;
         let lock = self.locks.of(number);
@@ -158,6 +158,10 @@ impl<'a, J: ServerPlan, P: LendPartition<Reader = ReaderSeat, Note = Note> + Dro
 
     ghost is_alone = { false };
 
+    fn hashing(&self) -> Hashing {
+        self.options.hashing
+    }
+
     fn loads_ahead(&self) -> bool {
         seat_loads::are_large(&self.options)
     }
@@ -188,7 +192,7 @@ impl<'a, J: ServerPlan, P: LendPartition<Reader = ReaderSeat, Note = Note> + Dro
     }
 
     fn read(&mut self, key: &[u8], out: &mut ItemBuf) -> (Answer, u64) {
-        let hash = key_hash(key);
+        let hash = self.options.hashing.key_hash(key);
         let number = partition_of(hash, self.options.partitions);
         let tries = self.options.tries;
         self.parts[number as usize].read::<R, J>(self.rt, number, key, hash, tries, out)
@@ -198,8 +202,7 @@ impl<'a, J: ServerPlan, P: LendPartition<Reader = ReaderSeat, Note = Note> + Dro
 impl<'a, J: ServerPlan, P: LendPartition<Reader = ReaderSeat, Note = Note> + Drop, R: Wait> Changes
     for LockedFront<'a, J, P, R> {
     fn flush_key(&self, partition: u32, flush: Flush, key: &mut ItemBuf) {
-        let Flush { due, asked } = flush;
-        make_key(self.rt, &self.options, partition, due, asked, key);
+        make_mark(partition, flush, key);
     }
 
     fn change<D: Decide>(
@@ -210,7 +213,7 @@ impl<'a, J: ServerPlan, P: LendPartition<Reader = ReaderSeat, Note = Note> + Dro
         found: &mut ItemBuf,
         next: &mut ItemBuf,
     ) -> Changed {
-        let hash = key_hash(key);
+        let hash = self.options.hashing.key_hash(key);
         let number = partition_of(hash, self.options.partitions);
         let at = number as usize;
         let lock = self.locks.of(number);

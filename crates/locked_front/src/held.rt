@@ -1,6 +1,6 @@
 //! What is done with a partition that is held.
 ghost use Rattle.std.specs.Prelude.{◌≡◌, IfSome, IfNone};
-ghost use Rattle.mica_words.specs.Hash.{fnv1a};
+ghost use Rattle.mica_words.specs.Hash.{hash_of};
 ghost use Rattle.mica_words.specs.Item.{KeyFits};
 ghost use Rattle.numbered_lock.specs.Lock.{IsHeld};
 ghost use Rattle.partition_model.specs.History.{History};
@@ -29,7 +29,7 @@ pub(crate) fn write_held<J: ServerPlan, P: LendPartition<Reader = ReaderSeat, No
     value: &[u8],
 ) -> Option<Written>
     requires key { KeyFits key.now }
-    requires hashed { hash ≡ fnv1a key.now }
+    requires hashed { hash ≡ hash_of J.plan.options.hashing key.now }
     requires value { HasValueOf op value.now }
     requires own { taker.old.table ≡ J.plan.books lock.now.number }
     requires held { IsHeld (λ (o : Owned). o.number) lock.now held.old.seat.table_id held.old.seat.me }
@@ -62,7 +62,7 @@ pub(crate) fn change_held<
     next: &mut ItemBuf,
 ) -> Option<(Changed, Learned)>
     requires key { KeyFits key.now }
-    requires hashed { hash ≡ fnv1a key.now }
+    requires hashed { hash ≡ hash_of J.plan.options.hashing key.now }
     requires own { taker.old.table ≡ J.plan.books lock.now.number }
     requires held { IsHeld (λ (o : Owned). o.number) lock.now held.old.seat.table_id held.old.seat.me }
     ensures held { IsHeld (λ (o : Owned). o.number) lock.now held.new.seat.table_id held.new.seat.me }

@@ -6,11 +6,11 @@
 #![tactic(auto)]
 
 mod counts;
-mod flush_keys;
 mod flushes;
 mod front;
 mod held;
 mod locks;
+mod marks;
 mod owned;
 mod part;
 mod returned;

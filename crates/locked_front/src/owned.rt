@@ -1,6 +1,6 @@
 //! A partition under its lock.
 ghost use Rattle.std.specs.Prelude.{◌≡◌, ◌++◌, ◌∷◌, [], ℕ, true, List, Option, IfSome, IfNone};
-ghost use Rattle.mica_words.specs.Hash.{fnv1a};
+ghost use Rattle.mica_words.specs.Hash.{hash_of};
 ghost use Rattle.mica_words.specs.Item.{KeyFits};
 ghost use Rattle.partition_model.specs.Answer.{IsAnswer};
 ghost use Rattle.partition_model.specs.Write.{HasValueOf, write_of};
@@ -82,7 +82,7 @@ impl<J: ServerPlan, P: LendPartition<Reader = ReaderSeat, Note = Note> + Drop> M
     ghost view = { λ o. owned_as o.number (P.home o.part) (P.owner o.part) o.book };
 
     ghost invariant = { λ o. IsOwned J.plan (owned_as o.number (P.home o.part) (P.owner o.part) o.book)
-        × AreKept (P.owner o.part).shape.buckets (P.owner o.part).history o.flushes × NotesAre P.noted P.note_home note_state note_home };
+        × AreKept (P.owner o.part).shape.hashing (P.owner o.part).shape.buckets (P.owner o.part).history o.flushes × NotesAre P.noted P.note_home note_state note_home };
 }
 
 impl<J: ServerPlan, P: LendPartition<Reader = ReaderSeat, Note = Note> + Drop> Numbered
@@ -175,7 +175,7 @@ impl<J: ServerPlan, P: LendPartition<Reader = ReaderSeat, Note = Note> + Drop> O
         book: TurnBook<Step>,
         flushes: KeptFlushes,
     ) -> OwnedPartition<J, P>
-        requires flushes { AreKept (P.owner part).shape.buckets (P.owner part).history flushes }
+        requires flushes { AreKept (P.owner part).shape.hashing (P.owner part).shape.buckets (P.owner part).history flushes }
         requires notes { NotesAre P.noted P.note_home note_state note_home }
         requires filled { IsNew J.plan number (P.home part) (P.owner part) book }
         ensures { result ≡ owned_as number (P.home part) (P.owner part) book }
@@ -224,7 +224,7 @@ impl<J: ServerPlan, P: LendPartition<Reader = ReaderSeat, Note = Note> + Drop> O
         value: &[u8],
     ) -> Written
         requires key { KeyFits key.now }
-        requires hashed { hash ≡ fnv1a key.now }
+        requires hashed { hash ≡ hash_of J.plan.options.hashing key.now }
         requires value { HasValueOf op value.now }
         requires own { taker.old.table ≡ self.old.book.table }
         ensures took { TookTurn J.plan self.old.number (stamp_of J.plan.options self.old.owner.history) self.old.owner.history taker.old taker.new
@@ -248,7 +248,7 @@ impl<J: ServerPlan, P: LendPartition<Reader = ReaderSeat, Note = Note> + Drop> O
         next: &ItemBuf,
     ) -> (Option<Outcome>, Learned)
         requires key { KeyFits key.now }
-        requires hashed { hash ≡ fnv1a key.now }
+        requires hashed { hash ≡ hash_of J.plan.options.hashing key.now }
         requires own { taker.old.table ≡ self.old.book.table }
         ensures did { TookOrLeft J.plan self.old.number (stamp_of J.plan.options self.old.owner.history) self.old.owner.history taker.old taker.new
             (written_by key.entry.now next.entry.now change) result.0 result.1 }
@@ -282,7 +282,7 @@ impl<J: ServerPlan, P: LendPartition<Reader = ReaderSeat, Note = Note> + Drop> O
         next: &mut ItemBuf,
     ) -> (Changed, Learned)
         requires key { KeyFits key.now }
-        requires hashed { hash ≡ fnv1a key.now }
+        requires hashed { hash ≡ hash_of J.plan.options.hashing key.now }
         requires own { taker.old.table ≡ self.old.book.table }
         ensures looked { TookLook J.plan self.old.number (stamp_of J.plan.options self.old.owner.history) second self.old.owner.history key.entry.now
             (D.needs decide.entry.now) (D.becoming decide.entry.now) taker.old taker.new result.0 found.new result.1 }
@@ -311,7 +311,7 @@ impl<J: ServerPlan, P: LendPartition<Reader = ReaderSeat, Note = Note> + Drop> O
         value: &[u8],
     ) -> Option<Written>
         requires key { KeyFits key.now }
-        requires hashed { hash ≡ fnv1a key.now }
+        requires hashed { hash ≡ hash_of J.plan.options.hashing key.now }
         requires value { HasValueOf op value.now }
         requires own { taker.old.table ≡ J.plan.books self.old.number }
         ensures written { IfSome result (λ w. TookTurn J.plan self.old.number least self.old.owner.history taker.old taker.new
@@ -339,7 +339,7 @@ impl<J: ServerPlan, P: LendPartition<Reader = ReaderSeat, Note = Note> + Drop> O
         next: &mut ItemBuf,
     ) -> Option<(Changed, Learned)>
         requires key { KeyFits key.now }
-        requires hashed { hash ≡ fnv1a key.now }
+        requires hashed { hash ≡ hash_of J.plan.options.hashing key.now }
         requires own { taker.old.table ≡ J.plan.books self.old.number }
         ensures looked { IfSome result (λ r. TookLook J.plan self.old.number least second self.old.owner.history key.entry.now
             (D.needs decide.entry.now) (D.becoming decide.entry.now) taker.old taker.new r.0 found.new r.1) }

@@ -1,6 +1,6 @@
 //! What a front has of one partition.
 ghost use Rattle.std.specs.Prelude.{◌≡◌, ◌<◌, IfSome, IfNone};
-ghost use Rattle.mica_words.specs.Hash.{fnv1a};
+ghost use Rattle.mica_words.specs.Hash.{hash_of};
 ghost use Rattle.mica_words.specs.Item.{KeyFits};
 ghost use Rattle.partition_model.specs.History.{History};
 ghost use Rattle.partition_model.specs.Write.{HasValueOf, write_of};
@@ -64,7 +64,7 @@ fn write_under_lock<
     value: &[u8],
 ) -> Written
     requires key { KeyFits key.now }
-    requires hashed { hash ≡ fnv1a key.now }
+    requires hashed { hash ≡ hash_of J.plan.options.hashing key.now }
     requires value { HasValueOf op value.now }
     requires own { taker.old.table ≡ J.plan.books lock.now.number }
     ensures { (before : History) × TookTurn J.plan lock.now.number least before taker.old taker.new
@@ -101,7 +101,7 @@ fn change_under_lock<
     next: &mut ItemBuf,
 ) -> (Changed, Learned)
     requires key { KeyFits key.now }
-    requires hashed { hash ≡ fnv1a key.now }
+    requires hashed { hash ≡ hash_of J.plan.options.hashing key.now }
     requires own { taker.old.table ≡ J.plan.books lock.now.number }
     ensures { (before : History) × TookLook J.plan lock.now.number least second before key.entry.now
         (D.needs decide.entry.now) (D.becoming decide.entry.now) taker.old taker.new result.0 found.new result.1 }
@@ -138,7 +138,7 @@ impl LockedPart {
     // looked at first, too: where it has moved the tries would be for nothing.
     fn try_get(&mut self, key: &[u8], hash: u64, found: &mut ItemBuf) -> Option<(Answer, u64)>
         requires key { KeyFits key.now }
-        requires hashed { hash ≡ fnv1a key.now }
+        requires hashed { hash ≡ hash_of self.old.seat.me.0.shape.hashing key.now }
         ensures looked { IfSome result (λ r. PartGets self.old key.entry.now r.0 r.1 found.new self.new) }
         ensures none { IfNone result (PartRests self.old self.new) }
     {
@@ -175,7 +175,7 @@ impl LockedPart {
         found: &mut ItemBuf,
     ) -> Option<Changed>
         requires key { KeyFits key.now }
-        requires hashed { hash ≡ fnv1a key.now }
+        requires hashed { hash ≡ hash_of J.plan.options.hashing key.now }
         requires own { IsPartOf J.plan _number self.old.taker.number self.old }
         ensures looked { IfSome result (λ changed.
             PartChanges J.plan _number second key.entry.now (D.needs decide.entry.now) (D.becoming decide.entry.now) self.old changed found.new self.new) }
@@ -209,7 +209,7 @@ impl LockedPart {
         value: &[u8],
     ) -> (Outcome, u64)
         requires key { KeyFits key.now }
-        requires hashed { hash ≡ fnv1a key.now }
+        requires hashed { hash ≡ hash_of J.plan.options.hashing key.now }
         requires value { HasValueOf op value.now }
         requires lock { lock.now.number ≡ number }
         requires own { IsPartOf J.plan number self.old.taker.number self.old }
@@ -250,7 +250,7 @@ impl LockedPart {
         next: &mut ItemBuf,
     ) -> Changed
         requires key { KeyFits key.now }
-        requires hashed { hash ≡ fnv1a key.now }
+        requires hashed { hash ≡ hash_of J.plan.options.hashing key.now }
         requires lock { lock.now.number ≡ number }
         requires own { IsPartOf J.plan number self.old.taker.number self.old }
         ensures { PartChanges J.plan number second key.entry.now (D.needs decide.entry.now) (D.becoming decide.entry.now) self.old result found.new self.new }
@@ -287,7 +287,7 @@ impl LockedPart {
         out: &mut ItemBuf,
     ) -> (Answer, u64)
         requires key { KeyFits key.now }
-        requires hashed { hash ≡ fnv1a key.now }
+        requires hashed { hash ≡ hash_of J.plan.options.hashing key.now }
         requires tries { 0 < tries }
         requires own { IsPartOf J.plan _number self.old.taker.number self.old }
         ensures { PartReads J.plan _number self.old key.now result.0 result.1 out.new self.new }

@@ -37,7 +37,7 @@ pub record IsFilled (options : Options) (writes : List Write) (p : ℕ) (filled 
   pub owner : IsFilledOwner options filled.owner
   pub origin : filled.owner.history ≡ origin_of options writes p
   pub book : filled.book ≡ book_view filled.book.table 0 []
-  pub flushes : AreKept filled.owner.shape.buckets filled.owner.history filled.flushes
+  pub flushes : AreKept filled.owner.shape.hashing filled.owner.shape.buckets filled.owner.history filled.flushes
 
 -- one for each partition, in order
 pub record AreFilled (options : Options) (writes : List Write) (all : List FilledView) : Type 0 where
@@ -86,7 +86,7 @@ pub record IsPlanned (plan : Plan) (takers p : ℕ) (filled : FilledView) : Type
   pub origin : filled.owner.history ≡ plan.origin p
   pub home : filled.home ≡ plan.homes p
   pub book : filled.book ≡ book_view (plan.books p) takers []
-  pub flushes : AreKept filled.owner.shape.buckets filled.owner.history filled.flushes
+  pub flushes : AreKept filled.owner.shape.hashing filled.owner.shape.buckets filled.owner.history filled.flushes
 
 -- there is one filled partition for each number, and each is as the plan says
 pub record ArePlanned (plan : Plan) (takers : ℕ) (all : List FilledView) : Type 0 where

@@ -12,7 +12,7 @@ ghost use Rattle.locked_server.specs.Filled.{RefusesFilling, IsFilledOwner, orig
 
 use fronts::KeptFlushes;
 use locked_front::write_counted;
-use mica_words::{key_hash, partition_of};
+use mica_words::{partition_of};
 use outside::NoMemory;
 use partition_model::{Options, Write};
 use partition_words::Partition;
@@ -79,14 +79,14 @@ fn fill_one<P: Partition>(
 ) -> bool
     requires valid { IsPossible options.now }
     requires write { IsWrite write.now }
-    requires flushes { AreKept (P.owner part.old).shape.buckets (P.owner part.old).history flushes.old }
+    requires flushes { AreKept (P.owner part.old).shape.hashing (P.owner part.old).shape.buckets (P.owner part.old).history flushes.old }
     ensures own { partition_of options.now.hashing write.now.key options.now.partitions ≡ number
         → (outcome : Outcome) × (is_accepted outcome ≡ result) × IsOwnerStep (P.owner part.old) (P.owner part.new) write.now outcome }
     ensures other { partition_of options.now.hashing write.now.key options.now.partitions ≢ number → (result ≡ true) × (P.owner part.new ≡ P.owner part.old) }
-    ensures flushes { AreKept (P.owner part.new).shape.buckets (P.owner part.new).history flushes.new }
+    ensures flushes { AreKept (P.owner part.new).shape.hashing (P.owner part.new).shape.buckets (P.owner part.new).history flushes.new }
 {
     let key = write.key.bytes();
-    let hash = key_hash(key);
+    let hash = options.hashing.key_hash(key);
     if partition_of(hash, options.partitions) != number {
         return true;
     }
@@ -105,10 +105,10 @@ pub(crate) fn fill<P: Partition>(
     requires writes { All IsWrite filling.now }
     ensures filled { OnOk result (IsFilledOwner options.now (P.owner part.new)) }
     ensures origin { OnOk result ((P.owner part.new).history ≡ origin_of options.now filling.now number) }
-    ensures flushes { IfOk result (AreKept (P.owner part.new).shape.buckets (P.owner part.new).history) }
+    ensures flushes { IfOk result (AreKept (P.owner part.new).shape.hashing (P.owner part.new).shape.buckets (P.owner part.new).history) }
     ensures refused { OnErr result (RefusesFilling options.now filling.now) }
 {
-    let mut flushes = KeptFlushes::none(options.buckets);
+    let mut flushes = KeptFlushes::none(options.hashing, options.buckets);
     for write in filling {
         if !fill_one(part, &mut flushes, options, number, write) {
             return Err(OpenFault::Refused);

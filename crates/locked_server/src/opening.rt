@@ -135,7 +135,7 @@ pub fn open_parts<
 impl<P: LendPartition<Reader = ReaderSeat, Note = Note>> FilledPart<P> {
     // A part for one front more.
     fn lend(&mut self) -> Result<LockedPart, NoMemory>
-        requires { AreKept (P.owner self.old.part).shape.buckets (P.owner self.old.part).history self.old.flushes }
+        requires { AreKept (P.owner self.old.part).shape.hashing (P.owner self.old.part).shape.buckets (P.owner self.old.part).history self.old.flushes }
         ensures { IfOk result (LendsOne (filled_view P.owner P.home self.old) (filled_view P.owner P.home self.new)) }
     {
         let seat = self.part.lend()?;

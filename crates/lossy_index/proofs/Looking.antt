@@ -1,6 +1,6 @@
 -- What a look at one slot tells.
 use Rattle.std.proofs.Common.{◌≡◌, ◌≢◌, ℕ, ◌+◌, ◌<◌, ◌≤◌, List, sym, ap, ◌∙◌, subst₂, arith}
-use Rattle.mica_words.specs.Hash.{fnv1a, hash_tag, tag_of}
+use Rattle.mica_words.specs.Hash.{hash_of, hash_tag, tag_of}
 use Rattle.mica_words.specs.Entry.{entry_tag, entry_offset}
 use Rattle.mica_words.specs.Stamp.{tail_of}
 use Rattle.mica_words.specs.declared.entry.TheConstants.{SLOTS}
@@ -12,14 +12,14 @@ use Rattle.lossy_index.specs.Slot.{IsSlotOf}
 
 -- what is known before the first slot: the key's tag, the tail, and how many words the log has
 pub record Seeks (o : OwnerState) (key : List ℕ) (tag tail words : ℕ) : Type 0 where
-  pub tag_is : tag ≡ tag_of key
+  pub tag_is : tag ≡ tag_of o.shape.hashing key
   pub tail_is : tail ≡ tail_of (stamp_in o)
   pub words_are : words ≡ o.shape.words
 
-pub seeks : (o : OwnerState) (key : List ℕ) (hash tag stamp tail words : ℕ) → hash ≡ fnv1a key → tag ≡ hash_tag hash
+pub seeks : (o : OwnerState) (key : List ℕ) (hash tag stamp tail words : ℕ) → hash ≡ hash_of o.shape.hashing key → tag ≡ hash_tag hash
     → stamp ≡ stamp_in o → tail ≡ tail_of stamp → words ≡ o.shape.words → Seeks o key tag tail words
 seeks o key hash tag stamp tail words is_hash is_tag is_stamp is_tail is_words = record {
-  tag_is = is_tag ∙ (ap hash_tag is_hash ∙ sym (tag_of_hash key));
+  tag_is = is_tag ∙ (ap hash_tag is_hash ∙ sym (tag_of_hash o.shape.hashing key));
   tail_is = is_tail ∙ ap tail_of is_stamp;
   words_are = is_words;
 }

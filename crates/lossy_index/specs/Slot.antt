@@ -24,7 +24,7 @@ IsPassed o b slot = offset_in o b slot + o.shape.words < tail_of (stamp_in o)
 -- The slot has an entry of the key's tag, whose item has the key and which the log has not passed.
 pub record IsSlotOf (o : OwnerState) (b : ℕ) (key : List ℕ) (slot : ℕ) : Type 0 where
   pub in_bucket : slot < SLOTS
-  pub tag : entry_tag (entry_in o b slot) ≡ tag_of key
+  pub tag : entry_tag (entry_in o b slot) ≡ tag_of o.shape.hashing key
   pub live : tail_of (stamp_in o) ≤ offset_in o b slot + o.shape.words
   pub item : HasKey o (offset_in o b slot) key
 

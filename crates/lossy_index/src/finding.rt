@@ -1,13 +1,13 @@
 //! The slot of a key.
 ghost use Rattle.std.specs.Prelude.{◌≡◌, MatchOption};
-ghost use Rattle.mica_words.specs.Hash.{fnv1a};
+ghost use Rattle.mica_words.specs.Hash.{hash_of};
 ghost use Rattle.mica_words.specs.Item.{KeyFits};
 ghost use Rattle.partition_words.specs.Shape.{IsMain};
 ghost use Rattle.partition_words.specs.OwnerState.{stamp_in};
 ghost use Rattle.partition_words.specs.Kept.{Kept};
 ghost use Rattle.lossy_index.specs.Slot.{IsSlotOf, IsFoundAt, HasNoSlot};
 
-use mica_words::{SLOTS, entry_offset, entry_tag, key_hash, tag_of, tail_of};
+use mica_words::{SLOTS, entry_offset, entry_tag, tag_of, tail_of};
 use partition_words::{OwnerWords, WordAt, holds_key_hashed};
 
 /// A key's slot, and the offset in its entry.
@@ -28,7 +28,8 @@ pub fn find<W: OwnerWords>(words: &mut W, bucket: u32, key: &[u8]) -> Option<u32
     ensures kept { Kept (W.owner words.new) }
 {
     let stamp = words.read(WordAt::Stamp);
-    match find_hashed(words, bucket, key, key_hash(key), stamp) {
+    let hash = words.shape().hashing.key_hash(key);
+    match find_hashed(words, bucket, key, hash, stamp) {
         Some(found) => Some(found.slot),
         None => None,
     }
@@ -45,7 +46,7 @@ pub fn find_hashed<W: OwnerWords>(
     requires kept { Kept (W.owner words.old) }
     requires bucket { IsMain (W.owner words.old).shape bucket }
     requires key { KeyFits key.now }
-    requires hashed { hash ≡ fnv1a key.now }
+    requires hashed { hash ≡ hash_of (W.owner words.old).shape.hashing key.now }
     requires stamped { stamp ≡ stamp_in (W.owner words.old) }
     ensures found { MatchOption result (HasNoSlot (W.owner words.old) bucket key.entry.now)
         (IsFoundAt (W.owner words.old) bucket key.entry.now) }

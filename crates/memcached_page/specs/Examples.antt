@@ -1,5 +1,6 @@
 -- What two clients of one server said, what was done, and what can't have been.
 use Rattle.std.specs.Prelude.{ℕ, false, List, [], ◌∷◌, Some, None, codes}
+use Rattle.mica_words.specs.declared.hashing.Hashing.TheVariants.{SipHash}
 use Rattle.partition_model.specs.declared.options.Mode.{Mode}
 use Rattle.partition_model.specs.declared.options.Options.{Options}
 use Rattle.memcached_text.specs.declared.command.Wants.TheVariants.{Whatever}
@@ -93,4 +94,4 @@ refusing = for 0 (carried 100 1 (asked (Store Whatever 0 Forever (codes "5")) (c
 
 -- one part, whose log or heap has so many words
 abbrev pub options : Mode → ℕ → Options
-options mode words = record { mode = mode; partitions = 1; buckets = 1; spares = 1; words = words; readers = 1; tries = 1; wear = 1000 }
+options mode words = record { mode = mode; partitions = 1; buckets = 1; spares = 1; words = words; readers = 1; tries = 1; wear = 1000; hashing = SipHash 0 0 }

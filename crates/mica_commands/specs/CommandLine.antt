@@ -1,5 +1,6 @@
 -- The commands, their options, and the command that words give.
 use Rattle.std.specs.Prelude.{◌≡◌, ⊤, ℕ, true, List, [], ◌∷◌, ◌++◌, Result, Ok, Err, Option, Some, None, if◌then◌else◌, find, option_map, codes, bytes_eq}
+use Rattle.mica_words.specs.declared.hashing.Hashing.TheVariants.{Fnv1a}
 use Rattle.partition_model.specs.declared.options.TheConstants.{MAX_WEAR}
 use Rattle.partition_model.specs.declared.options.Options.{Options}
 use Rattle.partition_model.specs.declared.options.Mode.{Mode}
@@ -103,6 +104,7 @@ options_with mode given =
       readers = readers;
       tries = tries;
       wear = wear;
+      hashing = Fnv1a;
     })
 
 -- the options of `replay`, which gives the mode too

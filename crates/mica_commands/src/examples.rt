@@ -4,6 +4,7 @@ ghost use Rattle.partition_model.specs.declared.options.TheConstants.{MAX_WEAR};
 ghost use Rattle.mica_commands.specs.CommandLine.{command_of};
 
 use crate::Command;
+use mica_words::Hashing;
 use partition_model::Mode;
 
 /// What `mica replay --mode store` is: a replay with the defaults.
@@ -17,6 +18,7 @@ pub fn default_replay()
       readers = 4;
       tries = 100;
       wear = MAX_WEAR;
+      hashing = Hashing.Fnv1a;
     })) }
     ensures no_mode { command_of (codes "replay" ∷ []) ≡ None }
 {}
@@ -34,6 +36,7 @@ pub fn named_options()
           readers = 8;
           tries = 5;
           wear = 100000;
+          hashing = Hashing.Fnv1a;
         })) }
     ensures beyond { command_of (codes "replay" ∷ codes "--mode" ∷ codes "cache" ∷ codes "--readers" ∷ codes "17" ∷ []) ≡ None }
     ensures twice { command_of (codes "replay" ∷ codes "--mode" ∷ codes "cache" ∷ codes "--mode" ∷ codes "store" ∷ []) ≡ None }

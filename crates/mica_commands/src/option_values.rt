@@ -5,6 +5,7 @@ ghost use Rattle.mica_commands.specs.CommandLine.{options_with, replay_options, 
 
 use crate::GenOptions;
 use clap::ArgMatches;
+use mica_words::Hashing;
 use option_words::{count, mode, number, power_of_two, required};
 use partition_model::{MAX_WEAR, Mode, Options};
 use server_words::{AskOptions, PortOptions};
@@ -22,6 +23,7 @@ pub fn options_with(found: &ArgMatches<'_>, mode: Mode) -> Option<Options>
         readers: count(found, "readers", 1, 16, 4)?,
         tries: count(found, "tries", 1, 1_000, 100)?,
         wear: number(found, "wear", 1, MAX_WEAR, MAX_WEAR)?,
+        hashing: Hashing::Fnv1a,
     })
 }
 

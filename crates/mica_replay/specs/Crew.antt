@@ -1,5 +1,6 @@
 -- The crew of a trace: a desk for each owner and each reader, free until the end is told there.
 use Rattle.std.specs.Prelude.{◌≡◌, ℕ, List, [], replicate, None}
+use Rattle.mica_words.specs.declared.hashing.Hashing.TheVariants.{Fnv1a}
 use Rattle.partition_model.specs.declared.options.Options.{Options}
 use Rattle.partition_model.specs.declared.options.Mode.TheVariants.{Cache}
 use Rattle.mica_trace.specs.declared.line.TraceLine.{TraceLine}
@@ -14,7 +15,7 @@ abbrev pub read_terms : List TraceLine → Options → ReadTerms
 read_terms lines options = record { lines = lines; options = options }
 
 abbrev pub no_terms : ReadTerms
-no_terms = read_terms [] (record { mode = Cache; partitions = 0; buckets = 0; spares = 0; words = 0; readers = 0; tries = 0; wear = 0 })
+no_terms = read_terms [] (record { mode = Cache; partitions = 0; buckets = 0; spares = 0; words = 0; readers = 0; tries = 0; wear = 0; hashing = Fnv1a })
 
 -- what the desks' sides know
 pub record Desks (P : Type 0) : Type 0 where

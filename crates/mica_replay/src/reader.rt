@@ -9,7 +9,7 @@ ghost use Rattle.mica_replay.specs.LineNumbers.{lines_at, NamesGet};
 ghost use Rattle.mica_replay.specs.ReaderGets.{AreSeatsOf, HaveRead, HaveSeenMore};
 
 use mica_trace::{Line, Trace};
-use mica_words::{key_hash, partition_of};
+use mica_words::{partition_of};
 use optimistic_get::{Got, ask_hashed};
 use outside::{Bytes, Gate, NoMemory};
 use partition_model::{ItemBuf, Options};
@@ -104,7 +104,7 @@ pub fn run_reader<W: Threads + Wait + Sync, R: ReaderWords, G: Gate>(
     for number in gets {
         gate.turn(worker, call);
         let key = lines[*number as usize].key.bytes();
-        let hash = key_hash(key);
+        let hash = options.hashing.key_hash(key);
         let partition = partition_of(hash, options.partitions) as usize;
         let seat = &mut seats[partition];
         let got = ask_hashed(rt, seat, key, hash, options.tries, &mut out);

@@ -1,6 +1,7 @@
 //! Single datagrams through a front that owns its partitions.
 
 use datagram_answers::serve_batch;
+use mica_words::Hashing;
 use outside::FreeGate;
 use partition_model::{Mode, Options};
 use queue_front::SoloFront;
@@ -16,6 +17,7 @@ const OPTIONS: Options = Options {
     readers: 1,
     tries: 100,
     wear: 68_719_476_736,
+    hashing: Hashing::Fnv1a,
 };
 
 /// A datagram, and the reply to it.

@@ -45,7 +45,7 @@ module _ (shape : Shape) (loads : Loads) (stamp b : ℕ) (key behind : List ℕ)
     links = links;
     entry = best.0;
     of_key = best.1;
-    live = (tagged best.0 key best.1.tag, subst (IsLiveItem shape.mode shape.words stamp) (sym best.2) live);
+    live = (tagged shape.hashing best.0 key best.1.tag, subst (IsLiveItem shape.mode shape.words stamp) (sym best.2) live);
     item = subst (λ (z : ℕ). ShowsItem shape loads z key value) (sym best.2) best.3;
   }
 

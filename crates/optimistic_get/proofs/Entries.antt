@@ -3,6 +3,7 @@ use Rattle.std.proofs.Common.{◌≡◌, ◌≢◌, ℕ, ◌+◌, ◌*◌, ◌<�
 use Rattle.std.specs.Prelude.{Contains, true, false, is_some}
 use Rattle.std.proofs.lemmas.Bool.{cases_lt}
 use Rattle.mica_words.specs.declared.entry.TheConstants.{SLOTS}
+use Rattle.mica_words.specs.declared.hashing.Hashing.{Hashing}
 use Rattle.mica_words.specs.Hash.{tag_of}
 use Rattle.mica_words.specs.Entry.{entry_tag, entry_offset}
 use Rattle.mica_words.specs.Item.{largest_stored_item}
@@ -95,7 +96,7 @@ weighs_none r q n entry key best value g few weighed =
     record { on = on_at_most r q n largest_stored_item few g; rises = no_worse_same best; found = inl (refl, refl); weighed = weighed }
 
 pub weighs_one : (r q : ReaderState) (entry : ℕ) (key : List ℕ) (best : Option ℕ) (value now : List ℕ) → GoesOn r largest_stored_item q
-    → ((p : ℕ) → best ≡ Some p → p ≤ entry_offset entry) → entry_tag entry ≡ tag_of key → ShowsItem q.shape (loads_in q) (entry_offset entry) key now
+    → ((p : ℕ) → best ≡ Some p → p ≤ entry_offset entry) → entry_tag entry ≡ tag_of q.shape.hashing key → ShowsItem q.shape (loads_in q) (entry_offset entry) key now
     → Weighs r entry key best value (Some (entry_offset entry)) now q
 weighs_one r q entry key best value now g later tag shows = record {
   on = g;
@@ -167,8 +168,8 @@ module _ (r q q1 q2 : ReaderState) (c n entry : ℕ) (key : List ℕ) (best : Op
 
 -- A bucket of store mode
 
-pub tagged : (entry : ℕ) (key : List ℕ) → entry_tag entry ≡ tag_of key → entry ≢ 0
-tagged entry key tag none = let some = (tag_of-range key).0 in omega arith
+pub tagged : (hashing : Hashing) (entry : ℕ) (key : List ℕ) → entry_tag entry ≡ tag_of hashing key → entry ≢ 0
+tagged hashing entry key tag none = let some = (tag_of-range hashing key).0 in omega arith
 
 pub some_no_none : (best : Option ℕ) → is_some best ≡ true → best ≢ None
 some_no_none None some none = cc some
@@ -216,7 +217,7 @@ first_empty r q q1 c n entry key value v before load empty in_bucket store =
           (λ (less : n < slot). inl (ap (λ (z : Shape). z.mode) (on_shape r q _ before.on) ∙ store, n, less, subst (HasLoad (loads_in q1) (entry_at q.shape c n)) empty there))
           (λ (last : slot ≤ n).
           let same : n ≡ slot = omega arith in
-          inr (subst (IsSlotWeighed q.shape (loads_in q1) key None c) same (entry, there, by_tag (λ tag. tagged entry key tag empty))))
+          inr (subst (IsSlotWeighed q.shape (loads_in q1) key None c) same (entry, there, by_tag (λ tag. tagged q.shape.hashing entry key tag empty))))
           (cases_lt n slot))
           (cases_lt slot n));
     }

@@ -2,17 +2,18 @@
 use Rattle.std.proofs.Common.{◌≡◌, ◌≢◌, ℕ, ◌+◌, ◌<◌, ◌≤◌, List, length, slice_index, refl, sym, ap, ◌∙◌, subst, arith}
 use Rattle.std.specs.Prelude.{Bool, true, false, is_some, MatchBool}
 use Rattle.mica_words.specs.declared.item.TheConstants.{MAX_STORED_LEN}
-use Rattle.mica_words.specs.Hash.{fnv1a}
+use Rattle.mica_words.specs.Hash.{hash_of}
 use Rattle.mica_words.specs.Header.{header_key_len, header_value_len}
 use Rattle.mica_words.specs.Item.{words_for}
 use Rattle.mica_words.specs.Packing.{packed, unpacked}
 use Rattle.mica_words.proofs.PackedBytes.{length-packed}
+use Rattle.partition_words.specs.declared.shape.Shape.{Shape}
 use Rattle.partition_words.specs.declared.reader.ReaderState.{ReaderState}
 use Rattle.partition_words.specs.Layout.{item_at}
 use Rattle.partition_words.specs.ReaderState.{loaded}
 use Rattle.partition_words.specs.Spelt.{HasLoad, ShowsOther, by_key_len, by_value_len, by_hash, by_key_word, ShowsItem}
 use Rattle.optimistic_get.specs.Loading.{loads_in, GoesOn, HasLoadedWords, LacksWord, HasKeyOf, HoldsValue}
-use Rattle.optimistic_get.proofs.Loads.{on_none, on_load, on_then, on_open, item_here, item_still, words_still}
+use Rattle.optimistic_get.proofs.Loads.{on_none, on_load, on_then, on_open, on_shape, item_here, item_still, words_still}
 
 pub on_one : (r q : ReaderState) (place x : ℕ) → is_some r.current ≡ true → q ≡ loaded place x r → GoesOn r 1 q
 on_one r q place x trying is = on_load r r q 0 place x (on_none r trying) is
@@ -31,7 +32,7 @@ module _ (r q : ReaderState) (p header : ℕ) (key : List ℕ) (trying : is_some
     pub on_two : GoesOn r 2 q2
     on_two = on_load r q q2 1 _ x (on_one r q _ header trying one) two
 
-    pub other_hash : x ≢ fnv1a key → ShowsOther q2.shape (loads_in q2) p key
+    pub other_hash : x ≢ hash_of q2.shape.hashing key → ShowsOther q2.shape (loads_in q2) p key
     other_hash n = by_hash x (item_here q q2 (p + 1) x after_one two) n
 
     module _ (q3 : ReaderState) (three : GoesOn q2 (words_for (length key)) q3) where
@@ -43,7 +44,7 @@ module _ (r q : ReaderState) (p header : ℕ) (key : List ℕ) (trying : is_some
           let inside = lacks.inside in
           by_key_word lacks.at lacks.found (omega (arith, length-packed key)) lacks.load lacks.other
 
-      pub has_key : header_key_len header ≡ length key → header_value_len header ≤ MAX_STORED_LEN → x ≡ fnv1a key → HasLoadedWords q3 (p + 2) (packed key)
+      pub has_key : header_key_len header ≡ length key → header_value_len header ≤ MAX_STORED_LEN → x ≡ hash_of q3.shape.hashing key → HasLoadedWords q3 (p + 2) (packed key)
           → HasKeyOf q3 p key (header_value_len header)
       has_key key_len fits hash has = record {
         header = header;
@@ -52,7 +53,7 @@ module _ (r q : ReaderState) (p header : ℕ) (key : List ℕ) (trying : is_some
         key_len = key_len;
         value_len = refl;
         fits = fits;
-        hash = item_still q2 q3 (words_for (length key)) (p + 1) (fnv1a key) three
+        hash = item_still q2 q3 (words_for (length key)) (p + 1) (hash_of q3.shape.hashing key) three
             (subst (HasLoad (loads_in q2) (item_at q2.shape (p + 1))) hash (item_here q q2 (p + 1) x after_one two));
         words = has;
       }
@@ -65,7 +66,8 @@ tells_item q q' n p at len key value has g place holds = record {
   header_load = item_still q q' n p has.header g has.header_load;
   key_len = has.key_len;
   value_len = has.value_len ∙ sym holds.long;
-  hash = item_still q q' n (p + 1) (fnv1a key) g has.hash;
+  hash = subst (λ (z : Shape). HasLoad (loads_in q') (item_at q'.shape (p + 1)) (hash_of z.hashing key)) (sym (on_shape q q' n g))
+      (item_still q q' n (p + 1) (hash_of q.shape.hashing key) g has.hash);
   key_words = λ i l. words_still q q' n (p + 2) (packed key) g has.words i (omega (arith, length-packed key));
   words = holds.words;
   words_len = holds.enough ∙ ap words_for (sym holds.long);

@@ -2,7 +2,7 @@
 use Rattle.std.specs.Prelude.{◌≡◌, ◌≢◌, ℕ, ◌+◌, ◌*◌, ◌<◌, ◌≤◌, List, [], length, slice_index, Option, Some, None}
 use Rattle.mica_words.specs.declared.item.TheConstants.{MAX_STORED_LEN}
 use Rattle.mica_words.specs.declared.entry.TheConstants.{SLOTS}
-use Rattle.mica_words.specs.Hash.{fnv1a}
+use Rattle.mica_words.specs.Hash.{hash_of}
 use Rattle.mica_words.specs.Header.{header_key_len, header_value_len}
 use Rattle.mica_words.specs.Item.{words_for, largest_stored_item}
 use Rattle.mica_words.specs.Packing.{packed, unpacked}
@@ -61,7 +61,7 @@ pub record HasKeyOf (r : ReaderState) (p : ℕ) (key : List ℕ) (len : ℕ) : T
   pub key_len : header_key_len header ≡ length key
   pub value_len : header_value_len header ≡ len
   pub fits : len ≤ MAX_STORED_LEN
-  pub hash : HasLoad (loads_in r) (item_at r.shape (p + 1)) (fnv1a key)
+  pub hash : HasLoad (loads_in r) (item_at r.shape (p + 1)) (hash_of r.shape.hashing key)
   pub words : HasLoadedWords r (p + 2) (packed key)
 
 -- the words from the offset on hold this value

@@ -14,7 +14,7 @@ use Rattle.optimistic_get.specs.Loading.{loads_in, GoesOn}
 -- What was found of an entry: it has another tag, its item is another key's, or it begins no later than the
 -- item that was found first or last.
 pub data IsWeighed (shape : Shape) (loads : Loads) (key : List ℕ) (best : Option ℕ) (entry : ℕ) : Type 0 where
-  by_tag : entry_tag entry ≢ tag_of key → IsWeighed shape loads key best entry
+  by_tag : entry_tag entry ≢ tag_of shape.hashing key → IsWeighed shape loads key best entry
   by_item : ShowsOther shape loads (entry_offset entry) key → IsWeighed shape loads key best entry
   by_best : (p : ℕ) → best ≡ Some p → entry_offset entry ≤ p → IsWeighed shape loads key best entry
 
@@ -46,7 +46,7 @@ pub record Weighs (old : ReaderState) (entry : ℕ) (key : List ℕ) (best : Opt
   pub on : GoesOn old largest_stored_item new
   pub rises : IsNoWorse best now
   pub found : ((now ≡ best) × (now_value ≡ value))
-      ⊎ ((now ≡ Some (entry_offset entry)) × (entry_tag entry ≡ tag_of key)
+      ⊎ ((now ≡ Some (entry_offset entry)) × (entry_tag entry ≡ tag_of new.shape.hashing key)
       × ShowsItem new.shape (loads_in new) (entry_offset entry) key now_value)
   pub weighed : IsWeighed new.shape (loads_in new) key now entry
 

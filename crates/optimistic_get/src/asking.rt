@@ -1,11 +1,10 @@
 //! A get that is asked again until it answers.
 ghost use Rattle.std.specs.Prelude.{◌≡◌, ◌<◌};
-ghost use Rattle.mica_words.specs.Hash.{fnv1a};
+ghost use Rattle.mica_words.specs.Hash.{hash_of};
 ghost use Rattle.mica_words.specs.Item.{KeyFits};
 ghost use Rattle.optimistic_get.specs.Asked.{IsRead};
 
 use crate::getting::{Got, get_hashed};
-use mica_words::key_hash;
 use partition_model::ItemBuf;
 use partition_words::ReaderWords;
 use std::sync::Wait;
@@ -25,7 +24,8 @@ pub fn ask<W: Wait, R: ReaderWords>(
     ensures answered { IsRead (R.reader seat.old) key.now result out.new (R.reader seat.new) }
     ensures home { R.home seat.new ≡ R.home seat.old }
 {
-    ask_hashed(rt, seat, key, key_hash(key), tries, out)
+    let hash = seat.shape().hashing.key_hash(key);
+    ask_hashed(rt, seat, key, hash, tries, out)
 }
 
 /// As `ask`, for a key whose hash is at hand.
@@ -38,7 +38,7 @@ pub fn ask_hashed<W: Wait, R: ReaderWords>(
     out: &mut ItemBuf,
 ) -> Got
     requires key { KeyFits key.now }
-    requires hashed { hash ≡ fnv1a key.now }
+    requires hashed { hash ≡ hash_of (R.reader seat.old).shape.hashing key.now }
     requires tries { 0 < tries }
     ensures answered { IsRead (R.reader seat.old) key.now result out.new (R.reader seat.new) }
     ensures home { R.home seat.new ≡ R.home seat.old }

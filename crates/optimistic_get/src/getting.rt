@@ -1,12 +1,12 @@
 //! A get: tries of the key's bucket, until one does not fail or none is left.
 ghost use Rattle.std.specs.Prelude.{◌≡◌, ◌<◌};
-ghost use Rattle.mica_words.specs.Hash.{bucket_of as bucket_of_key, fnv1a};
+ghost use Rattle.mica_words.specs.Hash.{bucket_of as bucket_of_key, hash_of};
 ghost use Rattle.mica_words.specs.Item.{KeyFits};
 ghost use Rattle.optimistic_get.specs.Gets.{AnswersGet};
 
 use crate::trying::try_get;
 use crate::wanted::Wanted;
-use mica_words::{bucket_of, key_hash, tag_of};
+use mica_words::{bucket_of, tag_of};
 use partition_model::ItemBuf;
 use partition_words::ReaderWords;
 use std::hint::spin_loop;
@@ -37,11 +37,12 @@ impl Got {
 pub fn get<R: ReaderWords>(seat: &mut R, key: &[u8], tries: u32, out: &mut ItemBuf) -> Got
     requires key { KeyFits key.now }
     requires tries { 0 < tries }
-    ensures answers { AnswersGet (R.reader seat.old) (bucket_of_key key.now (R.reader seat.old).shape.buckets)
+    ensures answers { AnswersGet (R.reader seat.old) (bucket_of_key (R.reader seat.old).shape.hashing key.now (R.reader seat.old).shape.buckets)
         tries key.now result out.new (R.reader seat.new) }
     ensures home { R.home seat.new ≡ R.home seat.old }
 {
-    get_hashed(seat, key, key_hash(key), tries, out)
+    let hash = seat.shape().hashing.key_hash(key);
+    get_hashed(seat, key, hash, tries, out)
 }
 
 /// As `get`, for a key whose hash is at hand.
@@ -53,9 +54,9 @@ pub fn get_hashed<R: ReaderWords>(
     out: &mut ItemBuf,
 ) -> Got
     requires key { KeyFits key.now }
-    requires hashed { hash ≡ fnv1a key.now }
+    requires hashed { hash ≡ hash_of (R.reader seat.old).shape.hashing key.now }
     requires tries { 0 < tries }
-    ensures answers { AnswersGet (R.reader seat.old) (bucket_of_key key.now (R.reader seat.old).shape.buckets)
+    ensures answers { AnswersGet (R.reader seat.old) (bucket_of_key (R.reader seat.old).shape.hashing key.now (R.reader seat.old).shape.buckets)
         tries key.now result out.new (R.reader seat.new) }
     ensures home { R.home seat.new ≡ R.home seat.old }
 {

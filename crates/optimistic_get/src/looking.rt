@@ -1,6 +1,7 @@
 //! The item behind an entry, by loads in an open try.
 ghost use Rattle.std.specs.Prelude.{◌≡◌, ◌+◌, ◌<◌, ◌≤◌, ◌^◌, true, is_some, length, MatchBool, MatchOption};
 ghost use Rattle.mica_words.specs.declared.item.TheConstants.{MAX_STORED_LEN};
+ghost use Rattle.mica_words.specs.Hash.{hash_of};
 ghost use Rattle.mica_words.specs.Item.{words_for, largest_stored_item};
 ghost use Rattle.mica_words.specs.Packing.{packed};
 ghost use Rattle.partition_words.specs.Spelt.{ShowsOther, ShowsItem};
@@ -33,6 +34,7 @@ fn holds_packed<R: ReaderWords>(seat: &mut R, offset: u64, bytes: &[u8]) -> bool
 fn value_len_at<R: ReaderWords>(seat: &mut R, offset: u64, wanted: &Wanted<'_>) -> Option<usize>
     requires open { is_some (R.reader seat.old).current ≡ true }
     requires offset { offset < 2 ^ 48 }
+    requires hashed { wanted.now.hash ≡ hash_of (R.reader seat.old).shape.hashing wanted.now.key.now }
     ensures on { GoesOn (R.reader seat.old) (2 + words_for (length wanted.now.key.now)) (R.reader seat.new) }
     ensures shows { MatchOption result
         (ShowsOther (R.reader seat.new).shape (loads_in (R.reader seat.new)) offset wanted.now.key.now)
@@ -90,6 +92,7 @@ pub(crate) fn look<R: ReaderWords>(
 ) -> bool
     requires open { is_some (R.reader seat.old).current ≡ true }
     requires offset { offset < 2 ^ 48 }
+    requires hashed { wanted.now.hash ≡ hash_of (R.reader seat.old).shape.hashing wanted.now.key.now }
     ensures on { GoesOn (R.reader seat.old) largest_stored_item (R.reader seat.new) }
     ensures shows { MatchBool result
         (ShowsItem (R.reader seat.new).shape (loads_in (R.reader seat.new)) offset wanted.now.key.now out.new)

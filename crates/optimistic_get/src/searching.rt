@@ -2,6 +2,7 @@
 ghost use Rattle.std.specs.Prelude.{◌≡◌, ℕ, ◌<◌, ◌≤◌, ◌^◌, true, is_some, Some, None, IfSome, MatchBool};
 ghost use Rattle.mica_words.specs.declared.entry.TheConstants.{SLOTS};
 ghost use Rattle.mica_words.specs.Entry.{entry_tag};
+ghost use Rattle.mica_words.specs.Hash.{hash_of};
 ghost use Rattle.partition_words.specs.Shape.{IsMain, IsBucket};
 ghost use Rattle.partition_model.specs.declared.options.Mode.TheVariants as mode;
 ghost use Rattle.optimistic_get.specs.Search.{Weighs, Scans, ScansFirst, Searches};
@@ -34,6 +35,7 @@ fn weigh_tagged<R: ReaderWords>(
     requires open { is_some (R.reader seat.old).current ≡ true }
     requires low { IfSome best (λ p. p < 2 ^ 48) }
     requires tagged { entry_tag entry ≡ wanted.now.tag }
+    requires hashed { wanted.now.hash ≡ hash_of (R.reader seat.old).shape.hashing wanted.now.key.now }
     ensures weighs { Weighs (R.reader seat.old) entry wanted.now.key.now best out.old result out.new
         (R.reader seat.new) }
     ensures low { IfSome result (λ p. p < 2 ^ 48) }
@@ -62,6 +64,7 @@ fn weigh<R: ReaderWords>(
 ) -> Option<u64>
     requires open { is_some (R.reader seat.old).current ≡ true }
     requires low { IfSome best (λ p. p < 2 ^ 48) }
+    requires hashed { wanted.now.hash ≡ hash_of (R.reader seat.old).shape.hashing wanted.now.key.now }
     ensures weighs { Weighs (R.reader seat.old) entry wanted.now.key.now best out.old result out.new
         (R.reader seat.new) }
     ensures low { IfSome result (λ p. p < 2 ^ 48) }
@@ -84,6 +87,7 @@ fn last_in<R: ReaderWords>(
 ) -> Option<u64>
     requires open { is_some (R.reader seat.old).current ≡ true }
     requires bucket { IsBucket (R.reader seat.old).shape bucket }
+    requires hashed { wanted.now.hash ≡ hash_of (R.reader seat.old).shape.hashing wanted.now.key.now }
     ensures low { IfSome result (λ p. p < 2 ^ 48) }
     ensures scans { Scans (R.reader seat.old) bucket SLOTS wanted.now.key.now None out.old result out.new
         (R.reader seat.new) }
@@ -108,6 +112,7 @@ fn first_in<R: ReaderWords>(
     requires open { is_some (R.reader seat.old).current ≡ true }
     requires store { (R.reader seat.old).shape.mode ≡ mode.Store }
     requires bucket { IsBucket (R.reader seat.old).shape bucket }
+    requires hashed { wanted.now.hash ≡ hash_of (R.reader seat.old).shape.hashing wanted.now.key.now }
     ensures low { IfSome result (λ p. p < 2 ^ 48) }
     ensures scans { ScansFirst (R.reader seat.old) bucket wanted.now.key.now result out.new (R.reader seat.new) }
     ensures home { R.home seat.new ≡ R.home seat.old }
@@ -138,6 +143,7 @@ fn search_chain<R: ReaderWords>(
     requires store { (R.reader seat.old).shape.mode ≡ mode.Store }
     requires spares { spares ≡ (R.reader seat.old).shape.spares }
     requires bucket { IsMain (R.reader seat.old).shape bucket }
+    requires hashed { wanted.now.hash ≡ hash_of (R.reader seat.old).shape.hashing wanted.now.key.now }
     ensures searches { Searches (R.reader seat.old) bucket wanted.now.key.now result out.new (R.reader seat.new) }
     ensures low { IfSome result (λ p. p < 2 ^ 48) }
     ensures home { R.home seat.new ≡ R.home seat.old }
@@ -168,6 +174,7 @@ pub(crate) fn search<R: ReaderWords>(
 ) -> Option<u64>
     requires open { is_some (R.reader seat.old).current ≡ true }
     requires bucket { IsMain (R.reader seat.old).shape bucket }
+    requires hashed { wanted.now.hash ≡ hash_of (R.reader seat.old).shape.hashing wanted.now.key.now }
     ensures searches { Searches (R.reader seat.old) bucket wanted.now.key.now result out.new (R.reader seat.new) }
     ensures low { IfSome result (λ p. p < 2 ^ 48) }
     ensures home { R.home seat.new ≡ R.home seat.old }

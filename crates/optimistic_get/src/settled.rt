@@ -8,7 +8,7 @@ ghost use Rattle.optimistic_get.specs.Settled.{AnswersPlayed};
 use crate::getting::Got;
 use crate::trying::try_get;
 use crate::wanted::Wanted;
-use mica_words::{bucket_of, key_hash, tag_of};
+use mica_words::{bucket_of, tag_of};
 use partition_model::{Answer, ItemBuf};
 use partition_words::ReaderWords;
 use scripted_reader::Scripted;
@@ -21,8 +21,9 @@ pub fn get_settled(seat: &mut Scripted, key: &[u8], out: &mut ItemBuf) -> Answer
     ensures home { ⟦<Scripted as ReaderWords>⟧.home seat.new ≡ ⟦<Scripted as ReaderWords>⟧.home seat.old }
     ensures plan { ⟦<Scripted as ReaderWords>⟧.plan seat.new ≡ ⟦<Scripted as ReaderWords>⟧.plan seat.old }
 {
-    let hash = key_hash(key);
-    let bucket = bucket_of(hash, seat.shape().buckets);
+    let shape = seat.shape();
+    let hash = shape.hashing.key_hash(key);
+    let bucket = bucket_of(hash, shape.buckets);
     let wanted = Wanted {
         key,
         hash,

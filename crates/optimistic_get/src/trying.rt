@@ -1,6 +1,6 @@
 //! One try of a get, between two loads of its bucket's epoch.
 ghost use Rattle.std.specs.Prelude.{◌≡◌, ◌<◌, ◌^◌, ◌↔◌, IsTrue, IfSome};
-ghost use Rattle.mica_words.specs.Hash.{bucket_of};
+ghost use Rattle.mica_words.specs.Hash.{bucket_of, hash_of};
 ghost use Rattle.partition_words.specs.Shape.{IsMain};
 ghost use Rattle.partition_words.specs.LiveEntry.{IsLiveItem};
 ghost use Rattle.optimistic_get.specs.Gets.{Tries};
@@ -34,6 +34,7 @@ pub(crate) fn try_get<R: ReaderWords>(
 ) -> Got
     requires main { IsMain (R.reader seat.old).shape bucket }
     requires bucket { bucket ≡ bucket_of (R.reader seat.old).shape.hashing wanted.now.key.now (R.reader seat.old).shape.buckets }
+    requires hashed { wanted.now.hash ≡ hash_of (R.reader seat.old).shape.hashing wanted.now.key.now }
     ensures tries { Tries (R.reader seat.old) bucket wanted.now.key.now result out.new (R.reader seat.new) }
     ensures planned { IfSome (R.plan seat.old)
         (TriesAtRest (R.reader seat.old) result (R.reader seat.new)) }

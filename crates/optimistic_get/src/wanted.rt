@@ -1,6 +1,6 @@
 //! The key that a get looks for.
 ghost use Rattle.std.specs.Prelude.{◌≡◌, ◌<◌};
-ghost use Rattle.mica_words.specs.Hash.{fnv1a, hash_tag};
+ghost use Rattle.mica_words.specs.Hash.{hash_tag};
 ghost use Rattle.mica_words.specs.Item.{KeyFits};
 ghost use Rattle.mica_words.specs.Packing.{AreBytes};
 
@@ -11,7 +11,6 @@ pub(crate) struct Wanted<'a> {
     pub hash: u64,
     pub tag: u16,
     pub ghost fits: { KeyFits key.now },
-    pub ghost hashed: { hash ≡ fnv1a key.now },
     pub ghost tagged: { tag ≡ hash_tag hash },
     pub ghost bytes: { AreBytes key.now },
 }

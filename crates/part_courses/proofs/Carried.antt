@@ -4,6 +4,7 @@ use Rattle.std.specs.Prelude.{IfSome}
 use Rattle.std.specs.List.{cons_option}
 use Rattle.std.proofs.lemmas.Bool.{true≢false}
 use Rattle.std.proofs.lemmas.Slice.Eq.{bytes_eq-Decides}
+use Rattle.mica_words.specs.Mark.{is_mark, has_marks}
 use Rattle.partition_model.specs.declared.options.Options.{Options}
 use Rattle.partition_model.specs.declared.options.Mode.TheVariants.{Store}
 use Rattle.partition_model.specs.declared.write.Op.TheVariants.{Put, Del}
@@ -27,7 +28,7 @@ use Rattle.memcached_commands.specs.Moments.{found_in}
 use Rattle.memcached_commands.proofs.DecideLaws.{fits, left}
 use Rattle.fronts.specs.Answered.{changed, kept}
 use Rattle.fronts.specs.Changing.{write_for}
-use Rattle.fronts.specs.Flushes.{is_in_first, begins_with_feed}
+use Rattle.fronts.specs.Flushes.{is_in_first, marks}
 use Rattle.fronts.specs.Looks.{Look, IsLookAt}
 use Rattle.memcached_decisions.specs.Numbered.{numbered, moment_at, value_in, stored_becoming}
 use Rattle.command_answers.specs.AskAnswers.{AnswersAsk}
@@ -44,7 +45,7 @@ module _ {options : Options} {base : ℕ} {h : History} {shelf : Shelf} (g : Beg
   abbrev n : ℕ
   n = length h
 
-  module _ (asked : Asked) (look : Look) (looked : IsLookAt options h asked.key look) (fit : IsFitAsked asked) (spelled : begins_with_feed asked.key ≡ false) where
+  module _ (asked : Asked) (look : Look) (looked : IsLookAt options h asked.key look) (fit : IsFitAsked asked) (spelled : is_mark asked.key ≡ false) where
     abbrev key : List ℕ
     key = asked.key
 
@@ -180,7 +181,7 @@ module _ {options : Options} {base : ℕ} {h : History} {shelf : Shelf} (g : Beg
         others = λ k differ. other_key k key (Some item) (now.items k) differ ∙ is_now.others k differ;
         stored = subst (λ o. IfSome o (IsStored key)) (sym value) (record { short = whole.fits; fit = subst IsFitItem (sym whole.reads) whole.fit; spelled = spelled });
         free = let most = below_next g write outcome may on in omega (arith, most);
-        flushes = is_now.flushes ∙ g.stands.flushes ∙ same_flushes g (write_of Put key (item_text item)) (never_flushes (is_in_first options.buckets (write_of Put key (item_text item))) (begins_with_feed key));
+        flushes = is_now.flushes ∙ g.stands.flushes ∙ same_flushes g (write_of Put key (item_text item)) (never_flushes (is_in_first options.hashing options.buckets (write_of Put key (item_text item))) (marks options.hashing key));
       }))
         where
           whole : IsKept item
@@ -198,7 +199,7 @@ module _ {options : Options} {base : ℕ} {h : History} {shelf : Shelf} (g : Beg
         others = others;
         stored = subst (λ o. IfSome o (IsStored key)) (sym value) tt;
         free = let most = g.stands.free in omega (arith, most, free);
-        flushes = flushes ∙ g.stands.flushes ∙ same_flushes g (write_of Del key []) (ap (λ feed. is_in_first options.buckets (write_of Del key []) && true && feed) spelled ∙ no_feed_flushes (is_in_first options.buckets (write_of Del key [])) true);
+        flushes = flushes ∙ g.stands.flushes ∙ same_flushes g (write_of Del key []) (ap (λ mark. is_in_first options.hashing options.buckets (write_of Del key []) && true && (mark && has_marks options.hashing)) spelled ∙ no_feed_flushes (is_in_first options.hashing options.buckets (write_of Del key [])) true);
       }))
         where
           value : answer_of options (h ++ write_of Del key [] ∷ []) key ≡ None

@@ -3,6 +3,7 @@ use Rattle.std.proofs.Common.{◌≡◌, ◌≤◌, ◌+◌, ◌&&◌, ℕ, suc,
 use Rattle.std.specs.Prelude.{IfSome}
 use Rattle.std.specs.List.{cons_option}
 use Rattle.std.proofs.lemmas.Bool.{true≢false}
+use Rattle.mica_words.specs.Mark.{is_mark, has_marks}
 use Rattle.partition_model.specs.declared.options.Options.{Options}
 use Rattle.partition_model.specs.declared.write.Op.TheVariants.{Del}
 use Rattle.partition_model.specs.Write.{write_of, is_accepted}
@@ -11,7 +12,7 @@ use Rattle.partition_model.specs.Run.{RunStep, history_of}
 use Rattle.memcached_text.specs.Item.{item_in}
 use Rattle.memcached_commands.specs.Moments.{is_there}
 use Rattle.fronts.specs.declared.flushes.Flush.{Flush}
-use Rattle.fronts.specs.Flushes.{is_flush, is_in_first, is_delete, begins_with_feed, flush_in, flushes_then, flushes_in}
+use Rattle.fronts.specs.Flushes.{is_flush, is_in_first, is_delete, marks, flush_in, flushes_then, flushes_in}
 use Rattle.fronts.specs.Looks.{Look, IsLookAt}
 use Rattle.fronts.proofs.FlushLaws.{flushes_push}
 use Rattle.memcached_decisions.specs.Over.{is_over}
@@ -19,7 +20,7 @@ use Rattle.memcached_decisions.specs.Numbered.{numbered, moment_at}
 use Rattle.memcached_page.specs.Shelf.{Shelf, at, there, with_item}
 use Rattle.memcached_page.specs.Course.{flushed, went}
 use Rattle.part_courses.proofs.Values.{del_is, flushed_none}
-use Rattle.part_courses.proofs.Written.{there_alike, no_feed_flushes, own_key, other_key, feed_of, deletes_of, numbered_flush, over_parts}
+use Rattle.part_courses.proofs.Written.{there_alike, no_feed_flushes, own_key, other_key, feed_of, first_of, deletes_of, numbered_flush, over_parts}
 use Rattle.part_courses.proofs.Shelves.{IsStored, in_numbers, Stands, moment_same}
 use Rattle.part_courses.proofs.Steps.{Begun, One, stands_next, same_flushes}
 
@@ -29,7 +30,7 @@ module _ {options : Options} {base : ℕ} {h : History} {shelf : Shelf} (g : Beg
 
   -- A flush
 
-  pub flush_one : (part : ℕ) (step : RunStep) (flush : Flush) → MayGive options h step.write step.outcome → is_flush options.buckets step.write ≡ true → flush_in step.write.key ≡ flush
+  pub flush_one : (part : ℕ) (step : RunStep) (flush : Flush) → MayGive options h step.write step.outcome → is_flush options.hashing options.buckets step.write ≡ true → flush_in step.write.key ≡ flush
       → One options base shelf (h ++ history_of (step ∷ [])) (flushed part (numbered base (n + 1)) flush (is_accepted step.outcome) ∷ [])
   flush_one part step flush may is_it flush_is = by (is_accepted step.outcome) refl
     where
@@ -39,24 +40,24 @@ module _ {options : Options} {base : ℕ} {h : History} {shelf : Shelf} (g : Beg
       least : shelf.free ≤ number
       least = let most = g.stands.free in omega (arith, most)
 
-      feed : begins_with_feed step.write.key ≡ true
-      feed = feed_of (is_in_first options.buckets step.write) (is_delete step.write.op) (begins_with_feed step.write.key) is_it
+      mark : is_mark step.write.key ≡ true
+      mark = first_of (is_mark step.write.key) (has_marks options.hashing) (feed_of (is_in_first options.hashing options.buckets step.write) (is_delete step.write.op) (marks options.hashing step.write.key) is_it)
 
       none_stored : (o : Option (List ℕ)) → IfSome o (IsStored step.write.key) → o ≡ None
       none_stored None is = refl
-      none_stored (Some stored) is = absurd (true≢false (sym feed ∙ is.spelled))
+      none_stored (Some stored) is = absurd (true≢false (sym mark ∙ is.spelled))
 
       before : answer_of options h step.write.key ≡ None
       before = none_stored (answer_of options h step.write.key) (g.stands.stored step.write.key)
 
       value : answer_of options (h ++ step.write ∷ []) step.write.key ≡ None
-      value = flushed_none options g.is_store h step.write (deletes_of (is_in_first options.buckets step.write) step.write.op (begins_with_feed step.write.key) is_it)
+      value = flushed_none options g.is_store h step.write (deletes_of (is_in_first options.hashing options.buckets step.write) step.write.op (marks options.hashing step.write.key) is_it)
 
-      flushes_are : in_numbers base (flushes_in options.buckets (h ++ step.write ∷ [])) ≡ flushes_then number flush shelf.flushes
+      flushes_are : in_numbers base (flushes_in options.hashing options.buckets (h ++ step.write ∷ [])) ≡ flushes_then number flush shelf.flushes
       flushes_are =
-          ap (in_numbers base) (flushes_push options.buckets h step.write ∙ ap (λ b. cond b (flushes_then (suc n) (flush_in step.write.key) (flushes_in options.buckets h)) (flushes_in options.buckets h)) is_it ∙ ap (λ f. flushes_then (suc n) f (flushes_in options.buckets h)) flush_is)
-          ∙ numbered_flush base n flush (flushes_in options.buckets h)
-          ∙ ap (λ m. flushes_then (numbered base m) flush (in_numbers base (flushes_in options.buckets h))) (omega arith)
+          ap (in_numbers base) (flushes_push options.hashing options.buckets h step.write ∙ ap (λ b. cond b (flushes_then (suc n) (flush_in step.write.key) (flushes_in options.hashing options.buckets h)) (flushes_in options.hashing options.buckets h)) is_it ∙ ap (λ f. flushes_then (suc n) f (flushes_in options.hashing options.buckets h)) flush_is)
+          ∙ numbered_flush base n flush (flushes_in options.hashing options.buckets h)
+          ∙ ap (λ m. flushes_then (numbered base m) flush (in_numbers base (flushes_in options.hashing options.buckets h))) (omega arith)
           ∙ ap (flushes_then number flush) (sym g.stands.flushes)
 
       by : (on : Bool) → is_accepted step.outcome ≡ on → One options base shelf (h ++ cons_option (cond on (Some step.write) None) []) (flushed part number flush on ∷ [])
@@ -105,8 +106,8 @@ module _ {options : Options} {base : ℕ} {h : History} {shelf : Shelf} (g : Beg
       gone : answer_of options (h ++ step.write ∷ []) key ≡ None
       gone = subst (λ w. answer_of options (h ++ w ∷ []) key ≡ None) (sym deletes) (del_is options g.is_store h key)
 
-      off_flush : is_flush options.buckets step.write ≡ false
-      off_flush = ap (λ feed. is_in_first options.buckets step.write && is_delete step.write.op && feed) kept_so.spelled ∙ no_feed_flushes (is_in_first options.buckets step.write) (is_delete step.write.op)
+      off_flush : is_flush options.hashing options.buckets step.write ≡ false
+      off_flush = ap (λ mark. is_in_first options.hashing options.buckets step.write && is_delete step.write.op && (mark && has_marks options.hashing)) kept_so.spelled ∙ no_feed_flushes (is_in_first options.hashing options.buckets step.write) (is_delete step.write.op)
 
       by : (on : Bool) → is_accepted step.outcome ≡ on → One options base shelf (h ++ cons_option (cond on (Some step.write) None) []) (cond on (went look.when.second key ∷ []) [])
       by false off = record { steps = tt; stands_then = subst (λ z. Stands options base z shelf) (sym (append-nil h)) g.stands }

@@ -2,6 +2,7 @@
 use Rattle.std.proofs.Common.{◌≡◌, ◌≤◌, ◌==◌, ℕ, Bool, true, false, cond, List, [], length, Option, Some, None, nat_lt, option_map, refl, sym, ap, subst, ◌∙◌, arith}
 use Rattle.std.specs.Prelude.{IfSome}
 use Rattle.std.proofs.lemmas.Bool.{le-leb}
+use Rattle.mica_words.specs.Mark.{is_mark}
 use Rattle.mica_words.specs.declared.item.TheConstants.{MAX_STORED_LEN}
 use Rattle.partition_model.specs.declared.options.Options.{Options}
 use Rattle.partition_model.specs.History.{History, IsHistory, answer_of}
@@ -10,7 +11,7 @@ use Rattle.memcached_commands.specs.declared.moment.Moment.{Moment}
 use Rattle.memcached_commands.specs.Moments.{is_there, found_in}
 use Rattle.memcached_commands.specs.Laws.{IsFitItem, IsFitFound}
 use Rattle.fronts.specs.declared.flushes.Flushes.{Flushes}
-use Rattle.fronts.specs.Flushes.{begins_with_feed, flushed_at, waits_at, flushes_in}
+use Rattle.fronts.specs.Flushes.{flushed_at, waits_at, flushes_in}
 use Rattle.fronts.specs.Looks.{when_after}
 use Rattle.memcached_decisions.specs.Numbered.{numbered, moment_at, value_in}
 use Rattle.memcached_decisions.proofs.Values.{none_at_first}
@@ -20,7 +21,7 @@ use Rattle.memcached_page.specs.Shelf.{Shelf, empty, at, there}
 pub record IsStored (key stored : List ℕ) : Type 0 where
   pub short : length stored ≤ MAX_STORED_LEN
   pub fit : IsFitItem (item_in stored)
-  pub spelled : begins_with_feed key ≡ false
+  pub spelled : is_mark key ≡ false
 
 -- What a command finds of it is what it finds on the shelf.
 pub value_same : (key : List ℕ) (o : Option (List ℕ)) → IfSome o (IsStored key) → value_in o ≡ o
@@ -53,7 +54,7 @@ module _ (options : Options) (base : ℕ) where
     pub items : (key : List ℕ) → shelf.items key ≡ option_map item_in (answer_of options h key)
     pub stored : (key : List ℕ) → IfSome (answer_of options h key) (IsStored key)
     pub free : shelf.free ≤ numbered base (length h)
-    pub flushes : shelf.flushes ≡ in_numbers base (flushes_in options.buckets h)
+    pub flushes : shelf.flushes ≡ in_numbers base (flushes_in options.hashing options.buckets h)
 
   pub stands_empty : Stands [] empty
   stands_empty = record {
@@ -65,12 +66,12 @@ module _ (options : Options) (base : ℕ) where
   }
 
   -- a command is carried out at the same moment on both
-  pub moment_same : (h : History) (flushes : Flushes) (second : ℕ) → flushes ≡ in_numbers base (flushes_in options.buckets h) → (shelf : Shelf) → shelf.flushes ≡ flushes
+  pub moment_same : (h : History) (flushes : Flushes) (second : ℕ) → flushes ≡ in_numbers base (flushes_in options.hashing options.buckets h) → (shelf : Shelf) → shelf.flushes ≡ flushes
       → at second (numbered base (length h)) shelf ≡ moment_at base (when_after options second h)
   moment_same h flushes second is shelf own = ap moment (own ∙ is) ∙ by (nat_lt second before.due)
     where
       before : Flushes
-      before = flushes_in options.buckets h
+      before = flushes_in options.hashing options.buckets h
 
       made : ℕ → ℕ → Moment
       made flushed until = record { second = second; flushed = flushed; unique = numbered base (length h); until = until }

@@ -48,7 +48,7 @@ pub record Next (options : Options) (base : ℕ) (h : History) (shelf : Shelf) (
   pub others : (key : List ℕ) → key ≢ write.key → next.items key ≡ shelf.items key
   pub stored : IfSome (answer_of options (h ++ write ∷ []) write.key) (IsStored write.key)
   pub free : next.free ≤ numbered base (suc (length h))
-  pub flushes : next.flushes ≡ in_numbers base (flushes_in options.buckets (h ++ write ∷ []))
+  pub flushes : next.flushes ≡ in_numbers base (flushes_in options.hashing options.buckets (h ++ write ∷ []))
 
 module _ {options : Options} {base : ℕ} {h : History} {shelf : Shelf} (g : Begun options base h shelf) where
   abbrev n : ℕ
@@ -82,5 +82,5 @@ module _ {options : Options} {base : ℕ} {h : History} {shelf : Shelf} (g : Beg
           by true same = subst P (sym ((bytes_eq-Decides key write.key).0 same)) own
           by false differ = others key (λ e. true≢false (sym ((bytes_eq-Decides key write.key).1 e) ∙ differ))
 
-  pub same_flushes : (write : Write) → is_flush options.buckets write ≡ false → in_numbers base (flushes_in options.buckets h) ≡ in_numbers base (flushes_in options.buckets (h ++ write ∷ []))
-  same_flushes write off = ap (in_numbers base) (sym (flushes_push options.buckets h write ∙ ap (λ b. cond b (flushes_then (suc (length h)) (flush_in write.key) (flushes_in options.buckets h)) (flushes_in options.buckets h)) off))
+  pub same_flushes : (write : Write) → is_flush options.hashing options.buckets write ≡ false → in_numbers base (flushes_in options.hashing options.buckets h) ≡ in_numbers base (flushes_in options.hashing options.buckets (h ++ write ∷ []))
+  same_flushes write off = ap (in_numbers base) (sym (flushes_push options.hashing options.buckets h write ∙ ap (λ b. cond b (flushes_then (suc (length h)) (flush_in write.key) (flushes_in options.hashing options.buckets h)) (flushes_in options.hashing options.buckets h)) off))

@@ -112,6 +112,10 @@ feed_of true true feed is = is
 feed_of true false feed is = absurd (cc)
 feed_of false delete feed is = absurd (cc)
 
+pub first_of : (first second : Bool) → (first && second) ≡ true → first ≡ true
+first_of true second is = refl
+first_of false second is = absurd (cc)
+
 pub deletes_of : (first : Bool) (op : Op) (feed : Bool) → (first && is_delete op && feed) ≡ true → op ≡ Del
 deletes_of first Del feed is = refl
 deletes_of first Put feed is = absurd (true≢false (sym is ∙ never_flushes first feed))

@@ -1,6 +1,7 @@
 -- The sizes of partitions for so much memory: as many items of 16 bytes of key and 64 of value as it has room for.
 use Rattle.std.specs.Prelude.{ℕ, zero, suc, ◌+◌, ◌-◌, ◌*◌, ◌/◌, min, nat_le, if◌then◌else◌}
 use Rattle.std.specs.Int.{div_ceil}
+use Rattle.mica_words.specs.declared.hashing.Hashing.TheVariants.{Fnv1a}
 use Rattle.partition_model.specs.declared.options.Mode.{Mode}
 use Rattle.partition_model.specs.declared.options.Mode.TheVariants.{Cache, Store}
 use Rattle.partition_model.specs.declared.options.Options.{Options}
@@ -48,7 +49,7 @@ spares_for Store buckets = buckets / 8
 
 -- a partition with no words for items yet
 abbrev pub without_words : Mode → ℕ → ℕ → Shape
-without_words mode buckets spares = record { mode = mode; buckets = buckets; spares = spares; words = 0; wear = 1 }
+without_words mode buckets spares = record { mode = mode; buckets = buckets; spares = spares; words = 0; wear = 1; hashing = Fnv1a }
 
 -- as many words for items as there are bytes left
 abbrev pub words_for : Mode → ℕ → ℕ → ℕ → ℕ

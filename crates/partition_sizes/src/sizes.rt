@@ -4,6 +4,7 @@ ghost use Rattle.partition_model.specs.Options.{InRange};
 ghost use Rattle.partition_sizes.specs.Sizes.{partitions_for, word_bytes, buckets_for, spares_for, sizes_for};
 
 use crate::bytes::{HEAP_BYTES, partition_bytes};
+use mica_words::Hashing;
 use partition_model::{MOST_WORDS, Mode};
 use partition_words::Shape;
 
@@ -89,6 +90,7 @@ pub fn sizes_for(mode: Mode, memory: u64) -> Sizes
         spares,
         words: 0,
         wear: 1,
+        hashing: Hashing::Fnv1a,
     });
     let words = ((bytes - empty) / word).min(u64::from(MOST_WORDS)) as u32;
     Sizes {

@@ -2,6 +2,7 @@
 use Rattle.std.specs.Prelude.{◌≡◌, ℕ, [], Bool, true, false}
 use mathlib.Core.Option.{some}
 use lib.ListN.{get_elem?}
+use Rattle.mica_words.specs.declared.hashing.Hashing.TheVariants.{Fnv1a}
 use Rattle.atomic_table.specs.Table.{State, Me}
 use Rattle.partition_model.specs.declared.options.Mode.TheVariants.{Cache}
 use Rattle.partition_words.specs.declared.shape.Shape.{Shape}
@@ -40,7 +41,7 @@ first_view shape = Owns (as_made shape)
 
 -- the shape of no table
 abbrev pub no_shape : Shape
-no_shape = record { mode = Cache; buckets = 0; spares = 0; words = 0; wear = 0 }
+no_shape = record { mode = Cache; buckets = 0; spares = 0; words = 0; wear = 0; hashing = Fnv1a }
 
 abbrev pub is_owner : View → Bool
 is_owner (Owns o) = true

@@ -1,6 +1,6 @@
 -- The words of an item put in four parts: its header, its hash, its key and its value.
 use Rattle.std.proofs.lemmas.Grind.{common_steps}
-use Rattle.partition_words.proofs.Vocabulary.{CanPlay, HasKeyWords, Kept, KeyFits, List, MayPutWord, OwnerState, PutsWord, [], after, ap, arith, fnv1a}
+use Rattle.partition_words.proofs.Vocabulary.{CanPlay, HasKeyWords, Kept, KeyFits, List, MayPutWord, OwnerState, PutsWord, [], after, ap, arith, hash_of}
 use Rattle.partition_words.proofs.Vocabulary.{get_or, header_of, item_at, item_events, item_in, length, length-packed, packed, plays, puts_from, refl}
 use Rattle.partition_words.proofs.Vocabulary.{set-get_or, suc, sym, zero, ℕ, ◌+◌, ◌<◌, ◌∙◌, ◌∷◌, ◌≡◌}
 use Rattle.mica_words.specs.Spelling.{item_words}
@@ -14,7 +14,7 @@ abbrev pub headed : OwnerState → ℕ → ℕ → List ℕ → List ℕ → Own
 headed o p room key value = after (PutsWord p (header_of room (length key) (length value))) o
 
 abbrev pub hashed : OwnerState → ℕ → ℕ → List ℕ → List ℕ → OwnerState
-hashed o p room key value = after (PutsWord (p + 1) (fnv1a key)) (headed o p room key value)
+hashed o p room key value = after (PutsWord (p + 1) (hash_of o.shape.hashing key)) (headed o p room key value)
 
 abbrev pub keyed : OwnerState → ℕ → ℕ → List ℕ → List ℕ → OwnerState
 keyed o p room key value = plays (puts_from (p + 2) (packed key)) (hashed o p room key value)
@@ -38,11 +38,11 @@ there_already o p (x ∷ xs) same =
     ∙ there_already o (p + 1) xs (λ i l. ap (item_in o) (omega arith) ∙ same (suc i) (omega arith))
 
 module _ (o : OwnerState) (p room : ℕ) (key value : List ℕ) where
-  pub can_put_parts : CanPlay (item_events p room key value) o → CanPut o p room key value
+  pub can_put_parts : CanPlay (item_events o.shape.hashing p room key value) o → CanPut o p room key value
   unfolding item_words
   can_put_parts can = grind (arith, common_steps, can_play-append)
 
-  pub all_put : plays (puts_from (p + 2 + length (packed key)) (packed value)) (keyed o p room key value) ≡ plays (item_events p room key value) o
+  pub all_put : plays (puts_from (p + 2 + length (packed key)) (packed value)) (keyed o p room key value) ≡ plays (item_events o.shape.hashing p room key value) o
   unfolding item_words
   all_put = grind (arith, common_steps, plays-append (hashed o p room key value) (p + 2) (packed key) (packed value))
 
@@ -50,11 +50,11 @@ module _ (o : OwnerState) (p room : ℕ) (key value : List ℕ) where
   pub key_stays : Kept o → KeyFits key → HasKeyWords o p key → keyed o p room key value ≡ headed o p room key value
   key_stays s fits there =
       ap (λ (z : ℕ). plays (puts_from z (packed key)) (hashed o p room key value)) (omega arith)
-      ∙ there_already (headed o p room key value) (p + 1) (fnv1a key ∷ packed key) (λ i l.
+      ∙ there_already (headed o p room key value) (p + 1) (hash_of o.shape.hashing key ∷ packed key) (λ i l.
       other o (PutsWord p _) (item_at o.shape (p + 1 + i)) (λ same. not_below o.shape.words p (p + 1 + i) (omega arith) (omega arith)
       (omega (arith, length-packed key, fits.1, s.shape.ranges.words.0)))
       ∙ is_there i l)
     where
-      is_there : (i : ℕ) → i < length (fnv1a key ∷ packed key) → item_in o (p + 1 + i) ≡ get_or (fnv1a key ∷ packed key) i 0
+      is_there : (i : ℕ) → i < length (hash_of o.shape.hashing key ∷ packed key) → item_in o (p + 1 + i) ≡ get_or (hash_of o.shape.hashing key ∷ packed key) i 0
       is_there zero l = ap (item_in o) (omega arith) ∙ there.hash
       is_there (suc i) l = ap (item_in o) (omega arith) ∙ there.words i (omega (arith, length-packed key))

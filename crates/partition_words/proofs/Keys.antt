@@ -10,7 +10,7 @@ use Rattle.mica_words.proofs.Fields.{header_key_len-header_of, header_room-heade
 -- the first word of an item is its header, which has its room
 pub header_there : (o : OwnerState) (p : ℕ) (key : List ℕ) (cell : Cell) → SpellsItem o p key cell
     → item_in o p ≡ header_of cell.room (length key) (length cell.value)
-header_there o p key cell item = ap (item_in o) (sym (add-zero p)) ∙ item 0 (omega arith) ∙ header_word cell.room key cell.value
+header_there o p key cell item = ap (item_in o) (sym (add-zero p)) ∙ item 0 (omega arith) ∙ header_word o.shape.hashing cell.room key cell.value
 
 pub item_room : (o : OwnerState) (p : ℕ) (key : List ℕ) (cell : Cell) → cell.room < 16777216 → length key < 256 → SpellsItem o p key cell
     → header_room (item_in o p) ≡ cell.room
@@ -23,10 +23,10 @@ module _ (o : OwnerState) (s : Kept o) (b entry : ℕ) (key : List ℕ) (cell : 
       grind (arith, common_steps, header_there o (entry_offset entry) key cell sp.item, header_key_len-header_of cell.room (length key) (length cell.value) fits.5 (omega (arith, fits.0)))
 
   key_word : (i : ℕ) → i < words_for (length key) → item_in o (entry_offset entry + 2 + i) ≡ slice_index (packed key) i
-  key_word i l = ap (item_in o) (omega arith) ∙ (sp.item (2 + i) (omega arith) ∙ packed_key_word cell.room key cell.value i l)
+  key_word i l = ap (item_in o) (omega arith) ∙ (sp.item (2 + i) (omega arith) ∙ packed_key_word o.shape.hashing cell.room key cell.value i l)
 
   pub has_its_key : HasKey o (entry_offset entry) key
-  has_its_key = grind (arith, common_steps, key_len, hash_word cell.room key cell.value, key_word)
+  has_its_key = grind (arith, common_steps, key_len, hash_word o.shape.hashing cell.room key cell.value, key_word)
 
   pub has_no_other : (other : List ℕ) → AreBytes other → HasKey o (entry_offset entry) other → key ≡ other
   has_no_other other bytes h =

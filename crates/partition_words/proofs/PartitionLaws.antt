@@ -54,7 +54,7 @@ module _ (o : OwnerState) (s : Kept o) where
 
   -- an entry spells the item that stands at its offset, where the machine has it
   pub spells_item : (c x : ℕ) (key : List ℕ) (cell : Cell) → bucket_in o key ≡ c → Has (state_in o) key cell (entry_offset x)
-      → IsOffset o.shape.mode o.shape.words (entry_offset x) → entry_tag x ≡ tag_of key → SpellsItem o (entry_offset x) key cell → Spells o c x key cell
+      → IsOffset o.shape.mode o.shape.words (entry_offset x) → entry_tag x ≡ tag_of o.shape.hashing key → SpellsItem o (entry_offset x) key cell → Spells o c x key cell
   spells_item c x key cell bucket has offset tag item =
       let fits = has_fits (options_in o) o.history s.history.writes key cell (entry_offset x) has in
       let room = item_room o (entry_offset x) key cell fits.5 (omega (arith, fits.0)) item in

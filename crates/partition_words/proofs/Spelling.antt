@@ -2,7 +2,7 @@
 use Rattle.std.proofs.lemmas.Grind.{common_steps}
 use Rattle.partition_words.proofs.Vocabulary.{AreBytes, Cell, Contains, Has, HasChain, HasKey, HasLiveEntry, InChain, IsAmong, IsDense, IsLive, IsSpelt, Kept, List, Mode, None, Store}
 use Rattle.partition_words.proofs.Vocabulary.{Option, OwnerState, Some, Spells, StandsFor, State, Try, TryKept, [], answer_of, ap, arith, bucket_in}
-use Rattle.partition_words.proofs.Vocabulary.{by_entry, by_item, by_link, cache_state, cell_at, entry_at, entry_in, entry_offset, epoch_in, fnv1a, get}
+use Rattle.partition_words.proofs.Vocabulary.{by_entry, by_item, by_link, cache_state, cell_at, entry_at, entry_in, entry_offset, epoch_in, hash_of, get}
 use Rattle.partition_words.proofs.Vocabulary.{header_key_len, header_value_len, inl, inr, item_at, item_in, item_size, length, link_at, link_in}
 use Rattle.partition_words.proofs.Vocabulary.{option_map, options_in, packed, refl, same_value, slice_index, stamp_of, state_in, store_state, subst, suc}
 use Rattle.partition_words.proofs.Vocabulary.{sym, unpacked, value_in, value_word, words_for, zero, ℕ, ◌+◌, ◌<◌, ◌∙◌, ◌∷◌, ◌≡◌, ◌≢◌}
@@ -89,7 +89,7 @@ module _ (o : OwnerState) (s : Kept o) (t : Try) (k : TryKept o t) (still : epoc
     value_word_is i x n same l load =
         let at = 2 + words_for (length key) + i in
         let place : entry_offset entry + 2 + n + i ≡ entry_offset entry + at = omega arith in
-        sym (value_word cell.room key cell.value i l) ∙ sym (sp.item at (omega arith)) ∙ rw (sym place) (word_now at _ x place (omega arith) load)
+        sym (value_word o.shape.hashing cell.room key cell.value i l) ∙ sym (sp.item at (omega arith)) ∙ rw (sym place) (word_now at _ x place (omega arith) load)
 
     -- they do not tell that it is another key's
     not_other : ¬ (ShowsOther o.shape t.loads (entry_offset entry) key)
@@ -112,7 +112,7 @@ module _ (o : OwnerState) (s : Kept o) (t : Try) (k : TryKept o t) (still : epoc
         (subst (λ (z : ℕ). i < z) long l) (shows.value_words i l))) in (
           has_no_other o s t.bucket entry key cell sp key' bytes record {
             len = len;
-            hash = word_now 1 (entry_offset entry + 1) (fnv1a key') refl (omega arith) shows.hash;
+            hash = word_now 1 (entry_offset entry + 1) (hash_of o.shape.hashing key') refl (omega arith) shows.hash;
             words = λ i l. word_now (2 + i) _ (slice_index (packed key') i) (omega arith) (omega (arith, one, l)) (shows.key_words i l);
           },
           sym held ∙ (ap (λ (z : ℕ). unpacked z shows.words) two ∙ shows.held),

@@ -9,7 +9,7 @@ pub use Rattle.std.proofs.lemmas.Bool.{cases_Bool, cases_lt, eqb-true, le-leb, l
 pub use Rattle.std.proofs.lemmas.List.{append-nil, drop_all, get_or_default, get_or_past, length-replicate, set-get_or}
 pub use Rattle.std.proofs.lemmas.List.Elements.{All-contains, All-from_recursion, Contains-append_cases, Contains-append_left, Contains-push_cases}
 pub use Rattle.std.specs.Prelude.{AllPairs, Contains, IfSome, IsTrue, option_map}
-pub use Rattle.mica_words.specs.Hash.{bucket_of, fnv1a, tag_of}
+pub use Rattle.mica_words.specs.Hash.{bucket_of, hash_of, tag_of}
 pub use Rattle.mica_words.specs.Header.{header_key_len, header_of, header_room, header_value_len}
 pub use Rattle.mica_words.specs.Item.{KeyFits, StoredFits, item_size, words_for}
 pub use Rattle.mica_words.specs.Packing.{AreBytes, packed, unpacked}

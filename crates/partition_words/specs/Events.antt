@@ -1,5 +1,6 @@
 -- The owner's events: when each may happen, and what it makes of the owner's state.
 use Rattle.std.specs.Prelude.{◌≡◌, ◌≢◌, ℕ, ◌+◌, ◌<◌, ◌^◌, ◌⊎◌, List, [], ◌∷◌, ◌++◌, length, slice_index, slice_set}
+use Rattle.mica_words.specs.declared.hashing.Hashing.{Hashing}
 use Rattle.mica_words.specs.declared.entry.TheConstants.{SLOTS}
 use Rattle.mica_words.specs.Spelling.{item_words}
 use Rattle.partition_model.specs.declared.write.Write.{Write}
@@ -148,5 +149,5 @@ puts_from p [] = []
 puts_from p (x ∷ xs) = PutsWord p x ∷ puts_from (p + 1) xs
 
 -- the words of an item stored at the offset
-abbrev pub item_events : ℕ → ℕ → List ℕ → List ℕ → List Event
-item_events p room key value = puts_from p (item_words room key value)
+abbrev pub item_events : Hashing → ℕ → ℕ → List ℕ → List ℕ → List Event
+item_events hashing p room key value = puts_from p (item_words hashing room key value)

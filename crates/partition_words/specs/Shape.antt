@@ -21,6 +21,7 @@ shape_of options = record {
   spares = spares_in options.mode options.spares;
   words = options.words;
   wear = options.wear;
+  hashing = options.hashing;
 }
 
 -- Options of this shape. The machine of a partition reads none of the other three.
@@ -34,6 +35,7 @@ options_of shape = record {
   readers = 1;
   tries = 1;
   wear = shape.wear;
+  hashing = shape.hashing;
 }
 
 -- partitions can be made of this shape

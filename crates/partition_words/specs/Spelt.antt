@@ -2,7 +2,7 @@
 use Rattle.std.specs.Prelude.{◌≡◌, ◌≢◌, ℕ, zero, suc, ◌+◌, ◌<◌, ◌⊎◌, List, [], ◌∷◌, length, Contains, slice_index, Option, Some, None}
 use Rattle.mica_words.specs.declared.item.TheConstants.{MAX_STORED_LEN}
 use Rattle.mica_words.specs.declared.entry.TheConstants.{SLOTS}
-use Rattle.mica_words.specs.Hash.{fnv1a, tag_of}
+use Rattle.mica_words.specs.Hash.{hash_of, tag_of}
 use Rattle.mica_words.specs.Entry.{entry_tag, entry_offset}
 use Rattle.mica_words.specs.Header.{header_key_len, header_value_len}
 use Rattle.mica_words.specs.Item.{words_for}
@@ -47,7 +47,7 @@ pub data ShowsOther (shape : Shape) (loads : Loads) (p : ℕ) (key : List ℕ) :
       → ShowsOther shape loads p key
   by_value_len : (x : ℕ) → HasLoad loads (item_at shape p) x → MAX_STORED_LEN < header_value_len x
       → ShowsOther shape loads p key
-  by_hash : (x : ℕ) → HasLoad loads (item_at shape (p + 1)) x → x ≢ fnv1a key
+  by_hash : (x : ℕ) → HasLoad loads (item_at shape (p + 1)) x → x ≢ hash_of shape.hashing key
       → ShowsOther shape loads p key
   by_key_word : (i x : ℕ) → i < words_for (length key) → HasLoad loads (item_at shape (p + 2 + i)) x
       → x ≢ slice_index (packed key) i → ShowsOther shape loads p key
@@ -58,7 +58,7 @@ pub record ShowsItem (shape : Shape) (loads : Loads) (p : ℕ) (key value : List
   pub header_load : HasLoad loads (item_at shape p) header
   pub key_len : header_key_len header ≡ length key
   pub value_len : header_value_len header ≡ length value
-  pub hash : HasLoad loads (item_at shape (p + 1)) (fnv1a key)
+  pub hash : HasLoad loads (item_at shape (p + 1)) (hash_of shape.hashing key)
   pub key_words : (i : ℕ) → i < words_for (length key)
       → HasLoad loads (item_at shape (p + 2 + i)) (slice_index (packed key) i)
   pub words : List ℕ
@@ -74,11 +74,11 @@ pub record IsEntryOf (shape : Shape) (loads : Loads) (chain key : List ℕ) (ent
   pub in_chain : Contains chain bucket
   pub in_bucket : slot < SLOTS
   pub load : HasLoad loads (entry_at shape bucket slot) entry
-  pub tag : entry_tag entry ≡ tag_of key
+  pub tag : entry_tag entry ≡ tag_of shape.hashing key
 
 -- an entry that is not the key's: it has another tag, is not live by the stamp, or names another's item
 pub data IsNoEntryOf (shape : Shape) (loads : Loads) (stamp : ℕ) (key : List ℕ) (entry : ℕ) : Type 0 where
-  by_tag : entry_tag entry ≢ tag_of key → IsNoEntryOf shape loads stamp key entry
+  by_tag : entry_tag entry ≢ tag_of shape.hashing key → IsNoEntryOf shape loads stamp key entry
   by_stamp : ¬ (IsLive shape stamp entry) → IsNoEntryOf shape loads stamp key entry
   by_item : ShowsOther shape loads (entry_offset entry) key → IsNoEntryOf shape loads stamp key entry
 

@@ -30,7 +30,7 @@ Has (store_state s) key cell p = get s.cells key ≡ Some cell
 -- the words from the offset on are those of the item
 abbrev pub SpellsItem : OwnerState → ℕ → List ℕ → Cell → Type 0
 SpellsItem o p key cell = (i : ℕ) → i < item_size key cell.value
-    → item_in o (p + i) ≡ slice_index (item_words cell.room key cell.value) i
+    → item_in o (p + i) ≡ slice_index (item_words o.shape.hashing cell.room key cell.value) i
 
 -- In store mode an offset is the place of a block.
 abbrev pub IsOffset : Mode → ℕ → ℕ → Type 0
@@ -47,7 +47,7 @@ pub record Spells (o : OwnerState) (b entry : ℕ) (key : List ℕ) (cell : Cell
   pub bucket : bucket_in o key ≡ b
   pub has : Has (state_in o) key cell (entry_offset entry)
   pub offset : IsOffset o.shape.mode o.shape.words (entry_offset entry)
-  pub tag : entry_tag entry ≡ tag_of key
+  pub tag : entry_tag entry ≡ tag_of o.shape.hashing key
   pub item : SpellsItem o (entry_offset entry) key cell
   pub in_room : item_size key cell.value ≤ room_in o entry
 

@@ -1,6 +1,6 @@
 //! Items in the words of a partition.
 ghost use Rattle.std.specs.Prelude.{◌≡◌, ℕ, ◌+◌, ◌<◌, ◌^◌, ◌↔◌, IsTrue, length, slice_index};
-ghost use Rattle.mica_words.specs.Hash.{fnv1a};
+ghost use Rattle.mica_words.specs.Hash.{hash_of};
 ghost use Rattle.mica_words.specs.Item.{KeyFits, StoredFits, words_for};
 ghost use Rattle.mica_words.specs.Packing.{packed};
 ghost use Rattle.partition_words.specs.OwnerState.{item_in};
@@ -10,7 +10,7 @@ ghost use Rattle.partition_words.specs.Kept.{Kept};
 
 use crate::shape::WordAt;
 use crate::words::OwnerWords;
-use mica_words::{header_key_len, header_of, item_size, key_hash, packed_word};
+use mica_words::{header_key_len, header_of, item_size, packed_word};
 
 /// Whether the words at the offset have the key's length, its hash and its words.
 pub fn holds_key<W: OwnerWords>(words: &mut W, offset: u64, key: &[u8]) -> bool
@@ -20,14 +20,15 @@ pub fn holds_key<W: OwnerWords>(words: &mut W, offset: u64, key: &[u8]) -> bool
     ensures same { W.owner words.new ≡ W.owner words.old }
     ensures home { W.home words.new ≡ W.home words.old }
 {
-    holds_key_hashed(words, offset, key, key_hash(key))
+    let hash = words.shape().hashing.key_hash(key);
+    holds_key_hashed(words, offset, key, hash)
 }
 
 /// `holds_key` where the key's hash is at hand.
 pub fn holds_key_hashed<W: OwnerWords>(words: &mut W, offset: u64, key: &[u8], hash: u64) -> bool
     requires offset { offset < 2 ^ 48 }
     requires key { KeyFits key.now }
-    requires hashed { hash ≡ fnv1a key.now }
+    requires hashed { hash ≡ hash_of (W.owner words.old).shape.hashing key.now }
     ensures holds { IsTrue result ↔ HasKey (W.owner words.old) offset key.entry.now }
     ensures same { W.owner words.new ≡ W.owner words.old }
     ensures home { W.home words.new ≡ W.home words.old }
@@ -60,13 +61,14 @@ pub fn write_item<W: OwnerWords>(words: &mut W, offset: u64, room: u32, key: &[u
     requires key { KeyFits key.now }
     requires value { StoredFits value.now }
     requires room { room < 16777216 }
-    requires allowed { CanPlay (item_events offset room key.now value.now) (W.owner words.old) }
+    requires allowed { CanPlay (item_events (W.owner words.old).shape.hashing offset room key.now value.now) (W.owner words.old) }
     ensures events { W.owner words.new
-        ≡ plays (item_events offset room key.entry.now value.entry.now) (W.owner words.old) }
+        ≡ plays (item_events (W.owner words.old).shape.hashing offset room key.entry.now value.entry.now) (W.owner words.old) }
     ensures kept { Kept (W.owner words.new) }
     ensures home { W.home words.new ≡ W.home words.old }
 {
-    write_item_hashed(words, offset, room, key, key_hash(key), value);
+    let hash = words.shape().hashing.key_hash(key);
+    write_item_hashed(words, offset, room, key, hash, value);
 }
 
 /// `write_item` where the key's hash is at hand.
@@ -79,12 +81,12 @@ pub fn write_item_hashed<W: OwnerWords>(
     value: &[u8],
 )
     requires key { KeyFits key.now }
-    requires hashed { hash ≡ fnv1a key.now }
+    requires hashed { hash ≡ hash_of (W.owner words.old).shape.hashing key.now }
     requires value { StoredFits value.now }
     requires room { room < 16777216 }
-    requires allowed { CanPlay (item_events offset room key.now value.now) (W.owner words.old) }
+    requires allowed { CanPlay (item_events (W.owner words.old).shape.hashing offset room key.now value.now) (W.owner words.old) }
     ensures events { W.owner words.new
-        ≡ plays (item_events offset room key.entry.now value.entry.now) (W.owner words.old) }
+        ≡ plays (item_events (W.owner words.old).shape.hashing offset room key.entry.now value.entry.now) (W.owner words.old) }
     ensures kept { Kept (W.owner words.new) }
     ensures home { W.home words.new ≡ W.home words.old }
 {
@@ -104,9 +106,9 @@ pub fn rewrite_item<W: OwnerWords>(words: &mut W, offset: u64, room: u32, key: &
     requires value { StoredFits value.now }
     requires room { room < 16777216 }
     requires there { HasKeyWords (W.owner words.old) offset key.now }
-    requires allowed { CanPlay (item_events offset room key.now value.now) (W.owner words.old) }
+    requires allowed { CanPlay (item_events (W.owner words.old).shape.hashing offset room key.now value.now) (W.owner words.old) }
     ensures events { W.owner words.new
-        ≡ plays (item_events offset room key.entry.now value.entry.now) (W.owner words.old) }
+        ≡ plays (item_events (W.owner words.old).shape.hashing offset room key.entry.now value.entry.now) (W.owner words.old) }
     ensures kept { Kept (W.owner words.new) }
     ensures home { W.home words.new ≡ W.home words.old }
 {

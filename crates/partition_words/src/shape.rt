@@ -4,7 +4,7 @@ ghost use Rattle.partition_model.specs.Options.{IsPossible, IsValid};
 ghost use Rattle.partition_words.specs.Shape.{shape_of, IsPossibleShape, is_in_range};
 ghost use Rattle.partition_words.specs.Layout.{bucket_words, main_words, entries_at, place_at, word_count};
 
-use mica_words::SLOTS;
+use mica_words::{Hashing, SLOTS};
 use partition_model::{MOST_SPARES, MOST_WEAR, MOST_WORDS, Mode, Options};
 
 /// A bucket's entries and its link.
@@ -13,7 +13,7 @@ const BUCKET_WORDS: usize = SLOTS as usize + 1;
 /// Those of a main bucket, with its epoch.
 const MAIN_WORDS: usize = BUCKET_WORDS + 1;
 
-/// How many words a partition has of each kind, in which mode, and how many writes it may bear.
+/// How many words a partition has of each kind, in which mode, how many writes it may bear, and how its keys are hashed.
 #[derive(Clone, Copy, PartialEq, Eq)]
 pub struct Shape {
     pub mode: Mode,
@@ -21,6 +21,7 @@ pub struct Shape {
     pub spares: u32,
     pub words: u32,
     pub wear: u64,
+    pub hashing: Hashing,
 }
 
 /// A word by its meaning.
@@ -54,6 +55,7 @@ impl Shape {
             spares,
             words: options.words,
             wear: options.wear,
+            hashing: options.hashing,
         }
     }
 

@@ -8,7 +8,7 @@ use Rattle.std.proofs.lemmas.List.Sums.{sum_by-cons, sum_by-set}
 use Rattle.std.proofs.lemmas.List.Elements.{All-push, All-set, All-same, All-weaker, All-from_recursion, recursion_from_All}
 use Rattle.list_laws.proofs.Places.{set_elsewhere, set_here}
 use Rattle.list_laws.proofs.AllElements.{all_at}
-use Rattle.mica_words.specs.Hash.{fnv1a, hash_partition, partition_of}
+use Rattle.mica_words.specs.Hash.{hash_of, hash_partition, partition_of}
 use Rattle.mica_words.proofs.Hashes.{partition_of_hash, partition_of-below}
 use Rattle.partition_model.specs.declared.options.Options.{Options}
 use Rattle.partition_model.specs.declared.write.Write.{Write}
@@ -77,7 +77,7 @@ pub record FindsPart (front view : QueueView) (key : List ℕ) (at : ℕ) (part 
   pub number : at ≡ partition_of front.options.hashing key front.options.partitions
   pub here : slice_get front.parts at ≡ Some part
 
-pub finds_part : {front view : QueueView} {key : List ℕ} {hash at : ℕ} {part : FrontPart} → IsQueueFront front → front ≡ view → hash ≡ fnv1a key
+pub finds_part : {front view : QueueView} {key : List ℕ} {hash at : ℕ} {part : FrontPart} → IsQueueFront front → front ≡ view → hash ≡ hash_of front.options.hashing key
     → at ≡ hash_partition hash front.options.partitions → part ≡ get_or front.parts at part → FindsPart front view key at part
 finds_part {front = front} {key = key} {at = at} {part = part} lawful view_is hash_is at_is read =
     let number = at_is ∙ ap (λ h. hash_partition h front.options.partitions) hash_is ∙ sym (partition_of_hash front.options.hashing key front.options.partitions) in

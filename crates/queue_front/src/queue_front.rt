@@ -1,6 +1,6 @@
 //! A front before owners in other threads.
 ghost use Rattle.std.specs.Prelude.{◌≡◌, ◌+◌, ◌<◌, ◌≤◌, ℕ, true, false, List, Option, All, IfOk, OnErr, IsTrue, map, vec_len};
-ghost use Rattle.mica_words.specs.Hash.{fnv1a, partition_of};
+ghost use Rattle.mica_words.specs.Hash.{hash_of, partition_of};
 ghost use Rattle.mica_words.specs.Item.{KeyFits};
 ghost use Rattle.partition_model.specs.Options.{IsValid};
 ghost use Rattle.partition_model.specs.Answer.{IsAnswer};
@@ -11,7 +11,7 @@ ghost use Rattle.owner_queue.specs.Messages.{MayFollow};
 ghost use Rattle.queue_front.specs.QueueFront.{IsOfOneTable, IsNewPart, IsQueueFront, HasAwaited, PartWrites, PartReads, queue_view, ended_part, sessions_of, stand_of};
 
 use fronts::seat_loads;
-use mica_words::{key_hash, partition_of};
+use mica_words::{Hashing, partition_of};
 use optimistic_get::{Got, ask_hashed};
 use outside::{Bytes, NoMemory};
 use owner_queue::{Ack, AckReceiver, CowWrite, Job, JobSender, Message};
@@ -207,7 +207,7 @@ impl QueueFront {
             ticket: self.next,
             write,
         };
-        let at = partition_of(key_hash(key), self.options.partitions) as usize;
+        let at = partition_of(self.options.hashing.key_hash(key), self.options.partitions) as usize;
         let answer = self.parts[at].write(rt, job, op, key, value);
         self.next += 1;
         self.left -= 1;
@@ -226,9 +226,15 @@ impl QueueFront {
         ensures number { self.new.number ≡ self.old.number }
         ensures stands { map stand_of self.new.parts ≡ map stand_of self.old.parts }
     {
-        let hash = key_hash(key);
+        let hash = self.options.hashing.key_hash(key);
         let at = partition_of(hash, self.options.partitions) as usize;
         self.parts[at].read(rt, key, hash, self.options.tries, out)
+    }
+
+    pub(crate) fn hashing(&self) -> Hashing
+        ensures { result ≡ self.now.options.hashing }
+    {
+        self.options.hashing
     }
 
     pub(crate) fn loads_ahead(&self) -> bool {

@@ -10,7 +10,7 @@ ghost use Rattle.queue_front.specs.Solo.{Solo, StepsPartition, IsNewSolo, histor
 
 use any_partition::PlainPartition;
 use fronts::Front;
-use mica_words::{key_hash, partition_of};
+use mica_words::{Hashing, partition_of};
 use outside::NoMemory;
 use partition_model::{Answer, ItemBuf, Op, Options, Outcome};
 use partition_words::{Partition, write_to};
@@ -60,7 +60,7 @@ impl Owned {
         ensures { StepsPartition self.old (partition_of self.old.options.hashing key.entry.now self.old.options.partitions)
             (record { write = write_of op key.entry.now value.entry.now; outcome = result.0; stamp = result.1 }) self.new }
     {
-        let at = partition_of(key_hash(key), self.options.partitions) as usize;
+        let at = partition_of(self.options.hashing.key_hash(key), self.options.partitions) as usize;
         let part = &mut self.parts[at];
         let outcome = write_to(part, op, key, value);
         (outcome, part.stamp())
@@ -73,7 +73,7 @@ impl Owned {
             × (result.1 ≡ stamp_of self.old.options history) }
         ensures same { self.new ≡ self.old }
     {
-        let at = partition_of(key_hash(key), self.options.partitions) as usize;
+        let at = partition_of(self.options.hashing.key_hash(key), self.options.partitions) as usize;
         let part = &mut self.parts[at];
         let answer = part.get(key, out);
         (answer, part.stamp())
@@ -115,6 +115,10 @@ impl Front for SoloFront {
     ghost left = { λ _. 4294967295 };
 
     ghost is_alone = { true };
+
+    fn hashing(&self) -> Hashing {
+        self.options.hashing
+    }
 
     fn loads_ahead(&self) -> bool {
         false

@@ -4,6 +4,7 @@ ghost use Rattle.queue_front.specs.QueueFront.{IsQueueFront, ended_part};
 
 use crate::queue_front::{FrontPart, QueueFront};
 use fronts::Front;
+use mica_words::Hashing;
 use outside::NoMemory;
 use partition_model::{Answer, ItemBuf, Op, Outcome};
 use std::alloc::Global;
@@ -50,6 +51,10 @@ impl<'r, R: Wait> Front for WaitingFront<'r, R> {
     ghost left = { λ f. f.front.left };
 
     ghost is_alone = { false };
+
+    fn hashing(&self) -> Hashing {
+        self.front.hashing()
+    }
 
     fn loads_ahead(&self) -> bool {
         self.front.loads_ahead()

@@ -13,7 +13,7 @@ ghost use Rattle.partition_model.specs.Write.{HasValueOf, is_accepted, write_of}
 ghost use Rattle.report_check.specs.Machines.{bucket_part, AreBuckets, IsReachable, TakesInBuckets};
 
 use mica_model::{Answer, CacheRecord, CacheState, ItemBuf, Mode, Op, Options, Outcome};
-use mica_words::{bucket_of, key_hash};
+use mica_words::{bucket_of};
 use outside::NoMemory;
 use std::alloc::Global;
 
@@ -112,14 +112,14 @@ fn bucket_number(options: &Options, key: &[u8]) -> usize
     ensures within { result < options.now.buckets }
     ensures value { result ≡ bucket_of options.now.hashing key.now options.now.buckets }
 {
-    bucket_of(key_hash(key), options.buckets) as usize
+    bucket_of(options.hashing.key_hash(key), options.buckets) as usize
 }
 
 // The place of the key's record, if it has one that the log has not passed.
 fn find_live(records: &[CacheRecord], words: u32, stamp: u64, key: &[u8]) -> Option<usize>
     ensures { result ≡ position (λ held. has_key key.now held && is_live words stamp held.offset) records.now }
 {
-    let hash = key_hash(key);
+    let hash = options.hashing.key_hash(key);
     records.iter().position(|record| record.has_key_hashed(key, hash)
         && record.is_live(words, stamp))
 }

@@ -9,7 +9,8 @@ use Rattle.std.specs.Ordering.{nat_cmp}
 use Rattle.std.specs.Cmp.Lexicographic.{slice_cmp}
 use Rattle.std.proofs.Math.Seq.{drop-cons}
 use Rattle.std.proofs.lemmas.Option.{slice_get-map, slice_get-get_or}
-use Rattle.mica_words.specs.Hash.{fnv1a, hash_partition, partition_of}
+use Rattle.mica_words.specs.declared.hashing.Hashing.{Hashing}
+use Rattle.mica_words.specs.Hash.{hash_of, hash_partition, partition_of}
 use Rattle.mica_words.proofs.Hashes.{partition_of_hash, partition_of-below}
 use Rattle.partition_model.specs.declared.options.Options.{Options}
 use Rattle.partition_model.specs.declared.options.Mode.TheVariants.{Store}
@@ -33,22 +34,22 @@ use Rattle.store_image.proofs.ImagePairs.{exactly, rising, each_pair}
 use Rattle.store_image.proofs.PutOnly.{none_left, none_written, not_put}
 
 -- the answer of a key's partition
-answered_at : {P : Type 0} (owner : P → OwnerState) (parts : List P) (at : ℕ) (part : P) (partitions : ℕ) (key : List ℕ) → at ≡ partition_of key partitions → at < length parts → part ≡ get_or parts at part
-    → value_at (map owner parts) partitions key ≡ answer_in key (owner part)
-answered_at owner parts at part partitions key number less is =
+answered_at : {P : Type 0} (owner : P → OwnerState) (parts : List P) (at : ℕ) (part : P) (hashing : Hashing) (partitions : ℕ) (key : List ℕ) → at ≡ partition_of hashing key partitions → at < length parts → part ≡ get_or parts at part
+    → value_at (map owner parts) hashing partitions key ≡ answer_in key (owner part)
+answered_at owner parts at part hashing partitions key number less is =
     search (rules, option_and_then, number, slice_get-map, option_map, slice_get-get_or, answer_in, is, slice_get, map, owner)
 
-module _ {P : Type 0} (owner : P → OwnerState) (initial parts : List P) (partitions at hash : ℕ) (key : List ℕ) (some : 0 < partitions) (many : length initial ≡ partitions) (same : map owner parts ≡ map owner initial)
-    (hashed : hash ≡ fnv1a key) (chosen : at ≡ hash_partition hash partitions) where
-  number : at ≡ partition_of key partitions
-  number = chosen ∙ ap (λ h. hash_partition h partitions) hashed ∙ sym (partition_of_hash key partitions)
+module _ {P : Type 0} (owner : P → OwnerState) (initial parts : List P) (hashing : Hashing) (partitions at hash : ℕ) (key : List ℕ) (some : 0 < partitions) (many : length initial ≡ partitions) (same : map owner parts ≡ map owner initial)
+    (hashed : hash ≡ hash_of hashing key) (chosen : at ≡ hash_partition hash partitions) where
+  number : at ≡ partition_of hashing key partitions
+  number = chosen ∙ ap (λ h. hash_partition h partitions) hashed ∙ sym (partition_of_hash hashing key partitions)
 
   pub part_there : at < length parts
   part_there = grind (arith, common_steps)
 
   -- the answer of the partition that a key chooses
-  pub part_answers : (part : P) → part ≡ get_or parts at part → value_at (map owner initial) partitions key ≡ answer_in key (owner part)
-  part_answers part is = ap (λ os. value_at os partitions key) (sym same) ∙ answered_at owner parts at part partitions key number part_there is
+  pub part_answers : (part : P) → part ≡ get_or parts at part → value_at (map owner initial) hashing partitions key ≡ answer_in key (owner part)
+  part_answers part is = ap (λ os. value_at os hashing partitions key) (sym same) ∙ answered_at owner parts at part hashing partitions key number part_there is
 
 no_none : {X : Type 0} (xs : List X) (n : ℕ) → n < length xs → slice_get xs n ≡ None → ⊥
 no_none [] n less is = absurd (omega arith)
@@ -66,7 +67,7 @@ few_pairs h (x ∷ xs) = grind (arith, h x, few_pairs h xs)
 
 module _ (options : Options) (valid : IsValid options) (lines : List TraceLine) (report : List Line) (owners : List OwnerState) (answered : AreAnswered options lines report owners) where
   -- what a partition answers to a key is what its machine has after the trace
-  pub answers_after : (key : List ℕ) → value_at owners options.partitions key ≡ value_after options lines report key
+  pub answers_after : (key : List ℕ) → value_at owners options.hashing options.partitions key ≡ value_after options lines report key
   answers_after key =
       let p = partition_of options.hashing key options.partitions in
       let low = partition_of-below options.hashing key options.partitions valid.partitions.0 in
@@ -86,23 +87,23 @@ module _ (options : Options) (valid : IsValid options) (lines : List TraceLine) 
 
   module _ (all : AllByRecursion IsTraceLine lines) where
     -- a value that is answered is one of a trace
-    pub value_stands : (key value : List ℕ) → value_at owners options.partitions key ≡ Some value → IsValue value
+    pub value_stands : (key value : List ℕ) → value_at owners options.hashing options.partitions key ≡ Some value → IsValue value
     value_stands key value is =
         let p = partition_of options.hashing key options.partitions in
         let history = history_in options p lines report in
         answer_stands options history key (Hit (stamp_of options history) value) (stored options p lines report all) (refl, sym is ∙ answers_after key)
 
-    pairs_each : (keys : List (List ℕ)) → AllByRecursion IsKey keys → AllByRecursion (λ k. (v : List ℕ) → value_at owners options.partitions k ≡ Some v → IsPair (record { key = k; value = v })) keys
+    pairs_each : (keys : List (List ℕ)) → AllByRecursion IsKey keys → AllByRecursion (λ k. (v : List ℕ) → value_at owners options.hashing options.partitions k ≡ Some v → IsPair (record { key = k; value = v })) keys
     pairs_each [] are = tt
     pairs_each (k ∷ keys) are = ((λ v is. (are.0, value_stands k v is)), pairs_each keys are.1)
 
-    pub left_image : (keys : List (List ℕ)) → AllByRecursion IsKey keys → IsStrictlySortedBy (slice_cmp nat_cmp) keys → length keys < 2 ^ 32 → IsImage (pairs_by (value_at owners options.partitions) keys)
+    pub left_image : (keys : List (List ℕ)) → AllByRecursion IsKey keys → IsStrictlySortedBy (slice_cmp nat_cmp) keys → length keys < 2 ^ 32 → IsImage (pairs_by (value_at owners options.hashing options.partitions) keys)
     left_image keys are rise few = search (rules, each_pair, rising, few_pairs, value_at, pairs_each, pair_by)
 
   pub left_pairs : options.mode ≡ Store → (keys : List (List ℕ)) → ((key : List ℕ) → has_key keys key ≡ has_key (put_keys lines) key)
-      → HasPairsOf options lines report (pairs_by (value_at owners options.partitions) keys)
+      → HasPairsOf options lines report (pairs_by (value_at owners options.hashing options.partitions) keys)
   left_pairs mode keys same = λ key.
-      exactly (value_at owners options.partitions) keys
+      exactly (value_at owners options.hashing options.partitions) keys
       (λ k lacks.
       let p = partition_of options.hashing k options.partitions in
       answers_after k ∙ none_left options k mode (history_in options p lines report) (none_written options k p lines report (not_put options k lines (sym (same k) ∙ lacks))))

@@ -18,7 +18,7 @@ use crate::Image;
 use crate::writing::put_pair;
 use line_replies::reply_to_all;
 use mica_trace::{Report, Trace, TraceLine, TraceOp};
-use mica_words::{key_hash, partition_of};
+use mica_words::{partition_of};
 use outside::NoMemory;
 use partition_model::{Answer, ItemBuf, Options};
 use partition_words::{Partition, PlainWords, Shape};
@@ -90,15 +90,15 @@ fn image_of_keys<P: Partition>(
     requires valid { IsValid options.now }
     requires many { length parts.old.items ≡ options.now.partitions }
     requires keys { AllByRecursion IsKey (map (λ key. key.now) keys.now) }
-    requires values { (key value : List ℕ) → value_at (map (λ p. P.owner p) parts.old.items) options.now.partitions key ≡ Some value → IsValue value }
-    requires image { IsImage (pairs_by (value_at (map (λ p. P.owner p) parts.old.items) options.now.partitions) (map (λ key. key.now) keys.now)) }
-    ensures { IfOk result (λ image. image ≡ pairs_by (value_at (map (λ p. P.owner p) parts.old.items) options.now.partitions) (map (λ key. key.now) keys.now)) }
+    requires values { (key value : List ℕ) → value_at (map (λ p. P.owner p) parts.old.items) options.now.hashing options.now.partitions key ≡ Some value → IsValue value }
+    requires image { IsImage (pairs_by (value_at (map (λ p. P.owner p) parts.old.items) options.now.hashing options.now.partitions) (map (λ key. key.now) keys.now)) }
+    ensures { IfOk result (λ image. image ≡ pairs_by (value_at (map (λ p. P.owner p) parts.old.items) options.now.hashing options.now.partitions) (map (λ key. key.now) keys.now)) }
 {
     let mut count = 0;
     let mut texts = Vec::new(alloc);
     let mut value = ItemBuf::new(alloc)?;
     for key in keys {
-        let partition = partition_of(key_hash(key), options.partitions);
+        let partition = partition_of(options.hashing.key_hash(key), options.partitions);
         let part = &mut parts[partition as usize];
         if finds(part, key, &mut value) {
             put_pair(&mut texts, key, value.value())?;

@@ -1,5 +1,6 @@
 -- What a write makes of the machine's cells: one key has another cell, or none.
 use Rattle.std.proofs.lemmas.Grind.{common_steps}
+use Rattle.mica_words.specs.declared.hashing.Hashing.{Hashing}
 use Rattle.partition_model.specs.StoreStep as ss
 use Rattle.store_partition.proofs.Words.{Add, Cell, Cells, Del, GivesValue, List, None, Op, Option, Put, Some, Touch, Store, Write, ap, arith, bucket_of, cond}
 use Rattle.store_partition.proofs.Words.{eq_by_cmp_equiv, get, get-insert, get-remove, insert, is_some, keys_in, keys_over, len, len-insert}
@@ -11,14 +12,14 @@ abbrev pub one_or_none : Option Cell → ℕ
 one_or_none had = cond (is_some had) 1 0
 
 -- the numbers of keys and of room words, where a key of the bucket had this and now has that
-pub record Exchanges (buckets b : ℕ) (cells later : Cells) (had has : Option Cell) : Type 0 where
+pub record Exchanges (hashing : Hashing) (buckets b : ℕ) (cells later : Cells) (had has : Option Cell) : Type 0 where
   pub here : keys_in hashing buckets b later + one_or_none had ≡ keys_in hashing buckets b cells + one_or_none has
   pub there : (c : ℕ) → c ≢ b → keys_in hashing buckets c later ≡ keys_in hashing buckets c cells
   pub all : len later ≡ len cells + one_or_none has - one_or_none had
   pub room : rooms later + room_of had ≡ rooms cells + room_of has
 
-module _ (buckets b : ℕ) (cells : Cells) (key : List ℕ) (here : b ≡ bucket_of hashing key buckets) (low : b < buckets) where
-  inserted : (cell : Cell) (had : Option Cell) → get cells key ≡ had → Exchanges buckets b cells (insert cells key cell) had (Some cell)
+module _ (hashing : Hashing) (buckets b : ℕ) (cells : Cells) (key : List ℕ) (here : b ≡ bucket_of hashing key buckets) (low : b < buckets) where
+  inserted : (cell : Cell) (had : Option Cell) → get cells key ≡ had → Exchanges hashing buckets b cells (insert cells key cell) had (Some cell)
   inserted cell None none =
       let more = len-insert nat_list_cmp_total cells key cell ∙ ap (λ z. cond (is_some z) (len cells) (len cells + 1)) none in record {
         here = omega (arith, new_here hashing buckets b cells key here low cell none);
@@ -34,7 +35,7 @@ module _ (buckets b : ℕ) (cells : Cells) (key : List ℕ) (here : b ≡ bucket
         room = omega (arith, rooms_insert cells key cell, ap room_of has);
       }
 
-  deleted : (had : Option Cell) → get cells key ≡ had → Exchanges buckets b cells (remove cells key) had None
+  deleted : (had : Option Cell) → get cells key ≡ had → Exchanges hashing buckets b cells (remove cells key) had None
   deleted None none = grind (arith, common_steps, remove_none cells key none)
   deleted (Some old) has =
       let fewer = len-remove nat_list_cmp_total cells key ∙ ap (λ z. cond (is_some z) (len cells - 1) (len cells)) has in record {
@@ -77,13 +78,13 @@ pub left : (s : Store) (w : Write) → get (ss.after s w).cells w.key ≡ cell_l
 unfolding ss.after
 left s w = left_by w.op s w
 
-module _ (buckets b : ℕ) (s : Store) (w : Write) (here : b ≡ bucket_of hashing w.key buckets) (low : b < buckets) where
-  exchanges_by : (op : Op) → Exchanges buckets b s.cells (ss.after_op op s w).cells (get s.cells w.key) (cell_left op s w)
-  exchanges_by Put = inserted buckets b s.cells w.key here low _ (get s.cells w.key) refl
-  exchanges_by Add = inserted buckets b s.cells w.key here low _ (get s.cells w.key) refl
+module _ (hashing : Hashing) (buckets b : ℕ) (s : Store) (w : Write) (here : b ≡ bucket_of hashing w.key buckets) (low : b < buckets) where
+  exchanges_by : (op : Op) → Exchanges hashing buckets b s.cells (ss.after_op op s w).cells (get s.cells w.key) (cell_left op s w)
+  exchanges_by Put = inserted hashing buckets b s.cells w.key here low _ (get s.cells w.key) refl
+  exchanges_by Add = inserted hashing buckets b s.cells w.key here low _ (get s.cells w.key) refl
   exchanges_by Touch = record { here = refl; there = λ c other. refl; all = omega arith; room = refl }
-  exchanges_by Del = deleted buckets b s.cells w.key here low (get s.cells w.key) refl
+  exchanges_by Del = deleted hashing buckets b s.cells w.key here low (get s.cells w.key) refl
 
-  pub exchanges : Exchanges buckets b s.cells (ss.after s w).cells (get s.cells w.key) (get (ss.after s w).cells w.key)
+  pub exchanges : Exchanges hashing buckets b s.cells (ss.after s w).cells (get s.cells w.key) (get (ss.after s w).cells w.key)
   unfolding ss.after
-  exchanges = subst (Exchanges buckets b s.cells (ss.after s w).cells (get s.cells w.key)) (sym (left s w)) (exchanges_by w.op)
+  exchanges = subst (Exchanges hashing buckets b s.cells (ss.after s w).cells (get s.cells w.key)) (sym (left s w)) (exchanges_by w.op)

@@ -298,7 +298,7 @@ module _ (h : Held) (a : AcceptedWrite h.o) (b : ℕ) (here : b ≡ bucket_in h.
 
     keys_now : (c : ℕ) → IsMain h.o.shape c → length (entries_of p c) ≡ keys_in h.o.shape.hashing h.o.shape.buckets c (later h a)
     keys_now c l =
-        let ex = exchanges h.o.shape.buckets b (m h) a.w here (main h a b here) in
+        let ex = exchanges h.o.shape.hashing h.o.shape.buckets b (m h) a.w here (main h a b here) in
         dite (ℕ_discrete c b)
         (λ same. subst (λ d. length (entries_of p d) ≡ keys_in h.o.shape.hashing h.o.shape.buckets d (later h a)) (sym same)
         (let was = length_permutation _ _ e.split.lists in
@@ -322,7 +322,7 @@ module _ (h : Held) (a : AcceptedWrite h.o) (b : ℕ) (here : b ≡ bucket_in h.
     parts_last bs becomes =
         let l = main h a b here in
         let cells = sym (ap cells_of (now h a words)) in
-        let ex = exchanges h.o.shape.buckets b (m h) a.w here l in
+        let ex = exchanges h.o.shape.hashing h.o.shape.buckets b (m h) a.w here l in
         let heap = e.heap.less bs becomes in record {
           mode = h.parts.mode;
           idle = refl;

@@ -2,7 +2,7 @@
 pub use Rattle.partition_words.proofs.Vocabulary.{All-contains, AreBytes, Bool, CanPlay, Cell, Contains, Contains-append_cases, Has, IsBucket, IsMain}
 pub use Rattle.partition_words.proofs.Vocabulary.{IsPossibleShape, Kept, KeyFits, List, MayGive, None, Option, RoomsApart, Some, Spells, StandsFor}
 pub use Rattle.partition_words.proofs.Vocabulary.{WhenMarked, [], after as after_event, answer_of, ap, arith, as_made, bucket_in, bucket_of, cond, dite}
-pub use Rattle.partition_words.proofs.Vocabulary.{drop, false, fnv1a, get_or_default, header_room, if◌then◌else◌, inl, inr, is_some, item_at, item_events}
+pub use Rattle.partition_words.proofs.Vocabulary.{drop, false, hash_of, get_or_default, header_room, if◌then◌else◌, inl, inr, is_some, item_at, item_events}
 pub use Rattle.partition_words.proofs.Vocabulary.{item_in, item_size, length, length-append, length-set, link_in, marked_in, not, option_map, options_in}
 pub use Rattle.partition_words.proofs.Vocabulary.{StoredFits, plays, puts_from, refl, room_in, slice_index, stamp_of, start, state_in, state_snoc, store_state}
 pub use Rattle.partition_words.proofs.Vocabulary.{stored_in, subst, suc, sym, take, true, value_in, zero, ℕ, ℕ_discrete, ◌%◌, ◌*◌, ◌++◌, ◌+◌, ◌-◌, ◌<◌}

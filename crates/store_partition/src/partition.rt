@@ -1,6 +1,6 @@
 //! The partition in store mode, and its calls.
 ghost use Rattle.std.specs.Prelude.{◌≡◌, ◌+◌, ◌<◌, ◌≤◌, ◌↔◌, [], Some, None, true, false, IsTrue, IfOk, MatchOption, length};
-ghost use Rattle.mica_words.specs.Hash.{fnv1a};
+ghost use Rattle.mica_words.specs.Hash.{hash_of};
 ghost use Rattle.mica_words.specs.Item.{KeyFits, StoredFits, item_size as item_size_of};
 ghost use Rattle.mica_words.specs.Entry.{entry_offset as entry_offset_of};
 ghost use Rattle.partition_model.specs.declared.options.Mode.TheVariants.{Store};
@@ -82,7 +82,7 @@ impl<W: OwnerWords> StorePartition<W> {
         requires kept { Kept (W.owner self.old.words) }
         requires unworn { length (W.owner self.old.words).history < (W.owner self.old.words).shape.wear }
         requires key { KeyFits key.now }
-        requires hashed { hash ≡ fnv1a key.now }
+        requires hashed { hash ≡ hash_of (W.owner self.old.words).shape.hashing key.now }
         requires value { StoredFits value.now }
         requires sought { IsSought (W.owner self.old.words) key.now bucket (Some spot) }
         ensures step { IsOwnerStep (W.owner self.old.words) (W.owner self.new.words)
@@ -164,7 +164,7 @@ impl<W: OwnerWords> StorePartition<W> {
         requires kept { Kept (W.owner self.old.words) }
         requires unworn { length (W.owner self.old.words).history < (W.owner self.old.words).shape.wear }
         requires key { KeyFits key.now }
-        requires hashed { hash ≡ fnv1a key.now }
+        requires hashed { hash ≡ hash_of (W.owner self.old.words).shape.hashing key.now }
         requires value { StoredFits value.now }
         requires sought { IsSought (W.owner self.old.words) key.now bucket (Some spot) }
         requires offset { offset ≡ entry_offset_of (spot_entry (W.owner self.old.words) spot) }
@@ -197,7 +197,7 @@ impl<W: OwnerWords> StorePartition<W> {
         requires kept { Kept (W.owner self.old.words) }
         requires unworn { length (W.owner self.old.words).history < (W.owner self.old.words).shape.wear }
         requires key { KeyFits key.now }
-        requires hashed { hash ≡ fnv1a key.now }
+        requires hashed { hash ≡ hash_of (W.owner self.old.words).shape.hashing key.now }
         requires value { StoredFits value.now }
         requires sought { IsSought (W.owner self.old.words) key.now bucket None }
         ensures step { IsOwnerStep (W.owner self.old.words) (W.owner self.new.words)

@@ -1,7 +1,7 @@
 //! Where a key's entry stands, and the answer to a get.
 ghost use Rattle.std.specs.Prelude.{◌≡◌, ◌<◌};
 ghost use Rattle.mica_words.specs.declared.entry.TheConstants.{SLOTS};
-ghost use Rattle.mica_words.specs.Hash.{fnv1a};
+ghost use Rattle.mica_words.specs.Hash.{hash_of};
 ghost use Rattle.mica_words.specs.Item.{KeyFits};
 ghost use Rattle.mica_words.specs.Entry.{entry_offset as entry_offset_of};
 ghost use Rattle.partition_model.specs.Answer.{IsAnswer};
@@ -18,7 +18,7 @@ ghost use Rattle.store_partition.specs.Parts.{AreParts};
 use block_heap::Heap;
 use chained_index::{ChainedIndex, Spot};
 use circular_log::item_at;
-use mica_words::{bucket_of, entry_offset, header_room, key_hash};
+use mica_words::{bucket_of, entry_offset, header_room};
 use partition_model::{Answer, ItemBuf};
 use partition_words::{OwnerWords, WordAt};
 
@@ -34,13 +34,14 @@ pub(crate) struct Place {
 pub(crate) fn seek<W: OwnerWords>(words: &mut W, index: &ChainedIndex, key: &[u8]) -> Place
     requires index { IsIndexOf index.now (W.owner words.old) }
     requires key { KeyFits key.now }
-    ensures hashed { result.hash ≡ fnv1a key.entry.now }
+    ensures hashed { result.hash ≡ hash_of (W.owner words.old).shape.hashing key.entry.now }
     ensures sought { IsSought (W.owner words.old) key.entry.now result.bucket result.spot }
     ensures same { (W.owner words.new ≡ W.owner words.old) × (W.home words.new ≡ W.home words.old) }
     ensures kept { Kept (W.owner words.new) }
 {
-    let hash = key_hash(key);
-    let bucket = bucket_of(hash, words.shape().buckets);
+    let shape = words.shape();
+    let hash = shape.hashing.key_hash(key);
+    let bucket = bucket_of(hash, shape.buckets);
     let spot = index.find_hashed(words, bucket, key, hash);
     Place { hash, bucket, spot }
 }

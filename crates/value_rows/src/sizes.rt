@@ -6,6 +6,7 @@ ghost use Rattle.mica_trace.specs.ReportGrammar.{IsPrintable};
 
 use crate::text::{first_word, mode_of, number, options_of, say};
 use mica_trace::{Report, ReportFault, put_report_line, put_trace, read_report, read_trace};
+use mica_words::Hashing;
 use outside::NoMemory;
 use partition_model::{Mode, Options};
 use partition_sizes::{LEAST_MEMORY, MOST_MEMORY, bytes_of, sizes_for, start_bytes};
@@ -32,6 +33,7 @@ fn sized(alloc: Global, mode: Mode, memory: u64) -> Result<String, NoMemory> {
         readers: 1,
         tries: 1,
         wear: 1,
+        hashing: Hashing::Fnv1a,
     };
     let bytes = if partitions <= 64 {
         bytes_of(&options)

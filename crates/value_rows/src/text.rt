@@ -1,5 +1,6 @@
 //! Words and numbers of texts, and the names of outcomes.
 
+use mica_words::Hashing;
 use outside::NoMemory;
 use partition_model::{Mode, Op, Options, Outcome};
 
@@ -70,6 +71,7 @@ pub fn options_of(words: &str) -> Option<Options> {
         readers: 1,
         tries: 1,
         wear: number(first_word(words).0)?,
+        hashing: Hashing::Fnv1a,
     };
     Some(options)
 }

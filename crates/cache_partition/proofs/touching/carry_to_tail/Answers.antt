@@ -72,7 +72,7 @@ closes : (g : Over) (c : After-place g) (value : List ℕ) → IsSlotOf (g.W.Own
     → Closes (g.W.OwnerWords.owner c.args.words.now) (write_of Touch c.args.key.now []) c.args.sought.now.bucket (c.args.sought.now.stamp + 65536 * c.from.result)
     (g.W.OwnerWords.owner c.place.new.words)
 closes g c value slot steps stored = steps.closes (Some c.args.slot) slot _ _ c.place.result c.tag_of.result stored c.place.ensures.slot
-    (c.tag_of.ensures ∙ (ap hash_tag c.requires.sought.hash ∙ sym (tag_of_hash c.args.key.now))) c.place.ensures.entry c.place.ensures.kept
+    (c.tag_of.ensures ∙ (ap hash_tag c.requires.sought.hash ∙ sym (tag_of_hash (g.W.OwnerWords.owner c.args.words.now).shape.hashing c.args.key.now))) c.place.ensures.entry c.place.ensures.kept
 
 pub size_at-size-requires-clause-offset : goal.size_at-size-requires-clause-offset
 size_at-size-requires-clause-offset g c = let is = offset_is g (goal.at.size_at-size-requires-clause-offset g c).Start in omega arith

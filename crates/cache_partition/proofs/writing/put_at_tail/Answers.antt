@@ -42,7 +42,7 @@ closes : (g : Over) (c : After-place g) → Appends (g.W.OwnerWords.owner c.args
     → Closes (g.W.OwnerWords.owner c.args.words.now) (write_of c.args.op c.args.key.now c.args.value.now) c.args.sought.now.bucket (c.args.sought.now.stamp + 65536 * c.from.result)
     (g.W.OwnerWords.owner c.place.new.words)
 closes g c steps stored = steps.closes c.args.sought.now.slot c.requires.sought.found _ _ c.place.result c.tag_of.result stored c.place.ensures.slot
-    (c.tag_of.ensures ∙ (ap hash_tag c.requires.sought.hash ∙ sym (tag_of_hash c.args.key.now))) c.place.ensures.entry c.place.ensures.kept
+    (c.tag_of.ensures ∙ (ap hash_tag c.requires.sought.hash ∙ sym (tag_of_hash (g.W.OwnerWords.owner c.args.words.now).shape.hashing c.args.key.now))) c.place.ensures.entry c.place.ensures.kept
 
 pub begin-requires-clause-stamp : goal.begin-requires-clause-stamp
 begin-requires-clause-stamp g c = stamp g (goal.at.begin-requires-clause-stamp g c).After-from

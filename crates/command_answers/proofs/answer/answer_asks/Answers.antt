@@ -81,8 +81,8 @@ loop-count-preserved g c =
       left = omega (arith, left, inv.left);
       given = omega (arith, one.3, inv.given, writes_more inv.answers (one.0 ∷ []));
       counted =
-          one.4 ∙ ap (tally_after c.args.base c.args.partitions asked one.0) inv.counted
-          ∙ sym (counted_more c.args.base c.args.partitions asks c.next_asked.new.self inv.answers asked one.0 [] c.args.buffers.now.tally all);
+          one.4 ∙ ap (tally_after c.args.base (g.F.Front.options c.args.front.now).hashing c.args.partitions asked one.0) inv.counted
+          ∙ sym (counted_more c.args.base (g.F.Front.options c.args.front.now).hashing c.args.partitions asks c.next_asked.new.self inv.answers asked one.0 [] c.args.buffers.now.tally all);
       options = c.answer_ask.ensures.options ∙ inv.options;
       number = c.answer_ask.ensures.number ∙ inv.number;
       stands = c.answer_ask.ensures.stands ∙ inv.stands;
@@ -103,8 +103,8 @@ returns-in_default-answer_ask-clause-answered g c =
       more_first (asked ∷ c.next_asked.new.self) (one.0 ∷ []) inv.first all (omega arith) (one_first c.next_asked.new.self one.0 at),
       tt,
       omega (arith, one.3, inv.given, writes_more inv.answers (one.0 ∷ [])),
-      one.4 ∙ ap (tally_after c.args.base c.args.partitions asked one.0) inv.counted
-          ∙ sym (counted_more c.args.base c.args.partitions asks c.next_asked.new.self inv.answers asked one.0 [] c.args.buffers.now.tally all),
+      one.4 ∙ ap (tally_after c.args.base (g.F.Front.options c.args.front.now).hashing c.args.partitions asked one.0) inv.counted
+          ∙ sym (counted_more c.args.base (g.F.Front.options c.args.front.now).hashing c.args.partitions asks c.next_asked.new.self inv.answers asked one.0 [] c.args.buffers.now.tally all),
       (let many = inv.many in omega (arith, less, many, grown)),
     )
 
@@ -148,7 +148,7 @@ returns-then-is_empty-clause-answered g c =
         stops = inl none;
       }) r.4,
       omega (arith, r.5, inv.given, writes_more inv.answers two),
-      r.6 ∙ ap (λ t. tally_after_all c.args.base c.args.partitions [] r.1 (tally_after c.args.base c.args.partitions asked r.0 t)) inv.counted
-          ∙ sym (counted_more c.args.base c.args.partitions asks [] inv.answers asked r.0 r.1 c.args.buffers.now.tally all),
+      r.6 ∙ ap (λ t. tally_after_all c.args.base (g.F.Front.options c.args.front.now).hashing c.args.partitions [] r.1 (tally_after c.args.base (g.F.Front.options c.args.front.now).hashing c.args.partitions asked r.0 t)) inv.counted
+          ∙ sym (counted_more c.args.base (g.F.Front.options c.args.front.now).hashing c.args.partitions asks [] inv.answers asked r.0 r.1 c.args.buffers.now.tally all),
       (let at = inv.many in let one = r.3 in omega (arith, less, at, grown, one, few)),
     )

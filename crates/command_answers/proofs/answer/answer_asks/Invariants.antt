@@ -23,7 +23,7 @@ invariant-loop-count g l =
       few_answers : length answers ≤ l.limits.asks;
       left : F.left l.initial.front ≤ F.left l.front + l.count;
       given : F.left l.initial.front ≤ F.left l.front + count_of_writes answers;
-      counted : l.buffers.tally ≡ tally_after_all l.base l.partitions l.initial.asks answers l.initial.buffers.tally;
+      counted : l.buffers.tally ≡ tally_after_all l.base (g.F.Front.options l.initial.front).hashing l.partitions l.initial.asks answers l.initial.buffers.tally;
       options : F.options l.front ≡ F.options l.initial.front;
       number : F.number l.front ≡ F.number l.initial.front;
       stands : F.stands l.front ≡ F.stands l.initial.front;

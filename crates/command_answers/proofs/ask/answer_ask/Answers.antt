@@ -43,9 +43,9 @@ returns-clause-answered g c =
       on_ok_weaker c.put_said.result (λ text.
           text ∙ (λ i. c.args.out.now.items ++ said_text c.args.style.now c.args.is_last (c.bytes-key.ensures i) (says i))) c.put_said.ensures.ok,
       (let left = c.change-changed.ensures.left in omega (arith, left, by.count)),
-      c.note_write.ensures ∙ (λ i. noted_if c.args.partitions (c.bytes-key.ensures i) changed.when changed.outcome changed.stamp
+      c.note_write.ensures ∙ (λ i. noted_if (g.F.Front.options c.args.front.now).hashing c.args.partitions (c.bytes-key.ensures i) changed.when changed.outcome changed.stamp
           ((c.count.ensures ∙ ap (λ k. counted k c.args.buffers.now.tally) (c.counter_of.ensures ∙ ap (counter_of asked.ask) says)) i))
-          ∙ by.noted c.args.partitions (counted (counter_of asked.ask (said_of c.args.base asked by.answered)) c.args.buffers.now.tally),
+          ∙ by.noted (g.F.Front.options c.args.front.now).hashing c.args.partitions (counted (counter_of asked.ask (said_of c.args.base asked by.answered)) c.args.buffers.now.tally),
       c.was_refused.ensures ∙ sym by.refused,
     )
 

@@ -15,8 +15,8 @@ returns-in-Some c =
     let stamp = c.args.changed.now.stamp in
     let tally = c.args.tally.now in
     let outcome = c.in-Some.outcome in
-    let partition : c.partition_of-partition.result ≡ partition_of key (max c.args.partitions 1) =
-    c.partition_of-partition.ensures ∙ (λ i. hash_partition (c.key_hash-hash.ensures i) (c.max.ensures i)) ∙ sym (partition_of_hash key (max c.args.partitions 1)) in
+    let partition : c.partition_of-partition.result ≡ partition_of c.args.hashing key (max c.args.partitions 1) =
+    c.partition_of-partition.ensures ∙ (λ i. hash_partition (c.key_hash-hash.ensures i) (c.max.ensures i)) ∙ sym (partition_of_hash c.args.hashing key (max c.args.partitions 1)) in
     let writes : c.saturating_add-writes.result ≡ min (when.written + count_of_accepted outcome) LAST_COUNT =
     c.saturating_add-writes.ensures ∙ ap (λ (n : ℕ). min (when.written + n) LAST_COUNT) c.count_of_accepted.ensures in
-    c.note.ensures ∙ (λ i. noted (partition i) (writes i) stamp tally) ∙ ap (λ (o : Option Outcome). noted_if c.args.partitions key when o stamp tally) (sym c.in-Some.is)
+    c.note.ensures ∙ (λ i. noted (partition i) (writes i) stamp tally) ∙ ap (λ (o : Option Outcome). noted_if c.args.hashing c.args.partitions key when o stamp tally) (sym c.in-Some.is)

@@ -33,6 +33,6 @@ returns-clause-answered g c =
       by.answered,
       by.at,
       (let left = c.change-gone.ensures.left in omega (arith, left, by.count)),
-      c.note_write.ensures ∙ (λ i. noted_if c.args.partitions (c.bytes-key.ensures i) changed.when changed.outcome changed.stamp c.args.buffers.now.tally)
-          ∙ by.noted c.args.partitions c.args.buffers.now.tally,
+      c.note_write.ensures ∙ (λ i. noted_if (g.F.Front.options c.args.front.now).hashing c.args.partitions (c.bytes-key.ensures i) changed.when changed.outcome changed.stamp c.args.buffers.now.tally)
+          ∙ by.noted (g.F.Front.options c.args.front.now).hashing c.args.partitions c.args.buffers.now.tally,
     )

@@ -5,7 +5,7 @@ use Rattle.std.specs.declared.vec.IntoIter.{IntoIter}
 use Rattle.std.specs.Vec.Iter.{into_iter_items}
 use Rattle.std.proofs.lemmas.List.{map-set}
 use Rattle.std.proofs.lemmas.Option.{slice_get-map, slice_get-get_or}
-use Rattle.mica_words.specs.Hash.{fnv1a, hash_partition}
+use Rattle.mica_words.specs.Hash.{hash_of, hash_partition}
 use Rattle.mica_words.proofs.Hashes.{partition_of_hash, partition_of-below}
 use Rattle.mica_trace.specs.declared.report.Line.{Line}
 use Rattle.mica_trace.specs.Rounds.{partition_in}
@@ -28,7 +28,7 @@ next_line-requires c =
     let printed = c.args.printed.now in
     let at = c.partition_of-partition.result in
     let number : at ≡ partition_in options line =
-    c.partition_of-partition.ensures ∙ ap (λ h. hash_partition h options.partitions) (c.key_hash.ensures ∙ ap fnv1a c.bytes.ensures) ∙ sym (partition_of_hash options.hashing line.key options.partitions) in
+    c.partition_of-partition.ensures ∙ ap (λ h. hash_partition h options.partitions) (c.key_hash.ensures ∙ ap (hash_of options.hashing) c.bytes.ensures) ∙ sym (partition_of_hash options.hashing line.key options.partitions) in
     let low = partition_of-below options.hashing line.key options.partitions c.requires.valid.partitions.0 in
     c.requires.some (sym c.if-is_sync.ensures) _ (part_of printed at (partition_in options line) options.partitions c.index-printed-partition.result number low c.requires.many)
 
@@ -39,7 +39,7 @@ returns c =
     let printed = c.args.printed.now in
     let at = c.partition_of-partition.result in
     let number : at ≡ partition_in options line =
-    c.partition_of-partition.ensures ∙ ap (λ h. hash_partition h options.partitions) (c.key_hash.ensures ∙ ap fnv1a c.bytes.ensures) ∙ sym (partition_of_hash options.hashing line.key options.partitions) in
+    c.partition_of-partition.ensures ∙ ap (λ h. hash_partition h options.partitions) (c.key_hash.ensures ∙ ap (hash_of options.hashing) c.bytes.ensures) ∙ sym (partition_of_hash options.hashing line.key options.partitions) in
     let low = partition_of-below options.hashing line.key options.partitions c.requires.valid.partitions.0 in
     let here = part_of printed at (partition_in options line) options.partitions c.index-printed-partition.result number low c.requires.many in
     let rest = left c.next_line.new.lines in

@@ -1,7 +1,7 @@
 use Rattle.std.proofs.Common.{◌≡◌, ◌+◌, ◌<◌, ◌++◌, ◌∷◌, [], List, length, map, take, get_or, set, sym, ap, ◌∙◌, subst, arith}
 use Rattle.std.proofs.Math.Seq.{map-set_same}
 use Rattle.std.proofs.lemmas.List.{take_more, length-take-le, length-map}
-use Rattle.mica_words.specs.Hash.{fnv1a, hash_partition}
+use Rattle.mica_words.specs.Hash.{hash_of, hash_partition}
 use Rattle.mica_words.proofs.Hashes.{partition_of_hash, partition_of-below}
 use Rattle.mica_trace.specs.declared.line.TraceLine.{TraceLine}
 use Rattle.mica_trace.specs.LawfulReport.{IsLineFor}
@@ -33,7 +33,7 @@ loop-line-preserved g c =
     let line_is : line ≡ get_or lines i line = subst (λ (ls : List TraceLine). line ≡ get_or ls i line) same c.line-item.is in
     let at = c.partition_of-partition.result in
     let number : at ≡ partition_in options line =
-    c.partition_of-partition.ensures ∙ ap (λ h. hash_partition h options.partitions) (c.key_hash.ensures ∙ ap fnv1a c.bytes.ensures) ∙ sym (partition_of_hash options.hashing line.key options.partitions) in
+    c.partition_of-partition.ensures ∙ ap (λ h. hash_partition h options.partitions) (c.key_hash.ensures ∙ ap (hash_of options.hashing) c.bytes.ensures) ∙ sym (partition_of_hash options.hashing line.key options.partitions) in
     let low = partition_of-below options.hashing line.key options.partitions c.requires.valid.partitions.0 in
     let many = c.loop-line.invariant.0.many in
     let below : at < length c.loop-line.parts.items = omega (arith, length-map c.loop-line.parts.items g.P.Partition.owner) in

@@ -13,7 +13,7 @@ none-flushes-requires g c = subst (λ (n : ℕ). 0 < n) (sym c.requires.valid.bu
 pub loop-write-init : goal.loop-write-init
 loop-write-init g c = record {
   filled = filled_none c.args.options.now c.args.number (g.P.Partition.owner c.args.part.now) c.requires.made;
-  flushes = subst (λ (o : OwnerState). AreKept o.shape.buckets o.history c.none-flushes.result) (sym c.requires.made) c.none-flushes.ensures;
+  flushes = subst (λ (o : OwnerState). AreKept o.shape.hashing o.shape.buckets o.history c.none-flushes.result) (sym c.requires.made) c.none-flushes.ensures;
 }
 
 pub loop-write-preserved : goal.loop-write-preserved

@@ -1,5 +1,5 @@
 use Rattle.std.proofs.Common.{◌≡◌, sym, ap, ◌∙◌, subst}
-use Rattle.mica_words.specs.Hash.{fnv1a, hash_partition, partition_of}
+use Rattle.mica_words.specs.Hash.{hash_of, hash_partition, partition_of}
 use Rattle.mica_words.proofs.Hashes.{partition_of_hash}
 use Rattle.partition_model.specs.declared.write.Write.{Write}
 use Rattle.partition_model.specs.Write.{write_of}
@@ -12,7 +12,7 @@ use Rattle.locked_server.proofs.filling.fill_one.Goals as goal
 here : (g : given.Over) (c : After-partition_of g) → partition_of c.args.options.now.hashing c.args.write.now.key c.args.options.now.partitions ≡ c.partition_of.result
 here g c =
     partition_of_hash c.args.options.now.hashing c.args.write.now.key c.args.options.now.partitions
-    ∙ ap (λ h. hash_partition h c.args.options.now.partitions) (sym (c.key_hash-hash.ensures ∙ ap fnv1a c.bytes-key.ensures)) ∙ sym c.partition_of.ensures
+    ∙ ap (λ h. hash_partition h c.args.options.now.partitions) (sym (c.key_hash-hash.ensures ∙ ap (hash_of c.args.options.now.hashing) c.bytes-key.ensures)) ∙ sym c.partition_of.ensures
 
 pub returns-then-partition_of-number-clause-own : goal.returns-then-partition_of-number-clause-own
 returns-then-partition_of-number-clause-own g c is =

@@ -1,6 +1,6 @@
 use Rattle.std.proofs.Common.{◌≡◌, ◌+◌, List, [], length, map, take, get_or, slice_get, slice_set, Some, refl, sym, ap, ◌∙◌, subst, arith}
 use Rattle.std.proofs.lemmas.List.{length_push}
-use Rattle.mica_words.specs.Hash.{fnv1a, hash_partition}
+use Rattle.mica_words.specs.Hash.{hash_of, hash_partition}
 use Rattle.mica_words.proofs.Hashes.{partition_of_hash}
 use Rattle.mica_words.specs.Item.{KeyFits}
 use Rattle.mica_trace.specs.declared.line.TraceLine.{TraceLine}
@@ -33,7 +33,7 @@ module _ (g : Over) (c : After-ask_hashed-got g) where
   same_key = c.bytes-key.ensures ∙ ap (λ (l : TraceLine). l.key) (sym c.index-lines-number.is)
 
   at : c.partition_of-partition.result ≡ partition_in c.args.options.now c.index-lines-number.result
-  at = c.partition_of-partition.ensures ∙ ap (λ n. hash_partition n c.args.options.now.partitions) (c.key_hash-hash.ensures ∙ ap fnv1a same_key)
+  at = c.partition_of-partition.ensures ∙ ap (λ n. hash_partition n c.args.options.now.partitions) (c.key_hash-hash.ensures ∙ ap (hash_of c.args.options.now.hashing) same_key)
       ∙ sym (partition_of_hash c.args.options.now.hashing c.index-lines-number.result.key c.args.options.now.partitions)
 
   here : slice_get c.loop-number.seats.items c.partition_of-partition.result ≡ Some c.index_mut-seat.result.now

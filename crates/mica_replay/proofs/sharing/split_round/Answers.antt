@@ -2,7 +2,7 @@ use Rattle.std.proofs.Common.{◌≡◌, ◌<◌, ◌≤◌, ◌+◌, ◌-◌, �
 use Rattle.std.proofs.lemmas.List.{length-map, map-set}
 use Rattle.std.proofs.lemmas.Option.{slice_get_read}
 use Rattle.list_laws.proofs.AllElements.{all_at}
-use Rattle.mica_words.specs.Hash.{fnv1a, hash_partition}
+use Rattle.mica_words.specs.Hash.{hash_of, hash_partition}
 use Rattle.mica_words.proofs.Hashes.{partition_of_hash, partition_of-below}
 use Rattle.mica_trace.specs.declared.line.TraceLine.{TraceLine}
 use Rattle.mica_trace.specs.TraceGrammar.{IsTraceLine}
@@ -55,7 +55,7 @@ push-requires-in-Put g c =
     let less : number < length trace = omega (arith, c.requires.bounds, c.loop-number-test.true) in
     let is : line ≡ get_or trace number line = c.index-lines-number.is ∙ ap (λ (ls : List TraceLine). get_or ls number line) c.lines-lines.ensures.same in
     let here : c.partition_of-partition.result ≡ partition_in options line
-    = c.partition_of-partition.ensures ∙ ap (λ h. hash_partition h options.partitions) (c.key_hash.ensures ∙ ap fnv1a c.bytes.ensures) ∙ sym (partition_of_hash options.hashing line.key options.partitions) in
+    = c.partition_of-partition.ensures ∙ ap (λ h. hash_partition h options.partitions) (c.key_hash.ensures ∙ ap (hash_of options.hashing) c.bytes.ensures) ∙ sym (partition_of_hash options.hashing line.key options.partitions) in
     let lines = take (number - from) (drop from trace) in
     record {
       queue = omega (arith, here, partition_of-below options.hashing line.key options.partitions c.requires.valid.partitions.0, inv.queues);
@@ -114,7 +114,7 @@ loop-number-preserved g c =
           let none = pushed ∙ ap (λ b. gets_in lines + cond b 1 0) no_get in
           let same = w.gets-is in
           let here : w.partition_of-partition.result ≡ partition_in options line
-          = w.partition_of-partition.ensures ∙ ap (λ h. hash_partition h options.partitions) (w.key_hash.ensures ∙ ap fnv1a w.bytes.ensures) ∙ sym (partition_of_hash options.hashing line.key options.partitions) in
+          = w.partition_of-partition.ensures ∙ ap (λ h. hash_partition h options.partitions) (w.key_hash.ensures ∙ ap (hash_of options.hashing) w.bytes.ensures) ∙ sym (partition_of_hash options.hashing line.key options.partitions) in
           let home = w.home-is ∙ here ∙ sym (own_home options line write is_write) in
           record {
             gets = omega arith;

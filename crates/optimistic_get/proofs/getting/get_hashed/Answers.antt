@@ -1,6 +1,6 @@
 use Rattle.std.proofs.Common.{◌≡◌, ◌+◌, ◌<◌, ℕ, false, rules, sym, ap, ◌∙◌, subst, arith}
 use Rattle.std.proofs.lemmas.Nat.{pow_pos}
-use Rattle.mica_words.specs.Hash.{hash_bucket, bucket_of}
+use Rattle.mica_words.specs.Hash.{hash_bucket, bucket_of, hash_of}
 use Rattle.mica_words.proofs.Hashes.{bucket_of_hash, bucket_of-below}
 use Rattle.partition_words.specs.declared.shape.Shape.{Shape}
 use Rattle.partition_words.specs.Shape.{IsMain}
@@ -14,7 +14,7 @@ loop-try-init g c =
     let buckets = c.shape.ensures.valid.ranges.buckets in
     let some : 0 < c.shape.result.buckets = subst (λ (z : ℕ). 0 < z) (sym buckets.2) (pow_pos buckets.0) in
     let here : c.bucket_of-bucket.result ≡ bucket_of c.shape.result.hashing c.args.key.now c.shape.result.buckets =
-    c.bucket_of-bucket.ensures ∙ (ap (λ (z : ℕ). hash_bucket z c.shape.result.buckets) c.requires.hashed ∙ sym (bucket_of_hash c.shape.result.hashing c.args.key.now c.shape.result.buckets)) in
+    c.bucket_of-bucket.ensures ∙ (ap (λ (z : ℕ). hash_bucket z c.shape.result.buckets) (c.requires.hashed ∙ ap (λ (z : Shape). hash_of z.hashing c.args.key.now) (sym c.shape.ensures.same)) ∙ sym (bucket_of_hash c.shape.result.hashing c.args.key.now c.shape.result.buckets)) in
     let low : c.bucket_of-bucket.result < c.shape.result.buckets =
     subst (λ (z : ℕ). z < c.shape.result.buckets) (sym here) (bucket_of-below c.shape.result.hashing c.args.key.now c.shape.result.buckets (omega arith)) in record {
       failed = 0;

@@ -3,10 +3,11 @@ use Rattle.mica_words.specs.Hash.{hash_tag, tag_of}
 use Rattle.mica_words.specs.Entry.{entry_offset}
 use Rattle.mica_words.specs.Item.{largest_stored_item}
 use Rattle.mica_words.proofs.Hashes.{tag_of_hash}
+use Rattle.partition_words.specs.declared.shape.Shape.{Shape}
 use Rattle.partition_words.specs.Spelt.{ShowsOther, ShowsItem}
 use Rattle.optimistic_get.specs.Loading.{loads_in}
 use Rattle.optimistic_get.specs.Search.{by_item, by_best, Weighs}
-use Rattle.optimistic_get.proofs.Loads.{on_none}
+use Rattle.optimistic_get.proofs.Loads.{on_none, on_shape}
 use Rattle.optimistic_get.proofs.Entries.{weighs_none, weighs_one}
 use Rattle.optimistic_get.proofs.searching.weigh_tagged.Goals as goal
 
@@ -19,10 +20,12 @@ returns-then-not-is_later-clause-weighs g c =
 
 pub returns-then-look-clause-weighs : goal.returns-then-look-clause-weighs
 returns-then-look-clause-weighs g c =
-    let tag : c.args.wanted.now.tag ≡ tag_of c.args.wanted.now.key.now = c.args.wanted.now.tagged ∙ (ap hash_tag c.args.wanted.now.hashed ∙ sym (tag_of_hash c.args.wanted.now.key.now)) in
     let reader = g.R.ReaderWords.reader in
     let r = reader c.args.seat.now in
     let q = reader c.look.new.seat in
+    let tag : c.args.wanted.now.tag ≡ tag_of q.shape.hashing c.args.wanted.now.key.now =
+    c.args.wanted.now.tagged ∙ (ap hash_tag c.requires.hashed ∙ (sym (tag_of_hash r.shape.hashing c.args.wanted.now.key.now)
+    ∙ ap (λ (z : Shape). tag_of z.hashing c.args.wanted.now.key.now) (sym (on_shape r q _ c.look.ensures.on)))) in
     let at : c.entry_offset-offset.result ≡ entry_offset c.args.entry = c.entry_offset-offset.ensures in
     subst (λ (z : ℕ). Weighs r c.args.entry c.args.wanted.now.key.now c.args.best c.args.out.now (Some z) c.look.new.out q) (sym at)
     (weighs_one r q c.args.entry c.args.wanted.now.key.now c.args.best c.args.out.now c.look.new.out c.look.ensures.on

@@ -11,9 +11,9 @@ use Rattle.optimistic_get.proofs.settled.get_settled.Goals as goal
 pub try_get-requires-clause-bucket : goal.try_get-requires-clause-bucket
 try_get-requires-clause-bucket c =
     let key = c.args.key.now in
-    let buckets = c.shape.result.buckets in
-    c.bucket_of-bucket.ensures ∙ (ap (λ (z : ℕ). hash_bucket z buckets) c.key_hash-hash.ensures ∙ sym (bucket_of_hash key buckets))
-    ∙ ap (λ (z : Shape). bucket_of z.hashing key z.buckets) c.shape.ensures.same
+    let shape = c.shape-shape.result in
+    c.bucket_of-bucket.ensures ∙ (ap (λ (z : ℕ). hash_bucket z shape.buckets) c.key_hash-hash.ensures ∙ sym (bucket_of_hash shape.hashing key shape.buckets))
+    ∙ ap (λ (z : Shape). bucket_of z.hashing key z.buckets) c.shape-shape.ensures.same
 
 pub unreachable-requires : goal.unreachable-requires
 unreachable-requires c = cc (

@@ -34,7 +34,7 @@ module _ (value_of : List ℕ → Option (List ℕ)) (keys : List (Bor (List ℕ
 pub index_mut-part-requires : goal.index_mut-part-requires
 index_mut-part-requires g c =
     let some = c.requires.valid.partitions.0 in
-    let there = part_there g.P.Partition.owner c.args.parts.now.items c.loop-key.parts.items c.args.options.now.partitions _ _ (get_or c.args.keys.now c.loop-key.key-index none).now (omega arith) c.requires.many c.loop-key.invariant.same c.key_hash.ensures c.partition_of-partition.ensures in
+    let there = part_there g.P.Partition.owner c.args.parts.now.items c.loop-key.parts.items c.args.options.now.hashing c.args.options.now.partitions _ _ (get_or c.args.keys.now c.loop-key.key-index none).now (omega arith) c.requires.many c.loop-key.invariant.same c.key_hash.ensures c.partition_of-partition.ensures in
     omega (arith, c.loop-key.parts.ok.0)
 
 pub finds-requires : goal.finds-requires
@@ -47,7 +47,7 @@ pub put_pair-requires-clause-value : goal.put_pair-requires-clause-value
 put_pair-requires-clause-value g c =
     let some = c.requires.valid.partitions.0 in
     let key = (get_or c.args.keys.now c.loop-key.key-index none).now in
-    let found = part_answers g.P.Partition.owner c.args.parts.now.items c.loop-key.parts.items c.args.options.now.partitions _ _ key (omega arith) c.requires.many c.loop-key.invariant.same c.key_hash.ensures c.partition_of-partition.ensures c.index_mut-part.result.now c.index_mut-part.ensures.value in
+    let found = part_answers g.P.Partition.owner c.args.parts.now.items c.loop-key.parts.items c.args.options.now.hashing c.args.options.now.partitions _ _ key (omega arith) c.requires.many c.loop-key.invariant.same c.key_hash.ensures c.partition_of-partition.ensures c.index_mut-part.result.now c.index_mut-part.ensures.value in
     (c.requires.values key c.value-then-finds.result.now (found ∙ c.if-finds.ensures.answer ∙ ap Some (sym c.value-then-finds.ensures.value))).0
 
 pub overflow_add-count : goal.overflow_add-count
@@ -55,8 +55,8 @@ overflow_add-count g c =
     let some = c.requires.valid.partitions.0 in
     let owner = g.P.Partition.owner in
     let partitions = c.args.options.now.partitions in
-    let found = part_answers owner c.args.parts.now.items c.loop-key.parts.items partitions _ _ (get_or c.args.keys.now c.loop-key.key-index none).now (omega arith) c.requires.many c.loop-key.invariant.same c.key_hash.ensures c.partition_of-partition.ensures c.index_mut-part.result.now c.index_mut-part.ensures.value in
-    let one = ap length (added (value_at (map owner c.args.parts.now.items) partitions) c.args.keys.now c.loop-key.key-index c.loop-key-test.true _ (found ∙ c.if-finds.ensures.answer)) in
+    let found = part_answers owner c.args.parts.now.items c.loop-key.parts.items c.args.options.now.hashing partitions _ _ (get_or c.args.keys.now c.loop-key.key-index none).now (omega arith) c.requires.many c.loop-key.invariant.same c.key_hash.ensures c.partition_of-partition.ensures c.index_mut-part.result.now c.index_mut-part.ensures.value in
+    let one = ap length (added (value_at (map owner c.args.parts.now.items) c.args.options.now.hashing partitions) c.args.keys.now c.loop-key.key-index c.loop-key-test.true _ (found ∙ c.if-finds.ensures.answer)) in
     omega (arith, one, c.loop-key.invariant.count, c.requires.image.few)
 
 pub loop-key-preserved : goal.loop-key-preserved
@@ -69,9 +69,9 @@ loop-key-preserved g c =
     let parts = c.loop-key.parts.items in
     let at = c.partition_of-partition.result in
     let part = c.index_mut-part.result.now in
-    let value_of : List ℕ → Option (List ℕ) = value_at (map owner c.args.parts.now.items) partitions in
+    let value_of : List ℕ → Option (List ℕ) = value_at (map owner c.args.parts.now.items) c.args.options.now.hashing partitions in
     let left : List Pair = pairs_by value_of (map now (drop (i + 1) keys)) in
-    let found = part_answers owner c.args.parts.now.items parts partitions _ _ (get_or keys i none).now (omega arith) c.requires.many c.loop-key.invariant.same c.key_hash.ensures c.partition_of-partition.ensures part c.index_mut-part.ensures.value in
+    let found = part_answers owner c.args.parts.now.items parts c.args.options.now.hashing partitions _ _ (get_or keys i none).now (omega arith) c.requires.many c.loop-key.invariant.same c.key_hash.ensures c.partition_of-partition.ensures part c.index_mut-part.ensures.value in
     let same = map-set_same owner parts at c.finds.new.part part (c.finds.ensures.same ∙ ap owner c.index_mut-part.ensures.value) ∙ c.loop-key.invariant.same in
     elim c.if-finds.branch [
       | then-finds+in_ok-put_pair w ↦

@@ -7,7 +7,7 @@ use Rattle.store_image.proofs.made.image_of_keys.Given as goal
 
 abbrev pub invariant-loop-key : goal.invariant-loop-key
 invariant-loop-key g l =
-    let pairs = λ (keys : List (Bor (List ℕ))). pairs_by (value_at (map g.P.Partition.owner l.initial.parts.items) l.options.partitions) (map (λ k. k.now) keys) in
+    let pairs = λ (keys : List (Bor (List ℕ))). pairs_by (value_at (map g.P.Partition.owner l.initial.parts.items) l.options.hashing l.options.partitions) (map (λ k. k.now) keys) in
     let left : List Pair = pairs (drop l.key-index l.keys) in
     record {
       count : l.count + length left ≡ length (pairs l.keys);

@@ -1,7 +1,7 @@
 use Rattle.std.proofs.Common.{◌≡◌, ◌+◌, ◌<◌, ◌≤◌, ◌∷◌, [], ℕ, zero, suc, List, length, take, get_or, slice_set, refl, sym, ap, ◌∙◌, subst, arith}
 use Rattle.std.proofs.lemmas.Option.{slice_get_read}
 use Rattle.list_laws.proofs.UpTo.{UpTo, up_none}
-use Rattle.mica_words.specs.Hash.{fnv1a, hash_partition}
+use Rattle.mica_words.specs.Hash.{hash_of, hash_partition}
 use Rattle.mica_words.proofs.Hashes.{partition_of_hash, partition_of-below}
 use Rattle.mica_trace.specs.declared.line.TraceLine.{TraceLine}
 use Rattle.mica_trace.specs.Rounds.{partition_in}
@@ -26,7 +26,7 @@ index_mut-sender-requires g c =
     let options = c.args.options.now in
     let line = c.index-lines-number.result in
     let own : c.partition_of-queue.result ≡ partition_in options line =
-    c.partition_of-queue.ensures ∙ ap (λ h. hash_partition h options.partitions) (c.key_hash.ensures ∙ ap fnv1a c.bytes.ensures) ∙ sym (partition_of_hash options.hashing line.key options.partitions) in
+    c.partition_of-queue.ensures ∙ ap (λ h. hash_partition h options.partitions) (c.key_hash.ensures ∙ ap (hash_of options.hashing) c.bytes.ensures) ∙ sym (partition_of_hash options.hashing line.key options.partitions) in
     let low = partition_of-below options.hashing line.key options.partitions c.requires.valid.partitions.0 in
     let many = c.loop-number.invariant.many in
     let first = c.requires.ready.many in
@@ -43,7 +43,7 @@ send-requires g c =
     let queue = c.partition_of-queue.result in
     let now = c.index_mut-sender.result.now in
     let own : queue ≡ partition_in options line =
-    c.partition_of-queue.ensures ∙ ap (λ h. hash_partition h options.partitions) (c.key_hash.ensures ∙ ap fnv1a c.bytes.ensures) ∙ sym (partition_of_hash options.hashing line.key options.partitions) in
+    c.partition_of-queue.ensures ∙ ap (λ h. hash_partition h options.partitions) (c.key_hash.ensures ∙ ap (hash_of options.hashing) c.bytes.ensures) ∙ sym (partition_of_hash options.hashing line.key options.partitions) in
     let low = partition_of-below options.hashing line.key options.partitions c.requires.valid.partitions.0 in
     let many = c.loop-number.invariant.many in
     let first = c.requires.ready.many in
@@ -68,7 +68,7 @@ loop-number-preserved g c =
           let queue = w.partition_of-queue.result in
           let now = w.index_mut-sender.result.now in
           let own : queue ≡ partition_in options line =
-          w.partition_of-queue.ensures ∙ ap (λ h. hash_partition h options.partitions) (w.key_hash.ensures ∙ ap fnv1a w.bytes.ensures) ∙ sym (partition_of_hash options.hashing line.key options.partitions) in
+          w.partition_of-queue.ensures ∙ ap (λ h. hash_partition h options.partitions) (w.key_hash.ensures ∙ ap (hash_of options.hashing) w.bytes.ensures) ∙ sym (partition_of_hash options.hashing line.key options.partitions) in
           let low = partition_of-below options.hashing line.key options.partitions c.requires.valid.partitions.0 in
           let many = c.loop-number.invariant.many in
           let first = c.requires.ready.many in

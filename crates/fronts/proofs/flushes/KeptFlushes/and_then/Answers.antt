@@ -9,13 +9,13 @@ pub returns-then-bucket_of-ne0 : goal.returns-then-bucket_of-ne0
 returns-then-bucket_of-ne0 c value =
     let kept = c.args.self.now in
     kept_other c.args.count (write_of c.args.op c.args.key.now value) kept
-    (in_another c.args.key.now kept.buckets c.args.hash c.bucket_of.result c.requires.hashed c.bucket_of.ensures (omega (arith, c.if-bucket_of-ne0.true)))
+    (in_another kept.hashing c.args.key.now kept.buckets c.args.hash c.bucket_of.result c.requires.hashed c.bucket_of.ensures (omega (arith, c.if-bucket_of-ne0.true)))
 
 pub returns : goal.returns
 returns c value =
     let kept = c.args.self.now in
     let write = write_of c.args.op c.args.key.now value in
-    let first = in_bucket_0 c.args.key.now kept.buckets c.args.hash c.bucket_of.result c.requires.hashed c.bucket_of.ensures (omega (arith, c.if-bucket_of-ne0.false)) in
+    let first = in_bucket_0 kept.hashing c.args.key.now kept.buckets c.args.hash c.bucket_of.result c.requires.hashed c.bucket_of.ensures (omega (arith, c.if-bucket_of-ne0.false)) in
     elim c.if-is_flush.branch as (λ _. record kept { in_first = kept.in_first + 1; flushes = c.if-is_flush.flushes } ≡ kept_then c.args.count write kept) [
       | then-is_flush w ↦
           kept_first c.args.count write kept c.if-is_flush.flushes _ first (sym c.is_flush.ensures ∙ w.if-is_flush.true)

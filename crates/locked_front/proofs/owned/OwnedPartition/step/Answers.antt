@@ -21,7 +21,7 @@ invariant_of-self g c =
     let step = subst (λ (o : OwnerState). IsOwnerStep was.owner o write c.write_counted-outcome.result) same c.write_counted-outcome.ensures.step in
     let counted = learns.ensures.counts ∙ ap (λ (o : OwnerState). counts_after (options_in o) o.history) same in (
       keeps g.J.ServerPlan.plan was _ _ _ c.args.taker.now write _ learns.result c.self.invariant.0 step counted (learns.ensures.home ∙ c.write_counted-outcome.ensures.home) c.enter.ensures.book,
-      subst (λ (o : OwnerState). AreKept o.shape.buckets o.history c.write_counted-outcome.new.kept) same c.write_counted-outcome.ensures.kept,
+      subst (λ (o : OwnerState). AreKept o.shape.hashing o.shape.buckets o.history c.write_counted-outcome.new.kept) same c.write_counted-outcome.ensures.kept,
       c.self.invariant.2,
     )
 

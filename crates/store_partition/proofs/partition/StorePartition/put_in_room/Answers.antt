@@ -18,7 +18,7 @@ steps g c key_bytes value_bytes =
 
 put : (g : Over) (c : After-rewrite_item g) → HasPut (g.W.OwnerWords.owner c.args.self.now.words) (write_of Put c.args.key.now c.args.value.now) c.args.bucket
     (c.args.self.now.accepted + 1) c.args.block.offset c.args.block.room (g.W.OwnerWords.owner c.rewrite_item.new.words)
-put g c = c.rewrite_item.ensures.events ∙ ap (plays (item_events c.args.block.offset c.args.block.room c.args.key.now c.args.value.now)) c.begin_marked.ensures.events
+put g c = c.rewrite_item.ensures.events ∙ ap (λ z. plays (item_events z.shape.hashing c.args.block.offset c.args.block.room c.args.key.now c.args.value.now) z) c.begin_marked.ensures.events
 
 pub begin_marked-requires : goal.begin_marked-requires
 begin_marked-requires g c =

@@ -33,17 +33,17 @@ steps g c =
 -- its item is put
 put : (g : Over) (c : After-write_item_hashed g) → HasPut (g.W.OwnerWords.owner c.args.self.now.words) (write_of c.args.op c.args.key.now c.args.value.now) c.args.bucket
     (c.args.self.now.accepted + 1) c.in-Some.place (item_size c.args.key.now c.args.value.now) (g.W.OwnerWords.owner c.write_item_hashed.new.words)
-put g c = c.write_item_hashed.ensures.events ∙ (λ i. plays (item_events (c.from.ensures i) (c.item_size-size.ensures i) c.args.key.now c.args.value.now)
-    ((c.begin_marked.ensures.events ∙ ap (λ z. marked_in_bucket z c.args.bucket (write_of c.args.op c.args.key.now c.args.value.now) (c.args.self.now.accepted + 1))
-    c.has_place.ensures.same) i))
+put g c =
+    let begun = c.begin_marked.ensures.events ∙ ap (λ z. marked_in_bucket z c.args.bucket (write_of c.args.op c.args.key.now c.args.value.now) (c.args.self.now.accepted + 1)) c.has_place.ensures.same in
+    c.write_item_hashed.ensures.events ∙ (λ i. plays (item_events (begun i).shape.hashing (c.from.ensures i) (c.item_size-size.ensures i) c.args.key.now c.args.value.now) (begun i))
 
 -- and its entry
-closed : (g : Over) (c : After-place g) (o : OwnerState) (index : Index) (t : ℕ) → let w = write_of c.args.op c.args.key.now c.args.value.now in
+closed : (g : Over) (c : After-place g) (index : Index) (t : ℕ) → let w = write_of c.args.op c.args.key.now c.args.value.now in let o = g.W.OwnerWords.owner c.args.self.now.words in
     PutNew o index c.take.new.self w c.args.bucket t c.in-Some.place → HasPut o w c.args.bucket t c.in-Some.place (size_of w) (g.W.OwnerWords.owner c.write_item_hashed.new.words)
     → Closes o w Stored c.args.bucket t c.place.new.self (λ bs. bs ≡ c.take.new.self) (g.W.OwnerWords.owner c.place.new.words)
-closed g c o index t steps put =
+closed g c index t steps put =
     let o3 = g.W.OwnerWords.owner c.write_item_hashed.new.words in
-    steps.closes _ _ c.tag_of.result c.place.new.self put (c.tag_of.ensures ∙ (ap hash_tag c.requires.hashed ∙ sym (tag_of_hash c.args.key.now)))
+    steps.closes _ _ c.tag_of.result c.place.new.self put (c.tag_of.ensures ∙ (ap hash_tag c.requires.hashed ∙ sym (tag_of_hash (g.W.OwnerWords.owner c.args.self.now.words).shape.hashing c.args.key.now)))
     c.place.ensures.kept c.place.ensures.index
     (subst (λ p. ChangesChain o3 (g.W.OwnerWords.owner c.place.new.words) c.args.bucket (entries_of o3 c.args.bucket ++ entry_of c.tag_of.result p ∷ []))
     c.from-2.ensures c.place.ensures.entries)
@@ -75,7 +75,7 @@ pub write_item_hashed-requires-clause-allowed : goal.write_item_hashed-requires-
 write_item_hashed-requires-clause-allowed g c =
     let z = goal.at.write_item_hashed-requires-clause-allowed g c in
     let begun = c.begin_marked.ensures.events ∙ ap (λ n. marked_in_bucket n c.args.bucket (w g z.Start) (c.args.self.now.accepted + 1)) c.has_place.ensures.same in
-    subst₂ (λ p n. CanPlay (item_events p n c.args.key.now c.args.value.now) (g.W.OwnerWords.owner c.begin_marked.new.words)) (sym c.from.ensures) (sym c.item_size-size.ensures)
+    subst₂ (λ p n. CanPlay (item_events (g.W.OwnerWords.owner c.begin_marked.new.words).shape.hashing p n c.args.key.now c.args.value.now) (g.W.OwnerWords.owner c.begin_marked.new.words)) (sym c.from.ensures) (sym c.item_size-size.ensures)
     ((steps g z.In-Some).item _ begun)
 
 pub place-requires : goal.place-requires
@@ -85,14 +85,14 @@ place-requires g c =
     record { index = places.0; marked = places.1; bucket = places.2; place = places.3; tag = search rules; offset = search rules }
 
 pub end_write-requires : goal.end_write-requires
-end_write-requires g c = let z = goal.at.end_write-requires g c in (closed g z.After-place _ _ _ (steps g z.In-Some) (put g z.After-write_item_hashed)).end
+end_write-requires g c = let z = goal.at.end_write-requires g c in (closed g z.After-place _ _ (steps g z.In-Some) (put g z.After-write_item_hashed)).end
 
 pub invariant_of-self-2 : goal.invariant_of-self-2
 invariant_of-self-2 g c =
     let z = goal.at.invariant_of-self-2 g c in
-    ((closed g z.After-place _ _ _ (steps g z.In-Some) (put g z.After-write_item_hashed)).ended _ _ c.end_write.ensures.event refl).invariant
+    ((closed g z.After-place _ _ (steps g z.In-Some) (put g z.After-write_item_hashed)).ended _ _ c.end_write.ensures.event refl).invariant
 
 pub returns-clause-step : goal.returns-clause-step
 returns-clause-step g c =
     let z = goal.at.returns-clause-step g c in
-    ((closed g z.After-place _ _ _ (steps g z.In-Some) (put g z.After-write_item_hashed)).ended _ _ c.end_write.ensures.event refl).step
+    ((closed g z.After-place _ _ (steps g z.In-Some) (put g z.After-write_item_hashed)).ended _ _ c.end_write.ensures.event refl).step

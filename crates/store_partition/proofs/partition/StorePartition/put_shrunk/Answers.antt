@@ -43,7 +43,7 @@ steps g c =
 put : (g : Over) (c : After-rewrite_item g) → HasPut (g.W.OwnerWords.owner c.args.self.now.words) (write_of Put c.args.key.now c.args.value.now) c.args.bucket
     (c.args.self.now.accepted + 1) c.args.block.offset (item_size c.args.key.now c.args.value.now) (g.W.OwnerWords.owner c.rewrite_item.new.words)
 put g c = c.rewrite_item.ensures.events
-    ∙ (λ i. plays (item_events c.args.block.offset (c.item_size-size.ensures i) c.args.key.now c.args.value.now) (c.begin_marked.ensures.events i))
+    ∙ (λ i. plays (item_events (c.begin_marked.ensures.events i).shape.hashing c.args.block.offset (c.item_size-size.ensures i) c.args.key.now c.args.value.now) (c.begin_marked.ensures.events i))
 
 pub overflow_cast-place : goal.overflow_cast-place
 overflow_cast-place g c =
@@ -58,7 +58,7 @@ begin_marked-requires g c = (steps g (goal.at.begin_marked-requires g c).After-p
 
 pub rewrite_item-requires-clause-allowed : goal.rewrite_item-requires-clause-allowed
 rewrite_item-requires-clause-allowed g c =
-    subst (λ n. CanPlay (item_events c.args.block.offset n c.args.key.now c.args.value.now) (g.W.OwnerWords.owner c.begin_marked.new.words)) (sym c.item_size-size.ensures)
+    subst (λ n. CanPlay (item_events (g.W.OwnerWords.owner c.begin_marked.new.words).shape.hashing c.args.block.offset n c.args.key.now c.args.value.now) (g.W.OwnerWords.owner c.begin_marked.new.words)) (sym c.item_size-size.ensures)
     ((steps g (goal.at.rewrite_item-requires-clause-allowed g c).After-part).item _ c.begin_marked.ensures.events)
 
 pub rewrite_item-requires-clause-there : goal.rewrite_item-requires-clause-there
