@@ -1,5 +1,6 @@
 //! What is at hand of the whole process.
 
+use daemon_words::Host;
 use std::alloc::Global;
 use std::sync::atomic::AtomicBool;
 
@@ -17,8 +18,8 @@ pub struct Process<'a, W, G> {
     pub stopping: &'a AtomicBool,
     /// The number of the process.
     pub pid: u32,
-    /// How many processors there are.
-    pub processors: u32,
+    /// What the machine gives beside words.
+    pub host: Host,
 }
 
 /// What a server is told of where it runs.
@@ -26,8 +27,8 @@ pub struct Process<'a, W, G> {
 pub struct Machine {
     /// The number of the process.
     pub process: u32,
-    /// How many processors there are for it.
-    pub processors: u32,
+    /// What it gives beside words.
+    pub host: Host,
 }
 
 /// When a server starts.

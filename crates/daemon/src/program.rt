@@ -87,7 +87,7 @@ fn serve_words<W: Threads + Wait + Sync, F: Files, K: Sink + Drop, N: Net, L: Li
     requires net { N.binds net.old ≡ 0 }
     requires tables { left.old.tables ≡ [] }
     requires uncounted { left.old.lacked ≡ 0 }
-    ensures { ComesTo process.now.processors None (map string_bytes words.now) start.base (files_facts F.file F.free F.faults files.old) (files_facts F.file F.free F.faults files.new)
+    ensures { ComesTo process.now.host None (map string_bytes words.now) start.base (files_facts F.file F.free F.faults files.old) (files_facts F.file F.free F.faults files.new)
         (daemon_outside (sink_facts K.Sink speaker.old.sink) (ports_at N.Net L.Listeners net.old listeners.old) left.old.tables left.old.lacked)
         (daemon_outside (sink_facts K.Sink speaker.new.sink) (ports_at N.Net L.Listeners net.new listeners.new) left.new.tables left.new.lacked) result }
 {
@@ -131,7 +131,7 @@ pub fn answer_or_serve<
     requires net { N.binds net.old ≡ 0 }
     requires tables { left.old.tables ≡ [] }
     requires uncounted { left.old.lacked ≡ 0 }
-    ensures { ComesTo process.now.processors (question_of (map string_bytes words.now)) (map string_bytes words.now) start.base (files_facts F.file F.free F.faults files.old) (files_facts F.file F.free F.faults files.new)
+    ensures { ComesTo process.now.host (question_of (map string_bytes words.now)) (map string_bytes words.now) start.base (files_facts F.file F.free F.faults files.old) (files_facts F.file F.free F.faults files.new)
         (daemon_outside (sink_facts K.Sink speaker.old.sink) (ports_at N.Net L.Listeners net.old listeners.old) left.old.tables left.old.lacked)
         (daemon_outside (sink_facts K.Sink speaker.new.sink) (ports_at N.Net L.Listeners net.new listeners.new) left.new.tables left.new.lacked) result }
 {
@@ -164,7 +164,7 @@ pub fn run_daemon<
     requires net { N.binds net.old ≡ 0 }
     requires tables { left.old.tables ≡ [] }
     requires uncounted { left.old.lacked ≡ 0 }
-    ensures { DaemonExits process.now.processors (words_of string_bytes args) (C.view clock.old) (C.view clock.new) (files_facts F.file F.free F.faults files.old) (files_facts F.file F.free F.faults files.new)
+    ensures { DaemonExits process.now.host (words_of string_bytes args) (C.view clock.old) (C.view clock.new) (files_facts F.file F.free F.faults files.old) (files_facts F.file F.free F.faults files.new)
         (daemon_outside (sink_facts K.Sink speaker.old.sink) (ports_at N.Net L.Listeners net.old listeners.old) left.old.tables left.old.lacked)
         (daemon_outside (sink_facts K.Sink speaker.new.sink) (ports_at N.Net L.Listeners net.new listeners.new) left.new.tables left.new.lacked) (exit_status result) }
 {

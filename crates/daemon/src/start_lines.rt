@@ -150,7 +150,7 @@ fn text_of<S: SystemFiles>(
     verbosity: u32,
     machine: Machine,
 ) -> Option<String> {
-    let asked = read_daemon(alloc, long, machine.processors).ok()?;
+    let asked = read_daemon(alloc, long, machine.host).ok()?;
     let doors = doors_given(alloc, long, &asked.streams).ok()??;
     let sizes = ["--partitions", "--buckets", "--spares", "--words"];
     let is_sized = sizes.iter().any(|name| value_given(long, name).is_some());

@@ -10,7 +10,7 @@ pub enum DaemonStatus {
     NoMemory = 2,
     /// The file of the image has more bytes than a trace may have.
     TraceLong = 4,
-    /// The file of the image could not be read.
+    /// The file of the image could not be read, or no secret could be drawn.
     ReadFault = 5,
     WriteFault = 6,
     NetFault = 7,

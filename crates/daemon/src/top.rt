@@ -211,7 +211,7 @@ pub fn daemon<W: Threads + Wait + Sync, F: Files, K: Sink + Drop, N: Net, L: Lis
     requires net { N.binds net.old ≡ 0 }
     requires tables { left.old.tables ≡ [] }
     requires uncounted { left.old.lacked ≡ 0 }
-    ensures { KeepsUp (daemon_of process.now.processors (map string_bytes words.now)) start.base (files_facts F.file F.free F.faults files.old) (files_facts F.file F.free F.faults files.new)
+    ensures { KeepsUp (daemon_of process.now.host (map string_bytes words.now)) start.base (files_facts F.file F.free F.faults files.old) (files_facts F.file F.free F.faults files.new)
         (daemon_outside (sink_facts K.Sink speaker.old.sink) (ports_at N.Net L.Listeners net.old listeners.old) left.old.tables left.old.lacked)
         (daemon_outside (sink_facts K.Sink speaker.new.sink) (ports_at N.Net L.Listeners net.new listeners.new) left.new.tables left.new.lacked) result }
 {
@@ -220,7 +220,7 @@ pub fn daemon<W: Threads + Wait + Sync, F: Files, K: Sink + Drop, N: Net, L: Lis
         ports,
         streams,
         image,
-    } = match read_daemon(process.alloc, words, process.processors) {
+    } = match read_daemon(process.alloc, words, process.host) {
         Ok(read) => read,
         Err(WordsFault::Usage) => return DaemonStatus::Usage,
         Err(WordsFault::NoMemory) => return DaemonStatus::NoMemory,

@@ -141,8 +141,8 @@ ports_valid processors given None ports streams p s =
 ports_valid processors given (Some text) ports streams p s =
     subst (λ (o : StreamOptions). ArePossibleFronts ports o.ports) (unless_given (gives_streams given) no_streams streams s) (lasting_valid given ports p)
 
-pub service_valid : (processors : ℕ) (given : Text → Option Text) (service : Service) → daemon_given processors given ≡ Some service → IsPossible service.options × ArePossibleFronts service.ports service.streams.ports
-service_valid processors given service is =
+pub service_valid : (host : Host) (given : Text → Option Text) (service : Service) → daemon_given host given ≡ Some service → IsPossible service.options × ArePossibleFronts service.ports service.streams.ports
+service_valid host given service is =
     let o = both_told (service_options given) _ service is in
     let p = both_told (ports_given given) _ service o.2 in
     let s = both_told (streams_given processors given) _ service p.2 in
@@ -155,7 +155,7 @@ service_valid processors given service is =
     told made false o p none = absurd (none-some service none)
 
 -- words that give nothing to the options give no such server
-pub daemon_none : (processors : ℕ) (known : List Text) → known ≡ daemon_names → (words : List Text) (fault : WordsFault) → (fault ≡ Usage → given_by known words ≡ None)
-    → IsDaemonReading (daemon_of processors words) (Err fault)
-daemon_none processors known same typed Usage none = ap (λ r. r >>= λ given. daemon_given processors (text_of given)) (ap (λ n. given_by n typed) (sym same) ∙ none refl)
-daemon_none processors known same typed NoMemory none = tt
+pub daemon_none : (host : Host) (known : List Text) → known ≡ daemon_names → (words : List Text) (fault : WordsFault) → (fault ≡ Usage → given_by known words ≡ None)
+    → IsDaemonReading (daemon_of host words) (Err fault)
+daemon_none host known same typed Usage none = ap (λ r. r >>= λ given. daemon_given host (text_of given)) (ap (λ n. given_by n typed) (sym same) ∙ none refl)
+daemon_none host known same typed NoMemory none = tt

@@ -16,6 +16,8 @@ use Rattle.daemon_words.specs.declared.options.DaemonOptions.{DaemonOptions}
 use Rattle.daemon_words.specs.declared.streams.StreamOptions.{StreamOptions}
 use Rattle.daemon_words.specs.declared.streams.StreamPorts.{StreamPorts}
 use Rattle.option_words.specs.Words.{Text}
+use Rattle.daemon_words.specs.declared.host.Host.{Host}
+use Rattle.daemon_words.specs.Secret.{hashing_by, secret_name}
 use Rattle.daemon_words.specs.Memory.{memory_of, memory_name}
 use Rattle.option_words.specs.Settings.{Setting, number, power_of_two, mode, tries, port, value_of, read_as, ◌>>=◌}
 use Rattle.daemon_words.specs.StreamWords.{stream_names, has_streams, streams_given}
@@ -61,13 +63,14 @@ sizes_given mode given = sizes_by mode given (given memory_name)
 abbrev pub mode_given : (Text → Option Text) → Option Mode
 mode_given given = if is_none (given mode.name) && has_streams given then Some Cache else value_of mode given
 
--- its partitions, which one reader a front reads
-abbrev pub service_options : (Text → Option Text) → Option Options
-service_options given =
+-- its partitions, which one reader a front reads, and how their keys are hashed
+abbrev pub service_options : Host → (Text → Option Text) → Option Options
+service_options host given =
     mode_given given >>= λ mode.
     sizes_given mode given >>= λ sizes.
     value_of tries given >>= λ tries.
     value_of wear given >>= λ wear.
+    hashing_by host (has_streams given) (given secret_name) >>= λ hashing.
     Some (record {
       mode = mode;
       partitions = sizes.partitions;
@@ -77,6 +80,7 @@ service_options given =
       readers = 1;
       tries = tries;
       wear = wear;
+      hashing = hashing;
     })
 
 -- the option that names the file of an image, which any text may be
@@ -122,18 +126,18 @@ abbrev pub may_fill : Mode → Option Text → Bool
 may_fill Store image = true
 may_fill Cache image = is_none image
 
-abbrev pub daemon_given : ℕ → (Text → Option Text) → Option Service
-daemon_given processors given =
-    service_options given >>= λ options.
+abbrev pub daemon_given : Host → (Text → Option Text) → Option Service
+daemon_given host given =
+    service_options host given >>= λ options.
     ports_given given >>= λ ports.
-    streams_given processors given >>= λ streams.
+    streams_given host.processors given >>= λ streams.
     if may_fill options.mode (given image_name)
     then Some (record { options = options; ports = ports; streams = streams; image = given image_name })
     else None
 
--- what words give beside so many processors
-abbrev pub daemon_of : ℕ → List Text → Option Service
-daemon_of processors words = read_as daemon_names (daemon_given processors) words
+-- what words give on a host
+abbrev pub daemon_of : Host → List Text → Option Service
+daemon_of host words = read_as daemon_names (daemon_given host) words
 
 -- of what was read
 abbrev pub service_of : DaemonOptions → Service

@@ -8,6 +8,7 @@ use Rattle.daemon_words.specs.declared.streams.TheConstants.{MOST_IDLE}
 use Rattle.daemon_words.specs.declared.streams.StreamOptions.{StreamOptions}
 use Rattle.partition_sizes.specs.declared.sizes.TheConstants.{LEAST_MEMORY, MOST_MEMORY}
 use Rattle.daemon_words.specs.declared.memory.TheConstants.{MOST_ITEM_SIZE, LEAST_BUFFERS, THREAD_BUFFERS}
+use Rattle.daemon_words.specs.Secret.{secret_name}
 use Rattle.daemon_words.specs.Memory.{amount_of, memory_of, memory_name}
 use Rattle.option_words.specs.Words.{Text}
 use Rattle.option_words.specs.Settings.{Setting, number, port, number_of, value_of, ◌>>=◌}
@@ -106,7 +107,7 @@ buffers memory threads = record {
 
 -- the names of these options
 abbrev pub stream_names : List Text
-stream_names = memcached.name ∷ threads_name ∷ listen.name ∷ connections.name ∷ socket_name ∷ socket_mode_name ∷ idle.name ∷ item_size.name ∷ codes "buffers" ∷ []
+stream_names = memcached.name ∷ threads_name ∷ listen.name ∷ connections.name ∷ socket_name ∷ socket_mode_name ∷ idle.name ∷ item_size.name ∷ codes "buffers" ∷ secret_name ∷ []
 
 -- there are no such fronts
 abbrev pub no_streams : StreamOptions
@@ -120,6 +121,7 @@ gives_door given = is_some (given memcached.name) || is_some (given listen.name)
 abbrev pub gives_streams : (Text → Option Text) → Bool
 gives_streams given =
     gives_door given || is_some (given threads_name) || is_some (given connections.name) || is_some (given idle.name) || is_some (given item_size.name) || is_some (given (codes "buffers"))
+    || is_some (given secret_name)
 
 -- the port, and none where a socket is named, and neither a port nor an address
 abbrev pub port_given : (Text → Option Text) → Option ℕ

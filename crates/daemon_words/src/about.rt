@@ -42,6 +42,7 @@ Memory
 
 Items
   -I, --item-size SIZE      the longest value: 1M, and no other bound is served [1M]
+      --hash-secret HEX     hashes keys under this secret of 32 hexadecimal digits [drawn at the start]
       --mode cache          a set always finds room: the oldest items go [beside memcached's clients]
   -M, --mode store          none goes before its time: a set without room is refused
       --image FILE          a store begins with the pairs of this image

@@ -2,6 +2,7 @@
 
 use crate::doors::{are_listed, mode_of};
 use crate::memory::{LEAST_BUFFERS, amount_of, memory_of};
+use crate::secret::secret_of;
 use crate::streams::{MOST_IDLE, item_size_of};
 use option_words::number_of;
 use partition_model::{MOST_PARTITIONS, MOST_SPARES, MOST_WEAR, MOST_WORDS};
@@ -19,6 +20,8 @@ pub(crate) enum Values {
     Memory,
     ItemSize,
     Buffers,
+    /// That of the hash of keys.
+    Secret,
     /// Addresses with a comma between each and the next.
     Addresses,
     File,
@@ -43,6 +46,7 @@ impl Values {
             Values::Memory => memory_of(text).is_some(),
             Values::ItemSize => item_size_of(text).is_some(),
             Values::Buffers => amount_of(text, LEAST_BUFFERS, MOST_MEMORY).is_some(),
+            Values::Secret => secret_of(text).is_some(),
             Values::Addresses => are_listed(text),
             Values::Octal => mode_of(text).is_some(),
             Values::File => true,
@@ -66,6 +70,7 @@ impl Values {
             Values::Memory => "1G",
             Values::ItemSize => "1M",
             Values::Buffers => "64M",
+            Values::Secret => "000102030405060708090a0b0c0d0e0f",
             Values::Addresses => "127.0.0.1",
             Values::Octal => "700",
             Values::File => "items.image",
@@ -88,6 +93,7 @@ impl fmt::Display for Values {
             Values::Buffers => f.write_str(
                 "it is 8M for each thread to 512G: a number of bytes, or with K, M or G behind it of KiB, MiB or GiB",
             ),
+            Values::Secret => f.write_str("it is 32 hexadecimal digits"),
             Values::ItemSize => f.write_str(
                 "every value of up to 1M is taken, and no shorter bound is served: give 1M, or leave it out",
             ),
@@ -106,7 +112,7 @@ impl fmt::Display for Values {
 }
 
 /// The long names of all options, and of questions.
-pub(crate) static NAMES: [&str; 22] = [
+pub(crate) static NAMES: [&str; 23] = [
     "--mode",
     "--memcached",
     "--memory",
@@ -118,6 +124,7 @@ pub(crate) static NAMES: [&str; 22] = [
     "--idle-timeout",
     "--item-size",
     "--buffers",
+    "--hash-secret",
     "--port",
     "--fronts",
     "--image",
@@ -145,6 +152,7 @@ pub(crate) fn values_of(name: &str) -> Option<Values> {
         "--connections" => Some(Values::Number("it", 1, 65_536)),
         "--item-size" => Some(Values::ItemSize),
         "--buffers" => Some(Values::Buffers),
+        "--hash-secret" => Some(Values::Secret),
         "--port" => Some(Values::Number("a port of datagrams", 1_024, 65_000)),
         "--fronts" => Some(Values::Number("it", 1, u64::from(MOST_FRONTS))),
         "--image" => Some(Values::File),

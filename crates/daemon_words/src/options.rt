@@ -1,11 +1,16 @@
 //! The words of a server that stays up.
 ghost use Rattle.std.specs.Prelude.{◌≡◌, map, string_bytes, option_map};
 ghost use Rattle.clap.specs.Matches.{first_value, found_of};
+ghost use Rattle.daemon_words.specs.Secret.{hashing_by, secret_name};
+ghost use Rattle.daemon_words.specs.StreamWords.{has_streams as has_streams_given};
 ghost use Rattle.daemon_words.specs.DaemonWords.{sizes_by_words, gives_size, sizes_given, mode_given, service_options, lasting_ports, ports_given, daemon_given, daemon_of, service_of, IsDaemonReading};
 
+use crate::host::Host;
 use crate::memory::memory_of;
+use crate::secret::secret_of;
 use crate::streams::{StreamOptions, has_streams, streams_given};
 use clap::ArgMatches;
+use mica_words::Hashing;
 use option_words::{WordsFault, count, matches_of, mode, number, power_of_two, required};
 use partition_model::{MOST_PARTITIONS, MOST_SPARES, MOST_WEAR, MOST_WORDS, Mode, Options};
 use partition_sizes::{LEAST_MEMORY, Sizes, sizes_for};
@@ -24,7 +29,7 @@ pub struct DaemonOptions<'a> {
     pub image: Option<&'a str>,
 }
 
-static DAEMON_OPTIONS: [&str; 20] = [
+static DAEMON_OPTIONS: [&str; 21] = [
     "mode",
     "partitions",
     "buckets",
@@ -45,6 +50,7 @@ static DAEMON_OPTIONS: [&str; 20] = [
     "idle-timeout",
     "item-size",
     "buffers",
+    "hash-secret",
 ];
 
 // The sizes that are given one by one.
@@ -96,9 +102,21 @@ fn mode_given(found: &ArgMatches<'_>) -> Option<Mode>
     mode(found)
 }
 
-// The partitions, which one reader a front reads.
-fn service_options(found: &ArgMatches<'_>) -> Option<Options>
-    ensures { result ≡ service_options (first_value (found_of found.now)) }
+// How keys are hashed: those of memcached's clients under a secret.
+fn hashing_given(found: &ArgMatches<'_>, host: Host) -> Option<Hashing>
+    ensures { result ≡ hashing_by host (has_streams_given (first_value (found_of found.now))) (first_value (found_of found.now) secret_name) }
+{
+    match (has_streams(found), found.get_str("hash-secret")) {
+        (true, None) => Some(Hashing::SipHash(host.k0, host.k1)),
+        (true, Some(text)) => secret_of(text),
+        (false, None) => Some(Hashing::Fnv1a),
+        (false, Some(_)) => None,
+    }
+}
+
+// The partitions, which one reader a front reads, and how their keys are hashed.
+fn service_options(found: &ArgMatches<'_>, host: Host) -> Option<Options>
+    ensures { result ≡ service_options host (first_value (found_of found.now)) }
 {
     let mode = mode_given(found)?;
     let sizes = sizes_given(found, mode)?;
@@ -111,6 +129,7 @@ fn service_options(found: &ArgMatches<'_>) -> Option<Options>
         readers: 1,
         tries: count(found, "tries", 1, 1_000, 100)?,
         wear: number(found, "wear", 1, MOST_WEAR, MOST_WEAR)?,
+        hashing: hashing_given(found, host)?,
     })
 }
 
@@ -143,12 +162,12 @@ fn ports_given(found: &ArgMatches<'_>) -> Option<PortOptions>
 }
 
 // What a server that stays up is to do, by the texts of its options. An image fills a store, and no cache.
-fn daemon_options<'a>(found: &ArgMatches<'a>, processors: u32) -> Option<DaemonOptions<'a>>
-    ensures { option_map service_of result ≡ daemon_given processors (first_value (found_of found.now)) }
+fn daemon_options<'a>(found: &ArgMatches<'a>, host: Host) -> Option<DaemonOptions<'a>>
+    ensures { option_map service_of result ≡ daemon_given host (first_value (found_of found.now)) }
 {
-    let options = service_options(found)?;
+    let options = service_options(found, host)?;
     let ports = ports_given(found)?;
-    let streams = streams_given(found, processors)?;
+    let streams = streams_given(found, host.processors)?;
     let image = found.get_str("image");
     if options.mode == Mode::Cache && image.is_some() {
         return None;
@@ -161,16 +180,16 @@ fn daemon_options<'a>(found: &ArgMatches<'a>, processors: u32) -> Option<DaemonO
     })
 }
 
-/// The partitions, the ports and the image that the words after the program's name give on a machine with so many processors.
+/// The partitions, the ports and the image that the words after the program's name give on a host.
 pub fn read_daemon<'a>(
     alloc: Global,
     words: &'a [String],
-    processors: u32,
+    host: Host,
 ) -> Result<DaemonOptions<'a>, WordsFault>
-    ensures { IsDaemonReading (daemon_of processors (map string_bytes words.entry.now)) result }
+    ensures { IsDaemonReading (daemon_of host (map string_bytes words.entry.now)) result }
 {
     let found = matches_of(alloc, "micad", DAEMON_OPTIONS.as_slice(), words)?;
-    match daemon_options(&found, processors) {
+    match daemon_options(&found, host) {
         Some(options) => Ok(options),
         None => Err(WordsFault::Usage),
     }

@@ -192,6 +192,7 @@ fn gives_streams(found: &ArgMatches<'_>) -> bool
         || found.get_str("idle-timeout").is_some()
         || found.get_str("item-size").is_some()
         || found.get_str("buffers").is_some()
+        || found.get_str("hash-secret").is_some()
 }
 
 // Fronts behind one port, each in a thread.

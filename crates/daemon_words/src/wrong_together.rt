@@ -71,6 +71,7 @@ fn of_another_protocol(words: &[String]) -> Option<Refusal<'static>> {
         "--idle-timeout",
         "--item-size",
         "--buffers",
+        "--hash-secret",
     ] {
         if gives(words, name) {
             return Some(Refusal::Apart(*name));

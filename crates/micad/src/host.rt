@@ -9,6 +9,7 @@ use crate::host_causes::{doubt_text, refused_text};
 use crate::host_doors::Asked;
 use crate::host_files::HostFiles;
 use crate::host_start::begin;
+use daemon_words::Host;
 use daemon::{DaemonStatus, Ending, Machine, Process, Speaker, exit_code, run_daemon};
 use host_outside::{StdClock, StdSink, UdpNet};
 use locked_server::Left;
@@ -16,6 +17,7 @@ use outside::{FreeGate, NoMemory, rehearse};
 use std::env::Args;
 use std::net::Net as Sockets;
 use std::process::ExitCode;
+use std::random::RandomSource;
 use std::rt::{Env, Files};
 use std::sync::Wait;
 use std::sync::atomic::{AtomicBool, Ordering};
@@ -67,12 +69,24 @@ impl Flags {
     }
 }
 
-/// How many processors there are for the process; so many as no machine has, where the system does not say it.
-pub fn processors_of<R: Threads>(rt: &R) -> u32 {
+// How many processors there are for the process; so many as no machine has, where the system does not say it.
+fn processors_of<R: Threads>(rt: &R) -> u32 {
     match available_parallelism(rt) {
         Ok(count) => u32::try_from(count.get()).unwrap_or(u32::MAX),
         Err(_) => u32::MAX,
     }
+}
+
+/// What the machine gives beside words: how many processors there are, and a secret that the system draws, where it does.
+pub fn host_of<R: Threads + RandomSource>(rt: &R) -> Option<Host> {
+    let mut bytes = [0; 16];
+    rt.fill_bytes(&mut bytes).ok()?;
+    let drawn = u128::from_le_bytes(bytes);
+    Some(Host {
+        processors: processors_of(rt),
+        k0: (drawn & 0xffff_ffff_ffff_ffff) as u64,
+        k1: (drawn >> 64) as u64,
+    })
 }
 
 /// What the program ends with before it serves: where it may not begin, or there is no thread for the look for signals.
@@ -109,7 +123,7 @@ pub fn run_on_host<
         ended: &flags.ended,
         stopping: &flags.stopping,
         pid: machine.process,
-        processors: machine.processors,
+        host: machine.host,
     };
     let mut speaker = Speaker::new(alloc, StdSink::new(io::writer(rt)));
     let mut listeners = TcpListeners::new(rt, alloc, clock, &flags.ended, &flags.stopping);

@@ -1,6 +1,6 @@
 //! The doors that the words name beside the address of the place, and how long a connection may be silent. An adapter is told these; no contract can say who comes there.
 
-use daemon_words::{doors_given, long_words, question_of, read_daemon, refusal_text};
+use daemon_words::{Host, doors_given, long_words, question_of, read_daemon, refusal_text};
 use option_words::{all_words, behind_name};
 use outside::NoMemory;
 use std::alloc::Global;
@@ -17,13 +17,13 @@ pub struct Asked {
 }
 
 // What words ask for, where they give a server; and whether their doors are such.
-fn asked_by(alloc: Global, words: &[String], processors: u32) -> Result<(Asked, bool), NoMemory> {
+fn asked_by(alloc: Global, words: &[String], host: Host) -> Result<(Asked, bool), NoMemory> {
     let mut asked = Asked {
         doors: Vec::new(alloc),
         idle: 0,
     };
     let long = long_words(alloc, words)?;
-    let Ok(read) = read_daemon(alloc, long.as_slice(), processors) else {
+    let Ok(read) = read_daemon(alloc, long.as_slice(), host) else {
         return Ok((asked, true));
     };
     asked.idle = read.streams.idle;
@@ -43,11 +43,11 @@ fn asked_by(alloc: Global, words: &[String], processors: u32) -> Result<(Asked, 
 }
 
 /// Says so where the words name a door that is none. Whether they name none such.
-pub fn has_doors<R: Eprint>(rt: &R, alloc: Global, words: &[String], processors: u32) -> bool {
+pub fn has_doors<R: Eprint>(rt: &R, alloc: Global, words: &[String], host: Host) -> bool {
     if question_of(words).is_some() {
         return true;
     }
-    if let Ok((_, false)) = asked_by(alloc, words, processors) {
+    if let Ok((_, false)) = asked_by(alloc, words, host) {
         if let Ok(text) = refusal_text(alloc, words) {
             let _ = eprintln!(rt; "micad: {text}");
         }
@@ -57,8 +57,8 @@ pub fn has_doors<R: Eprint>(rt: &R, alloc: Global, words: &[String], processors:
 }
 
 /// What the words ask for that the program was started with.
-pub fn asked_on_host<R: AllocGlobal + Env>(rt: &R, processors: u32) -> Result<Asked, NoMemory> {
+pub fn asked_on_host<R: AllocGlobal + Env>(rt: &R, host: Host) -> Result<Asked, NoMemory> {
     let alloc = rt.alloc();
     let words = all_words(alloc, env::args(rt))?;
-    Ok(asked_by(alloc, behind_name(words.as_slice()), processors)?.0)
+    Ok(asked_by(alloc, behind_name(words.as_slice()), host)?.0)
 }

@@ -51,7 +51,7 @@ pub fn begin<R: AllocGlobal + Env + Eprint + Files>(rt: &R, machine: Machine) ->
         Err(NoMemory) => return true,
     };
     let words = behind_name(words.as_slice());
-    if !has_doors(rt, alloc, words, machine.processors) {
+    if !has_doors(rt, alloc, words, machine.host) {
         return false;
     }
     let system = HostFiles::new(rt);

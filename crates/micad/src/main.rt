@@ -10,7 +10,7 @@ mod host_start;
 mod host_stop;
 
 use daemon::{DaemonStatus, Ending, Machine, exit_code};
-use host::{Flags, processors_of, refused_on_host, run_on_host};
+use host::{Flags, host_of, refused_on_host, run_on_host};
 use host_doors::asked_on_host;
 use host_stop::watch;
 use std::env;
@@ -18,16 +18,20 @@ use std::process::{self, ExitCode};
 use std::thread::join;
 
 fn main(rt: HostRuntime) -> ExitCode {
+    let Some(host) = host_of(&rt) else {
+        let _ = eprintln!(&rt; "micad: the system draws no random numbers");
+        return exit_code(Ending::Ended(DaemonStatus::ReadFault));
+    };
     let machine = Machine {
         process: process::id(rt.process()),
-        processors: processors_of(&rt),
+        host,
     };
     if let Some(code) = refused_on_host(&rt, machine) {
         return code;
     }
     let alloc = rt.alloc();
     let args = env::args(&rt);
-    let Ok(asked) = asked_on_host(&rt, machine.processors) else {
+    let Ok(asked) = asked_on_host(&rt, machine.host) else {
         return exit_code(Ending::Ended(DaemonStatus::NoMemory));
     };
     let flags = Flags::new();

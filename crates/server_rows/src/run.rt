@@ -3,6 +3,7 @@
 use crate::overheard::{Overheard, OverheardListeners, Port};
 use anyhow::Result;
 use connections::{Change, Step};
+use daemon_words::Host;
 use daemon::{MemFiles, Process, Speaker, Start, answer_or_serve, ending_number, free_by};
 use locked_server::Left;
 use memory_outside::{MemNet, MemSink};
@@ -148,7 +149,11 @@ fn run(
         ended: &AtomicBool::new(false),
         stopping: &AtomicBool::new(row.find("stops").is_some()),
         pid: 1,
-        processors: 4,
+        host: Host {
+            processors: 4,
+            k0: 0,
+            k1: 0,
+        },
     };
     let start = Start { second: 0, base: 1 };
     let mut left = Left::nothing();

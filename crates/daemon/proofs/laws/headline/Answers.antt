@@ -5,5 +5,5 @@ use Rattle.daemon.proofs.Headlines.{promised}
 use Rattle.daemon.proofs.laws.headline.Goals as goal
 
 pub returns : goal.returns
-returns c processors words service base before after old new is kept =
+returns c host words service base before after old new is kept =
     promised service base before after old new UsedUp tt (subst (λ given. KeepsUp given base before after old new UsedUp) is kept).0

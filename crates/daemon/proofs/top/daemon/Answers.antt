@@ -12,4 +12,4 @@ pub returns-then-not-has_memory : goal.returns-then-not-has_memory
 returns-then-not-has_memory g c = unwritten _ _ _ _ _ _ (refl, Keeps-refl (g.K.Sink.taken c.args.speaker.now.sink)) (record { ports = refl; tables = refl; lacked = refl })
 
 pub returns-in-Err-Usage : goal.returns-in-Err-Usage
-returns-in-Err-Usage g c = refused _ _ _ _ (subst (λ (f : WordsFault). IsDaemonReading (daemon_of c.args.process.now.processors (map string_bytes c.args.words.now)) (Err f)) c.in-Err-Usage.field-0-is c.in-Err-Usage.ensures)
+returns-in-Err-Usage g c = refused _ _ _ _ (subst (λ (f : WordsFault). IsDaemonReading (daemon_of c.args.process.now.host (map string_bytes c.args.words.now)) (Err f)) c.in-Err-Usage.field-0-is c.in-Err-Usage.ensures)

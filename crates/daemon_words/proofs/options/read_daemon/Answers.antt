@@ -9,17 +9,17 @@ use Rattle.daemon_words.proofs.options.read_daemon.Goals as goal
 pub returns-in_err-found : goal.returns-in_err-found
 returns-in_err-found c =
     let p = err_from_is_err_and c.from_residual.result c.from_residual.ensures.1 in
-    rw (p.1, p.2) (daemon_none c.args.processors _ (ap (map (λ o. o.now)) c.as_slice.ensures) (map string_bytes c.args.words.now) _ c.in_err-found.ensures.refused)
+    rw (p.1, p.2) (daemon_none c.args.host _ (ap (map (λ o. o.now)) c.as_slice.ensures) (map string_bytes c.args.words.now) _ c.in_err-found.ensures.refused)
 
 pub returns-in-Some : goal.returns-in-Some
 returns-in-Some c =
     let texts = first_value (found_of c.in_ok-found.found) in
     let is = sym c.in-Some.ensures in
-    let valid = service_valid c.args.processors texts (service_of c.in-Some.options) is in (
-      read_given _ daemon_names (ap (map (λ o. o.now)) c.as_slice.ensures) (daemon_given c.args.processors) (map string_bytes c.args.words.now) texts c.in_ok-found.ensures.given ∙ is,
+    let valid = service_valid c.args.host texts (service_of c.in-Some.options) is in (
+      read_given _ daemon_names (ap (map (λ o. o.now)) c.as_slice.ensures) (daemon_given c.args.host) (map string_bytes c.args.words.now) texts c.in_ok-found.ensures.given ∙ is,
       valid.0,
       valid.1,
     )
 
 pub returns : goal.returns
-returns c = read_given _ daemon_names (ap (map (λ o. o.now)) c.as_slice.ensures) (daemon_given c.args.processors) (map string_bytes c.args.words.now) (first_value (found_of c.in_ok-found.found)) c.in_ok-found.ensures.given ∙ sym c.in-None.ensures
+returns c = read_given _ daemon_names (ap (map (λ o. o.now)) c.as_slice.ensures) (daemon_given c.args.host) (map string_bytes c.args.words.now) (first_value (found_of c.in_ok-found.found)) c.in_ok-found.ensures.given ∙ sym c.in-None.ensures
