@@ -3,8 +3,9 @@ use Rattle.std.proofs.Common.{◌≡◌, ℕ, zero, suc, ◌≤◌, inl, List, [
 use Rattle.std.specs.Prelude.{unwrap_or}
 use Rattle.std.specs.Str.{bytes_eq}
 use Rattle.std.proofs.lemmas.Slice.Eq.{bytes_eq-Decides}
+use Rattle.mica_words.specs.declared.hashing.Hashing.TheVariants.{Fnv1a}
 use Rattle.mica_words.specs.Entry.{entry_tag, entry_offset}
-use Rattle.mica_words.specs.Hash.{fnv1a, tag_of, bucket_of}
+use Rattle.mica_words.specs.Hash.{hash_of, fnv1a, tag_of, bucket_of}
 use Rattle.mica_words.specs.Header.{header_room}
 use Rattle.mica_words.specs.Item.{item_size}
 use Rattle.mica_words.proofs.ItemWords.{header_word}
@@ -34,11 +35,11 @@ abbrev machine : Cache
 machine = record { records = record_of_a ∷ []; stamp = 262144; accepted = 1 }
 
 machine_is : state_of (options_of one_bucket) (put_of_a ∷ []) ≡ cache_state machine
-unfolding cache.start cs.after bucket_of fnv1a
+unfolding cache.start cs.after bucket_of hash_of fnv1a
 machine_is = refl
 
-tag_is : entry_tag entry_of_a ≡ tag_of (97 ∷ [])
-unfolding tag_of fnv1a
+tag_is : entry_tag entry_of_a ≡ tag_of Fnv1a (97 ∷ [])
+unfolding tag_of hash_of fnv1a
 tag_is = refl
 
 -- the machine's one record
@@ -57,7 +58,7 @@ module _ (o : OwnerState) (d : IsStored o) where
 
   spells : Spells o 0 entry_of_a (97 ∷ []) cell_of_a
   spells =
-      let header = d.item 0 (omega arith) ∙ header_word 4 (97 ∷ []) (49 ∷ []) in record {
+      let header = d.item 0 (omega arith) ∙ header_word Fnv1a 4 (97 ∷ []) (49 ∷ []) in record {
         bucket = its_bucket o d.shape;
         has = subst (λ (z : State). Has z (97 ∷ []) cell_of_a (entry_offset entry_of_a)) (sym now) refl;
         offset = subst (λ (z : Shape). IsOffset z.mode z.words (entry_offset entry_of_a)) (sym d.shape) tt;

@@ -30,6 +30,6 @@ module _ (o : OwnerState) (m : IsMarked o) where
     low = omega arith;
   }
 
-  pub can_put_item : CanPlay (item_events 0 4 (97 ∷ []) (49 ∷ [])) o
-  can_put_item = can_put_cached o in_cache_mode 0 (item_words 4 (97 ∷ []) (49 ∷ []))
-      (λ i l. may_put (0 + i) (omega (arith, length-item_words 4 (97 ∷ []) (49 ∷ []))))
+  pub can_put_item : CanPlay (item_events o.shape.hashing 0 4 (97 ∷ []) (49 ∷ [])) o
+  can_put_item = can_put_cached o in_cache_mode 0 (item_words o.shape.hashing 4 (97 ∷ []) (49 ∷ []))
+      (λ i l. may_put (0 + i) (omega (arith, length-item_words o.shape.hashing 4 (97 ∷ []) (49 ∷ []))))

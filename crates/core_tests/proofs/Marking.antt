@@ -1,6 +1,7 @@
 -- The put of `a` may be marked where it is begun in words as made, and what its mark makes of them.
 use Rattle.std.proofs.Common.{◌≡◌, ℕ, zero, suc, ◌<◌, [], ◌∷◌, ◌++◌, refl, sym, ap, ◌∙◌, subst, arith}
 use Rattle.std.proofs.lemmas.List.{length-replicate, get_or-replicate}
+use Rattle.mica_words.specs.declared.hashing.Hashing.TheVariants.{Fnv1a}
 use Rattle.mica_words.specs.Packing.{AreBytes}
 use Rattle.mica_words.proofs.Hashes.{bucket_of-below}
 use Rattle.mica_words.specs.Hash.{bucket_of}
@@ -43,7 +44,7 @@ stamped = refl
 
 pub its_bucket : (o : OwnerState) → o.shape ≡ one_bucket → bucket_in o (97 ∷ []) ≡ 0
 its_bucket o shape =
-    let below = bucket_of-below (97 ∷ []) 1 (omega arith) in
+    let below = bucket_of-below Fnv1a (97 ∷ []) 1 (omega arith) in
     ap (λ (z : Shape). bucket_of z.hashing (97 ∷ []) z.buckets) shape ∙ (omega arith)
 
 -- the put is begun, and nothing was stored before

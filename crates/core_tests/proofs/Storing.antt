@@ -47,12 +47,12 @@ still_marked o now m p x is kept = record {
   kept = kept;
 }
 
-module _ (o : OwnerState) (m : IsMarked o) (now : OwnerState) (is : now ≡ plays (item_events 0 4 (97 ∷ []) (49 ∷ [])) o) where
-  puts : PutsWords o now 0 (item_words 4 (97 ∷ []) (49 ∷ []))
+module _ (o : OwnerState) (m : IsMarked o) (now : OwnerState) (is : now ≡ plays (item_events o.shape.hashing 0 4 (97 ∷ []) (49 ∷ [])) o) where
+  puts : PutsWords o now 0 (item_words o.shape.hashing 4 (97 ∷ []) (49 ∷ []))
   puts =
       let words = m.kept.shape.ranges.words.0 in
-      subst (λ (z : OwnerState). PutsWords o z 0 (item_words 4 (97 ∷ []) (49 ∷ []))) (sym is)
-      (puts_words o 0 (item_words 4 (97 ∷ []) (49 ∷ [])) m.kept.wide (omega arith) (omega (arith, length-item_words 4 (97 ∷ []) (49 ∷ []))))
+      subst (λ (z : OwnerState). PutsWords o z 0 (item_words o.shape.hashing 4 (97 ∷ []) (49 ∷ []))) (sym is)
+      (puts_words o 0 (item_words o.shape.hashing 4 (97 ∷ []) (49 ∷ [])) m.kept.wide (omega arith) (omega (arith, length-item_words o.shape.hashing 4 (97 ∷ []) (49 ∷ []))))
 
   shape : now.shape ≡ o.shape
   shape = ap (λ (z : OwnerState). z.shape) puts.same
@@ -81,7 +81,7 @@ module _ (o : OwnerState) (m : IsMarked o) (now : OwnerState) (is : now ≡ play
   spelt : SpellsItem now 0 (97 ∷ []) cell_of_a
   spelt i l =
       ap (λ (z : Shape). get_or now.words (item_at z (0 + i)) 0) shape
-      ∙ puts.put i (omega (arith, length-item_words 4 (97 ∷ []) (49 ∷ [])))
+      ∙ puts.put i (omega (arith, length-item_words o.shape.hashing 4 (97 ∷ []) (49 ∷ [])))
 
   pub stored : Kept now → (then : OwnerState) → then ≡ after (PutsEntry 0 0 entry_of_a) now → Kept then → IsStored then
   stored s then is' kept =

@@ -12,7 +12,7 @@ use cache_partition::CachePartition;
 use fronts::{Changes, Decide, Front, When};
 use locked_front::{PartitionLock, ServerPlan};
 use locked_server::{FilledPart, lend_hand, lock_parts, open_parts};
-use mica_words::{key_fits, stored_fits};
+use mica_words::{Hashing, key_fits, stored_fits};
 use partition_model::{Answer, Change, ItemBuf, Mode, Op, Options};
 use partition_table::{Note, OwnerSeat, ReaderSeat};
 use partition_words::LendPartition;
@@ -24,17 +24,18 @@ use std::test::Fail;
 use std::thread::{Threads, join};
 use store_partition::StorePartition;
 
-/// The key is in bucket 10 of 16.
+/// The key is in bucket 13 of 16.
 const SPREAD: Options = Options {
     buckets: 16,
+    hashing: Hashing::SipHash(0, 0),
     ..SMALL
 };
 
-/// Begins with a line feed, and is in bucket 0 of 16.
-const FLUSH: &[u8] = b"\n-";
+/// A mark of partition 0.
+const FLUSH: &[u8] = &[0; 255];
 
-/// Begins with a line feed, and is in bucket 13 of 16.
-const NO_FLUSH: &[u8] = b"\n";
+/// One byte too short for a mark.
+const NO_FLUSH: &[u8] = &[0; 254];
 
 /// A key in bucket 0 of 16.
 const FIRST: &[u8] = b"5";

@@ -3,7 +3,8 @@ use Rattle.std.proofs.Common.{◌≡◌, ℕ, List, ◌+◌, ◌<◌, ◌≤◌,
 use Rattle.std.proofs.Math.Nat.{mod-lt, one-le-pow}
 use Rattle.std.specs.FinMap.{get, insert, remove}
 use Rattle.std.proofs.lemmas.Grind.{common_steps}
-use Rattle.mica_words.specs.Hash.{fnv1a, bucket_of}
+use Rattle.mica_words.specs.declared.hashing.Hashing.{Hashing}
+use Rattle.mica_words.specs.Hash.{hash_of, bucket_of}
 use Rattle.mica_words.specs.Item.{item_size}
 use Rattle.partition_model.specs.declared.options.Options.{Options}
 use Rattle.partition_model.specs.declared.write.Op.{Op}
@@ -33,13 +34,13 @@ pub is_alive : (options : Options) (s : Store) (write : Write) (outcome : Outcom
     → ¬ (options.wear ≤ s.accepted)
 is_alive options s write outcome which allowed = grind (arith, common_steps)
 
-bucket_within : (key : List ℕ) (buckets : ℕ) → 0 < buckets → bucket_of hashing key buckets < buckets
+bucket_within : (hashing : Hashing) (key : List ℕ) (buckets : ℕ) → 0 < buckets → bucket_of hashing key buckets < buckets
 unfolding bucket_of
-bucket_within key buckets some = mod-lt (fnv1a key) some
+bucket_within hashing key buckets some = mod-lt (hash_of hashing key) some
 
 module _ (a : Inside) (m : IsMachine a) (op : Op) (key value : List ℕ) where
   within : bucket_of a.options.hashing key a.options.buckets < a.options.buckets
-  within = bucket_within key a.options.buckets (subst (λ n. 0 < n) (sym m.valid.buckets.2) (let one = one-le-pow m.valid.buckets.0 2 (omega arith) in omega arith))
+  within = bucket_within a.options.hashing key a.options.buckets (subst (λ n. 0 < n) (sym m.valid.buckets.2) (let one = one-le-pow m.valid.buckets.0 2 (omega arith) in omega arith))
 
   module _ (allowed : Allows a.options (store_of a) (write_of op key value) Stored) (room : ℕ) (takes : room ≡ room_after (get a.table.cells key) (item_size key value))
       (table : Table) (new : table ≡ with_cells a.table (insert a.table.cells key (record { value = value; room = room }))) where
@@ -50,6 +51,7 @@ module _ (a : Inside) (m : IsMachine a) (op : Op) (key value : List ℕ) where
         let alive = allowed.0 in
         record {
           valid = m.valid;
+          hashing = ap (λ (t : Table). t.hashing) new ∙ m.hashing;
           buckets = ap (λ (t : Table). t.buckets) new ∙ m.buckets;
           words = subst (λ (t : Table). rooms t.cells ≤ a.options.words) (sym new) words;
           spares = subst (λ (t : Table). spares_in_use a.options.hashing a.options.buckets t.cells ≤ a.options.spares) (sym new) spares;
@@ -69,6 +71,7 @@ module _ (a : Inside) (m : IsMachine a) (op : Op) (key value : List ℕ) where
         let less : rooms (remove a.table.cells key) ≤ a.options.words = omega arith in
         record {
           valid = m.valid;
+          hashing = ap (λ (t : Table). t.hashing) new ∙ m.hashing;
           buckets = ap (λ (t : Table). t.buckets) new ∙ m.buckets;
           words = subst (λ (t : Table). rooms t.cells ≤ a.options.words) (sym new) less;
           spares = subst (λ (t : Table). spares_in_use a.options.hashing a.options.buckets t.cells ≤ a.options.spares) (sym new) (delete_spares a.options (store_of a) key within m.spares);

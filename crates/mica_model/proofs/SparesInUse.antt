@@ -3,6 +3,7 @@ use Rattle.std.proofs.Common.{◌≡◌, ◌≢◌, ℕ, zero, suc, ◌+◌, ◌
 use Rattle.std.specs.FinMap.{get, insert, remove, empty}
 use Rattle.std.proofs.lemmas.Bool.{cases_order}
 use Rattle.std.proofs.lemmas.Grind.{common_steps}
+use Rattle.mica_words.specs.declared.hashing.Hashing.{Hashing}
 use Rattle.mica_words.specs.Hash.{bucket_of}
 unfoldable use Rattle.partition_model.specs.Store.{spares_below}
 use Rattle.partition_model.specs.Store.{Cell, Cells, keys_in, spares_behind, spares_in_use}
@@ -37,7 +38,7 @@ unfolding spares_below
 spares_among hashing buckets bucket m zero lt = absurd (omega arith)
 spares_among hashing buckets bucket m (suc k) lt = grind (arith, common_steps, spares_among hashing buckets bucket m k)
 
-pub no_spares : (buckets k : ℕ) → spares_below hashing buckets k empty ≡ 0
+pub no_spares : (hashing : Hashing) (buckets k : ℕ) → spares_below hashing buckets k empty ≡ 0
 unfolding spares_below
 no_spares hashing buckets zero = refl
 no_spares hashing buckets (suc k) = grind (arith, common_steps, no_spares hashing buckets k, no_keys hashing buckets k)
@@ -51,6 +52,6 @@ module _ (hashing : Hashing) (buckets bucket : ℕ) (m : Cells) (key : List ℕ)
   less_spares old had = spares_change hashing buckets bucket m (remove m key) (less_others hashing buckets bucket m key is within old had) buckets within
 
 -- another cell for a key that has one
-module _ (buckets : ℕ) (m : Cells) (key : List ℕ) (old cell : Cell) (had : get m key ≡ Some old) where
+module _ (hashing : Hashing) (buckets : ℕ) (m : Cells) (key : List ℕ) (old cell : Cell) (had : get m key ≡ Some old) where
   pub over_spares : spares_in_use hashing buckets (insert m key cell) ≡ spares_in_use hashing buckets m
-  over_spares = same_spares buckets buckets m (insert m key cell) (λ other _. keys_over hashing buckets other m key old cell had) buckets (omega arith)
+  over_spares = same_spares hashing buckets buckets m (insert m key cell) (λ other _. keys_over hashing buckets other m key old cell had) buckets (omega arith)

@@ -10,6 +10,7 @@ use Rattle.std.proofs.lemmas.List.{length-set, get_or-set_same, get_or-set_other
 use Rattle.std.proofs.lemmas.Bool.Decides.{eqb_tells}
 use Rattle.std.proofs.lemmas.Grind.{get_or_default_zero}
 use Rattle.std.proofs.lemmas.Grind.{common_steps}
+use Rattle.mica_words.specs.declared.hashing.Hashing.{Hashing}
 use Rattle.mica_words.specs.Hash.{bucket_of}
 use Rattle.mica_model.specs.declared.bucket_keys.BucketKeys.{BucketKeys}
 use Rattle.mica_model.specs.declared.cell.Cell.{Cell as CellInCode}
@@ -23,10 +24,10 @@ use Rattle.partition_model.proofs.BucketSums.{new_here, new_others, less_here, l
 use Rattle.mica_model.proofs.SparesInUse.{spares_among, new_spares, over_spares, less_spares}
 
 -- one bucket has another number of keys
-counts_change : (buckets : ℕ) (counts : List ℕ) (m n : Cells) (bucket k : ℕ) → length counts ≡ buckets → bucket < buckets
+counts_change : (hashing : Hashing) (buckets : ℕ) (counts : List ℕ) (m n : Cells) (bucket k : ℕ) → length counts ≡ buckets → bucket < buckets
     → HasCounts hashing buckets counts m → keys_in hashing buckets bucket n ≡ k → ((other : ℕ) → other ≢ bucket → keys_in hashing buckets other n ≡ keys_in hashing buckets other m)
     → HasCounts hashing buckets (slice_set counts bucket k) n
-counts_change buckets counts m n bucket k len within has new others j j_within =
+counts_change hashing buckets counts m n bucket k len within has new others j j_within =
     ⊎_elim (λ equal. let same = equal.1 in ap (slice_index (slice_set counts bucket k)) same ∙ get_or-set_same counts bucket k 0 (subst (λ n. bucket < n) (sym len) within) ∙ sym new ∙ ap (λ b. keys_in hashing buckets b n) (sym same))
     (λ differs. get_or-set_other counts bucket j k 0 differs.1 ∙ has j j_within ∙ sym (others j differs.1))
     (eqb_tells j bucket)
@@ -107,7 +108,7 @@ module _ (a : Inside) (t : IsTable a) where
     -- one key more
     pub table_new : (cell : Cell) → get (cells_of a) key ≡ None → spares_in_use a.hashing a.buckets (cells_of a) ≤ 65536
         → (k : ℕ) → k ≡ slice_index a.counts.keys.items bucket → (counts : BucketKeys) → IsSet a.counts counts bucket (k + 1)
-        → (cells : BTreeMap (Vec ℕ) CellInCode) → Holds cells (insert (cells_of a) key cell) → IsTable (record { buckets = a.buckets; cells = cells; counts = counts; rooms = a.rooms + cell.room })
+        → (cells : BTreeMap (Vec ℕ) CellInCode) → Holds cells (insert (cells_of a) key cell) → IsTable (record { hashing = a.hashing; buckets = a.buckets; cells = cells; counts = counts; rooms = a.rooms + cell.room })
     table_new cell none most k read counts set cells new =
         let one = ap (λ n. n + 1) (sym count_is ∙ sym read) in
         let step = rooms_insert (cells_of a) key cell in
@@ -126,7 +127,7 @@ module _ (a : Inside) (t : IsTable a) where
           len = ap length set.keys ∙ length-set _ _ _ ∙ t.len;
           counts = subst (HasCounts a.hashing a.buckets counts.keys.items) (sym new.1)
               (subst (λ xs. HasCounts a.hashing a.buckets xs (insert (cells_of a) key cell)) (sym set.keys)
-              (counts_change a.buckets a.counts.keys.items (cells_of a) (insert (cells_of a) key cell) bucket (k + 1) t.len here.within t.counts
+              (counts_change a.hashing a.buckets a.counts.keys.items (cells_of a) (insert (cells_of a) key cell) bucket (k + 1) t.len here.within t.counts
               (new_here a.hashing a.buckets bucket (cells_of a) key here.is here.within cell none ∙ one)
               (new_others a.hashing a.buckets bucket (cells_of a) key here.is here.within cell none)));
           spares = (let it : counts.spares ≡ spares_in_use a.hashing a.buckets (insert (cells_of a) key cell) = omega arith in it) ∙ ap (spares_in_use a.hashing a.buckets) (sym new.1);
@@ -140,7 +141,7 @@ module _ (a : Inside) (t : IsTable a) where
       less_count = read ∙ count_is ∙ less_here a.hashing a.buckets bucket (cells_of a) key here.is here.within old had
 
       pub table_less : (counts : BucketKeys) → IsSet a.counts counts bucket (k - 1) → (cells : BTreeMap (Vec ℕ) CellInCode) → Holds cells (remove (cells_of a) key)
-          → IsTable (record { buckets = a.buckets; cells = cells; counts = counts; rooms = a.rooms - old.room })
+          → IsTable (record { hashing = a.hashing; buckets = a.buckets; cells = cells; counts = counts; rooms = a.rooms - old.room })
       table_less counts set cells new =
           let left : keys_in a.hashing a.buckets bucket (remove (cells_of a) key) ≡ k - 1 = omega (arith, less_count) in
           let step = rooms_remove (cells_of a) key in
@@ -159,7 +160,7 @@ module _ (a : Inside) (t : IsTable a) where
             len = ap length set.keys ∙ length-set _ _ _ ∙ t.len;
             counts = subst (HasCounts a.hashing a.buckets counts.keys.items) (sym new.1)
                 (subst (λ xs. HasCounts a.hashing a.buckets xs (remove (cells_of a) key)) (sym set.keys)
-                (counts_change a.buckets a.counts.keys.items (cells_of a) (remove (cells_of a) key) bucket (k - 1) t.len here.within t.counts left
+                (counts_change a.hashing a.buckets a.counts.keys.items (cells_of a) (remove (cells_of a) key) bucket (k - 1) t.len here.within t.counts left
                 (less_others a.hashing a.buckets bucket (cells_of a) key here.is here.within old had)));
             spares = (let it : counts.spares ≡ spares_in_use a.hashing a.buckets (remove (cells_of a) key) = omega arith in it) ∙ ap (spares_in_use a.hashing a.buckets) (sym new.1);
             small = omega arith;

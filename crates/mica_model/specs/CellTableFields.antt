@@ -5,6 +5,7 @@ use Rattle.std.specs.Cmp.Lexicographic.{slice_cmp}
 use Rattle.std.specs.Global.{Vec}
 use Rattle.std.specs.FinMap.{from_sorted}
 use Rattle.std.specs.BTreeMap.{IsOrdered}
+use Rattle.mica_words.specs.declared.hashing.Hashing.{Hashing}
 use Rattle.mica_model.specs.declared.cell.Cell.{Cell as CellInCode}
 use Rattle.mica_model.specs.declared.cell_table.CellTable.TheInside.{Inside}
 use Rattle.partition_model.specs.Store.{Cell, Cells, rooms, keys_in, spares_in_use}
@@ -17,10 +18,10 @@ abbrev pub cells_of : Inside → Cells
 cells_of a = from_sorted (entries_of a.cells.entries)
 
 abbrev pub table_of : Inside → Table
-table_of a = record { buckets = a.buckets; cells = cells_of a }
+table_of a = record { hashing = a.hashing; buckets = a.buckets; cells = cells_of a }
 
 -- each bucket has as many keys as the list has in its place
-abbrev pub HasCounts : ℕ → List ℕ → Cells → Type 0
+abbrev pub HasCounts : Hashing → ℕ → List ℕ → Cells → Type 0
 HasCounts hashing buckets counts cells = (bucket : ℕ) → bucket < buckets → slice_index counts bucket ≡ keys_in hashing buckets bucket cells
 
 -- the keys are in order, and the numbers are those of the cells

@@ -3,6 +3,8 @@ use Rattle.std.specs.Prelude.{◌≡◌, ℕ, ◌⊎◌, Bool, true, false, refl
 use Rattle.std.proofs.Common.{inl, inr}
 use Rattle.std.specs.Coded.{Coded, code_by, coded×, coded⊎, coded_ℕ, coded_bool, coded_list}
 use Rattle.std.specs.FinMap as map
+use Rattle.mica_words.specs.declared.hashing.Hashing.{Hashing}
+use Rattle.mica_words.specs.declared.hashing.Hashing.TheVariants.{Fnv1a, SipHash}
 use Rattle.partition_model.specs.declared.options.Options.{Options}
 use Rattle.partition_model.specs.declared.options.Mode.{Mode}
 use Rattle.partition_model.specs.declared.options.Mode.TheVariants.{Cache as CacheMode, Store as StoreMode}
@@ -67,11 +69,31 @@ mode_of-is_store StoreMode = refl
 abbrev pub mode_code : Coded Mode
 mode_code = code_by Bool coded_bool is_store mode_of mode_of-is_store
 
+abbrev pub has_secret : Hashing → Bool
+has_secret Fnv1a = false
+has_secret (SipHash k0 k1) = true
+
+abbrev pub secret_in : Hashing → ℕ × ℕ
+secret_in Fnv1a = (0, 0)
+secret_in (SipHash k0 k1) = (k0, k1)
+
+abbrev pub hashing_by : Bool → ℕ × ℕ → Hashing
+hashing_by false secret = Fnv1a
+hashing_by true secret = SipHash secret.0 secret.1
+
+pub hashing_by-secret : (h : Hashing) → hashing_by (has_secret h) (secret_in h) ≡ h
+hashing_by-secret Fnv1a = refl
+hashing_by-secret (SipHash k0 k1) = refl
+
+abbrev pub hashing_code : Coded Hashing
+hashing_code =
+    code_by (Bool × (ℕ × ℕ)) (coded× coded_bool (coded× coded_ℕ coded_ℕ)) (λ h. (has_secret h, secret_in h)) (λ p. hashing_by p.0 p.1) hashing_by-secret
+
 abbrev pub options_code : Coded Options
 options_code =
-    code_by (Mode × (ℕ × (ℕ × (ℕ × (ℕ × (ℕ × (ℕ × ℕ)))))))
-    (coded× mode_code (coded× coded_ℕ (coded× coded_ℕ (coded× coded_ℕ (coded× coded_ℕ (coded× coded_ℕ (coded× coded_ℕ coded_ℕ)))))))
-    (λ o. (o.mode, (o.partitions, (o.buckets, (o.spares, (o.words, (o.readers, (o.tries, o.wear))))))))
+    code_by (Mode × (ℕ × (ℕ × (ℕ × (ℕ × (ℕ × (ℕ × (ℕ × Hashing))))))))
+    (coded× mode_code (coded× coded_ℕ (coded× coded_ℕ (coded× coded_ℕ (coded× coded_ℕ (coded× coded_ℕ (coded× coded_ℕ (coded× coded_ℕ hashing_code))))))))
+    (λ o. (o.mode, (o.partitions, (o.buckets, (o.spares, (o.words, (o.readers, (o.tries, (o.wear, o.hashing)))))))))
     (λ p. record {
       mode = p.0;
       partitions = p.1.0;
@@ -80,6 +102,7 @@ options_code =
       words = p.1.1.1.1.0;
       readers = p.1.1.1.1.1.0;
       tries = p.1.1.1.1.1.1.0;
-      wear = p.1.1.1.1.1.1.1;
+      wear = p.1.1.1.1.1.1.1.0;
+      hashing = p.1.1.1.1.1.1.1.1;
     })
     (λ _. refl)

@@ -13,6 +13,7 @@ machine_of a =
 -- what is in use is within the options
 pub record IsMachine (a : Inside) : Type 0 where
   pub valid : IsValid a.options
+  pub hashing : a.table.hashing ≡ a.options.hashing
   pub buckets : a.table.buckets ≡ a.options.buckets
   pub words : rooms a.table.cells ≤ a.options.words
   pub spares : spares_in_use a.options.hashing a.options.buckets a.table.cells ≤ a.options.spares

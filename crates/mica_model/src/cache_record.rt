@@ -5,12 +5,12 @@ ghost use Rattle.partition_model.specs.Cache.{has_key, is_live as is_live_at};
 ghost use Rattle.partition_model.specs.CacheStep.{is_in_bucket as is_in};
 ghost use Rattle.partition_model.specs.Options.{IsValid};
 
-use mica_words::{bucket_of, key_hash, tail_of};
+use mica_words::{Hashing, bucket_of, key_hash, tail_of};
 use outside::Bytes;
 use partition_model::Options;
 use std::marker::Model;
 
-/// What the log has of a key, and the key's hash, so that no step hashes the keys of other records.
+/// What the log has of a key, and the key's hash by FNV-1a, so that no step under it hashes the keys of other records.
 #[derive(Drop)]
 pub struct CacheRecord {
     key: Bytes,
@@ -92,12 +92,16 @@ impl CacheRecord {
     }
 
     /// Whether the record's key is in this bucket.
-    #[tactic(auto, unfolding(mica_words::specs::Hash::bucket_of))]
+    #[tactic(auto, unfolding(mica_words::specs::Hash::bucket_of, mica_words::specs::Hash::hash_of))]
     pub fn is_in_bucket(&self, bucket: u32, options: &Options) -> bool
         requires { IsValid options.now }
         ensures { result ≡ is_in options.now bucket self.now }
     {
-        bucket_of(self.hash, options.buckets) == bucket
+        let hash = match options.hashing {
+            Hashing::Fnv1a => self.hash,
+            hashing => hashing.key_hash(self.key.bytes()),
+        };
+        bucket_of(hash, options.buckets) == bucket
     }
 
     /// It begins at this offset now, in this room.

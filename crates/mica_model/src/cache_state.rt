@@ -307,7 +307,7 @@ impl CacheState {
         requires { IsValid options.now }
         ensures { result ≡ displaced_at options.now key.now self.now.records }
     {
-        let bucket = bucket_of(key_hash(key), options.buckets);
+        let bucket = bucket_of(options.hashing.key_hash(key), options.buckets);
         if count_in_bucket(&self.records, options, bucket) != SLOTS as usize + 1 {
             return None;
         }

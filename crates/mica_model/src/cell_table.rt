@@ -11,7 +11,7 @@ ghost use Rattle.mica_model.specs.CellTable.{LacksSpare, with_cells, cell_of};
 
 use crate::bucket_keys::BucketKeys;
 use crate::cell::Cell;
-use mica_words::{SLOTS, bucket_of, key_hash};
+use mica_words::{Hashing, SLOTS, bucket_of};
 use outside::{Bytes, NoMemory};
 use partition_model::keeps;
 use std::alloc::Global;
@@ -21,6 +21,7 @@ use std::marker::Model;
 // The cells of keys, with what their buckets and their rooms come to.
 #[derive(Drop)]
 pub struct CellTable {
+    hashing: Hashing,
     buckets: u32,
     cells: BTreeMap<Vec<u8>, Cell>,
     counts: BucketKeys,
@@ -44,11 +45,12 @@ impl Model for CellTable {
 
 impl CellTable {
     // A table without cells.
-    pub fn new(alloc: Global, buckets: u32) -> Result<Self, NoMemory>
+    pub fn new(alloc: Global, hashing: Hashing, buckets: u32) -> Result<Self, NoMemory>
         requires { 1 ≤ buckets }
-        ensures { IfOk result (λ table. table ≡ record { buckets = buckets; cells = empty }) }
+        ensures { IfOk result (λ table. table ≡ record { hashing = hashing; buckets = buckets; cells = empty }) }
     {
         Ok(CellTable {
+            hashing,
             buckets,
             cells: BTreeMap::new(alloc),
             counts: BucketKeys::new(alloc, buckets)?,
@@ -118,7 +120,7 @@ impl CellTable {
         ensures within { result < self.now.buckets }
         ensures value { result ≡ bucket_of self.now.hashing key.now self.now.buckets }
     {
-        bucket_of(key_hash(key), self.buckets) as usize
+        bucket_of(self.hashing.key_hash(key), self.buckets) as usize
     }
 
     // Gives the key this value and room.

@@ -25,4 +25,4 @@ invariant_of-result c =
     }
 
 pub returns : goal.returns
-returns c = ap (λ es. record { buckets = c.args.buckets; cells = from_sorted (entries_of es) }) c.new.ensures.empty ∙ ap (λ cells. record { buckets = c.args.buckets; cells = cells }) no_cells
+returns c = ap (λ es. record { hashing = c.args.hashing; buckets = c.args.buckets; cells = from_sorted (entries_of es) }) c.new.ensures.empty ∙ ap (λ cells. record { hashing = c.args.hashing; buckets = c.args.buckets; cells = cells }) no_cells

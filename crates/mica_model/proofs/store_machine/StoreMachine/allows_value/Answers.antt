@@ -3,7 +3,7 @@ use Rattle.std.specs.Prelude.{IsSomeAnd}
 use Rattle.std.proofs.lemmas.Bool.{false≢true}
 use Rattle.mica_words.specs.Item.{item_size}
 use Rattle.partition_model.specs.Write.{write_of}
-use Rattle.mica_model.specs.CellTable.{LacksSpare}
+use Rattle.mica_model.specs.CellTable.{LacksSpare, Table}
 use Rattle.partition_model.specs.StoreStep.{IsWorn, NeedsSpare, NeedsBlock}
 use Rattle.mica_model.specs.Machine.{Machine}
 use Rattle.partition_model.specs.History.{Allows, accepted_in}
@@ -18,7 +18,7 @@ returns-in-None c =
     let key = c.args.key.now in
     let less = subst (λ (m : Machine). accepted_in m.state < m.options.wear) (sym c.self.view_is) c.requires.alive in
     let alive : ¬ (IsWorn a.options (store_of a)) = λ worn. let old : a.options.wear ≤ a.accepted = worn in omega arith in
-    let here = subst (λ b. LacksSpare (record { buckets = b; cells = a.table.cells }) key a.options.spares) c.self.invariant.buckets (c.if-lacks_spare.ensures.0 refl) in
+    let here = subst (λ (t : Table). LacksSpare t key a.options.spares) (λ i. record { hashing = c.self.invariant.hashing i; buckets = c.self.invariant.buckets i; cells = a.table.cells }) (c.if-lacks_spare.ensures.0 refl) in
     let needs : NeedsSpare a.options (store_of a) key =
     record { is_new = sym c.in-None.ensures; some = here.some; full = here.full; none_left = here.none_left } in
     let law = of_lack a.options (store_of a) key c.args.value.now alive c.args.op c.requires.op needs c.args.outcome in
@@ -47,9 +47,9 @@ returns-in_default-outcome c =
         stores = (c.requires.op, inr (sym w.in-None.ensures));
         no_room = λ fits. subst (λ o. IsSomeAnd o (λ cell. item_size key value ≤ cell.room)) (sym w.in-None.ensures) fits;
         has_spare = λ lacks.
-            let here : LacksSpare (record { buckets = a.options.buckets; cells = a.table.cells }) key a.options.spares =
+            let here : LacksSpare (record { hashing = a.options.hashing; buckets = a.options.buckets; cells = a.table.cells }) key a.options.spares =
             record { some = lacks.some; full = lacks.full; none_left = lacks.none_left } in
-            let there = subst (λ b. LacksSpare (record { buckets = b; cells = a.table.cells }) key a.options.spares) (sym c.self.invariant.buckets) here in
+            let there = subst (λ (t : Table). LacksSpare t key a.options.spares) (sym (λ i. record { hashing = c.self.invariant.hashing i; buckets = c.self.invariant.buckets i; cells = a.table.cells })) here in
             false≢true (sym w.if-lacks_spare.false ∙ w.lacks_spare.ensures.1 there);
       }
     ] in
