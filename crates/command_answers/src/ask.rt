@@ -144,9 +144,7 @@ pub fn answer_ask<F: Changes>(
     tally.count(counter_of(&asked.ask, &says));
     *is_refused = was_refused(changed.outcome);
     let hashing = front.hashing();
-    note_write(
-        tally, noted, hashing, partitions, &asked.ask, key, &changed,
-    );
+    note_write(tally, noted, hashing, partitions, &asked.ask, key, &changed);
     put_said(out, style, is_last, key, &says)
 }
 

@@ -5,7 +5,7 @@ ghost use Rattle.exclusive_replay.specs.Workers.{IsReadyFeeder, HasFed};
 
 use crate::queue::{LineSender, Sent};
 use mica_trace::Trace;
-use mica_words::{partition_of};
+use mica_words::partition_of;
 use partition_model::Options;
 use std::sync::Wait;
 
@@ -26,7 +26,10 @@ impl Feeder {
         for number in 0..lines.len() {
             let line = &lines[number];
             if !line.is_sync() {
-                let queue = partition_of(options.hashing.key_hash(line.key.bytes()), options.partitions);
+                let queue = partition_of(
+                    options.hashing.key_hash(line.key.bytes()),
+                    options.partitions,
+                );
                 let sender = &mut self.senders[queue as usize];
                 sender.send(rt, Sent::Line(number as u32));
             }

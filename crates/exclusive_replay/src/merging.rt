@@ -9,7 +9,7 @@ ghost use Rattle.mica_trace.specs.ExactReport.{ExactReport};
 ghost use Rattle.exclusive_replay.specs.Merged.{AreReplied, TakesNext};
 
 use mica_trace::{Line, Report, Trace, TraceLine};
-use mica_words::{partition_of};
+use mica_words::partition_of;
 use outside::NoMemory;
 use partition_model::Options;
 use std::alloc::Global;
@@ -37,7 +37,10 @@ fn next_for(options: &Options, line: &TraceLine, printed: &mut [IntoIter<Line, G
     if line.is_sync() {
         return Line::Sync;
     }
-    let partition = partition_of(options.hashing.key_hash(line.key.bytes()), options.partitions);
+    let partition = partition_of(
+        options.hashing.key_hash(line.key.bytes()),
+        options.partitions,
+    );
     next_line(&mut printed[partition as usize])
 }
 

@@ -5,7 +5,7 @@ ghost use Rattle.line_replies.specs.Answered.{AreAnswered};
 
 use crate::line::reply_to;
 use mica_trace::{Report, Trace};
-use mica_words::{partition_of};
+use mica_words::partition_of;
 use outside::NoMemory;
 use partition_model::{ItemBuf, Options};
 use partition_words::Partition;
@@ -26,7 +26,10 @@ pub fn reply_to_all<P: Partition>(
     let mut report = Report::with_capacity(alloc, trace.len())?;
     let mut value = ItemBuf::new(alloc)?;
     for line in trace.lines() {
-        let partition = partition_of(options.hashing.key_hash(line.key.bytes()), options.partitions);
+        let partition = partition_of(
+            options.hashing.key_hash(line.key.bytes()),
+            options.partitions,
+        );
         let part = &mut parts[partition as usize];
         report.push(reply_to(alloc, part, line, &mut value)?)?;
     }

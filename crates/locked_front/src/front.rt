@@ -9,8 +9,8 @@ ghost use Rattle.fronts.specs.Changing.{count_of};
 ghost use Rattle.locked_front.specs.declared.part.LockedPart.{LockedPart};
 ghost use Rattle.locked_front.specs.Parts.{IsPartOf, IsLockedFront, locked_view, sessions_of, turns_left, turns_taken};
 
-use crate::marks::make_mark;
 use crate::locks::PartitionLocks;
+use crate::marks::make_mark;
 use crate::owned::ServerPlan;
 use crate::part::LockedPart;
 use fronts::{Changed, Changes, CountsWrites, Decide, Flush, Front, Glances, Glimpse, seat_loads};

@@ -4,7 +4,7 @@ ghost use Rattle.mica_words.specs.Hash.{hash_of};
 ghost use Rattle.mica_words.specs.Item.{KeyFits};
 ghost use Rattle.partition_model.specs.History.{History};
 ghost use Rattle.partition_model.specs.Write.{HasValueOf, write_of};
-ghost use Rattle.partition_table.specs.Seats.{reader_home, note_home};
+ghost use Rattle.partition_table.specs.Seats.{reader_home, note_home, reader_state};
 ghost use Rattle.locked_front.specs.Owned.{TookTurn, TookLook};
 ghost use Rattle.locked_front.specs.Parts.{IsPartOf, HasLearned, PartWrites, PartReads, PartChanges, PartRests, PartGets, answer_in as in_got};
 
@@ -138,7 +138,7 @@ impl LockedPart {
     // looked at first, too: where it has moved the tries would be for nothing.
     fn try_get(&mut self, key: &[u8], hash: u64, found: &mut ItemBuf) -> Option<(Answer, u64)>
         requires key { KeyFits key.now }
-        requires hashed { hash ≡ hash_of self.old.seat.me.0.shape.hashing key.now }
+        requires hashed { hash ≡ hash_of (reader_state self.old.seat).shape.hashing key.now }
         ensures looked { IfSome result (λ r. PartGets self.old key.entry.now r.0 r.1 found.new self.new) }
         ensures none { IfNone result (PartRests self.old self.new) }
     {

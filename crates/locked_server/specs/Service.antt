@@ -1,5 +1,6 @@
 -- What a server may serve.
-use Rattle.std.specs.Prelude.{◌≡◌, ◌+◌, ◌≤◌, ℕ}
+use Rattle.std.specs.Prelude.{◌≡◌, ◌+◌, ◌<◌, ◌≤◌, ℕ, true}
+use Rattle.mica_words.specs.Mark.{has_marks}
 use Rattle.partition_model.specs.Options.{IsPossible}
 use Rattle.locked_front.specs.Plan.{Plan}
 use Rattle.server_words.specs.PossiblePorts.{IsPossiblePorts}
@@ -12,6 +13,8 @@ pub record IsPossibleService (service : Service) : Type 0 where
   pub ports : IsPossiblePorts service.ports
   pub some : 1 ≤ service.places + service.ports.fronts
   pub few : service.places + service.ports.fronts ≤ MOST_FRONTS
+  -- a flush of a connection is a mark
+  pub marks : 0 < service.places → has_marks service.options.hashing ≡ true
 
 -- the partitions of the plan are those that are served, before as many fronts
 pub record IsPlanOf (service : Service) (plan : Plan) : Type 0 where

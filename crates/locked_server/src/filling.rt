@@ -12,7 +12,7 @@ ghost use Rattle.locked_server.specs.Filled.{RefusesFilling, IsFilledOwner, orig
 
 use fronts::KeptFlushes;
 use locked_front::write_counted;
-use mica_words::{partition_of};
+use mica_words::partition_of;
 use outside::NoMemory;
 use partition_model::{Options, Write};
 use partition_words::Partition;

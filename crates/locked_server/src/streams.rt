@@ -1,5 +1,6 @@
 //! The fronts of connections side by side, each in a thread of its own.
-ghost use Rattle.std.specs.Prelude.{◌≡◌, ◌<◌, ◌≤◌, [], length, map, vec_len, vec_capacity};
+ghost use Rattle.std.specs.Prelude.{◌≡◌, ◌<◌, ◌≤◌, true, [], length, map, vec_len, vec_capacity};
+ghost use Rattle.mica_words.specs.Mark.{has_marks};
 ghost use Rattle.locked_server.specs.Service.{IsLockedPlan};
 ghost use Rattle.locked_server.specs.Streams.{counted_by_all, stream_facts};
 ghost use Rattle.locked_server.specs.Running.{IsReadyStream, StreamRan, AreReadyStreams, StreamsRan};
@@ -38,6 +39,7 @@ impl<C: Connections> StreamTask<C> {
     >(&mut self, shared: &Shared<W, G>, locks: &PartitionLocks<J, P>, number: u32)
         requires plan { IsLockedPlan shared.now.service J.plan locks.now }
         requires low { number < J.plan.fronts }
+        requires marks { has_marks shared.now.service.options.hashing ≡ true }
         requires ready { IsReadyStream J.plan (stream_facts C.Connections) number self.old }
         ensures { StreamRan J.plan (stream_facts C.Connections) shared.now.service.base shared.now.service.buffers number self.old self.new }
     {
@@ -77,6 +79,7 @@ pub(crate) fn run_streams<
 >(shared: &Shared<W, G>, locks: &PartitionLocks<J, P>, streams: &mut Vec<StreamTask<C>>)
     requires plan { IsLockedPlan shared.now.service J.plan locks.now }
     requires many { length streams.old.items ≤ J.plan.fronts }
+    requires marks { 0 < length streams.old.items → has_marks shared.now.service.options.hashing ≡ true }
     requires ready { AreReadyStreams J.plan (stream_facts C.Connections) streams.old.items }
     ensures { StreamsRan J.plan (stream_facts C.Connections) shared.now.service.base shared.now.service.buffers streams.old.items streams.new.items }
 {
@@ -87,7 +90,7 @@ pub(crate) fn run_streams<
         threads,
         &|number, stream|
             requires { (number < J.plan.fronts) × IsLockedPlan shared.now.service J.plan locks.now
-                × IsReadyStream J.plan (stream_facts C.Connections) number stream.now }
+                × (has_marks shared.now.service.options.hashing ≡ true) × IsReadyStream J.plan (stream_facts C.Connections) number stream.now }
             ensures { StreamRan J.plan (stream_facts C.Connections) shared.entry.now.service.base shared.entry.now.service.buffers number stream.entry.now stream.exit.now }
         { stream.run(shared, locks, number as u32) },
     );

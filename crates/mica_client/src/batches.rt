@@ -12,7 +12,7 @@ use crate::AskOptions;
 use crate::request::{Group, request_of};
 use crate::share::Share;
 use mica_trace::TraceLine;
-use mica_words::{partition_of};
+use mica_words::partition_of;
 use outside::NoMemory;
 use std::alloc::Global;
 use std::mem;
@@ -30,7 +30,10 @@ fn part_of(options: &AskOptions, line: &TraceLine) -> u32
     requires { IsValidAsk options.now }
     ensures { result ≡ partition_of options.now.hashing line.now.key options.now.partitions }
 {
-    partition_of(options.hashing.key_hash(line.key.bytes()), options.partitions)
+    partition_of(
+        options.hashing.key_hash(line.key.bytes()),
+        options.partitions,
+    )
 }
 
 // A share for each partition, with no requests yet.

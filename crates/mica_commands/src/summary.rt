@@ -6,7 +6,7 @@ ghost use Rattle.mica_commands.specs.Summary.{is_op, is_outcome, has_outcome, op
 
 use itoa::Buffer;
 use mica_trace::{Line, Report, Trace, TraceLine, TraceOp};
-use mica_words::{partition_of};
+use mica_words::partition_of;
 use outside::NoMemory;
 use partition_model::{Options, Outcome};
 use std::alloc::Global;
@@ -59,7 +59,10 @@ fn note_stamp(options: &Options, line: &TraceLine, printed: &Line, stamps: &mut 
     ensures { stamps.new.items ≡ stamps_by options.now stamps.old.items line.now printed.now }
 {
     if let Line::Wrote { stamp, .. } = printed {
-        let partition = partition_of(options.hashing.key_hash(line.key.bytes()), options.partitions);
+        let partition = partition_of(
+            options.hashing.key_hash(line.key.bytes()),
+            options.partitions,
+        );
         stamps[partition as usize] = *stamp;
     }
 }

@@ -9,7 +9,7 @@ ghost use Rattle.mica_replay.specs.LineNumbers.{lines_at, NamesGet};
 ghost use Rattle.mica_replay.specs.ReaderGets.{AreSeatsOf, HaveRead, HaveSeenMore};
 
 use mica_trace::{Line, Trace};
-use mica_words::{partition_of};
+use mica_words::partition_of;
 use optimistic_get::{Got, ask_hashed};
 use outside::{Bytes, Gate, NoMemory};
 use partition_model::{ItemBuf, Options};

@@ -12,7 +12,7 @@ ghost use Rattle.mica_replay.specs.Shares.{HasNoGets, HasGets};
 use crate::round_jobs::{RoundJobs, write_of_line};
 use crate::worker::ReaderWork;
 use mica_trace::{Trace, TraceOp};
-use mica_words::{partition_of};
+use mica_words::partition_of;
 use outside::NoMemory;
 use partition_model::Options;
 use partition_words::ReaderWords;
@@ -76,7 +76,10 @@ pub(crate) fn split_round<'a, R: ReaderWords>(
                 0
             }
             TraceOp::Put | TraceOp::Add | TraceOp::Del | TraceOp::Touch => {
-                let partition = partition_of(options.hashing.key_hash(line.key.bytes()), options.partitions);
+                let partition = partition_of(
+                    options.hashing.key_hash(line.key.bytes()),
+                    options.partitions,
+                );
                 jobs.push(partition, write_of_line(line))?;
                 partition
             }

@@ -1,5 +1,6 @@
 //! A front before owners in other threads.
 ghost use Rattle.std.specs.Prelude.{◌≡◌, ◌+◌, ◌<◌, ◌≤◌, ℕ, true, false, List, Option, All, IfOk, OnErr, IsTrue, map, vec_len};
+ghost use Rattle.partition_table.specs.Seats.{reader_state};
 ghost use Rattle.mica_words.specs.Hash.{hash_of, partition_of};
 ghost use Rattle.mica_words.specs.Item.{KeyFits};
 ghost use Rattle.partition_model.specs.Options.{IsValid};
@@ -110,7 +111,7 @@ impl FrontPart {
         out: &mut ItemBuf,
     ) -> (Answer, u64)
         requires key { KeyFits key.now }
-        requires hashed { hash ≡ fnv1a key.now }
+        requires hashed { hash ≡ hash_of (reader_state self.old.seat).shape.hashing key.now }
         requires tries { 0 < tries }
         ensures { PartReads self.old key.now result.0 result.1 out.new self.new }
     {

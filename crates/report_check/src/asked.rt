@@ -8,7 +8,7 @@ ghost use Rattle.report_check.specs.Settling.{AreGetsAmong, StampsRise};
 
 use crate::sharing::OwnLine;
 use mica_trace::{Line, TraceLine, TraceOp};
-use mica_words::{partition_of};
+use mica_words::partition_of;
 use outside::NoMemory;
 use partition_model::Options;
 use std::alloc::Global;
@@ -32,7 +32,10 @@ pub fn partition_in(options: &Options, line: &TraceLine) -> u32
     requires { 1 ≤ options.now.partitions }
     ensures { result ≡ partition_in options.now line.now }
 {
-    partition_of(options.hashing.key_hash(line.key.bytes()), options.partitions)
+    partition_of(
+        options.hashing.key_hash(line.key.bytes()),
+        options.partitions,
+    )
 }
 
 /// The stamp of a line, and 0 where it has none.

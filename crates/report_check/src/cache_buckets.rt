@@ -13,7 +13,7 @@ ghost use Rattle.partition_model.specs.Write.{HasValueOf, is_accepted, write_of}
 ghost use Rattle.report_check.specs.Machines.{bucket_part, AreBuckets, IsReachable, TakesInBuckets};
 
 use mica_model::{Answer, CacheRecord, CacheState, ItemBuf, Mode, Op, Options, Outcome};
-use mica_words::{bucket_of};
+use mica_words::bucket_of;
 use outside::NoMemory;
 use std::alloc::Global;
 

@@ -3,8 +3,8 @@
 use crate::overheard::{Overheard, OverheardListeners, Port};
 use anyhow::Result;
 use connections::{Change, Step};
-use daemon_words::Host;
 use daemon::{MemFiles, Process, Speaker, Start, answer_or_serve, ending_number, free_by};
+use daemon_words::Host;
 use locked_server::Left;
 use memory_outside::{MemNet, MemSink};
 use outside::{Bytes, NoMemory};

@@ -18,7 +18,7 @@ use crate::Image;
 use crate::writing::put_pair;
 use line_replies::reply_to_all;
 use mica_trace::{Report, Trace, TraceLine, TraceOp};
-use mica_words::{partition_of};
+use mica_words::partition_of;
 use outside::NoMemory;
 use partition_model::{Answer, ItemBuf, Options};
 use partition_words::{Partition, PlainWords, Shape};

@@ -15,6 +15,7 @@ for_each_mut-requires-clause-accepts g c κs within i p low is =
       (
         omega (arith, fits, c.requires.many),
         c.requires.plan,
+        c.requires.marks (omega (arith, fits)),
         subst (IsReadyStream g.J.ServerPlan.plan facts i) (sym here) (c.requires.ready i p.now fits),
       ),
       (grind serving, grind serving, grind serving, grind serving, grind serving, grind serving),
