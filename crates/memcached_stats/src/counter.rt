@@ -29,6 +29,10 @@ pub enum Counter {
     StoresTooLarge,
     /// Those that found no room.
     StoresRefused,
+    /// Keys that were looked for and not found, whose item was over by its own end.
+    Expired,
+    /// Those whose item was flushed.
+    Flushed,
     /// Connections that came.
     Opened,
     /// Those of them that are closed.
@@ -37,6 +41,10 @@ pub enum Counter {
     Rejected,
     /// Those that were closed later since the server was out of memory.
     Lacked,
+    /// The most places for connections that a front ever had.
+    Structures,
+    /// Visits at which more of a connection was left to do.
+    Yields,
     /// Bytes that were received.
     Received,
     /// Bytes that were sent.
@@ -44,7 +52,7 @@ pub enum Counter {
 }
 
 /// How many counters there are.
-pub const COUNTERS: usize = 23;
+pub const COUNTERS: usize = 27;
 
 // By a get.
 fn get_counter(says: &Says) -> Option<Counter>
