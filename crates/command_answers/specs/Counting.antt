@@ -7,10 +7,14 @@ use Rattle.partition_model.specs.Write.{is_accepted}
 use Rattle.memcached_commands.specs.declared.asks.Asked.{Asked}
 use Rattle.memcached_requests.specs.declared.request.Next.{Next}
 use Rattle.memcached_requests.specs.Requests.{asks_in}
-use Rattle.memcached_stats.specs.Counted.{counter_of, counter_by}
+use Rattle.memcached_commands.specs.declared.ask.Says.{Says}
+use Rattle.memcached_decisions.specs.Numbered.{moment_at}
+use Rattle.memcached_stats.specs.declared.counter.Counter.{Counter}
+use Rattle.memcached_stats.specs.Counted.{counter_of, counter_by, counter_of_miss}
 use Rattle.memcached_stats.specs.Tallies.{Numbers, counted, noted}
 use Rattle.fronts.specs.declared.changing.When.{When}
-use Rattle.fronts.specs.Answered.{Answered, changed}
+use Rattle.fronts.specs.Looks.{Look}
+use Rattle.fronts.specs.Answered.{Answered, changed, kept}
 use Rattle.command_answers.specs.AskAnswers.{said_of}
 use Rattle.command_answers.specs.Exchange.{is_flush_all}
 
@@ -27,9 +31,19 @@ abbrev pub noted_by : ℕ → Answered → Numbers → Numbers
 noted_by partitions (changed step look) tally = noted_if partitions step.write.key look.when (Some step.outcome) step.stamp tally
 noted_by partitions _ tally = tally
 
--- One ask was answered: what was said of it is counted, and a write of it noted.
+-- what is counted of a look, where the key was not found
+abbrev pub missed_at : ℕ → Says → Look → Option Counter
+missed_at base says look = counter_of_miss says (moment_at base look.when) look.value
+
+abbrev pub missed_of : ℕ → Asked → Answered → Option Counter
+missed_of base asked (changed step look) = missed_at base (said_of base asked (changed step look)) look
+missed_of base asked (kept key stamp look) = missed_at base (said_of base asked (kept key stamp look)) look
+missed_of base asked _ = None
+
+-- One ask was answered: what was said of it is counted, and what was stored of a key that was not found, and a write of it noted.
 abbrev pub tally_after : ℕ → ℕ → Asked → Answered → Numbers → Numbers
-tally_after base partitions asked answered tally = noted_by partitions answered (counted (counter_of asked.ask (said_of base asked answered)) tally)
+tally_after base partitions asked answered tally =
+    noted_by partitions answered (counted (missed_of base asked answered) (counted (counter_of asked.ask (said_of base asked answered)) tally))
 
 -- These were, in order. What was asked behind the last of them is noted alone.
 abbrev pub tally_after_all : ℕ → ℕ → List Asked → List Answered → Numbers → Numbers

@@ -1,5 +1,6 @@
 //! What is at hand of the whole process.
 
+use memcached_stats::Usage;
 use std::alloc::Global;
 use std::sync::atomic::AtomicBool;
 
@@ -17,6 +18,8 @@ pub struct Process<'a, W, G> {
     pub stopping: &'a AtomicBool,
     /// The number of the process.
     pub pid: u32,
+    /// How much processors worked for it.
+    pub usage: &'a Usage,
     /// How many processors there are.
     pub processors: u32,
 }

@@ -1,10 +1,10 @@
 //! What a front counts.
-ghost use Rattle.std.specs.Prelude.{◌≡◌};
-ghost use Rattle.memcached_stats.specs.Counted.{counter_by, counter_of, counter_of_store, counter_of_swap, counter_of_get, counter_of_touch, counter_of_lease, counter_of_count, counter_of_delete, counter_of_refusal};
+ghost use Rattle.std.specs.Prelude.{◌≡◌, option_copied};
+ghost use Rattle.memcached_stats.specs.Counted.{counter_by, counter_of, counter_of_store, counter_of_swap, counter_of_get, counter_of_touch, counter_of_lease, counter_of_count, counter_of_delete, counter_of_gone, counter_of_miss, counter_of_refusal, is_missed};
 
-use memcached_commands::{Ask, Says};
+use memcached_commands::{Ask, Moment, Says, is_there};
 use memcached_requests::{Next, Request};
-use memcached_text::{Direction, Fault, Lifetime, Reply, Wants};
+use memcached_text::{Direction, Fault, Item, Lifetime, Reply, Wants, read_item};
 
 /// What a front counts.
 #[derive(Clone, Copy)]
@@ -156,6 +156,42 @@ pub fn counter_of(ask: &Ask, says: &Says) -> Option<Counter>
         Ask::Mark { .. } => None,
         Ask::Spoil => Some(Counter::StoresTooLarge),
     }
+}
+
+// Whether a key was looked for, and not found.
+#[inline(always)]
+fn is_missed(says: &Says) -> bool
+    ensures { result ≡ is_missed says.now }
+{
+    matches!(
+        says,
+        Says::Nothing | Says::Line(Reply::NotFound) | Says::Line(Reply::NotStored)
+    )
+}
+
+// By an item that may not be there any more.
+fn gone_counter(at: &Moment, item: &Item) -> Option<Counter>
+    ensures { result ≡ counter_of_gone at.now item.now }
+{
+    if is_there(at, item) {
+        return None;
+    }
+    Some(if at.flushed <= item.unique {
+        Counter::Expired
+    } else {
+        Counter::Flushed
+    })
+}
+
+/// Which counter is raised by what is stored of a key that was not found, if any.
+#[inline(always)]
+pub fn counter_of_miss(says: &Says, at: &Moment, stored: Option<&[u8]>) -> Option<Counter>
+    ensures { result ≡ counter_of_miss says.now at.now (option_copied stored.entry) }
+{
+    if !is_missed(says) {
+        return None;
+    }
+    gone_counter(at, &read_item(stored?))
 }
 
 // By what is refused of a line or a frame.

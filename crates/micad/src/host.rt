@@ -9,7 +9,7 @@ use crate::host_causes::{doubt_text, refused_text};
 use crate::host_doors::Asked;
 use crate::host_files::HostFiles;
 use crate::host_start::begin;
-use daemon::{DaemonStatus, Ending, Machine, Process, Speaker, exit_code, run_daemon};
+use daemon::{DaemonStatus, Ending, Machine, Process, Speaker, Usage, exit_code, run_daemon};
 use host_outside::{StdClock, StdSink, UdpNet};
 use locked_server::Left;
 use outside::{FreeGate, NoMemory, rehearse};
@@ -54,6 +54,8 @@ pub struct Flags {
     pub stopping: AtomicBool,
     /// The server has ended.
     pub over: AtomicBool,
+    /// How much processors worked for it.
+    pub usage: Usage,
 }
 
 impl Flags {
@@ -63,6 +65,7 @@ impl Flags {
             ended: AtomicBool::new(false),
             stopping: AtomicBool::new(false),
             over: AtomicBool::new(false),
+            usage: Usage::new(),
         }
     }
 }
@@ -109,6 +112,7 @@ pub fn run_on_host<
         ended: &flags.ended,
         stopping: &flags.stopping,
         pid: machine.process,
+        usage: &flags.usage,
         processors: machine.processors,
     };
     let mut speaker = Speaker::new(alloc, StdSink::new(io::writer(rt)));

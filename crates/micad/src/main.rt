@@ -33,7 +33,7 @@ fn main(rt: HostRuntime) -> ExitCode {
     let flags = Flags::new();
     let ((), code) = join(
         &rt,
-        || watch(&rt, alloc, &flags.stopping, &flags.over),
+        || watch(&rt, alloc, &flags),
         || run_on_host(&rt, args, machine, &flags, asked),
     );
     code

@@ -3,7 +3,7 @@
 use crate::overheard::{Overheard, OverheardListeners, Port};
 use anyhow::Result;
 use connections::{Change, Step};
-use daemon::{MemFiles, Process, Speaker, Start, answer_or_serve, ending_number, free_by};
+use daemon::{MemFiles, Process, Speaker, Start, Usage, answer_or_serve, ending_number, free_by};
 use locked_server::Left;
 use memory_outside::{MemNet, MemSink};
 use outside::{Bytes, NoMemory};
@@ -148,6 +148,7 @@ fn run(
         ended: &AtomicBool::new(false),
         stopping: &AtomicBool::new(row.find("stops").is_some()),
         pid: 1,
+        usage: &Usage::new(),
         processors: 4,
     };
     let start = Start { second: 0, base: 1 };
