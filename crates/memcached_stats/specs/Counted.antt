@@ -1,5 +1,5 @@
 -- What is counted of commands: which counter is raised by what a key was asked and what was said of it.
-use Rattle.std.specs.Prelude.{Bool, true, false, List, ℕ, nat_le, Option, None, Some, if◌then◌else◌}
+use Rattle.std.specs.Prelude.{true, false, List, ℕ, nat_le, Option, None, Some, if◌then◌else◌}
 use Rattle.memcached_text.specs.declared.command.Direction.{Direction}
 use Rattle.memcached_text.specs.declared.command.Direction.TheVariants.{Up, Down}
 use Rattle.memcached_text.specs.declared.command.Wants.TheVariants.{Numbered, AtLeast}
@@ -81,13 +81,6 @@ counter_of (Mark unique lifetime) (Line NotFound) = Some counters.DeleteMisses
 counter_of Spoil says = Some counters.StoresTooLarge
 counter_of _ _ = None
 
--- a key was looked for, and not found
-abbrev pub is_missed : Says → Bool
-is_missed Nothing = true
-is_missed (Line NotFound) = true
-is_missed (Line NotStored) = true
-is_missed _ = false
-
 -- by an item that is not there any more: its own end came, or a flush took it
 abbrev pub counter_of_gone : Moment → Item → Option Counter
 counter_of_gone at item = if is_there at item then None else Some (if nat_le at.flushed item.unique then counters.Expired else counters.Flushed)
@@ -96,9 +89,14 @@ abbrev pub counter_of_stored : Moment → Option (List ℕ) → Option Counter
 counter_of_stored at None = None
 counter_of_stored at (Some stored) = counter_of_gone at (item_in stored)
 
--- and by what is stored of a key that was not found
-abbrev pub counter_of_miss : Says → Moment → Option (List ℕ) → Option Counter
-counter_of_miss says at stored = if is_missed says then counter_of_stored at stored else None
+-- And beside that by what was said of a key: each item that is stored, and what is stored of a key that was looked for and not found.
+abbrev pub counter_beside : Says → Option Counter → Option Counter
+counter_beside (Stores unique) gone = Some counters.Items
+counter_beside (Number n unique left true) gone = Some counters.Items
+counter_beside Nothing gone = gone
+counter_beside (Line NotFound) gone = gone
+counter_beside (Line NotStored) gone = gone
+counter_beside _ gone = None
 
 -- by what is refused: a store whose block came with no end behind it, and one of a value that is too long
 abbrev pub counter_of_refusal : Fault → Option Counter

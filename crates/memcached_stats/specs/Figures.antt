@@ -1,7 +1,7 @@
 -- The numbers that are told, where they were added up.
 use Rattle.std.specs.Prelude.{ℕ, ◌-◌, List, min, slice_get, unwrap_or}
 use Rattle.memcached_stats.specs.declared.counter.Counter.{Counter}
-use Rattle.memcached_stats.specs.declared.counter.Counter.TheVariants.{Sets, CasHits, CasMisses, CasBadval, GetHits, GetMisses, TouchHits, TouchMisses, DeleteHits, DeleteMisses, IncrHits, IncrMisses, DecrHits, DecrMisses, Flushes, StoresTooLarge, StoresRefused, Expired, Flushed, Opened, Closed, Rejected, Lacked, Structures, Yields, Received, Sent}
+use Rattle.memcached_stats.specs.declared.counter.Counter.TheVariants.{Sets, CasHits, CasMisses, CasBadval, GetHits, GetMisses, TouchHits, TouchMisses, DeleteHits, DeleteMisses, IncrHits, IncrMisses, DecrHits, DecrMisses, Flushes, StoresTooLarge, StoresRefused, Items, Expired, Flushed, Opened, Closed, Rejected, Lacked, Structures, Yields, Received, Sent}
 use Rattle.memcached_stats.specs.declared.figures.Counts.{Counts}
 use Rattle.memcached_stats.specs.declared.figures.Figures.{Figures}
 use Rattle.memcached_stats.specs.declared.figures.Wear.{Wear}
@@ -26,16 +26,17 @@ place_of_counter DecrMisses = 13
 place_of_counter Flushes = 14
 place_of_counter StoresTooLarge = 15
 place_of_counter StoresRefused = 16
-place_of_counter Expired = 17
-place_of_counter Flushed = 18
-place_of_counter Opened = 19
-place_of_counter Closed = 20
-place_of_counter Rejected = 21
-place_of_counter Lacked = 22
-place_of_counter Structures = 23
-place_of_counter Yields = 24
-place_of_counter Received = 25
-place_of_counter Sent = 26
+place_of_counter Items = 17
+place_of_counter Expired = 18
+place_of_counter Flushed = 19
+place_of_counter Opened = 20
+place_of_counter Closed = 21
+place_of_counter Rejected = 22
+place_of_counter Lacked = 23
+place_of_counter Structures = 24
+place_of_counter Yields = 25
+place_of_counter Received = 26
+place_of_counter Sent = 27
 
 abbrev pub count_in : Counts → Counter → ℕ
 count_in counts counter = min (unwrap_or (slice_get counts.numbers (place_of_counter counter)) 0) MOST_COUNT

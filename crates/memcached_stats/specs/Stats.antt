@@ -16,7 +16,7 @@ use Rattle.memcached_requests.specs.Replies.{said_text, stat_text}
 use Rattle.memcached_stats.specs.declared.figures.About.{About}
 use Rattle.memcached_stats.specs.declared.figures.Wear.{Wear}
 use Rattle.memcached_stats.specs.declared.counter.Counter.{Counter}
-use Rattle.memcached_stats.specs.declared.counter.Counter.TheVariants.{Sets, CasHits, CasMisses, CasBadval, GetHits, GetMisses, TouchHits, TouchMisses, DeleteHits, DeleteMisses, IncrHits, IncrMisses, DecrHits, DecrMisses, Flushes, StoresTooLarge, StoresRefused, Expired, Flushed, Opened, Closed, Rejected, Lacked, Structures, Yields, Received, Sent}
+use Rattle.memcached_stats.specs.declared.counter.Counter.TheVariants.{Sets, CasHits, CasMisses, CasBadval, GetHits, GetMisses, TouchHits, TouchMisses, DeleteHits, DeleteMisses, IncrHits, IncrMisses, DecrHits, DecrMisses, Flushes, StoresTooLarge, StoresRefused, Items, Expired, Flushed, Opened, Closed, Rejected, Lacked, Structures, Yields, Received, Sent}
 
 -- What was told: of the server; how often each counter was raised, and how often it had been when counts were told to begin anew; and of each partition.
 pub record Told : Type 0 where
@@ -111,9 +111,14 @@ command_stats counts =
     ∷ stat (codes "cas_badval") (counts CasBadval)
     ∷ stat (codes "touch_hits") (counts TouchHits)
     ∷ stat (codes "touch_misses") (counts TouchMisses)
+    ∷ stat (codes "total_items") (counts Items)
     ∷ stat (codes "store_too_large") (counts StoresTooLarge)
     ∷ stat (codes "store_no_memory") (counts StoresRefused)
     ∷ []
+
+-- a store drives nothing out
+abbrev pub eviction_stats : Bool → List Stat
+eviction_stats evicts = if evicts then [] else stat (codes "evictions") 0 ∷ []
 
 abbrev pub partition_stat : ℕ → List ℕ → ℕ → Stat
 partition_stat partition what number = stat (codes "partition:" ++ decimal partition ++ what) number
@@ -131,7 +136,7 @@ wear_text style first (suc more) wear = lines_of style (wear_stats first (wear f
 unfoldable pub server_text : Style → ℕ → Told → List ℕ
 server_text style partitions told =
     lines_of style (process_stats told.about) ++ lines_of style (connection_stats told) ++ lines_of style (command_stats (since told))
-    ++ wear_text style 0 (min partitions MOST_PARTITIONS) told.wear
+    ++ lines_of style (eviction_stats told.about.evicts) ++ wear_text style 0 (min partitions MOST_PARTITIONS) told.wear
 
 -- Other topics
 

@@ -1,6 +1,6 @@
 //! What a front counts.
 ghost use Rattle.std.specs.Prelude.{◌≡◌, option_copied};
-ghost use Rattle.memcached_stats.specs.Counted.{counter_by, counter_of, counter_of_store, counter_of_swap, counter_of_get, counter_of_touch, counter_of_lease, counter_of_count, counter_of_delete, counter_of_gone, counter_of_miss, counter_of_refusal, is_missed};
+ghost use Rattle.memcached_stats.specs.Counted.{counter_by, counter_of, counter_of_store, counter_of_swap, counter_of_get, counter_of_touch, counter_of_lease, counter_of_count, counter_of_delete, counter_beside, counter_of_gone, counter_of_stored, counter_of_refusal};
 
 use memcached_commands::{Ask, Moment, Says, is_there};
 use memcached_requests::{Next, Request};
@@ -29,6 +29,8 @@ pub enum Counter {
     StoresTooLarge,
     /// Those that found no room.
     StoresRefused,
+    /// Items that were stored.
+    Items,
     /// Keys that were looked for and not found, whose item was over by its own end.
     Expired,
     /// Those whose item was flushed.
@@ -52,7 +54,7 @@ pub enum Counter {
 }
 
 /// How many counters there are.
-pub const COUNTERS: usize = 27;
+pub const COUNTERS: usize = 28;
 
 // By a get.
 fn get_counter(says: &Says) -> Option<Counter>
@@ -158,17 +160,6 @@ pub fn counter_of(ask: &Ask, says: &Says) -> Option<Counter>
     }
 }
 
-// Whether a key was looked for, and not found.
-#[inline(always)]
-fn is_missed(says: &Says) -> bool
-    ensures { result ≡ is_missed says.now }
-{
-    matches!(
-        says,
-        Says::Nothing | Says::Line(Reply::NotFound) | Says::Line(Reply::NotStored)
-    )
-}
-
 // By an item that may not be there any more.
 fn gone_counter(at: &Moment, item: &Item) -> Option<Counter>
     ensures { result ≡ counter_of_gone at.now item.now }
@@ -183,15 +174,18 @@ fn gone_counter(at: &Moment, item: &Item) -> Option<Counter>
     })
 }
 
-/// Which counter is raised by what is stored of a key that was not found, if any.
+/// Which counter is raised beside that by what was said of a key, and by what is stored of one that was not found, if any.
 #[inline(always)]
-pub fn counter_of_miss(says: &Says, at: &Moment, stored: Option<&[u8]>) -> Option<Counter>
-    ensures { result ≡ counter_of_miss says.now at.now (option_copied stored.entry) }
+pub fn counter_beside(says: &Says, at: &Moment, stored: Option<&[u8]>) -> Option<Counter>
+    ensures { result ≡ counter_beside says.now (counter_of_stored at.now (option_copied stored.entry)) }
 {
-    if !is_missed(says) {
-        return None;
+    match says {
+        Says::Stores(_) | Says::Number { made: true, .. } => Some(Counter::Items),
+        Says::Nothing | Says::Line(Reply::NotFound) | Says::Line(Reply::NotStored) => {
+            gone_counter(at, &read_item(stored?))
+        }
+        _ => None,
     }
-    gone_counter(at, &read_item(stored?))
 }
 
 // By what is refused of a line or a frame.

@@ -16,7 +16,7 @@ mod topics;
 mod usage;
 
 pub use board::{Board, Server};
-pub use counter::{COUNTERS, Counter, counter_by, counter_of, counter_of_miss};
+pub use counter::{COUNTERS, Counter, counter_beside, counter_by, counter_of};
 pub use figures::{About, Counts, Figures, Wear};
 pub use tally::Tally;
 pub use usage::Usage;

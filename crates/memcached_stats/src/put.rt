@@ -7,7 +7,7 @@ ghost use Rattle.memcached_stats.specs.Stats.{reply_on, server_text, stats_text,
 
 use crate::figures::Figures;
 use crate::lines::{put_lines, put_wears, told_word};
-use crate::server::{command_lines, connection_lines, process_lines};
+use crate::server::{command_lines, connection_lines, eviction_lines, process_lines};
 use crate::topics::{settings_lines, slab_lines};
 use memcached_commands::Says;
 use memcached_requests::{Style, put_said};
@@ -33,6 +33,7 @@ fn put_server(
     put_lines(out, style, &process_lines(&figures.about))?;
     put_lines(out, style, &connection_lines(figures))?;
     put_lines(out, style, &command_lines(&figures.counts))?;
+    put_lines(out, style, eviction_lines(figures.about.evicts))?;
     put_wears(
         out,
         style,

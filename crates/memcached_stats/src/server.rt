@@ -3,11 +3,11 @@ ghost use Rattle.std.specs.Prelude.{◌≡◌, map};
 ghost use Rattle.std.specs.List.{All};
 ghost use Rattle.memcached_stats.specs.Figures.{since_in, told_of};
 ghost use Rattle.memcached_stats.specs.Lines.{IsShort, stat_in};
-ghost use Rattle.memcached_stats.specs.Stats.{command_stats, connection_stats, process_stats};
+ghost use Rattle.memcached_stats.specs.Stats.{command_stats, connection_stats, eviction_stats, process_stats};
 
 use crate::counter::Counter;
 use crate::figures::{About, Counts, Figures};
-use crate::lines::{Line, told, told_seconds, told_word};
+use crate::lines::{Line, Value, told, told_seconds, told_word};
 use memcached_requests::version_name;
 
 /// Of the process.
@@ -57,7 +57,7 @@ pub(crate) fn connection_lines(figures: &Figures) -> [Line; 12]
 }
 
 /// Of commands.
-pub(crate) fn command_lines(counts: &Counts) -> [Line; 21]
+pub(crate) fn command_lines(counts: &Counts) -> [Line; 22]
     ensures are { map stat_in result ≡ command_stats (since_in counts.now) }
     ensures short { All IsShort result }
 {
@@ -95,7 +95,21 @@ pub(crate) fn command_lines(counts: &Counts) -> [Line; 21]
         told(b"cas_badval", others),
         told(b"touch_hits", touched),
         told(b"touch_misses", untouched),
+        told(b"total_items", counts.since(Counter::Items)),
         told(b"store_too_large", counts.since(Counter::StoresTooLarge)),
         told(b"store_no_memory", counts.since(Counter::StoresRefused)),
     ]
+}
+
+static NO_EVICTIONS: [Line; 1] = [Line {
+    name: b"evictions",
+    value: Value::Number(0),
+}];
+
+/// Of items that were driven out.
+pub(crate) fn eviction_lines(evicts: bool) -> &'static [Line]
+    ensures are { map stat_in result.now ≡ eviction_stats evicts }
+    ensures short { All IsShort result.now }
+{
+    if evicts { &[] } else { NO_EVICTIONS.as_slice() }
 }
