@@ -76,8 +76,25 @@ fn reply_on(topic: Topic) -> Reply
     }
 }
 
-/// Appends what is due to a client that asks this. When out of memory, nothing is appended.
+// Appends what is due to a client that asks this. When out of memory, some of it may be appended.
 #[tactic(auto, unfolding(crate::specs::Stats::stats_text))]
+fn put_all(
+    out: &mut Vec<u8>,
+    style: &Style,
+    partitions: u32,
+    topic: Topic,
+    figures: &Figures,
+) -> Result<(), NoMemory>
+    ensures ok { OnOk result (out.new.items ≡ out.old.items ++ stats_text style.now partitions topic (told_of figures.now)) }
+    ensures short { OnOk result (length out.new.items ≤ length out.old.items + MAX_REPLY_LEN) }
+    ensures more { (text : List ℕ) × (out.new.items ≡ out.old.items ++ text) }
+{
+    put_topic(out, style, partitions, topic, figures)?;
+    put_said(out, style, true, b"", &Says::Line(reply_on(topic)))?;
+    Ok(())
+}
+
+/// The same. When out of memory, nothing is appended.
 pub fn put_stats(
     out: &mut Vec<u8>,
     style: &Style,
@@ -90,13 +107,9 @@ pub fn put_stats(
     ensures err { OnErr result (out.new.items ≡ out.old.items) }
 {
     let start = out.len();
-    let Ok(()) = put_topic(out, style, partitions, topic, figures) else {
+    let put = put_all(out, style, partitions, topic, figures);
+    if put.is_err() {
         out.truncate(start);
-        return Err(NoMemory);
-    };
-    let Ok(()) = put_said(out, style, true, b"", &Says::Line(reply_on(topic))) else {
-        out.truncate(start);
-        return Err(NoMemory);
-    };
-    Ok(())
+    }
+    put
 }
