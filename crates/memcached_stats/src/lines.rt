@@ -69,12 +69,7 @@ pub(crate) fn told_word(name: &'static [u8], text: &'static [u8]) -> Line
 }
 
 // Appends a name and its number. When out of memory, nothing is appended.
-fn put_number(
-    out: &mut Vec<u8>,
-    style: &Style,
-    name: &[u8],
-    number: u64,
-) -> Result<(), NoMemory>
+fn put_number(out: &mut Vec<u8>, style: &Style, name: &[u8], number: u64) -> Result<(), NoMemory>
     requires name { length name.now ≤ MOST_NAME }
     ensures ok { OnOk result (out.new.items ≡ out.old.items ++ line_of style.now (stat name.now number)) }
     ensures short { OnOk result (length out.new.items ≤ length out.old.items + most_len (stat name.now number)) }

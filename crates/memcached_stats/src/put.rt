@@ -54,9 +54,7 @@ fn put_topic(
     ensures short { OnOk result (length out.new.items ≤ length out.old.items + MOST_TEXT) }
     ensures more { (text : List ℕ) × (out.new.items ≡ out.old.items ++ text) }
 {
-    let Figures {
-        about, counts, ..
-    } = figures;
+    let Figures { about, counts, .. } = figures;
     match topic {
         Topic::Server => put_server(out, style, partitions, figures),
         Topic::Settings => put_lines(out, style, &settings_lines(about)),

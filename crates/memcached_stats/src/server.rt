@@ -34,9 +34,7 @@ pub(crate) fn connection_lines(figures: &Figures) -> [Line; 12]
     ensures are { map stat_in result ≡ connection_stats (told_of figures.now) }
     ensures short { All IsShort result }
 {
-    let Figures {
-        about, counts, ..
-    } = figures;
+    let Figures { about, counts, .. } = figures;
     let open = counts
         .of(Counter::Opened)
         .saturating_sub(counts.of(Counter::Closed));
