@@ -7,6 +7,7 @@ use mica_words::{key_hash, partition_of};
 use outside::NoMemory;
 use partition_model::{MOST_PARTITIONS, Options, Write};
 use server_words::PortOptions;
+use std::sync::Wait;
 
 // How many writes fill each partition.
 fn tally_of(partitions: u32, filling: &[Write]) -> Tally {
@@ -22,15 +23,15 @@ fn tally_of(partitions: u32, filling: &[Write]) -> Tally {
     tally
 }
 
-/// Where the fronts of connections show what they count, and one place behind theirs, which shows what fills the partitions.
-pub(crate) fn board_of<W, G>(
-    process: &Process<W, G>,
+/// Where the fronts of connections show what they count, which all may see from now on; and one place behind theirs, which shows what fills the partitions.
+pub(crate) fn board_of<'a, W: Wait, G>(
+    process: &Process<'a, W, G>,
     start: Start,
     options: &Options,
     ports: &PortOptions,
     streams: &StreamOptions,
     filling: &[Write],
-) -> Result<Board, NoMemory> {
+) -> Result<&'a Board, NoMemory> {
     let fronts = streams.ports.fronts;
     let server = Server {
         pid: u64::from(process.pid),
@@ -40,5 +41,8 @@ pub(crate) fn board_of<W, G>(
     };
     let board = Board::new(process.alloc, server, options, fronts.saturating_add(1))?;
     board.show(fronts, &mut tally_of(options.partitions, filling));
-    Ok(board)
+    match process.board.set(process.rt, board) {
+        Ok(token) => Ok(process.board.value(&token)),
+        Err(_) => Err(NoMemory),
+    }
 }

@@ -3,7 +3,7 @@ ghost use Rattle.std.specs.Prelude.{◌≡◌, ◌≤◌, ◌+◌, ◌++◌, len
 ghost use Rattle.memcached_text.specs.declared.limits.TheConstants.{MAX_REPLY_LEN};
 ghost use Rattle.memcached_stats.specs.Stats.{Told, stats_text};
 
-use crate::counter::COUNTERS;
+use crate::counter::{COUNTERS, Counter};
 use crate::figures::{About, Counts, Wear};
 use crate::lines::put_stats;
 use crate::tally::{MOST_NUMBERS, Tally, place_of_partition};
@@ -125,6 +125,11 @@ impl Board {
             }
         }
         Counts { numbers }
+    }
+
+    /// How often this was counted, added up over those that count.
+    pub fn count(&self, counter: Counter) -> u64 {
+        self.counts().of(counter)
     }
 
     // What a partition bears, by how many writes it accepted and its stamp. In cache mode its log also comes to an end, and a write takes no more of it than the largest item.

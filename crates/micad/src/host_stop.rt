@@ -1,7 +1,11 @@
-//! The end that a signal asks for.
+//! The end that a signal asks for, and what is told until then.
 
+use crate::host::Flags;
 use crate::host_files::HostFiles;
+use crate::host_journal::Journal;
 use daemon::stop_signals;
+use host_outside::StdClock;
+use outside::Clock;
 use std::alloc::Global;
 use std::rt::Files;
 use std::sync::Wait;
@@ -9,7 +13,7 @@ use std::sync::atomic::{AtomicBool, Ordering};
 use std::thread::sleep;
 use std::time::{self, Duration};
 
-/// How long it is from one look to the next.
+/// How long it is from one look to the next at most.
 const LOOK_MILLIS: u64 = 100;
 
 /// Says so where INT and TERM are not blocked: then they end the process at once, and nobody sees them come.
@@ -25,24 +29,34 @@ pub fn say_unseen<R: Eprint + Files>(rt: &R, alloc: Global) {
     }
 }
 
-/// Looks again and again whether INT or TERM waits, and tells by `stopping` that one does; until the server has ended.
-pub fn watch<R: Files + Wait + time::Clock>(
-    rt: &R,
-    alloc: Global,
-    stopping: &AtomicBool,
-    ended: &AtomicBool,
-) {
+// Whether a signal that asks for the end may still come and be seen, and tells by `stopping` that one has come.
+fn looks_on<R: Files>(system: &HostFiles<'_, R>, alloc: Global, stopping: &AtomicBool) -> bool {
+    match stop_signals(alloc, system) {
+        Some(signals) if signals.are_blocked => {
+            if signals.one_waits {
+                stopping.store(true, Ordering::Relaxed);
+            }
+            !signals.one_waits
+        }
+        _ => false,
+    }
+}
+
+/// Looks again and again whether INT or TERM waits, and tells by `flags.stopping` that one does; and tells what goes wrong meanwhile. It ends soon after the server has ended: at first it looks
+/// often, since words that are refused end at once.
+pub fn watch<R: Eprint + Files + Wait + time::Clock>(rt: &R, alloc: Global, flags: &Flags) {
     let system = HostFiles::new(rt);
+    let mut clock = StdClock::new(rt);
+    let mut journal = Journal::new(&flags.board, &flags.doors);
+    let mut sees = true;
+    let mut pause = 1;
     for _ in rt.forever() {
-        let Some(signals) = stop_signals(alloc, &system) else {
-            return;
-        };
-        if signals.are_blocked && signals.one_waits {
-            stopping.store(true, Ordering::Relaxed);
-        }
-        if !signals.are_blocked || signals.one_waits || ended.load(Ordering::Relaxed) {
+        sees = sees && looks_on(&system, alloc, &flags.stopping);
+        journal.tell(rt, alloc, clock.second());
+        if flags.over.load(Ordering::Relaxed) {
             return;
         }
-        sleep(rt, Duration::from_millis(LOOK_MILLIS));
+        sleep(rt, Duration::from_millis(pause));
+        pause = (pause * 2).min(LOOK_MILLIS);
     }
 }
