@@ -49,7 +49,7 @@ pub fn watch<R: Eprint + Files + Wait + time::Clock>(rt: &R, alloc: Global, flag
     let mut clock = StdClock::new(rt);
     let mut journal = Journal::new(&flags.board, &flags.doors);
     let mut sees = true;
-    let mut pause = 1;
+    let mut pause = 1u64;
     for _ in rt.forever() {
         sees = sees && looks_on(&system, alloc, &flags.stopping);
         journal.tell(rt, alloc, clock.second());
@@ -57,6 +57,6 @@ pub fn watch<R: Eprint + Files + Wait + time::Clock>(rt: &R, alloc: Global, flag
             return;
         }
         sleep(rt, Duration::from_millis(pause));
-        pause = (pause * 2).min(LOOK_MILLIS);
+        pause = pause.saturating_mul(2).min(LOOK_MILLIS);
     }
 }
