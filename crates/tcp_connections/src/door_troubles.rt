@@ -39,13 +39,13 @@ impl DoorTroubles {
     }
 
     pub(crate) fn count_turned_away(&self) {
-        self.turned_away.fetch_add(1, Ordering::Relaxed);
+        self.turned_away.fetch_add(1, Ordering::SeqCst);
     }
 
     pub(crate) fn count_refusal(&self, error: &io::Error) {
         let number = error.raw_os_error().unwrap_or(0);
         self.last_error
             .store(u64::from(number.unsigned_abs()), Ordering::Relaxed);
-        self.refusals.fetch_add(1, Ordering::Relaxed);
+        self.refusals.fetch_add(1, Ordering::SeqCst);
     }
 }
