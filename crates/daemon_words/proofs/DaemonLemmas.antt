@@ -1,6 +1,11 @@
 -- What the words of a server that stays up give is possible.
-use Rattle.std.proofs.Common.{◌≡◌, ℕ, List, Option, Some, None, Err, sym, ◌∙◌, Bool, true, false, ◌&&◌, is_none, is_some, option_map, unwrap_or, ap, refl, subst, if◌then◌else◌, arith}
+use Rattle.std.proofs.Common.{◌≡◌, ℕ, ◌<◌, ◌==◌, List, length, take, drop, Option, Some, None, Err, sym, ◌∙◌, Bool, true, false, ◌&&◌, is_none, is_some, option_map, unwrap_or, ap, refl, subst, if◌then◌else◌, arith}
 use Rattle.std.proofs.lemmas.Option.{none-some}
+use Rattle.mica_words.specs.declared.hashing.Hashing.{Hashing}
+use Rattle.mica_words.specs.declared.hashing.Hashing.TheVariants.{SipHash}
+use Rattle.mica_words.specs.Mark.{has_marks}
+use Rattle.daemon_words.specs.declared.host.Host.{Host}
+use Rattle.daemon_words.specs.Secret.{secret_of, number_from, hashing_by, secret_name}
 use Rattle.partition_model.specs.declared.options.TheConstants.{MOST_PARTITIONS, MOST_SPARES, MOST_WORDS, MOST_WEAR}
 use Rattle.partition_model.specs.declared.options.Options.{Options}
 use Rattle.partition_model.specs.declared.options.Mode.{Mode}
@@ -17,17 +22,17 @@ use Rattle.option_words.specs.declared.words_fault.WordsFault.TheVariants.{Usage
 use Rattle.option_words.specs.Words.{Text, given_by, text_of}
 use Rattle.option_words.specs.Settings.{mode, tries, port, value_of, ◌>>=◌}
 use Rattle.daemon_words.specs.Memory.{memory_of, memory_name}
-use Rattle.daemon_words.specs.StreamWords.{threads_name, threads_for, threads, listen, connections, idle, item_size, memory_among, buffers, port_given, socket_given, no_streams, gives_streams, some_streams, streams_by, streams_given}
-use Rattle.daemon_words.specs.DaemonWords.{Service, partitions, buckets, spares, words, wear, sizes_by_words, sizes_by, sizes_given, mode_given, service_options, image_name, fronts, lasting_ports, no_ports, ports_by, ports_given, may_fill, daemon_names, daemon_given, daemon_of, gives_size, ArePossibleFronts, IsDaemonReading, memory_given}
+use Rattle.daemon_words.specs.StreamWords.{threads_name, threads_for, threads, listen, connections, idle, item_size, memory_among, buffers, port_given, socket_given, has_streams, no_streams, gives_streams, some_streams, streams_by, streams_given}
+use Rattle.daemon_words.specs.DaemonWords.{Service, partitions, buckets, spares, words, wear, sizes_by_words, sizes_by, sizes_given, mode_given, service_options, image_name, fronts, lasting_ports, no_ports, ports_by, ports_given, may_fill, daemon_names, daemon_given, daemon_of, gives_size, ArePossibleFronts, HaveMarks, IsDaemonReading, memory_given}
 use Rattle.option_words.proofs.ValueLemmas.{both_told, value_bounds, power_value, one_kilo, required_bounds}
 use Rattle.daemon_words.proofs.MemoryLemmas.{amounts_within}
 
 -- options that are possible but for their sizes
-abbrev base : Mode → ℕ → ℕ → Options
-base mode tries wear = record { mode = mode; partitions = 1; buckets = 1; spares = 0; words = 256; readers = 1; tries = tries; wear = wear }
+abbrev base : Mode → ℕ → ℕ → Hashing → Options
+base mode tries wear hashing = record { mode = mode; partitions = 1; buckets = 1; spares = 0; words = 256; readers = 1; tries = tries; wear = wear; hashing = hashing }
 
-base_possible : (mode : Mode) (tries wear : ℕ) → InRange 1 1000 tries → InRange 1 MOST_WEAR wear → IsPossible (base mode tries wear)
-base_possible mode tries wear t w = record {
+base_possible : (mode : Mode) (tries wear : ℕ) (hashing : Hashing) → InRange 1 1000 tries → InRange 1 MOST_WEAR wear → IsPossible (base mode tries wear hashing)
+base_possible mode tries wear hashing t w = record {
   partitions = (omega arith, omega arith);
   buckets = (0, omega arith, refl);
   spares = (omega arith, omega arith);
@@ -81,15 +86,48 @@ by_either : (given : Text → Option Text) (memory : Option Text) (sizes : Sizes
 by_either given None sizes options is rest = by_default given sizes options (gives_size given) is rest
 by_either given (Some text) sizes options is rest = by_memory given text sizes options (gives_size given) is rest
 
-service_possible : (given : Text → Option Text) (options : Options) → service_options given ≡ Some options → IsPossible options
-service_possible given options is =
+service_possible : (host : Host) (given : Text → Option Text) (options : Options) → service_options host given ≡ Some options → IsPossible options
+service_possible host given options is =
     let m = both_told (mode_given given) _ options is in
     let z = both_told (sizes_given m.0 given) _ options m.2 in
     let t = both_told (value_of tries given) _ options z.2 in
     let e = both_told (value_of wear given) _ options t.2 in
-    subst IsPossible (same_options _ options e.2) (by_either given (given memory_name) z.0 (base m.0 t.0 e.0) z.1 (base_possible m.0 t.0 e.0
+    let h = both_told (hashing_by host (has_streams given) (given secret_name)) _ options e.2 in
+    subst IsPossible (same_options _ options h.2) (by_either given (given memory_name) z.0 (base m.0 t.0 e.0 h.0) z.1 (base_possible m.0 t.0 e.0 h.0
     (value_bounds tries.name 1 1000 100 (given tries.name) t.0 (omega arith, omega arith) t.1)
     (value_bounds wear.name 1 MOST_WEAR MOST_WEAR (given wear.name) e.0 (omega arith, omega arith) e.1)))
+
+-- keys of connections are hashed with marks
+
+secret_marks : (text : Text) (hashing : Hashing) → secret_of text ≡ Some hashing → has_marks hashing ≡ true
+secret_marks text hashing is = by (length text == 32) is
+  where
+    by : (long : Bool) → (if long then (number_from 0 (take 16 text) >>= λ k0. number_from 0 (drop 16 text) >>= λ k1. Some (SipHash k0 k1)) else None) ≡ Some hashing
+        → has_marks hashing ≡ true
+    by true told =
+        let a = both_told (number_from 0 (take 16 text)) _ hashing told in
+        let b = both_told (number_from 0 (drop 16 text)) _ hashing a.2 in
+        ap (λ o. has_marks (unwrap_or o hashing)) (sym b.2)
+    by false none = absurd (none-some hashing none)
+
+given_marks : (host : Host) (streams : Bool) (text : Option Text) (hashing : Hashing) → hashing_by host streams text ≡ Some hashing → streams ≡ true → has_marks hashing ≡ true
+given_marks host true None hashing is some = ap (λ o. has_marks (unwrap_or o hashing)) (sym is)
+given_marks host true (Some text) hashing is some = secret_marks text hashing is
+given_marks host false text hashing is none = absurd (cc)
+
+service_marks : (host : Host) (given : Text → Option Text) (options : Options) → service_options host given ≡ Some options → has_streams given ≡ true → has_marks options.hashing ≡ true
+service_marks host given options is some =
+    let m = both_told (mode_given given) _ options is in
+    let z = both_told (sizes_given m.0 given) _ options m.2 in
+    let t = both_told (value_of tries given) _ options z.2 in
+    let e = both_told (value_of wear given) _ options t.2 in
+    let h = both_told (hashing_by host (has_streams given) (given secret_name)) _ options e.2 in
+    subst (λ (o : Options). has_marks o.hashing ≡ true) (same_options _ options h.2) (given_marks host (has_streams given) (given secret_name) h.0 h.1 some)
+
+some_fronts : (processors : ℕ) (given : Text → Option Text) (some : Bool) (streams : StreamOptions) → streams_by processors given some ≡ Some streams → 0 < streams.ports.fronts → some ≡ true
+some_fronts processors given true streams is more = refl
+some_fronts processors given false streams is more =
+    absurd (omega (arith, more, ap (λ (s : StreamOptions). s.ports.fronts) (unless_given (gives_streams given) no_streams streams is)))
 
 -- ports of datagrams that may be given
 lasting_valid : (given : Text → Option Text) (ports : PortOptions) → lasting_ports given ≡ Some ports → ArePossibleFronts ports no_streams.ports
@@ -141,18 +179,21 @@ ports_valid processors given None ports streams p s =
 ports_valid processors given (Some text) ports streams p s =
     subst (λ (o : StreamOptions). ArePossibleFronts ports o.ports) (unless_given (gives_streams given) no_streams streams s) (lasting_valid given ports p)
 
-pub service_valid : (host : Host) (given : Text → Option Text) (service : Service) → daemon_given host given ≡ Some service → IsPossible service.options × ArePossibleFronts service.ports service.streams.ports
+pub service_valid : (host : Host) (given : Text → Option Text) (service : Service) → daemon_given host given ≡ Some service
+    → IsPossible service.options × ArePossibleFronts service.ports service.streams.ports × HaveMarks service.options service.streams.ports
 service_valid host given service is =
-    let o = both_told (service_options given) _ service is in
+    let o = both_told (service_options host given) _ service is in
     let p = both_told (ports_given given) _ service o.2 in
-    let s = both_told (streams_given processors given) _ service p.2 in
+    let s = both_told (streams_given host.processors given) _ service p.2 in
     let made : Service = record { options = o.0; memory = memory_given given; ports = p.0; streams = s.0; image = given image_name } in
-    told made (may_fill o.0.mode (given image_name)) (service_possible given o.0 o.1) (ports_valid processors given (given port.name) p.0 s.0 p.1 s.1) s.2
+    told made (may_fill o.0.mode (given image_name)) (service_possible host given o.0 o.1) (ports_valid host.processors given (given port.name) p.0 s.0 p.1 s.1)
+    (λ more. service_marks host given o.0 o.1 (some_fronts host.processors given (has_streams given) s.0 s.1 more)) s.2
   where
-    told : (made : Service) (fills : Bool) → IsPossible made.options → ArePossibleFronts made.ports made.streams.ports
-        → (if fills then Some made else None) ≡ Some service → IsPossible service.options × ArePossibleFronts service.ports service.streams.ports
-    told made true o p same = subst (λ (s : Service). IsPossible s.options × ArePossibleFronts s.ports s.streams.ports) (ap (λ s. unwrap_or s made) same) (o, p)
-    told made false o p none = absurd (none-some service none)
+    told : (made : Service) (fills : Bool) → IsPossible made.options → ArePossibleFronts made.ports made.streams.ports → HaveMarks made.options made.streams.ports
+        → (if fills then Some made else None) ≡ Some service → IsPossible service.options × ArePossibleFronts service.ports service.streams.ports × HaveMarks service.options service.streams.ports
+    told made true o p m same =
+        subst (λ (s : Service). IsPossible s.options × ArePossibleFronts s.ports s.streams.ports × HaveMarks s.options s.streams.ports) (ap (λ s. unwrap_or s made) same) (o, p, m)
+    told made false o p m none = absurd (none-some service none)
 
 -- words that give nothing to the options give no such server
 pub daemon_none : (host : Host) (known : List Text) → known ≡ daemon_names → (words : List Text) (fault : WordsFault) → (fault ≡ Usage → given_by known words ≡ None)

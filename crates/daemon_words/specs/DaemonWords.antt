@@ -1,5 +1,6 @@
 -- The words of a server that stays up: its partitions, by their sizes or by how much memory they may take, its ports, and an image.
-use Rattle.std.specs.Prelude.{◌≡◌, ⊤, ℕ, ◌+◌, Bool, ◌||◌, ◌&&◌, true, List, ◌∷◌, Option, Some, None, is_none, is_some, option_map, codes, Result, Ok, Err, if◌then◌else◌}
+use Rattle.std.specs.Prelude.{◌≡◌, ⊤, ℕ, ◌+◌, ◌<◌, Bool, ◌||◌, ◌&&◌, true, List, ◌∷◌, Option, Some, None, is_none, is_some, option_map, codes, Result, Ok, Err, if◌then◌else◌}
+use Rattle.mica_words.specs.Mark.{has_marks}
 use Rattle.partition_model.specs.declared.options.Options.{Options}
 use Rattle.partition_model.specs.declared.options.Mode.{Mode}
 use Rattle.partition_model.specs.declared.options.Mode.TheVariants.{Cache, Store}
@@ -155,8 +156,12 @@ pub record ArePossibleFronts (ports : PortOptions) (streams : StreamPorts) : Typ
   pub batches : InRange 1 MAX_BATCHES ports.batches
   pub all : InRange 1 MOST_FRONTS (ports.fronts + streams.fronts)
 
+-- keys of connections are hashed with marks, by which flushes go
+abbrev pub HaveMarks : Options → StreamPorts → Type 0
+HaveMarks options streams = 0 < streams.fronts → has_marks options.hashing ≡ true
+
 -- what is read of words that give this, or nothing: out of memory may come with any
 abbrev pub IsDaemonReading : Option Service → Result DaemonOptions WordsFault → Type 0
-IsDaemonReading given (Ok read) = (given ≡ Some (service_of read)) × IsPossible read.options × ArePossibleFronts read.ports read.streams.ports
+IsDaemonReading given (Ok read) = (given ≡ Some (service_of read)) × IsPossible read.options × ArePossibleFronts read.ports read.streams.ports × HaveMarks read.options read.streams.ports
 IsDaemonReading given (Err Usage) = given ≡ None
 IsDaemonReading given (Err NoMemory) = ⊤

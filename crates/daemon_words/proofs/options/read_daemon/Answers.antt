@@ -19,6 +19,7 @@ returns-in-Some c =
       read_given _ daemon_names (ap (map (λ o. o.now)) c.as_slice.ensures) (daemon_given c.args.host) (map string_bytes c.args.words.now) texts c.in_ok-found.ensures.given ∙ is,
       valid.0,
       valid.1,
+      valid.2,
     )
 
 pub returns : goal.returns
