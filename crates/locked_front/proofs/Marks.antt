@@ -1,8 +1,13 @@
 -- Marks of flushes.
-use Rattle.std.proofs.Common.{◌≡◌, ◌<◌, ◌^◌, ℕ, false, List, [], ◌∷◌, ◌++◌, length, drop, nat_lt, refl, ap, ◌∙◌, arith}
+use Rattle.std.proofs.Common.{◌≡◌, ◌<◌, ◌^◌, ℕ, true, false, List, [], ◌∷◌, ◌++◌, length, drop, nat_lt, slice_index, refl, sym, ap, subst, ◌∙◌, arith}
 use Rattle.std.specs.Int.{w64, to_le_bytes, from_le_bytes}
 use Rattle.std.proofs.lemmas.Bool.{le-ltb}
 use Rattle.std.proofs.lemmas.Nat.{from_le_bytes-to_le_bytes_8}
+use Rattle.mica_words.specs.Hash.{partition_of, bucket_of}
+use Rattle.mica_words.specs.Mark.{has_marks, is_mark}
+use Rattle.mica_words.proofs.Marks.{marks_lie}
+use Rattle.partition_model.specs.declared.options.Options.{Options}
+use Rattle.partition_model.specs.Options.{IsPossible}
 use Rattle.fronts.specs.declared.flushes.TheConstants.{FLUSH_LEN}
 use Rattle.fronts.specs.Flushes.{flush_in}
 
@@ -25,3 +30,11 @@ module _ (none first with_due with_both key rest : List ℕ) (partition due aske
 
   pub made_says : due < 2 ^ 64 → asked < 2 ^ 64 → flush_in key ≡ record { due = due; asked = asked }
   made_says due_low asked_low = ap flush_in made ∙ mark_says partition due asked rest due_low asked_low
+
+-- where one lies
+pub lies_there : (options : Options) → IsPossible options → (key : List ℕ) (partition : ℕ) → has_marks options.hashing ≡ true → is_mark key ≡ true → slice_index key 0 ≡ partition
+    → partition < options.partitions → (partition_of options.hashing key options.partitions ≡ partition) × (bucket_of options.hashing key options.buckets ≡ 0)
+lies_there options valid key partition has is first low =
+    let few = valid.buckets.1 in
+    let lie = marks_lie options.hashing key options.partitions valid.buckets.0 has is (subst (λ (n : ℕ). n < options.partitions) (sym first) low) (omega arith) in
+    (lie.0 ∙ first, ap (bucket_of options.hashing key) valid.buckets.2 ∙ lie.1)

@@ -7,6 +7,9 @@ use fronts::{FLUSH_LEN, Flush};
 use mica_words::MAX_KEY_LEN;
 use partition_model::ItemBuf;
 
+/// What stands behind what a mark says.
+const ZEROS: usize = MAX_KEY_LEN - FLUSH_LEN;
+
 /// Makes the mark of a flush: its first byte is the partition, then come the two seconds, and zeros.
 pub(crate) fn make_mark(partition: u32, flush: Flush, key: &mut ItemBuf)
     requires { partition < 256 }
@@ -18,5 +21,5 @@ pub(crate) fn make_mark(partition: u32, flush: Flush, key: &mut ItemBuf)
     key.extend(&[partition as u8]);
     key.push_word(flush.due);
     key.push_word(flush.asked);
-    key.extend(&[0; MAX_KEY_LEN - FLUSH_LEN]);
+    key.extend(&[0; ZEROS]);
 }
