@@ -54,6 +54,12 @@ impl Owned {
         })
     }
 
+    fn hashing(&self) -> Hashing
+        ensures { result ≡ self.now.options.hashing }
+    {
+        self.options.hashing
+    }
+
     fn write(&mut self, op: Op, key: &[u8], value: &[u8]) -> (Outcome, u64)
         requires key { KeyFits key.now }
         requires value { HasValueOf op value.now }
@@ -117,7 +123,7 @@ impl Front for SoloFront {
     ghost is_alone = { true };
 
     fn hashing(&self) -> Hashing {
-        self.options.hashing
+        self.owned.hashing()
     }
 
     fn loads_ahead(&self) -> bool {
