@@ -22,7 +22,7 @@ pub fn found_by(
     match kind {
         "" => Ok(()),
         "functions" => functions(alloc, text_of(given), into),
-        "hash" => hash(alloc, given, into),
+        "hash" => hash(alloc, words, given, into),
         "packed" => packed(alloc, given, into),
         "sizes" => sizes(alloc, text_of(given), into),
         "start" => start(alloc, words, into),

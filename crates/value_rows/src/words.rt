@@ -2,9 +2,9 @@
 
 use crate::text::{first_word, number, say};
 use mica_words::{
-    MAX_KEY_LEN, MAX_STORED_LEN, bucket_of, entry_of, entry_offset, entry_tag, header_key_len,
-    header_of, header_room, header_value_len, item_size, key_fits, key_hash, pack, partition_of,
-    tag_of, tail_of, unpack, value_fits,
+    Hashing, MAX_KEY_LEN, MAX_STORED_LEN, bucket_of, entry_of, entry_offset, entry_tag,
+    header_key_len, header_of, header_room, header_value_len, item_size, key_fits, pack,
+    partition_of, tag_of, tail_of, unpack, value_fits,
 };
 use outside::NoMemory;
 use partition_model::{has_room, keeps};
@@ -129,9 +129,21 @@ pub fn functions(alloc: Global, lines: &str, into: &mut Vec<u8>) -> Result<(), N
     Ok(())
 }
 
+// How keys are hashed: under the secret whose two words are named, or by FNV-1a where none is.
+fn hashing_of(words: &str) -> Option<Hashing> {
+    if words.is_empty() {
+        return Some(Hashing::Fnv1a);
+    }
+    let (first, last) = first_word(words);
+    Some(Hashing::SipHash(number(first)?, number(last)?))
+}
+
 /// The hash of a key, and its partition, bucket and tag where there are 16 of each of the first two.
-pub fn hash(alloc: Global, key: &[u8], into: &mut Vec<u8>) -> Result<(), NoMemory> {
-    let hash = key_hash(key);
+pub fn hash(alloc: Global, words: &str, key: &[u8], into: &mut Vec<u8>) -> Result<(), NoMemory> {
+    let Some(hashing) = hashing_of(words) else {
+        return say(into, "no such secret\n");
+    };
+    let hash = hashing.key_hash(key);
     let (partition, bucket, tag) = (partition_of(hash, 16), bucket_of(hash, 16), tag_of(hash));
     say(
         into,
