@@ -124,6 +124,7 @@ impl<'a> Board<'a> {
 
     // At this second.
     fn about(&self, second: u64) -> About {
+        let words = u64::from(self.options.partitions) * u64::from(self.options.words);
         About {
             pid: self.server.pid,
             uptime: second.saturating_sub(self.server.since),
@@ -133,7 +134,7 @@ impl<'a> Board<'a> {
             threads: u64::from(self.server.fronts),
             limit_maxbytes: self.server.memory,
             hash_bytes: self.server.hash_bytes,
-            malloced: 8 * (u64::from(self.options.partitions) * u64::from(self.options.words)),
+            malloced: words.saturating_mul(8),
             max_connections: self.server.connections,
             port: self.server.port,
             idle_timeout: self.server.idle,
