@@ -21,13 +21,13 @@ pub struct Buffers<'a> {
     /// What the front has counted.
     pub tally: Tally,
     /// Where it shows that, in the place of this number.
-    pub board: &'a Board<'a>,
+    pub board: &'a Board,
     pub place: u32,
 }
 
 impl<'a> Buffers<'a> {
     /// Empty buffers, with the place on the board at which their front counts.
-    pub fn new(alloc: Global, board: &'a Board<'a>, place: u32) -> Result<Buffers<'a>, NoMemory> {
+    pub fn new(alloc: Global, board: &'a Board, place: u32) -> Result<Buffers<'a>, NoMemory> {
         Ok(Buffers {
             found: ItemBuf::new(alloc)?,
             next: ItemBuf::new(alloc)?,

@@ -25,7 +25,7 @@ pub struct Desk<'a> {
 
 impl<'a> Desk<'a> {
     /// That of a front which shows what it counts in this place of the board.
-    pub fn new(alloc: Global, board: &'a Board<'a>, place: u32) -> Result<Desk<'a>, NoMemory>
+    pub fn new(alloc: Global, board: &'a Board, place: u32) -> Result<Desk<'a>, NoMemory>
         ensures { IfOk result (λ desk. vec_len desk.room ≡ ROOM_LEN) }
     {
         Ok(Desk {

@@ -9,6 +9,7 @@ use mica_words::{key_hash, partition_of};
 use outside::NoMemory;
 use partition_model::{MOST_PARTITIONS, Options, Write};
 use partition_sizes::{bytes_of, start_bytes};
+use std::sync::Wait;
 
 // How many writes fill each partition.
 fn tally_of(partitions: u32, filling: &[Write]) -> Tally {
@@ -40,13 +41,13 @@ fn index_bytes(options: &Options) -> u64
         .saturating_sub(item_bytes(options))
 }
 
-/// Where the fronts of connections show what they count, and one place behind theirs, which shows what fills the partitions.
-pub(crate) fn board_of<'a, W, G>(
+/// Where the fronts of connections show what they count, which all may see from now on; and one place behind theirs, which shows what fills the partitions.
+pub(crate) fn board_of<'a, W: Wait, G>(
     process: &Process<'a, W, G>,
     start: Start,
     read: &DaemonOptions,
     filling: &[Write],
-) -> Result<Board<'a>, NoMemory>
+) -> Result<&'a Board, NoMemory>
     requires { read.now.options.partitions ≤ MOST_PARTITIONS }
 {
     let DaemonOptions {
@@ -70,10 +71,12 @@ pub(crate) fn board_of<'a, W, G>(
     let board = Board::new(
         process.alloc,
         server,
-        process.usage,
         options,
         fronts.saturating_add(1),
     )?;
     board.show(fronts, &mut tally_of(options.partitions, filling));
-    Ok(board)
+    match process.board.set(process.rt, board) {
+        Ok(token) => Ok(process.board.value(&token)),
+        Err(_) => Err(NoMemory),
+    }
 }

@@ -13,6 +13,7 @@ mod board;
 mod files;
 mod filling;
 mod free_memory;
+mod journal;
 mod laws;
 mod memory_files;
 mod output;
@@ -29,8 +30,8 @@ mod top;
 
 pub use files::Files;
 pub use free_memory::{SystemFiles, free_by};
+pub use journal::{Told, Trouble, trouble_text};
 pub use laws::{headline, headline_at_fault, headline_at_stop};
-pub use memcached_stats::Usage;
 pub use memory_files::MemFiles;
 pub use proc_files::{is_run_by, work_done};
 pub use process::{Machine, Process, Start};

@@ -171,7 +171,7 @@ fn stay_up<W: Threads + Wait + Sync, K: Sink + Drop, N: Net, L: Listeners, G: Ga
         rt: process.rt,
         alloc: process.alloc,
         service,
-        board: &board,
+        board,
         gate: process.gate,
         ended: process.ended,
     };

@@ -28,7 +28,7 @@ pub struct Shared<'a, W, G> {
     pub alloc: Global,
     pub service: Service,
     /// Where a front behind connections shows what it counts.
-    pub board: &'a Board<'a>,
+    pub board: &'a Board,
     /// What a front of datagrams passes before each request.
     pub gate: &'a G,
     /// Set once a front has ended or a partition bears no more writes: ports that fail together end the server then.

@@ -3,7 +3,7 @@ ghost use Rattle.std.specs.Prelude.{◌≡◌, ◌≤◌, ◌+◌, ◌++◌, len
 ghost use Rattle.memcached_text.specs.declared.limits.TheConstants.{MAX_REPLY_LEN};
 ghost use Rattle.memcached_stats.specs.Stats.{Told, stats_text};
 
-use crate::counter::COUNTERS;
+use crate::counter::{COUNTERS, Counter};
 use crate::figures::{About, Counts, Figures, Wear};
 use crate::put::put_stats;
 use crate::tally::{MOST_NUMBERS, Tally, place_of_partition};
@@ -82,31 +82,30 @@ impl Shown {
 
 /// What a server tells of itself, and where its fronts show what they count.
 #[derive(Drop)]
-pub struct Board<'a> {
+pub struct Board {
     server: Server,
-    usage: &'a Usage,
+    usage: Usage,
     options: Options,
     fronts: Vec<Shown>,
     /// How often each counter had been raised when counts were told to begin anew.
     before: Shown,
 }
 
-impl<'a> Board<'a> {
+impl Board {
     /// With room for so many that count.
     pub fn new(
         alloc: Global,
         server: Server,
-        usage: &'a Usage,
         options: &Options,
         count: u32,
-    ) -> Result<Board<'a>, NoMemory> {
+    ) -> Result<Board, NoMemory> {
         let mut fronts = Vec::with_capacity(alloc, count as usize)?;
         for _ in 0..count {
             fronts.push(Shown::new(alloc, options.partitions)?)?;
         }
         Ok(Board {
             server,
-            usage,
+            usage: Usage::new(),
             options: *options,
             fronts,
             before: Shown::new(alloc, 0)?,
@@ -157,11 +156,21 @@ impl<'a> Board<'a> {
         Counts { numbers, before }
     }
 
+    /// So much did processors work for the process, in hundredths of a second.
+    pub fn show_work(&self, user: u64, system: u64) {
+        self.usage.show(user, system);
+    }
+
     /// From now on counts begin anew.
     pub fn reset(&self) {
         for (place, number) in self.counts().numbers.iter().enumerate() {
             self.before.put(place, *number);
         }
+    }
+
+    /// How often this was counted, added up over those that count.
+    pub fn count(&self, counter: Counter) -> u64 {
+        self.counts().of(counter)
     }
 
     // What a partition bears, by how many writes it accepted and its stamp. In cache mode its log also comes to an end, and a write takes no more of it than the largest item.

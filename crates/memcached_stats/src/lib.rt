@@ -19,4 +19,3 @@ pub use board::{Board, Server};
 pub use counter::{COUNTERS, Counter, counter_beside, counter_by, counter_of};
 pub use figures::{About, Counts, Figures, Wear};
 pub use tally::Tally;
-pub use usage::Usage;

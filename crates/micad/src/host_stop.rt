@@ -1,8 +1,11 @@
-//! A look at the process from time to time: for the end that a signal asks for, and for how much processors worked.
+//! A look at the process from time to time: for the end that a signal asks for, for what goes wrong meanwhile, and for how much processors worked.
 
 use crate::host::Flags;
 use crate::host_files::HostFiles;
+use crate::host_journal::Journal;
 use daemon::{stop_signals, work_done};
+use host_outside::StdClock;
+use outside::Clock;
 use std::alloc::Global;
 use std::rt::Files;
 use std::sync::Wait;
@@ -10,7 +13,7 @@ use std::sync::atomic::Ordering;
 use std::thread::sleep;
 use std::time::{self, Duration};
 
-/// How long it is from one look to the next.
+/// How long it is from one look to the next at most.
 const LOOK_MILLIS: u64 = 100;
 
 /// So many looks for signals there are for one at the work of processors.
@@ -29,37 +32,49 @@ pub fn say_unseen<R: Eprint + Files>(rt: &R, alloc: Global) {
     }
 }
 
-// Whether INT or TERM may still come, where they are blocked; and tells by the flags that one came.
-fn look_for_signals<R: Files>(rt: &R, alloc: Global, flags: &Flags) -> bool {
-    let Some(signals) = stop_signals(alloc, &HostFiles::new(rt)) else {
-        return false;
-    };
-    if signals.are_blocked && signals.one_waits {
-        flags.stopping.store(true, Ordering::Relaxed);
+// Whether a signal that asks for the end may still come and be seen; and tells by the flags that one has come.
+fn looks_on<R: Files>(system: &HostFiles<'_, R>, alloc: Global, flags: &Flags) -> bool {
+    match stop_signals(alloc, system) {
+        Some(signals) if signals.are_blocked => {
+            if signals.one_waits {
+                flags.stopping.store(true, Ordering::Relaxed);
+            }
+            !signals.one_waits
+        }
+        _ => false,
     }
-    signals.are_blocked && !signals.one_waits
 }
 
 // Shows how much processors worked, where the system tells it.
-fn look_at_work<R: Files>(rt: &R, alloc: Global, flags: &Flags) {
-    if let Some((user, system)) = work_done(alloc, &HostFiles::new(rt)) {
-        flags.usage.show(user, system);
+fn look_at_work<R: Files>(system: &HostFiles<'_, R>, alloc: Global, flags: &Flags) {
+    let Some(board) = flags.board.get() else {
+        return;
+    };
+    if let Some((user, system)) = work_done(alloc, system) {
+        board.show_work(user, system);
     }
 }
 
-/// Looks again and again whether INT or TERM waits, and tells by the flags that one does, and how much processors worked; until the server has ended.
-pub fn watch<R: Files + Wait + time::Clock>(rt: &R, alloc: Global, flags: &Flags) {
-    let mut may_come = true;
+/// Looks again and again whether INT or TERM waits, and tells by the flags that one does; and tells what goes wrong meanwhile, and how much processors worked. It ends soon after the server has ended: at
+/// first it looks often, since words that are refused end at once.
+pub fn watch<R: Eprint + Files + Wait + time::Clock>(rt: &R, alloc: Global, flags: &Flags) {
+    let system = HostFiles::new(rt);
+    let mut clock = StdClock::new(rt);
+    let mut journal = Journal::new(&flags.board, &flags.doors);
+    let mut sees = true;
+    let mut pause = 1u64;
     let mut looks = 0;
     for _ in rt.forever() {
-        may_come = may_come && look_for_signals(rt, alloc, flags);
+        sees = sees && looks_on(&system, alloc, flags);
+        journal.tell(rt, alloc, clock.second());
         if looks == 0 {
-            look_at_work(rt, alloc, flags);
+            look_at_work(&system, alloc, flags);
         }
         looks = (looks + 1) % LOOKS_AT_WORK;
         if flags.over.load(Ordering::Relaxed) {
             return;
         }
-        sleep(rt, Duration::from_millis(LOOK_MILLIS));
+        sleep(rt, Duration::from_millis(pause));
+        pause = pause.saturating_mul(2).min(LOOK_MILLIS);
     }
 }

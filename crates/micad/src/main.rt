@@ -6,6 +6,7 @@ mod host;
 mod host_causes;
 mod host_doors;
 mod host_files;
+mod host_journal;
 mod host_start;
 mod host_stop;
 
