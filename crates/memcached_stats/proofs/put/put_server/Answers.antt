@@ -25,7 +25,7 @@ returns-clause-ok c =
     c.in_ok-put_lines-3.ensures.ok ∙ (λ i. two i ++ lines_of style (c.command_lines.ensures.are i)) in
     let four : c.put_lines-4.new.out.items ≡ before ++ process ++ connections ++ commands ++ evictions =
     c.in_ok-put_lines-4.ensures.ok ∙ (λ i. three i ++ lines_of style (c.eviction_lines.ensures.are i)) in
-    c.put_wears.ensures.ok ∙ (λ i. four i ++ wear_text style 0 (c.min.ensures i) (wear_in figures.wears)) ∙ in_turn before process connections commands evictions worn
+    c.in_ok-put_wears.ensures.ok ∙ (λ i. four i ++ wear_text style 0 (c.min.ensures i) (wear_in figures.wears)) ∙ in_turn before process connections commands evictions worn
 
 pub returns-clause-short : goal.returns-clause-short
 returns-clause-short c =
@@ -46,3 +46,6 @@ returns-clause-short c =
       c.in_ok-put_wears.ensures.short,
       c.min.ensures,
     )
+
+pub returns-clause-more : goal.returns-clause-more
+returns-clause-more c = (_, returns-clause-ok c)
