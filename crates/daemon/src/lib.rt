@@ -33,7 +33,7 @@ pub use free_memory::{SystemFiles, free_by};
 pub use journal::{Told, Trouble, trouble_text};
 pub use laws::{headline, headline_at_fault, headline_at_stop};
 pub use memory_files::MemFiles;
-pub use proc_files::is_run_by;
+pub use proc_files::{is_run_by, work_done};
 pub use process::{Machine, Process, Start};
 pub use program::{answer_or_serve, begins_above, ending_number, exit_code, run_daemon};
 pub use signals::{StopSignals, stop_signals};
