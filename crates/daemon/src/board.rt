@@ -68,12 +68,7 @@ pub(crate) fn board_of<'a, W: Wait, G>(
         port: u64::from(streams.ports.port),
         idle: u64::from(streams.idle),
     };
-    let board = Board::new(
-        process.alloc,
-        server,
-        options,
-        fronts.saturating_add(1),
-    )?;
+    let board = Board::new(process.alloc, server, options, fronts.saturating_add(1))?;
     board.show(fronts, &mut tally_of(options.partitions, filling));
     match process.board.set(process.rt, board) {
         Ok(token) => Ok(process.board.value(&token)),
