@@ -27,7 +27,8 @@ fn tally_of(partitions: u32, filling: &[Write]) -> Tally {
 
 // The bytes that partitions have for items.
 fn item_bytes(options: &Options) -> u64 {
-    8 * (u64::from(options.partitions) * u64::from(options.words))
+    let words = u64::from(options.partitions) * u64::from(options.words);
+    words.saturating_mul(8)
 }
 
 // The bytes of their indices. A start takes a table more than they do.

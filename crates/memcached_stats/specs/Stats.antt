@@ -2,7 +2,7 @@
 --
 -- Which numbers it tells is not promised: each front counts for itself while the others go on, and the one that is asked adds up what they showed last. What is
 -- promised is the text: each name once, in this order, and beside it the number that was told.
-use Rattle.std.specs.Prelude.{ℕ, zero, suc, ◌+◌, ◌-◌, ◌*◌, ◌/◌, ◌%◌, Bool, true, List, [], ◌∷◌, ◌++◌, codes, decimal, flat_map, min, if◌then◌else◌}
+use Rattle.std.specs.Prelude.{ℕ, zero, suc, ◌+◌, ◌-◌, ◌/◌, ◌%◌, Bool, true, List, [], ◌∷◌, ◌++◌, codes, decimal, flat_map, min, if◌then◌else◌}
 use Rattle.partition_model.specs.declared.options.TheConstants.{MOST_PARTITIONS}
 use Rattle.memcached_text.specs.declared.command.Topic.{Topic}
 use Rattle.memcached_text.specs.declared.command.Topic.TheVariants as topics
@@ -172,24 +172,9 @@ settings_stats about =
     ∷ word (codes "ssl_enabled") (codes "no")
     ∷ []
 
--- one class, whose chunks are the words for items, and whose pages are the partitions
-abbrev pub slab_stats : About → (Counter → ℕ) → List Stat
-slab_stats about counts =
-    stat (codes "1:chunk_size") 8
-    ∷ stat (codes "1:chunks_per_page") about.words
-    ∷ stat (codes "1:total_pages") about.partitions
-    ∷ stat (codes "1:total_chunks") (about.partitions * about.words)
-    ∷ stat (codes "1:get_hits") (counts GetHits)
-    ∷ stat (codes "1:cmd_set") (counts Sets + counts CasHits + counts CasMisses + counts CasBadval)
-    ∷ stat (codes "1:delete_hits") (counts DeleteHits)
-    ∷ stat (codes "1:incr_hits") (counts IncrHits)
-    ∷ stat (codes "1:decr_hits") (counts DecrHits)
-    ∷ stat (codes "1:cas_hits") (counts CasHits)
-    ∷ stat (codes "1:cas_badval") (counts CasBadval)
-    ∷ stat (codes "1:touch_hits") (counts TouchHits)
-    ∷ stat (codes "active_slabs") 1
-    ∷ stat (codes "total_malloced") (8 * (about.partitions * about.words))
-    ∷ []
+-- the memory that items lie in, which has no classes
+abbrev pub slab_stats : About → List Stat
+slab_stats about = stat (codes "active_slabs") 0 ∷ stat (codes "total_malloced") about.malloced ∷ []
 
 abbrev pub size_stats : List Stat
 size_stats = word (codes "sizes_status") (codes "disabled") ∷ []
@@ -198,7 +183,7 @@ size_stats = word (codes "sizes_status") (codes "disabled") ∷ []
 abbrev pub topic_text : Style → ℕ → Told → Topic → List ℕ
 topic_text style partitions told topics.Server = server_text style partitions told
 topic_text style partitions told topics.Settings = lines_of style (settings_stats told.about)
-topic_text style partitions told topics.Slabs = lines_of style (slab_stats told.about (since told))
+topic_text style partitions told topics.Slabs = lines_of style (slab_stats told.about)
 topic_text style partitions told topics.Sizes = lines_of style size_stats
 topic_text style partitions told _ = []
 

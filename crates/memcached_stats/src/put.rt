@@ -54,11 +54,11 @@ fn put_topic(
     ensures short { OnOk result (length out.new.items ≤ length out.old.items + MOST_TEXT) }
     ensures more { (text : List ℕ) × (out.new.items ≡ out.old.items ++ text) }
 {
-    let Figures { about, counts, .. } = figures;
+    let about = &figures.about;
     match topic {
         Topic::Server => put_server(out, style, partitions, figures),
         Topic::Settings => put_lines(out, style, &settings_lines(about)),
-        Topic::Slabs => put_lines(out, style, &slab_lines(about, counts)),
+        Topic::Slabs => put_lines(out, style, &slab_lines(about)),
         Topic::Sizes => put_lines(out, style, &[told_word(b"sizes_status", b"disabled")]),
         _ => Ok(()),
     }

@@ -1,12 +1,10 @@
 //! What is told of other topics.
 ghost use Rattle.std.specs.Prelude.{◌≡◌, ◌≤◌, length, map};
 ghost use Rattle.std.specs.List.{All};
-ghost use Rattle.memcached_stats.specs.Figures.{since_in};
 ghost use Rattle.memcached_stats.specs.Lines.{IsShort, stat_in};
 ghost use Rattle.memcached_stats.specs.Stats.{on_or_off, settings_stats, slab_stats};
 
-use crate::counter::Counter;
-use crate::figures::{About, Counts};
+use crate::figures::About;
 use crate::lines::{Line, told, told_word};
 use memcached_text::MAX_TEXT_LEN;
 
@@ -50,29 +48,13 @@ pub(crate) fn settings_lines(about: &About) -> [Line; 24]
     ]
 }
 
-/// The memory that items lie in, as one class.
-pub(crate) fn slab_lines(about: &About, counts: &Counts) -> [Line; 14]
-    ensures are { map stat_in result ≡ slab_stats about.now (since_in counts.now) }
+/// The memory that items lie in.
+pub(crate) fn slab_lines(about: &About) -> [Line; 2]
+    ensures are { map stat_in result ≡ slab_stats about.now }
     ensures short { All IsShort result }
 {
-    let swapped = counts.since(Counter::CasHits);
-    let others = counts.since(Counter::CasBadval);
-    let sets = counts.since(Counter::Sets) + swapped + counts.since(Counter::CasMisses) + others;
-    let words = about.partitions * about.words;
     [
-        told(b"1:chunk_size", 8),
-        told(b"1:chunks_per_page", about.words),
-        told(b"1:total_pages", about.partitions),
-        told(b"1:total_chunks", words),
-        told(b"1:get_hits", counts.since(Counter::GetHits)),
-        told(b"1:cmd_set", sets),
-        told(b"1:delete_hits", counts.since(Counter::DeleteHits)),
-        told(b"1:incr_hits", counts.since(Counter::IncrHits)),
-        told(b"1:decr_hits", counts.since(Counter::DecrHits)),
-        told(b"1:cas_hits", swapped),
-        told(b"1:cas_badval", others),
-        told(b"1:touch_hits", counts.since(Counter::TouchHits)),
-        told(b"active_slabs", 1),
-        told(b"total_malloced", 8 * words),
+        told(b"active_slabs", 0),
+        told(b"total_malloced", about.malloced),
     ]
 }
