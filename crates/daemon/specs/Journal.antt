@@ -1,5 +1,5 @@
 -- What is told of a kind of trouble while a server goes on: a line a minute at most.
-use Rattle.std.specs.Prelude.{ℕ, ◌-◌, Bool, true, not, ◌&&◌, nat_le, Option, Some, None, if◌then◌else◌}
+use Rattle.std.specs.Prelude.{ℕ, ◌-◌, Bool, true, ◌&&◌, nat_le, nat_lt, Option, Some, None, if◌then◌else◌}
 use Rattle.daemon.specs.declared.journal.Told.{Told}
 use Rattle.daemon.specs.declared.journal.TheConstants.{MINUTE}
 
@@ -10,7 +10,7 @@ is_minute_behind (Some last) second = nat_le MINUTE (second - last)
 
 -- it came more often than was told, and may be told at this second
 abbrev pub is_due : Told → ℕ → ℕ → Bool
-is_due told count second = not (nat_le count told.count) && is_minute_behind told.second second
+is_due told count second = nat_lt told.count count && is_minute_behind told.second second
 
 -- how often it came since it was told last, where it is told at this second
 abbrev pub due_of : Told → ℕ → ℕ → Option ℕ

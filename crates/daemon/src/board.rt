@@ -28,7 +28,8 @@ fn tally_of(options: &Options, filling: &[Write]) -> Tally {
 
 // The bytes that partitions have for items.
 fn item_bytes(options: &Options) -> u64 {
-    8 * (u64::from(options.partitions) * u64::from(options.words))
+    let words = u64::from(options.partitions) * u64::from(options.words);
+    words.saturating_mul(8)
 }
 
 // The bytes of their indices. A start takes a table more than they do.
@@ -68,12 +69,7 @@ pub(crate) fn board_of<'a, W: Wait, G>(
         port: u64::from(streams.ports.port),
         idle: u64::from(streams.idle),
     };
-    let board = Board::new(
-        process.alloc,
-        server,
-        options,
-        fronts.saturating_add(1),
-    )?;
+    let board = Board::new(process.alloc, server, options, fronts.saturating_add(1))?;
     board.show(fronts, &mut tally_of(options, filling));
     match process.board.set(process.rt, board) {
         Ok(token) => Ok(process.board.value(&token)),

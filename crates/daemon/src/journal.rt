@@ -1,6 +1,6 @@
 //! What goes wrong while a server goes on, for whoever reads the journal: a line a minute at most for each kind.
 ghost use Rattle.std.specs.Prelude.{◌≡◌};
-ghost use Rattle.daemon.specs.Journal.{is_minute_behind, due_of, told_after};
+ghost use Rattle.daemon.specs.Journal.{is_minute_behind, is_due, due_of, told_after};
 
 use std::alloc::Global;
 
@@ -46,12 +46,19 @@ impl Told {
         }
     }
 
+    // Whether it came more often than was told, and may be told at this second.
+    fn is_due(&self, count: u64, second: u64) -> bool
+        ensures { result ≡ is_due self.now count second }
+    {
+        self.count < count && is_minute_behind(self.second, second)
+    }
+
     /// How often it came since it was told last, where it is told at this second; it came so often in all.
     pub fn due(&mut self, count: u64, second: u64) -> Option<u64>
         ensures due { result ≡ due_of self.old count second }
         ensures told { self.new ≡ told_after self.old count second }
     {
-        if count <= self.count || !is_minute_behind(self.second, second) {
+        if !self.is_due(count, second) {
             return None;
         }
         let more = count - self.count;

@@ -2,7 +2,7 @@
 --
 -- Which numbers it tells is not promised: each front counts for itself while the others go on, and the one that is asked adds up what they showed last. What is
 -- promised is the text: each name once, in this order, and beside it the number that was told.
-use Rattle.std.specs.Prelude.{ℕ, zero, suc, ◌+◌, ◌-◌, ◌*◌, ◌/◌, ◌%◌, Bool, true, List, [], ◌∷◌, ◌++◌, codes, decimal, flat_map, min, if◌then◌else◌}
+use Rattle.std.specs.Prelude.{ℕ, zero, suc, ◌+◌, ◌-◌, ◌/◌, ◌%◌, Bool, true, List, [], ◌∷◌, ◌++◌, codes, decimal, flat_map, min, if◌then◌else◌}
 use Rattle.partition_model.specs.declared.options.TheConstants.{MOST_PARTITIONS}
 use Rattle.memcached_text.specs.declared.command.Topic.{Topic}
 use Rattle.memcached_text.specs.declared.command.Topic.TheVariants as topics
@@ -143,53 +143,46 @@ server_text style partitions told =
 abbrev pub on_or_off : Bool → List ℕ
 on_or_off is_on = if is_on then codes "on" else codes "off"
 
--- what it was started with, and what never changes
-abbrev pub settings_stats : About → List Stat
-settings_stats about =
+-- what it was started with
+abbrev pub start_stats : About → List Stat
+start_stats about =
     stat (codes "maxbytes") about.limit_maxbytes
     ∷ stat (codes "maxconns") about.max_connections
     ∷ stat (codes "tcpport") about.port
-    ∷ stat (codes "udpport") 0
-    ∷ stat (codes "verbosity") 0
     ∷ word (codes "evictions") (on_or_off about.evicts)
-    ∷ word (codes "shutdown_command") (codes "no")
     ∷ stat (codes "num_threads") about.threads
-    ∷ word (codes "detail_enabled") (codes "no")
-    ∷ word (codes "cas_enabled") (codes "yes")
+    ∷ stat (codes "idle_timeout") about.idle_timeout
+    ∷ []
+
+-- and what never changes
+abbrev pub fixed_stats : List Stat
+fixed_stats =
+    stat (codes "udpport") 0
+    ∷ stat (codes "verbosity") 0
+    ∷ stat (codes "item_size_max") MAX_TEXT_LEN
     ∷ word (codes "binding_protocol") (codes "auto-negotiate")
+    ∷ word (codes "cas_enabled") (codes "yes")
+    ∷ word (codes "maxconns_fast") (codes "yes")
+    ∷ word (codes "flush_enabled") (codes "yes")
+    ∷ word (codes "shutdown_command") (codes "no")
+    ∷ word (codes "detail_enabled") (codes "no")
+    ∷ word (codes "dump_enabled") (codes "no")
     ∷ word (codes "auth_enabled_sasl") (codes "no")
     ∷ word (codes "auth_enabled_ascii") (codes "no")
-    ∷ stat (codes "item_size_max") MAX_TEXT_LEN
-    ∷ word (codes "maxconns_fast") (codes "yes")
+    ∷ word (codes "ssl_enabled") (codes "no")
     ∷ word (codes "slab_reassign") (codes "no")
     ∷ word (codes "lru_crawler") (codes "no")
     ∷ word (codes "lru_maintainer_thread") (codes "no")
     ∷ word (codes "lru_segmented") (codes "no")
-    ∷ word (codes "flush_enabled") (codes "yes")
-    ∷ word (codes "dump_enabled") (codes "no")
-    ∷ stat (codes "idle_timeout") about.idle_timeout
     ∷ word (codes "track_sizes") (codes "no")
-    ∷ word (codes "ssl_enabled") (codes "no")
     ∷ []
 
--- one class, whose chunks are the words for items, and whose pages are the partitions
-abbrev pub slab_stats : About → (Counter → ℕ) → List Stat
-slab_stats about counts =
-    stat (codes "1:chunk_size") 8
-    ∷ stat (codes "1:chunks_per_page") about.words
-    ∷ stat (codes "1:total_pages") about.partitions
-    ∷ stat (codes "1:total_chunks") (about.partitions * about.words)
-    ∷ stat (codes "1:get_hits") (counts GetHits)
-    ∷ stat (codes "1:cmd_set") (counts Sets + counts CasHits + counts CasMisses + counts CasBadval)
-    ∷ stat (codes "1:delete_hits") (counts DeleteHits)
-    ∷ stat (codes "1:incr_hits") (counts IncrHits)
-    ∷ stat (codes "1:decr_hits") (counts DecrHits)
-    ∷ stat (codes "1:cas_hits") (counts CasHits)
-    ∷ stat (codes "1:cas_badval") (counts CasBadval)
-    ∷ stat (codes "1:touch_hits") (counts TouchHits)
-    ∷ stat (codes "active_slabs") 1
-    ∷ stat (codes "total_malloced") (8 * (about.partitions * about.words))
-    ∷ []
+abbrev pub settings_text : Style → About → List ℕ
+settings_text style about = lines_of style (start_stats about) ++ lines_of style fixed_stats
+
+-- the memory that items lie in, which has no classes
+abbrev pub slab_stats : About → List Stat
+slab_stats about = stat (codes "active_slabs") 0 ∷ stat (codes "total_malloced") about.malloced ∷ []
 
 abbrev pub size_stats : List Stat
 size_stats = word (codes "sizes_status") (codes "disabled") ∷ []
@@ -197,8 +190,8 @@ size_stats = word (codes "sizes_status") (codes "disabled") ∷ []
 -- what is told of a topic: of items and of connections nothing
 abbrev pub topic_text : Style → ℕ → Told → Topic → List ℕ
 topic_text style partitions told topics.Server = server_text style partitions told
-topic_text style partitions told topics.Settings = lines_of style (settings_stats told.about)
-topic_text style partitions told topics.Slabs = lines_of style (slab_stats told.about (since told))
+topic_text style partitions told topics.Settings = settings_text style told.about
+topic_text style partitions told topics.Slabs = lines_of style (slab_stats told.about)
 topic_text style partitions told topics.Sizes = lines_of style size_stats
 topic_text style partitions told _ = []
 

@@ -123,6 +123,7 @@ impl Board {
 
     // At this second.
     fn about(&self, second: u64) -> About {
+        let words = u64::from(self.options.partitions) * u64::from(self.options.words);
         About {
             pid: self.server.pid,
             uptime: second.saturating_sub(self.server.since),
@@ -132,8 +133,7 @@ impl Board {
             threads: u64::from(self.server.fronts),
             limit_maxbytes: self.server.memory,
             hash_bytes: self.server.hash_bytes,
-            partitions: u64::from(self.options.partitions),
-            words: u64::from(self.options.words),
+            malloced: words.saturating_mul(8),
             max_connections: self.server.connections,
             port: self.server.port,
             idle_timeout: self.server.idle,

@@ -26,9 +26,8 @@ pub struct About {
     pub limit_maxbytes: u64,
     /// How many bytes its indices take.
     pub hash_bytes: u64,
-    /// How many partitions it has, and how many words for items in each.
-    pub partitions: u64,
-    pub words: u64,
+    /// How many bytes its partitions have for items.
+    pub malloced: u64,
     /// How many connections it holds at most at a time.
     pub max_connections: u64,
     /// Its port of connections over TCP, or 0.

@@ -1,12 +1,10 @@
 //! What is told of other topics.
 ghost use Rattle.std.specs.Prelude.{◌≡◌, ◌≤◌, length, map};
 ghost use Rattle.std.specs.List.{All};
-ghost use Rattle.memcached_stats.specs.Figures.{since_in};
 ghost use Rattle.memcached_stats.specs.Lines.{IsShort, stat_in};
-ghost use Rattle.memcached_stats.specs.Stats.{on_or_off, settings_stats, slab_stats};
+ghost use Rattle.memcached_stats.specs.Stats.{fixed_stats, on_or_off, slab_stats, start_stats};
 
-use crate::counter::Counter;
-use crate::figures::{About, Counts};
+use crate::figures::About;
 use crate::lines::{Line, told, told_word};
 use memcached_text::MAX_TEXT_LEN;
 
@@ -18,61 +16,54 @@ fn on_or_off(is_on: bool) -> &'static [u8]
 }
 
 /// What the server was started with.
-pub(crate) fn settings_lines(about: &About) -> [Line; 24]
-    ensures are { map stat_in result ≡ settings_stats about.now }
+pub(crate) fn start_lines(about: &About) -> [Line; 6]
+    ensures are { map stat_in result ≡ start_stats about.now }
     ensures short { All IsShort result }
 {
     [
         told(b"maxbytes", about.limit_maxbytes),
         told(b"maxconns", about.max_connections),
         told(b"tcpport", about.port),
+        told_word(b"evictions", on_or_off(about.evicts)),
+        told(b"num_threads", about.threads),
+        told(b"idle_timeout", about.idle_timeout),
+    ]
+}
+
+/// What never changes.
+pub(crate) fn fixed_lines() -> [Line; 18]
+    ensures are { map stat_in result ≡ fixed_stats }
+    ensures short { All IsShort result }
+{
+    [
         told(b"udpport", 0),
         told(b"verbosity", 0),
-        told_word(b"evictions", on_or_off(about.evicts)),
-        told_word(b"shutdown_command", b"no"),
-        told(b"num_threads", about.threads),
-        told_word(b"detail_enabled", b"no"),
-        told_word(b"cas_enabled", b"yes"),
+        told(b"item_size_max", MAX_TEXT_LEN as u64),
         told_word(b"binding_protocol", b"auto-negotiate"),
+        told_word(b"cas_enabled", b"yes"),
+        told_word(b"maxconns_fast", b"yes"),
+        told_word(b"flush_enabled", b"yes"),
+        told_word(b"shutdown_command", b"no"),
+        told_word(b"detail_enabled", b"no"),
+        told_word(b"dump_enabled", b"no"),
         told_word(b"auth_enabled_sasl", b"no"),
         told_word(b"auth_enabled_ascii", b"no"),
-        told(b"item_size_max", MAX_TEXT_LEN as u64),
-        told_word(b"maxconns_fast", b"yes"),
+        told_word(b"ssl_enabled", b"no"),
         told_word(b"slab_reassign", b"no"),
         told_word(b"lru_crawler", b"no"),
         told_word(b"lru_maintainer_thread", b"no"),
         told_word(b"lru_segmented", b"no"),
-        told_word(b"flush_enabled", b"yes"),
-        told_word(b"dump_enabled", b"no"),
-        told(b"idle_timeout", about.idle_timeout),
         told_word(b"track_sizes", b"no"),
-        told_word(b"ssl_enabled", b"no"),
     ]
 }
 
-/// The memory that items lie in, as one class.
-pub(crate) fn slab_lines(about: &About, counts: &Counts) -> [Line; 14]
-    ensures are { map stat_in result ≡ slab_stats about.now (since_in counts.now) }
+/// The memory that items lie in.
+pub(crate) fn slab_lines(about: &About) -> [Line; 2]
+    ensures are { map stat_in result ≡ slab_stats about.now }
     ensures short { All IsShort result }
 {
-    let swapped = counts.since(Counter::CasHits);
-    let others = counts.since(Counter::CasBadval);
-    let sets = counts.since(Counter::Sets) + swapped + counts.since(Counter::CasMisses) + others;
-    let words = about.partitions * about.words;
     [
-        told(b"1:chunk_size", 8),
-        told(b"1:chunks_per_page", about.words),
-        told(b"1:total_pages", about.partitions),
-        told(b"1:total_chunks", words),
-        told(b"1:get_hits", counts.since(Counter::GetHits)),
-        told(b"1:cmd_set", sets),
-        told(b"1:delete_hits", counts.since(Counter::DeleteHits)),
-        told(b"1:incr_hits", counts.since(Counter::IncrHits)),
-        told(b"1:decr_hits", counts.since(Counter::DecrHits)),
-        told(b"1:cas_hits", swapped),
-        told(b"1:cas_badval", others),
-        told(b"1:touch_hits", counts.since(Counter::TouchHits)),
-        told(b"active_slabs", 1),
-        told(b"total_malloced", 8 * words),
+        told(b"active_slabs", 0),
+        told(b"total_malloced", about.malloced),
     ]
 }
