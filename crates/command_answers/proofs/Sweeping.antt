@@ -3,6 +3,7 @@ use Rattle.std.proofs.Common.{◌≡◌, ◌≤◌, ◌+◌, ◌==◌, ◌&&◌,
 use Rattle.std.proofs.lemmas.List.Elements.{filter_map-append}
 use Rattle.std.proofs.lemmas.Option.{same_Some}
 use Rattle.std.specs.Prelude.{IfSome}
+use Rattle.mica_words.specs.Mark.{is_mark}
 use Rattle.mica_words.specs.Hash.{partition_of, bucket_of}
 use Rattle.partition_model.specs.declared.options.Options.{Options}
 use Rattle.partition_model.specs.declared.options.Mode.TheVariants.{Cache}
@@ -86,9 +87,9 @@ module _ (options : Options) (is_alone : Bool) (base second : ℕ) where
       few = few;
     }
 
-    pub one_swept : let p = partition_of options.hashing key options.partitions in ComesTo options is_alone second key true (sweeping base) (old p) c buffer (new p)
+    pub one_swept : is_mark key ≡ false → let p = partition_of options.hashing key options.partitions in ComesTo options is_alone second key true (sweeping base) (old p) c buffer (new p)
         → ChangesOnly (partition_of options.hashing key options.partitions) old new → left ≤ left_after + count_of c.outcome → SweepsBy options is_alone base second 1 old left new left_after
-    one_swept comes others few = go (write_by (sweeping base) key look) c.outcome refl refl comes.does
+    one_swept mark comes others few = go (write_by (sweeping base) key look) c.outcome refl refl comes.does
       where
         look : Look
         look = comes.look
@@ -107,4 +108,4 @@ module _ (options : Options) (is_alone : Bool) (base second : ℕ) where
             one_by (changed step look) (record {
               one = subst (λ (k : List ℕ). AnswersOne options is_alone (old (partition_of options.hashing k options.partitions)) (changed step look) (new (partition_of options.hashing k options.partitions))) (sym same) does;
               others = subst (λ (k : List ℕ). ChangesOnly (partition_of options.hashing k options.partitions) old new) (sym same) others;
-            }) (subst (λ (k : List ℕ). write ≡ write_of Del k []) (sym same) t.0, t.1) (ap Some comes.at) (subst (λ o. left ≤ left_after + count_of o) is few)
+            }) (subst (λ (k : List ℕ). write ≡ write_of Del k []) (sym same) t.0, (t.1.0, t.1.1, t.1.2, ap is_mark same ∙ mark)) (ap Some comes.at) (subst (λ o. left ≤ left_after + count_of o) is few)

@@ -1,6 +1,7 @@
 -- What a front does beside what clients say: items that are not there any more give their room back, and in cache mode items that are used stay.
-use Rattle.std.specs.Prelude.{◌≡◌, ⊤, ◌≤◌, ◌+◌, ℕ, Bool, true, List, [], length, Some}
+use Rattle.std.specs.Prelude.{◌≡◌, ⊤, ◌≤◌, ◌+◌, ℕ, Bool, true, false, List, [], length, Some}
 use Rattle.std.specs.List.{AllByRecursion}
+use Rattle.mica_words.specs.Mark.{is_mark}
 use Rattle.partition_model.specs.declared.options.Mode.TheVariants.{Cache}
 use Rattle.partition_model.specs.declared.options.Options.{Options}
 use Rattle.partition_model.specs.declared.write.Op.TheVariants.{Del, Touch}
@@ -10,11 +11,11 @@ use Rattle.fronts.specs.Answered.{Answered, wrote, changed, kept, count_of_write
 use Rattle.fronts.specs.Session.{Sessions, AnswersInOrder}
 use Rattle.command_answers.specs.Seconds.{AreAt}
 
--- A key was looked at, and deleted where what was stored is over; or it was left. In cache mode a key may also be touched: its item is written anew
+-- A key was looked at that is no mark, and deleted where what was stored is over; or it was left. In cache mode a key may also be touched: its item is written anew
 -- at the tail of the log, with the value that it has.
 abbrev pub IsSweep : Options → ℕ → Answered → Type 0
 IsSweep options base (wrote step) = (options.mode ≡ Cache) × (step.write ≡ write_of Touch step.write.key [])
-IsSweep options base (changed step look) = (step.write ≡ write_of Del step.write.key []) × ((stored : List ℕ) × (look.value ≡ Some stored) × (is_over base look.when stored ≡ true))
+IsSweep options base (changed step look) = (step.write ≡ write_of Del step.write.key []) × ((stored : List ℕ) × (look.value ≡ Some stored) × (is_over base look.when stored ≡ true) × (is_mark step.write.key ≡ false))
 IsSweep options base (kept key stamp look) = ⊤
 IsSweep options base _ = ⊥
 

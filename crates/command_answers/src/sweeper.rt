@@ -1,6 +1,7 @@
 //! Items that are over give their room back, and items that are used stay.
-ghost use Rattle.std.specs.Prelude.{◌≡◌, ◌<◌, ◌≤◌, ◌+◌, ℕ};
+ghost use Rattle.std.specs.Prelude.{◌≡◌, ◌<◌, ◌≤◌, ◌+◌, ℕ, false};
 ghost use Rattle.mica_words.specs.Item.{KeyFits};
+ghost use Rattle.mica_words.specs.Mark.{is_mark};
 ghost use Rattle.command_answers.specs.declared.noted.TheConstants.{MOST_USED};
 ghost use Rattle.command_answers.specs.Sweeps.{SweepsBy};
 
@@ -120,6 +121,7 @@ fn sweep_key<F: Changes>(
     next: &mut ItemBuf,
 ) -> Changed
     requires key { KeyFits key.now }
+    requires mark { is_mark key.now ≡ false }
     requires left { 0 < F.left front.old }
     ensures swept { SweepsBy (F.options front.old) F.is_alone base second 1 (F.sessions front.old) (F.left front.old) (F.sessions front.new) (F.left front.new) }
     ensures left { F.left front.old ≤ F.left front.new + 1 }
@@ -133,7 +135,7 @@ fn sweep_key<F: Changes>(
 
 // Takes away the item that was glanced at, unless it is there, and says whether it did. It looks under a hold once for so many items, and where one seems to be over.
 fn sweep_item<F: Changes>(front: &mut F, second: u64, base: u64, sweeper: &mut Sweeper) -> bool
-    requires key { KeyFits sweeper.old.key }
+    requires key { KeyFits sweeper.old.key × (is_mark sweeper.old.key ≡ false) }
     requires left { 0 < F.left front.old }
     ensures swept { SweepsBy (F.options front.old) F.is_alone base second 1 (F.sessions front.old) (F.left front.old) (F.sessions front.new) (F.left front.new) }
     ensures left { F.left front.old ≤ F.left front.new + 1 }

@@ -1,6 +1,7 @@
 //! A front that tells what stands in an index.
-ghost use Rattle.std.specs.Prelude.{◌≡◌, ◌<◌, true};
+ghost use Rattle.std.specs.Prelude.{◌≡◌, ◌<◌, true, false};
 ghost use Rattle.mica_words.specs.Item.{KeyFits};
+ghost use Rattle.mica_words.specs.Mark.{is_mark};
 ghost use Rattle.partition_model.specs.declared.options.Mode.TheVariants.{Cache};
 
 use crate::counting::CountsWrites;
@@ -21,7 +22,7 @@ pub trait Glances: CountsWrites {
     /// meanwhile. In cache mode, where items make room by themselves, it finds no places.
     fn glance(&self, partition: u32, place: u64, key: &mut ItemBuf, head: &mut ItemBuf) -> Glimpse
         requires partition { partition < (Self.options self.now).partitions }
-        ensures key { result ≡ Glimpse.Item → KeyFits key.new };
+        ensures key { result ≡ Glimpse.Item → KeyFits key.new × (is_mark key.new ≡ false) };
 
     /// Loads the key of an item with this hash, if that item is old: more than half of its partition's log was written behind it. Nothing rests on what it finds. In store
     /// mode, which has no log, it finds none.

@@ -1,7 +1,8 @@
 //! Loads by a reader's seat outside its gets: ahead of them, so that what they will look at is at hand, and of what stands in an index.
-ghost use Rattle.std.specs.Prelude.{◌≡◌, ◌≤◌, ◌<◌, ◌^◌, true, length, IfSome};
+ghost use Rattle.std.specs.Prelude.{◌≡◌, ◌≤◌, ◌<◌, ◌^◌, true, false, length, IfSome};
 ghost use Rattle.mica_words.specs.declared.item.TheConstants.{MAX_KEY_LEN};
 ghost use Rattle.mica_words.specs.Item.{KeyFits};
+ghost use Rattle.mica_words.specs.Mark.{is_mark};
 ghost use Rattle.partition_model.specs.declared.options.TheConstants.{MOST_PARTITIONS};
 
 use crate::glancing::Glimpse;
@@ -76,14 +77,14 @@ fn load_bytes(seat: &ReaderSeat, offset: u64, len: usize, out: &mut ItemBuf)
     out.truncate(len);
 }
 
-// Loads the key of an item, and tells its header; none where no item stands.
+// Loads the key of an item, and tells its header; none where no item stands, or one as long as a mark.
 fn load_key(seat: &ReaderSeat, offset: u64, key: &mut ItemBuf) -> Option<u64>
     requires offset { offset < 2 ^ 48 }
-    ensures key { IfSome result (λ _. KeyFits key.new) }
+    ensures key { IfSome result (λ _. KeyFits key.new × (is_mark key.new ≡ false)) }
 {
     let header = seat.peek(WordAt::Item(offset));
     let key_len = header_key_len(header) as usize;
-    if key_len == 0 || key_len > MAX_KEY_LEN {
+    if key_len == 0 || key_len >= MAX_KEY_LEN {
         return None;
     }
     load_bytes(seat, offset + 2, key_len, key);
@@ -93,7 +94,7 @@ fn load_key(seat: &ReaderSeat, offset: u64, key: &mut ItemBuf) -> Option<u64>
 // Loads the key of an item, and the first bytes of its value.
 fn glance_at(seat: &ReaderSeat, offset: u64, key: &mut ItemBuf, head: &mut ItemBuf) -> Glimpse
     requires offset { offset < 2 ^ 48 }
-    ensures key { result ≡ Glimpse.Item → KeyFits key.new }
+    ensures key { result ≡ Glimpse.Item → KeyFits key.new × (is_mark key.new ≡ false) }
 {
     let Some(header) = load_key(seat, offset, key) else {
         return Glimpse::Nothing;
@@ -106,7 +107,7 @@ fn glance_at(seat: &ReaderSeat, offset: u64, key: &mut ItemBuf, head: &mut ItemB
 
 /// Loads what stands at a place of the index. In cache mode there are no places.
 pub fn glance(seat: &ReaderSeat, place: u64, key: &mut ItemBuf, head: &mut ItemBuf) -> Glimpse
-    ensures key { result ≡ Glimpse.Item → KeyFits key.new }
+    ensures key { result ≡ Glimpse.Item → KeyFits key.new × (is_mark key.new ≡ false) }
 {
     let shape = seat.shape();
     let buckets = u64::from(shape.buckets) + u64::from(shape.spares);

@@ -47,7 +47,7 @@ module _ {options : Options} {base : ℕ} (part : ℕ) {h : History} {shelf : Sh
   one (flushes flush) (kept key stamp look) answer for = absurd (for)
   one sweeps (wrote step) answer for = let both : Store ≡ Cache = sym g.is_store ∙ for.0 in absurd (cc)
   one sweeps (got key stamp value) answer for = absurd (for)
-  one sweeps (changed step look) answer for = swept_one g step look for.1.0 answer.0.0 answer.1 for.0 for.1.1 for.1.2
+  one sweeps (changed step look) answer for = swept_one g step look for.1.0 answer.0.0 answer.1 for.0 for.1.1 for.1.2.0
   one sweeps (kept key stamp look) answer for = record { steps = tt; stands_then = g.stands }
 
 all_in_course : (options : Options) (base part : ℕ) (all : List Served) (h : History) (shelf : Shelf) → Begun options base h shelf → AreServed options base part h all

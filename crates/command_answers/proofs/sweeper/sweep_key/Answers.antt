@@ -17,4 +17,4 @@ returns-clause-swept g c =
     let p = partition_of options.hashing key options.partitions in
     let second = c.args.second in
     let comes = subst (λ (base : ℕ). ComesTo options F.is_alone second key true (sweeping base) (old p) c.change.result c.change.new.found (new p)) c.new-order.ensures c.change.ensures.changed in
-    one_swept options F.is_alone c.args.base second old new left left_after key c.change.result c.change.new.found comes c.change.ensures.others c.change.ensures.left
+    one_swept options F.is_alone c.args.base second old new left left_after key c.change.result c.change.new.found c.requires.mark comes c.change.ensures.others c.change.ensures.left
