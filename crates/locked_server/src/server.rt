@@ -1,5 +1,6 @@
 //! The partitions under their locks and the fronts before them, opened and run.
-ghost use Rattle.std.specs.Prelude.{◌≡◌, ◌+◌, ◌<◌, ◌≤◌, ℕ, [], IfOk, Some, length, map, slice_get, vec_len};
+ghost use Rattle.std.specs.Prelude.{◌≡◌, ◌+◌, ◌<◌, ◌≤◌, ℕ, true, [], IfOk, Some, length, map, slice_get, vec_len};
+ghost use Rattle.mica_words.specs.Mark.{has_marks};
 ghost use Rattle.partition_model.specs.declared.options.TheConstants.{MOST_PARTITIONS};
 ghost use Rattle.partition_model.specs.History.{IsHistory};
 ghost use Rattle.partition_words.specs.declared.state.Phase.TheVariants.{Idle};
@@ -164,6 +165,7 @@ fn run_all<
     requires service { IsPossibleService shared.now.service }
     requires plan { IsPlanOf shared.now.service J.plan }
     requires takers { J.plan.fronts ≡ length connections.old.items + length ends.old.items }
+    requires marks { 0 < length connections.old.items → has_marks shared.now.service.options.hashing ≡ true }
     requires filled { (p : ℕ) → p < shared.now.service.options.partitions → IsHistory shared.now.service.options (J.plan.origin p) }
     requires server { IsLockedServer J.plan (length connections.old.items) (length ends.old.items) server.locks
         server.stream_hands.items server.hands.items server.room }
@@ -231,6 +233,7 @@ pub(crate) fn serve_all<
     requires service { IsPossibleService shared.now.service }
     requires plan { IsPlanOf shared.now.service J.plan }
     requires takers { J.plan.fronts ≡ length connections.old.items + length ends.old.items }
+    requires marks { 0 < length connections.old.items → has_marks shared.now.service.options.hashing ≡ true }
     requires filled { (p : ℕ) → p < shared.now.service.options.partitions → IsHistory shared.now.service.options (J.plan.origin p) }
     requires server { IsLockedServer J.plan (length connections.old.items) (length ends.old.items) server.locks
         server.stream_hands.items server.hands.items server.room }

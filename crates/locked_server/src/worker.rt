@@ -1,5 +1,6 @@
 //! The fronts of datagrams side by side, each in a thread of its own, and those of connections beside them.
-ghost use Rattle.std.specs.Prelude.{◌≡◌, ◌+◌, ◌<◌, ◌≤◌, [], length, map, vec_len, vec_capacity};
+ghost use Rattle.std.specs.Prelude.{◌≡◌, ◌+◌, ◌<◌, ◌≤◌, true, [], length, map, vec_len, vec_capacity};
+ghost use Rattle.mica_words.specs.Mark.{has_marks};
 ghost use Rattle.std.specs.Thread.{IsSync};
 ghost use Rattle.served.specs.Ends.{end_facts};
 ghost use Rattle.locked_server.specs.Service.{IsLockedPlan};
@@ -101,6 +102,7 @@ pub(crate) fn run_workers<
     requires plan { IsLockedPlan shared.now.service J.plan locks.now }
     requires first { length streams.old.items ≤ first }
     requires many { first + length fronts.old.items ≡ J.plan.fronts }
+    requires marks { 0 < length streams.old.items → has_marks shared.now.service.options.hashing ≡ true }
     requires ready_streams { AreReadyStreams J.plan (stream_facts C.Connections) streams.old.items }
     requires ready { AreReadyTasks J.plan shared.now.service.ports.batches (end_facts D.Datagrams) first fronts.old.items }
     ensures streams { StreamsRan J.plan (stream_facts C.Connections) shared.now.service.base shared.now.service.buffers streams.old.items streams.new.items }
@@ -110,7 +112,8 @@ pub(crate) fn run_workers<
         shared.rt,
         &mut ||
             requires { IsSync W.row × IsSync J.row × IsSync G.row × IsLockedPlan shared.now.service J.plan locks.now
-                × (length streams.now.items ≤ J.plan.fronts) × AreReadyStreams J.plan (stream_facts C.Connections) streams.now.items }
+                × (length streams.now.items ≤ J.plan.fronts) × (0 < length streams.now.items → has_marks shared.now.service.options.hashing ≡ true)
+                × AreReadyStreams J.plan (stream_facts C.Connections) streams.now.items }
         { run_streams(shared, locks, streams) },
         &mut ||
             requires { IsSync W.row × IsSync J.row × IsSync G.row × IsLockedPlan shared.now.service J.plan locks.now

@@ -5,7 +5,7 @@ use Rattle.locked_server.proofs.worker.run_workers.Goals as goal
 pub join_mut-requires-after_bounds : goal.join_mut-requires-after_bounds
 join_mut-requires-after_bounds g c κs within = (
   (
-    (grind serving, grind serving, grind serving, c.requires.plan, omega (arith, c.requires.first, c.requires.many), c.requires.ready_streams),
+    (grind serving, grind serving, grind serving, c.requires.plan, omega (arith, c.requires.first, c.requires.many), c.requires.marks, c.requires.ready_streams),
     (grind serving, grind serving, grind serving, grind serving, grind serving, grind serving),
   ),
   (
