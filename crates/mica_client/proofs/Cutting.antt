@@ -4,6 +4,7 @@ use Rattle.std.specs.Prelude.{filter, flat_map}
 use Rattle.std.specs.List.{range_with_len}
 use Rattle.std.proofs.lemmas.Bool.{ne_eqb}
 use Rattle.std.proofs.lemmas.List.Elements.{filter-append}
+use Rattle.mica_words.specs.declared.hashing.Hashing.TheVariants.{Fnv1a}
 use Rattle.mica_words.specs.Hash.{partition_of}
 use Rattle.mica_trace.specs.declared.line.TraceLine.{TraceLine}
 use Rattle.batch_packets.specs.declared.batch.Request.{Request}
@@ -58,21 +59,21 @@ module _ (options : AskOptions) (round : List Request) (r : Request) where
             ∙ ap (λ (l : List Request). cut_at p (l ++ later)) (sym (filter_more (is_in_partition options p) round r false other ∙ append-nil so_far));
       }
 
-  shares_other : (p : ℕ) (shares : List Share) → partition_of options.hashing r.key options.partitions < p → AllHold options round p shares → AllHold options (round ++ r ∷ []) p shares
+  shares_other : (p : ℕ) (shares : List Share) → partition_of Fnv1a r.key options.partitions < p → AllHold options round p shares → AllHold options (round ++ r ∷ []) p shares
   shares_other p [] below h = tt
   shares_other p (s ∷ ss) below h =
-      (share_other p s (ne_eqb (partition_of options.hashing r.key options.partitions) p (λ e. omega (arith, e, below))) h.0, shares_other (p + 1) ss (omega (arith, below)) h.1)
+      (share_other p s (ne_eqb (partition_of Fnv1a r.key options.partitions) p (λ e. omega (arith, e, below))) h.0, shares_other (p + 1) ss (omega (arith, below)) h.1)
 
-  shares_more : (p i : ℕ) (shares : List Share) (old new : Share) → i < length shares → partition_of options.hashing r.key options.partitions ≡ p + i → old ≡ get_or shares i old
+  shares_more : (p i : ℕ) (shares : List Share) (old new : Share) → i < length shares → partition_of Fnv1a r.key options.partitions ≡ p + i → old ≡ get_or shares i old
       → ((later : List Request) → share_with options.per new later ≡ share_with options.per old (r ∷ later)) → AllHold options round p shares → AllHold options (round ++ r ∷ []) p (set shares i new)
   shares_more p i [] old new within home is put h = absurd (omega arith)
   shares_more p zero (s ∷ ss) old new within home is put h = (
-    share_more p s new (eq-eqb (partition_of options.hashing r.key options.partitions) p (omega (arith, home)))
+    share_more p s new (eq-eqb (partition_of Fnv1a r.key options.partitions) p (omega (arith, home)))
         (λ later. put later ∙ ap (λ (x : Share). share_with options.per x (r ∷ later)) is) h.0,
     shares_other (p + 1) ss (omega (arith, home)) h.1,
   )
   shares_more p (suc i) (s ∷ ss) old new within home is put h = (
-    share_other p s (ne_eqb (partition_of options.hashing r.key options.partitions) p (λ e. omega (arith, e, home))) h.0,
+    share_other p s (ne_eqb (partition_of Fnv1a r.key options.partitions) p (λ e. omega (arith, e, home))) h.0,
     shares_more (p + 1) i ss old new (omega arith) (omega (arith, home)) is put h.1,
   )
 
@@ -109,10 +110,10 @@ module _ (options : AskOptions) (n : ℕ) (line : TraceLine) (later : List Trace
   abbrev following : Option Request → List Group
   following x = groups ++ flat_map (groups_of_round options) (on_line x c.round (λ round. rounds_from round (n + 1) later))
 
-  pub takes_request : (r : Request) (i : ℕ) (old new : Share) → request_of n line ≡ Some r → i ≡ partition_of options.hashing line.key options.partitions → i < length shares → old ≡ get_or shares i old
+  pub takes_request : (r : Request) (i : ℕ) (old new : Share) → request_of n line ≡ Some r → i ≡ partition_of Fnv1a line.key options.partitions → i < length shares → old ≡ get_or shares i old
       → ((more : List Request) → share_with options.per new more ≡ share_with options.per old (r ∷ more)) → IsCutting options (n + 1) later groups (set shares i new) all
   takes_request r i old new asks home within is put =
-      let place : partition_of options.hashing r.key options.partitions ≡ i = ap (λ (k : List ℕ). partition_of options.hashing k options.partitions) (of_line n line r asks).key_is ∙ sym home in
+      let place : partition_of Fnv1a r.key options.partitions ≡ i = ap (λ (k : List ℕ). partition_of Fnv1a k options.partitions) (of_line n line r asks).key_is ∙ sym home in
       record {
         round = c.round ++ r ∷ [];
         holds = shares_more options c.round r 0 i shares old new within (omega (arith, place)) is put c.holds;

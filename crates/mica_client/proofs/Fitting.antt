@@ -10,6 +10,7 @@ use Rattle.std.proofs.lemmas.List.Folds.{flat_map-map}
 use Rattle.std.proofs.lemmas.List.Sums.{length-filter, count_by-le-length}
 use Rattle.std.proofs.lemmas.List.Kept.{AllPairs-filter}
 use Rattle.std.proofs.lemmas.Grind.{flat_map-append}
+use Rattle.mica_words.specs.declared.hashing.Hashing.TheVariants.{Fnv1a}
 use Rattle.mica_words.specs.Hash.{partition_of}
 use Rattle.mica_words.specs.declared.item.TheConstants.{MAX_VALUE_LEN}
 use Rattle.mica_words.proofs.Hashes.{partition_of-below}
@@ -151,8 +152,8 @@ module _ (P : Request → Type 0) (options : AskOptions) where
   of_round : (round : List Request) → 0 < options.partitions → ((p : ℕ) → p < options.partitions → AllByRecursion P (filter (is_in_partition options p) round)) → AllByRecursion P round
   of_round [] some h = tt
   of_round (r ∷ rs) some h =
-      let p : ℕ = partition_of options.hashing r.key options.partitions in
-      let own = subst (λ b. AllByRecursion P (cond b (r ∷ filter (is_in_partition options p) rs) (filter (is_in_partition options p) rs))) (eq-eqb p p refl) (h p (partition_of-below options.hashing r.key options.partitions some)) in
+      let p : ℕ = partition_of Fnv1a r.key options.partitions in
+      let own = subst (λ b. AllByRecursion P (cond b (r ∷ filter (is_in_partition options p) rs) (filter (is_in_partition options p) rs))) (eq-eqb p p refl) (h p (partition_of-below Fnv1a r.key options.partitions some)) in
       (own.0, of_round rs some (λ q below. later q (h q below)))
     where
       later : (q : ℕ) → AllByRecursion P (filter (is_in_partition options q) (r ∷ rs)) → AllByRecursion P (filter (is_in_partition options q) rs)

@@ -1,6 +1,7 @@
 -- The batches that a trace is sent in: those of each round, and in it of each partition, in order.
 use Rattle.std.specs.Prelude.{ℕ, ◌+◌, ◌%◌, ◌==◌, ◌&&◌, Bool, List, [], ◌∷◌, ◌++◌, length, map, filter, flat_map, nat_lt, nat_le, if◌then◌else◌, Option, Some, None, option_map}
 use Rattle.std.specs.List.{range_with_len}
+use Rattle.mica_words.specs.declared.hashing.Hashing.TheVariants.{Fnv1a}
 use Rattle.mica_words.specs.Hash.{partition_of}
 use Rattle.mica_trace.specs.declared.line.TraceOp.{TraceOp}
 use Rattle.mica_trace.specs.declared.line.TraceOp.TheVariants.{Put, Add, Del, Touch, Get, Sync}
@@ -73,7 +74,7 @@ abbrev pub port_of : AskOptions → ℕ → ℕ
 port_of options partition = options.port + partition % options.fronts
 
 abbrev pub is_in_partition : AskOptions → ℕ → Request → Bool
-is_in_partition options partition request = partition_of options.hashing request.key options.partitions == partition
+is_in_partition options partition request = partition_of Fnv1a request.key options.partitions == partition
 
 -- the requests of one batch, and the port that it goes to
 pub record Group : Type 0 where

@@ -1,6 +1,7 @@
 //! The batches that a trace is sent in, cut in one pass over its lines.
 ghost use Rattle.std.specs.Prelude.{◌≡◌, ◌<◌, ◌≤◌, ◌+◌, ◌∷◌, ◌++◌, [], List, length, flat_map, IfOk, OnOk};
 ghost use Rattle.std.specs.List.{AllByRecursion};
+ghost use Rattle.mica_words.specs.declared.hashing.Hashing.TheVariants.{Fnv1a};
 ghost use Rattle.mica_words.specs.Hash.{partition_of};
 ghost use Rattle.mica_trace.specs.declared.line.TraceLine.{TraceLine};
 ghost use Rattle.mica_trace.specs.TraceGrammar.{IsTraceLine};
@@ -12,7 +13,7 @@ use crate::AskOptions;
 use crate::request::{Group, request_of};
 use crate::share::Share;
 use mica_trace::TraceLine;
-use mica_words::partition_of;
+use mica_words::{key_hash, partition_of};
 use outside::NoMemory;
 use std::alloc::Global;
 use std::mem;
@@ -25,15 +26,12 @@ fn port_of(options: &AskOptions, partition: u32) -> u16
 }
 
 // The partition of a line's key.
-#[tactic(auto, unfolding(mica_words::specs::Hash::partition_of))]
+#[tactic(auto, unfolding(mica_words::specs::Hash::partition_of, mica_words::specs::Hash::hash_of))]
 fn part_of(options: &AskOptions, line: &TraceLine) -> u32
     requires { IsValidAsk options.now }
-    ensures { result ≡ partition_of options.now.hashing line.now.key options.now.partitions }
+    ensures { result ≡ partition_of Fnv1a line.now.key options.now.partitions }
 {
-    partition_of(
-        options.hashing.key_hash(line.key.bytes()),
-        options.partitions,
-    )
+    partition_of(key_hash(line.key.bytes()), options.partitions)
 }
 
 // A share for each partition, with no requests yet.

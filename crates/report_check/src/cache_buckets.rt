@@ -13,7 +13,7 @@ ghost use Rattle.partition_model.specs.Write.{HasValueOf, is_accepted, write_of}
 ghost use Rattle.report_check.specs.Machines.{bucket_part, AreBuckets, IsReachable, TakesInBuckets};
 
 use mica_model::{Answer, CacheRecord, CacheState, ItemBuf, Mode, Op, Options, Outcome};
-use mica_words::bucket_of;
+use mica_words::{bucket_of, key_hash};
 use outside::NoMemory;
 use std::alloc::Global;
 
@@ -119,7 +119,7 @@ fn bucket_number(options: &Options, key: &[u8]) -> usize
 fn find_live(records: &[CacheRecord], words: u32, stamp: u64, key: &[u8]) -> Option<usize>
     ensures { result ≡ position (λ held. has_key key.now held && is_live words stamp held.offset) records.now }
 {
-    let hash = options.hashing.key_hash(key);
+    let hash = key_hash(key);
     records.iter().position(|record| record.has_key_hashed(key, hash)
         && record.is_live(words, stamp))
 }

@@ -1,6 +1,7 @@
 use Rattle.std.proofs.Common.{◌++◌, [], sym, ap, ◌∙◌, arith}
 use Rattle.std.specs.Prelude.{flat_map}
 use Rattle.std.proofs.lemmas.Result.{on_ok_weaker}
+use Rattle.mica_words.specs.declared.hashing.Hashing.TheVariants.{Fnv1a}
 use Rattle.mica_words.proofs.Hashes.{partition_of-below}
 use Rattle.mica_client.specs.declared.share.Share.{Share}
 use Rattle.mica_client.specs.Cutting.{share_with}
@@ -10,7 +11,7 @@ use Rattle.mica_client.proofs.batches.take_line.Goals as goal
 
 pub index_mut-share-requires : goal.index_mut-share-requires
 index_mut-share-requires c =
-    let below = partition_of-below c.args.options.now.hashing c.args.line.now.key c.args.options.now.partitions c.requires.valid.partitions.0 in
+    let below = partition_of-below Fnv1a c.args.line.now.key c.args.options.now.partitions c.requires.valid.partitions.0 in
     omega (arith, below, c.part_of.ensures, c.requires.many, c.args.shares.now.ok)
 
 pub put-requires-clause-lawful : goal.put-requires-clause-lawful
@@ -19,7 +20,7 @@ put-requires-clause-lawful c = lawful_request c.args.number c.args.line.now c.in
 pub returns-in-Some-clause-taken : goal.returns-in-Some-clause-taken
 returns-in-Some-clause-taken c =
     let shares = c.args.shares.now.items in
-    let below = partition_of-below c.args.options.now.hashing c.args.line.now.key c.args.options.now.partitions c.requires.valid.partitions.0 in
+    let below = partition_of-below Fnv1a c.args.line.now.key c.args.options.now.partitions c.requires.valid.partitions.0 in
     on_ok_weaker c.put.result
     (λ put later all cutting. takes_request c.args.options.now c.args.number c.args.line.now later c.args.groups.now.items all shares cutting c.in-Some.request c.part_of.result c.index_mut-share.result.now c.put.new.self
     (sym c.request_of.ensures ∙ c.in-Some.is) c.part_of.ensures (omega (arith, below, c.part_of.ensures, c.requires.many)) c.index_mut-share.ensures.value put)
