@@ -1,9 +1,11 @@
 -- The answers of a store's part, one behind another.
-use Rattle.std.proofs.Common.{◌≡◌, ℕ, List, [], ◌∷◌, ◌++◌, length, map, Option, Some, None, refl, sym, subst, ◌∙◌}
+use Rattle.std.proofs.Common.{◌≡◌, ℕ, false, List, [], ◌∷◌, ◌++◌, length, map, Option, Some, None, refl, sym, subst, ◌∙◌, arith, ne_eqb}
+use Rattle.mica_words.specs.Mark.{is_mark}
 use Rattle.partition_model.specs.declared.options.Mode.TheVariants.{Cache, Store}
 use Rattle.partition_model.specs.declared.options.Options.{Options}
 use Rattle.partition_model.specs.declared.write.Write.{Write}
 use Rattle.partition_model.specs.History.{History}
+use Rattle.memcached_text.specs.Fit.{IsFitKey}
 use Rattle.fronts.specs.Answered.{Answered, wrote, got, changed, kept}
 use Rattle.fronts.specs.Changing.{Becoming, stays, becomes, goes, write_for}
 use Rattle.fronts.specs.Looks.{IsLookAt}
@@ -30,24 +32,28 @@ own_key key value (becomes next) write is = cc
 own_key key None goes write is = absurd (cc)
 own_key key (Some stored) goes write is = cc
 
+-- no client's key is as long as a mark
+no_mark : (key : List ℕ) → IsFitKey key → is_mark key ≡ false
+no_mark key fit = ne_eqb (length key) 255 (λ same. omega (arith, same, fit))
+
 module _ {options : Options} {base : ℕ} (part : ℕ) {h : History} {shelf : Shelf} (g : Begun options base h shelf) where
   one : (purpose : Purpose) (answered : Answered) → IsAnswerBehind options h answered → IsFor options base part purpose answered
       → One options base shelf (behind h answered) (deeds_of base part (length h) purpose answered)
-  one (asks asked) (wrote step) answer for = absurd (for.2)
-  one (asks asked) (got key stamp value) answer for = absurd (for.2)
+  one (asks asked) (wrote step) answer for = absurd (for.1)
+  one (asks asked) (got key stamp value) answer for = absurd (for.1)
   one (asks asked) (changed step look) answer for =
-      let looked = subst (λ key. IsLookAt options h key look) (own_key asked.key look.value _ step.write for.2) answer.1 in
-      changed_one g asked look looked for.0 for.1 step answer.0.0 for.2
+      let looked = subst (λ key. IsLookAt options h key look) (own_key asked.key look.value _ step.write for.1) answer.1 in
+      changed_one g asked look looked for.0 (no_mark asked.key for.0.0) step answer.0.0 for.1
   one (asks asked) (kept key stamp look) answer for =
-      let looked = subst (λ k. IsLookAt options h k look) for.2.0 answer.1 in
-      kept_one g asked look looked for.0 for.1 stamp (refl, for.2.1)
+      let looked = subst (λ k. IsLookAt options h k look) for.1.0 answer.1 in
+      kept_one g asked look looked for.0 (no_mark asked.key for.0.0) stamp (refl, for.1.1)
   one (flushes flush) (wrote step) answer for = flush_one g part step flush answer.0 for.0 for.1
   one (flushes flush) (got key stamp value) answer for = absurd (for)
   one (flushes flush) (changed step look) answer for = absurd (for)
   one (flushes flush) (kept key stamp look) answer for = absurd (for)
   one sweeps (wrote step) answer for = let both : Store ≡ Cache = sym g.is_store ∙ for.0 in absurd (cc)
   one sweeps (got key stamp value) answer for = absurd (for)
-  one sweeps (changed step look) answer for = swept_one g step look for.1.0 answer.0.0 answer.1 for.0 for.1.1 for.1.2.0
+  one sweeps (changed step look) answer for = swept_one g step look for.1.0 answer.0.0 answer.1 for.0 for.1.1 for.1.2
   one sweeps (kept key stamp look) answer for = record { steps = tt; stands_then = g.stands }
 
 all_in_course : (options : Options) (base part : ℕ) (all : List Served) (h : History) (shelf : Shelf) → Begun options base h shelf → AreServed options base part h all

@@ -9,7 +9,6 @@ use Rattle.memcached_commands.specs.Fit.{IsFitAsked}
 use Rattle.memcached_commands.specs.Moments.{found_in}
 use Rattle.fronts.specs.declared.flushes.Flush.{Flush}
 use Rattle.fronts.specs.Answered.{Answered, wrote, changed, kept}
-use Rattle.mica_words.specs.Mark.{is_mark}
 use Rattle.fronts.specs.Looks.{Look}
 use Rattle.memcached_decisions.specs.Numbered.{numbered, moment_at, value_in}
 use Rattle.command_answers.specs.AskAnswers.{AnswersAsk, said_of}
@@ -34,9 +33,9 @@ pub record Served : Type 0 where
   pub purpose : Purpose
   pub answered : Answered
 
--- An answer of this part is for that. No client names a mark.
+-- an answer of this part is for that
 abbrev pub IsFor : Options → ℕ → ℕ → Purpose → Answered → Type 0
-IsFor options base part (asks asked) answered = IsFitAsked asked × (is_mark asked.key ≡ false) × AnswersAsk base asked answered
+IsFor options base part (asks asked) answered = IsFitAsked asked × AnswersAsk base asked answered
 IsFor options base part (flushes flush) answered = FlushesOne options flush part answered
 IsFor options base part sweeps answered = IsSweep options base answered
 
