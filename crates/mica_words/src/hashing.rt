@@ -1,7 +1,7 @@
 //! How the keys of a table are hashed.
 
 ghost use Rattle.std.specs.Prelude.{◌≡◌};
-ghost use Rattle.mica_words.specs.Hash.{hash_of};
+ghost use Rattle.mica_words.specs.Hash.{hash_of, IsPlainHash};
 ghost use Rattle.mica_words.specs.Mark.{has_marks};
 
 use crate::hash::key_hash;
@@ -42,3 +42,8 @@ impl Hashing {
         }
     }
 }
+
+/// By FNV-1a the hash of each key is its formula, without an exception.
+pub fn plain_hash()
+    ensures { IsPlainHash }
+{}
