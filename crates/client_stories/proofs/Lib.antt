@@ -1,0 +1,9 @@
+pub mod Weave
+pub mod Purposes
+pub mod Talks
+pub mod Marks
+pub mod Pieces
+pub mod Parts
+pub mod Fits
+pub mod Moments
+pub mod Shares

@@ -1,0 +1,39 @@
+-- What the threads of a server did, and what its clients said.
+use Rattle.std.specs.Prelude.{◌≡◌, ◌≤◌, ⊤, ℕ, false, List, [], ◌∷◌, drop, length, min}
+use Rattle.std.specs.List.{AllByRecursion}
+use Rattle.outside.specs.Faults.{LAST_COUNT}
+use Rattle.partition_model.specs.declared.options.Options.{Options}
+use Rattle.memcached_commands.specs.Fit.{IsFitAsked}
+use Rattle.memcached_requests.specs.declared.request.Next.{Next}
+use Rattle.memcached_requests.specs.Next.{next_of}
+use Rattle.memcached_requests.specs.Requests.{asks_in, len_of}
+use Rattle.fronts.specs.Answered.{Answered}
+use Rattle.fronts.specs.Flushes.{begins_with_feed}
+use Rattle.connections.specs.Log.{Log, received_of}
+use Rattle.connection_loop.specs.Given.{Given}
+use Rattle.connection_loop.specs.Going.{NeverFall, seconds_of}
+use Rattle.connection_loop.specs.Moments.{TalksThrough, IsCaughtUp}
+use Rattle.connection_loop.specs.Turns.{TakesTurns}
+
+-- The bytes begin with these, one after another.
+abbrev pub AreFirst : List ℕ → List Next → Type 0
+AreFirst bytes [] = ⊤
+AreFirst bytes (next ∷ later) = (next_of bytes ≡ next) × AreFirst (drop (len_of next) bytes) later
+
+-- What bytes ask of keys is fit, and none of these begins with a line feed.
+abbrev pub AsksFit : List ℕ → Type 0
+AsksFit bytes = (nexts : List Next) → AreFirst bytes nexts
+    → AllByRecursion (λ next. AllByRecursion (λ asked. IsFitAsked asked × (begins_with_feed asked.key ≡ false)) (asks_in next)) nexts
+
+-- A front talked so with the clients of its share, whose log was this one before and that one after. It counted no fewer connections for which memory lacked.
+pub record Talked (options : Options) (base most in_all lacked : ℕ) (answers : List Answered) (before after : Log) : Type 0 where
+  pub same : after.schedule ≡ before.schedule
+  pub given : List Given
+  pub lacking : List ℕ
+  pub few : min (length lacking) LAST_COUNT ≤ lacked
+  pub turns : TakesTurns options base most in_all after.schedule after.script.piece lacking after.entries given answers
+  pub through : TalksThrough options base most after.schedule lacking after.entries given
+  pub caught_up : IsCaughtUp options base after.schedule after.script.piece after.entries given
+  pub seconds : NeverFall (seconds_of options answers)
+  -- what its clients ask is fit
+  pub fit : (c : ℕ) → AsksFit (received_of c after.entries)
