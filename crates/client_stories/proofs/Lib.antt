@@ -7,3 +7,7 @@ pub mod Parts
 pub mod Fits
 pub mod Moments
 pub mod Shares
+pub mod Seconds
+pub mod Ends
+pub mod Facts
+pub mod Law

@@ -295,3 +295,7 @@ module _ (options : Options) (base : ℕ) (some : 1 ≤ options.partitions) (fro
 
   pub asked_zip : (f : ℕ) → AllZip IsAskedDeed (filter for_client (marks f)) (filter is_asked_for (deeds f))
   asked_zip f = subst (λ l. AllZip IsAskedDeed (filter for_client l) (filter is_asked_for (deeds f))) (story f).firsts (asked_pairs f (story f).pairs (story f).each)
+
+  -- each deed was done at the second of its answer
+  pub each_second : (f : ℕ) → AllByRecursion (λ w. AllByRecursion (λ (done : Done). second_of done.deed ≡ second_in options w.0.answered) (dones_at w)) (story f).pairs
+  each_second f = all_map (story f).pairs (story f).each (λ w is. all_map w.1.dones is.2.0.each (λ done own. own.second ∙ ap (λ (m : Mark). second_in options m.answered) (sym is.0)))

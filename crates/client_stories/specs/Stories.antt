@@ -1,7 +1,8 @@
 -- What the threads of a server did, and what its clients said.
-use Rattle.std.specs.Prelude.{◌≡◌, ◌≤◌, ⊤, ℕ, false, List, [], ◌∷◌, drop, length, min}
+use Rattle.std.specs.Prelude.{◌≡◌, ◌≤◌, ◌<◌, ◌+◌, ◌^◌, ⊤, ℕ, false, List, [], ◌∷◌, drop, length, min, slice_get, Some}
 use Rattle.std.specs.List.{AllByRecursion}
 use Rattle.outside.specs.Faults.{LAST_COUNT}
+use Rattle.partition_model.specs.declared.options.Mode.TheVariants.{Store}
 use Rattle.partition_model.specs.declared.options.Options.{Options}
 use Rattle.memcached_commands.specs.Fit.{IsFitAsked}
 use Rattle.memcached_requests.specs.declared.request.Next.{Next}
@@ -9,11 +10,16 @@ use Rattle.memcached_requests.specs.Next.{next_of}
 use Rattle.memcached_requests.specs.Requests.{asks_in, len_of}
 use Rattle.fronts.specs.Answered.{Answered}
 use Rattle.fronts.specs.Flushes.{begins_with_feed}
+use Rattle.fronts.specs.Placed.{Placed}
 use Rattle.connections.specs.Log.{Log, received_of}
 use Rattle.connection_loop.specs.Given.{Given}
 use Rattle.connection_loop.specs.Going.{NeverFall, seconds_of}
 use Rattle.connection_loop.specs.Moments.{TalksThrough, IsCaughtUp}
 use Rattle.connection_loop.specs.Turns.{TakesTurns}
+use Rattle.served.specs.Served.{empty_origin, AnswersLawfully}
+use Rattle.memcached_page.specs.Shelf.{empty}
+use Rattle.memcached_page.specs.Kept.{KeepsItems}
+use Rattle.memcached_page.specs.Page.{ServesKeyByKey}
 
 -- The bytes begin with these, one after another.
 abbrev pub AreFirst : List ℕ → List Next → Type 0
@@ -37,3 +43,12 @@ pub record Talked (options : Options) (base most in_all lacked : ℕ) (answers :
   pub seconds : NeverFall (seconds_of options answers)
   -- what its clients ask is fit
   pub fit : (c : ℕ) → AsksFit (received_of c after.entries)
+
+-- Fronts answered lawfully, from where nothing was stored, and each talked so. Then the clients of a store are served as its page says, and no item is lost. Numbers of values would end at
+-- 62 bits, which no server comes to.
+abbrev pub ServesClientsOfStore : Type 0
+ServesClientsOfStore = (options : Options) (base most in_all lacked : ℕ) (fronts : List (List Answered)) (runs : ℕ → List Placed) (before logs : ℕ → Log)
+    → options.mode ≡ Store → 1 ≤ options.partitions → base + options.wear < 2 ^ 62 → AnswersLawfully options empty_origin fronts runs
+    → ((f : ℕ) (own : List Answered) → slice_get fronts f ≡ Some own → Talked options base most in_all lacked own (before f) (logs f))
+    → (serves : ServesKeyByKey options (length fronts) lacked (λ part. empty) before logs)
+    × ((p : ℕ) → p < options.partitions → KeepsItems options (λ key. 0) empty (serves.courses p))

@@ -1,2 +1,6 @@
 //! What the threads of a server of connections did, as the stories of a client's page.
 #![tactic(auto)]
+
+mod laws;
+
+pub use laws::store_clients;

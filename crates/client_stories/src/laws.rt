@@ -1,0 +1,7 @@
+//! That a store's clients are served as the page says.
+ghost use Rattle.client_stories.specs.Stories.{ServesClientsOfStore};
+
+/// Where fronts over connections answered lawfully, from where nothing was stored, and each talked with the clients of its share, a store's clients are served key by key, and none of its items is lost.
+pub fn store_clients()
+    ensures { ServesClientsOfStore }
+{}
