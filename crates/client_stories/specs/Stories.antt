@@ -31,6 +31,17 @@ abbrev pub AsksFit : List ℕ → Type 0
 AsksFit bytes = (nexts : List Next) → AreFirst bytes nexts
     → AllByRecursion (λ next. AllByRecursion (λ asked. IsFitAsked asked × (begins_with_feed asked.key ≡ false)) (asks_in next)) nexts
 
+abbrev pub AreBytes : List ℕ → Type 0
+AreBytes bytes = AllByRecursion (λ b. b < 256) bytes
+
+-- No key that bytes name begins with a line feed.
+abbrev pub NamesNoFeed : List ℕ → Type 0
+NamesNoFeed bytes = (nexts : List Next) → AreFirst bytes nexts → AllByRecursion (λ next. AllByRecursion (λ asked. begins_with_feed asked.key ≡ false) (asks_in next)) nexts
+
+-- By the grammar all else that is asked is fit.
+abbrev pub BytesAskFit : Type 0
+BytesAskFit = (bytes : List ℕ) → AreBytes bytes → NamesNoFeed bytes → AsksFit bytes
+
 -- A front talked so with the clients of its share, whose log was this one before and that one after. It counted no fewer connections for which memory lacked.
 pub record Talked (options : Options) (base most in_all lacked : ℕ) (answers : List Answered) (before after : Log) : Type 0 where
   pub same : after.schedule ≡ before.schedule
