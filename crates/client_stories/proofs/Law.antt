@@ -43,11 +43,11 @@ module _ (options : Options) (base most in_all lacked : ℕ) (fronts : List (Lis
     (small : base + options.wear < 2 ^ 62) (lawful : AnswersLawfully options empty_origin fronts runs)
     (talked : (f : ℕ) (own : List Answered) → slice_get fronts f ≡ Some own → Talked options base most in_all lacked own (before f) (logs f)) where
   -- the marks of each share, by what it answered
-  marks_by : (f : ℕ) (o : Option (List Answered)) → slice_get fronts f ≡ o → List Mark
+  abbrev marks_by : (f : ℕ) (o : Option (List Answered)) → slice_get fronts f ≡ o → List Mark
   marks_by f None is = []
   marks_by f (Some own) is = (share.marked options base most in_all lacked some own (before f) (logs f) (talked f own is)).marks
 
-  marks : ℕ → List Mark
+  abbrev marks : ℕ → List Mark
   marks f = marks_by f (slice_get fronts f) refl
 
   own_answers : (f : ℕ) (own : List Answered) (o : Option (List Answered)) (is : slice_get fronts f ≡ o) → o ≡ Some own → map (λ m. m.answered) (marks_by f o is) ≡ own
@@ -82,11 +82,11 @@ module _ (options : Options) (base most in_all lacked : ℕ) (fronts : List (Lis
       (courses options base p _ is_store small (parts.parts_served options base some fronts orders marks (λ f own at. own_answers f own (slice_get fronts f) refl at) (λ f high. none_beyond f (slice_get fronts f) refl high) (λ f. are_marks f (slice_get fronts f) refl) p))
 
   -- the story of each share
-  story_by : (f : ℕ) (o : Option (List Answered)) → slice_get fronts f ≡ o → Story
+  abbrev story_by : (f : ℕ) (o : Option (List Answered)) → slice_get fronts f ≡ o → Story
   story_by f None is = record { deeds = deeds f; reached = λ n. 0; lacking = [] }
   story_by f (Some own) is = record { deeds = deeds f; reached = share.reached_by options base most in_all lacked some own (before f) (logs f) (talked f own is); lacking = (talked f own is).lacking }
 
-  story : ℕ → Story
+  abbrev story : ℕ → Story
   story f = story_by f (slice_get fronts f) refl
 
   deeds_of : (f : ℕ) (o : Option (List Answered)) (is : slice_get fronts f ≡ o) → (story_by f o is).deeds ≡ deeds f

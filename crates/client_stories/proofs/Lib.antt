@@ -11,3 +11,4 @@ pub mod Seconds
 pub mod Ends
 pub mod Facts
 pub mod Law
+pub mod Grammar

@@ -58,11 +58,8 @@ module _ (options : Options) (base : ℕ) where
   flush_second : (p number : ℕ) (step : RunStep) (flush : Flush) (accepted : Bool) → is_flush options.buckets step.write ≡ true → flush_in step.write.key ≡ flush → partition_of step.write.key options.partitions ≡ p
       → second_of (flushed p number flush accepted) ≡ second_in options (wrote step)
   flush_second p number step flush accepted is own in_p =
-      (λ i. by ((sym in_p i) == 0) (sym own i))
+      (λ i. if ((sym in_p i) == 0) && nat_lt 0 (sym own i).due then Some (sym own i).asked else None)
       ∙ ap (λ b. if b && (partition_of step.write.key options.partitions == 0) then second_asked (flush_in step.write.key) else None) (sym is)
-    where
-      by : Bool → Flush → Option ℕ
-      by first f = if first && nat_lt 0 f.due then Some f.asked else None
 
   module _ (p written share : ℕ) where
     abbrev Came : Mark → Type 0

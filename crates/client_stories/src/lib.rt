@@ -3,4 +3,4 @@
 
 mod laws;
 
-pub use laws::store_clients;
+pub use laws::{fit_asks, store_clients};
